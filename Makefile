@@ -148,7 +148,8 @@ pace:
 	@python3 python netrev_bench.pace $(lastword $(STEPS))
 
 # Installs netrev, nrdb and netrev-go with their man pages and completions below PREFIX: `make install PREFIX=~/.local`; with
-# NETREV=FILE that program, and nothing is proved.
+# NETREV=FILE that program, and nothing is proved. Python is compiled too, since who runs it may not write there; what is compiled counts
+# while it has the sum of its source, whatever their times. Another Python leaves it alone.
 install: ready install-files
 
 install-files:
@@ -157,6 +158,7 @@ install-files:
 	install nrdb $(DESTDIR)$(PREFIX)/bin/nrdb
 	install tools/go/netrev-go $(DESTDIR)$(PREFIX)/bin/netrev-go
 	(cd python && tar -cf - --mode=u=rwX,go=rX --exclude=__pycache__ __main__.py $(INSTALLED)) | tar -xf - --no-same-owner -C $(LIB)
+	umask 022 && cd $(LIB) && python3 -m compileall -q -f --invalidation-mode checked-hash .
 	for name in netrev nrdb netrev-go; do \
 		python3 scripts/man.py $$name > $(SHARE)/man/man1/$$name.1 && \
 		python3 scripts/completion.py bash $$name > $(SHARE)/bash-completion/completions/$$name && \

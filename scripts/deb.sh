@@ -19,8 +19,9 @@ trap 'rm -rf "$room"' EXIT
 tar -C "$room" -xzf "$archive"
 top=$room/$name root=$room/root
 doc=$root/usr/share/doc/netrev
-mkdir -p "$root/DEBIAN" "$doc" "$root/usr/share/lintian/overrides" "$root/usr/share/netrev"
-(cd "$top" && tar -cf - bin lib share) | tar -xf - -C "$root/usr"
+updates=$root/usr/share/python3/runtime.d
+mkdir -p "$root/DEBIAN" "$doc" "$root/usr/share/lintian/overrides" "$root/usr/share/netrev" "$updates"
+(cd "$top" && tar -cf - --exclude=__pycache__ bin lib share) | tar -xf - -C "$root/usr"
 mv "$top/examples" "$doc/examples"
 mv "$top/editors" "$root/usr/share/netrev/editors"
 author="the netrev authors <netrev@netrev.invalid>"
@@ -70,6 +71,23 @@ Description: record-and-replay debugger for network programs in Go
  .
  netrev itself is proved; nrdb and netrev-go aren't.
 END
+cat > "$root/DEBIAN/postinst" <<END
+#!/bin/sh
+# Compiles for the Python that is here, as Debian's own packages do.
+set -e
+if [ "\$1" = configure ] && command -v py3compile > /dev/null; then
+	py3compile -p netrev /usr/lib/netrev
+fi
+END
+cat > "$updates/netrev.rtupdate" <<END
+#!/bin/sh
+# Compiles anew where Debian's Python has become another one.
+set -e
+if [ "\$1" = rtupdate ]; then
+	py3clean -p netrev /usr/lib/netrev
+	py3compile -p netrev /usr/lib/netrev
+fi
+END
 cat > "$root/DEBIAN/prerm" <<END
 #!/bin/sh
 # Takes away what Python has compiled.
@@ -78,7 +96,7 @@ find /usr/lib/netrev -name __pycache__ -prune -exec rm -rf {} +
 END
 find "$root" -type d -exec chmod 755 {} +
 find "$root" -type f -exec chmod u=rwX,go=rX {} +
-chmod 755 "$root/DEBIAN/prerm"
+chmod 755 "$root/DEBIAN/postinst" "$root/DEBIAN/prerm" "$updates/netrev.rtupdate"
 (cd "$root" && find usr -type f -print0 | LC_ALL=C sort -z | xargs -0 md5sum > DEBIAN/md5sums)
 dpkg-deb --root-owner-group -Zxz --build "$root" "$deb" > /dev/null
 if command -v lintian > /dev/null; then

@@ -285,13 +285,14 @@ class Converter:
         g, mode = self.goroutine(point.goroutine), mode_of(point)
         now = point.time - self.begin
         self.go_on_to(now)
-        ends = deadline_of(now, point.b)
-        self.pop_what_fires(socket, [side for side, _ in self.deadlines.changing(socket.descriptor, mode, ends)])
+        first = ends = deadline_of(now, point.b)
+        changes = self.deadlines.changing(socket.descriptor, mode, ends)
+        self.pop_what_fires(socket, [side for side, _ in changes])
         time = point.b
         if time > 0:
             time = max(1, time - (self.clock - now)) if time + point.time <= GREATEST else GREATEST
             ends = min(self.clock + time, GREATEST)
-        self.deadlines.set(socket.descriptor, mode, ends)
+        self.deadlines.set(socket.descriptor, mode, ends, changes=changes if ends == first else None)
         self.of(g, point.stack, f'["setdeadline",{g},{socket.descriptor},"{mode}",{time},"done"]')
 
     def pop_what_fires(self, socket: Socket, sides: list[int]) -> None:

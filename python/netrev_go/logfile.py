@@ -9,7 +9,7 @@ import struct
 import sys
 from array import array
 from collections.abc import Callable, Iterable
-from functools import partial
+from functools import lru_cache, partial
 from itertools import compress
 from typing import BinaryIO, cast
 from operator import xor
@@ -113,16 +113,20 @@ def points_of(text: bytes, first: int) -> list[Point]:
 
 def are_whole(numbers: range, heads: array[int], columns: list[array[int]], lasts: array[int]) -> bool:
     """Whether all of these points are: each column is one great number, as that is much faster than point by point."""
-    count = len(heads)
-    low = as_one(array("Q", (LOW,)) * count)
-    kinds = as_one(array("Q", (255,)) * count)
-    wanted = as_one(array("Q", numbers)) + as_one(array("Q", (1,)) * count)
-    if (as_one(heads) & ~kinds) != wanted << 8:
-        return False
+    kinds, low, ones = masks(len(heads))
     total = as_one(array("Q", numbers))
+    if as_one(heads) & ~kinds != total + ones << 8:
+        return False
     for column in columns:
         total ^= as_one(column)
     return (total ^ total >> 32) & low == as_one(lasts) >> 32 & low
+
+
+@lru_cache(2)
+def masks(count: int) -> tuple[int, int, int]:
+    """Of so many words, as one number, the lowest byte of each, the lower half, and a one in each."""
+    kinds, low, ones = (as_one(array("Q", (word,)) * count) for word in (255, LOW, 1))
+    return kinds, low, ones
 
 
 def as_one(column: array[int]) -> int:

@@ -50,6 +50,7 @@ class Recording:
 
 Part = Callable[[Log, Owned], list[Socket]]
 NO_STEPS = ORDERING | WAITING
+AT_ONCE = 1_024  # lines that are written together
 
 
 def make(
@@ -128,7 +129,8 @@ def write(recording: Recording, name: pathlib.Path) -> None:
     """Writes the recording whole; an OSError that names the file where it can't be."""
     with whole(name) as file:
         file.write(recording.header + "\n")
-        file.writelines(f"{line}\n" for line in recording.lines)
+        for first in range(0, len(recording.lines), AT_ONCE):
+            file.write("\n".join(map(str, recording.lines[first : first + AT_ONCE])) + "\n")
 
 
 def write_words(recording: Recording, name: pathlib.Path) -> None:

@@ -55,14 +55,13 @@ class Orders:
         self.found: list[tuple[int, int]] = []  # of each the step that comes first, and the other
         self.own: dict[int, int] = {}
         self.behind: dict[int, Frontier] = defaultdict(dict)  # what a goroutine's next step comes behind
-        self.known: dict[int, Frontier] = defaultdict(dict)  # what its steps come behind so far
+        self.known: dict[int, Frontier] = defaultdict(dict)  # that, and what its steps come behind so far
         self.channels: dict[int, Channel] = defaultdict(Channel)
 
     def step(self, goroutine: int, number: int) -> None:
         """A goroutine makes a step."""
         behind = self.behind.pop(goroutine, {})
         self.found += sorted((first, number) for first in behind.values())
-        self.known[goroutine].update(behind)
         self.own[goroutine] = number
 
     def point(self, point: Point) -> None:
@@ -97,9 +96,10 @@ class Orders:
 
     def _comes_behind(self, goroutine: int, frontier: Frontier) -> None:
         known, behind = self.known[goroutine], self.behind[goroutine]
-        for other, number in frontier.items():
-            if other != goroutine and number > max(known.get(other, 0), behind.get(other, 0)):
-                behind[other] = number
+        latest = known.get
+        for other, number in frontier.items():  # (mostly all of it is known, and a log may have millions of these)
+            if number > latest(other, 0) and other != goroutine:
+                known[other] = behind[other] = number
 
 
 Made = tuple[int, int, int]  # a step of a goroutine's: the number of its point, the goroutine, and the step's number

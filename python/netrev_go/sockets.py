@@ -169,7 +169,7 @@ def owned(points: list[Point], all_bytes: bool = True) -> Owned:
     mine: list[tuple[Point, Socket]] = []
     cut = 0
     for point in points:
-        kind, goroutine, at = point[1:4]
+        _, kind, goroutine, at, _, _, _, _, _ = point
         socket = words.get(at) if kind in AT_A_WORD else None
         if socket is None or socket.closed:
             socket = of(point)

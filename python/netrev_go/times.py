@@ -4,7 +4,8 @@ was made for."""
 from __future__ import annotations
 
 from collections.abc import Iterable
-from itertools import chain
+from itertools import accumulate, chain, repeat
+from operator import sub
 
 from .points import Point
 
@@ -13,16 +14,14 @@ def times_of(points: Iterable[Point], ended: list[int], begin: int) -> list[int]
     """Of each step the nanoseconds since the log began, where so many steps are there behind each point. Points have their order by a
     counter, and read the clock just behind that, so a time that is a little before the one before is taken for that. None where a point
     has no time, as in logs of before."""
-    times: list[int] = []
-    latest = 0
-    for point, before, behind in zip(points, chain((0,), ended), ended):
-        if not point.time:
-            return None
-        latest = max(latest, point.time - begin)
-        times += [latest] * (behind - before)
-    return times
+    read = [point[7] for point in points]
+    if not all(read):
+        return None
+    latest = accumulate((time - begin for time in read), max, initial=0)
+    next(latest)
+    return list(chain.from_iterable(repeat(time, steps) for time, steps in zip(latest, deltas(ended))))
 
 
-def deltas(times: list[int]) -> list[int]:
-    """Of each time how much later it is than the one before; of the first, than the log's begin."""
-    return [after - before for before, after in zip(chain((0,), times), times)]
+def deltas(numbers: list[int]) -> list[int]:
+    """Of each number how much larger it is than the one before; the first as it is."""
+    return list(map(sub, numbers, chain((0,), numbers)))

@@ -17,7 +17,7 @@ SOURCES = pathlib.Path(__file__).resolve().parent / "go"
 OVERLAY, NEW, LEFT_OUT = "overlay.json", "new.json", "without.txt"
 CHANGED = ("runtime", "internal/poll", "testing")  # of Go's packages
 WITHOUT = "without "  # so begins a line of a rule that can be done without
-# Of each release that was tried, with which patch that was.
+# The patch of each release with which the rules were tried.
 TRIED = {"1.19": 8, "1.21": 13, "1.22": 12, "1.23": 5, "1.24": 4, "1.26": 10, "1.27": 3}
 HOW_TO_INSTALL = "Debian has it: apt-get install golang-go"
 

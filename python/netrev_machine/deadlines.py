@@ -81,16 +81,20 @@ class Deadlines:
         descriptor = self.descriptors[number]
         if descriptor.closing:
             return []
-        old = descriptor.deadlines
-        new = [deadline if SIDES[side] in mode else old[side] for side in (READING, WRITING)]
-        wanted = [followed(descriptor.running[side], side, old, new) for side in (READING, WRITING)]
-        return [(side, wants) for side, wants in enumerate(wanted) if wants is not None]
+        read, write = old = descriptor.deadlines
+        new = (deadline if "r" in mode else read, deadline if "w" in mode else write)
+        wanted = [(side, followed(descriptor.running[side], side, old, new)) for side in (READING, WRITING)]
+        return [(side, wants) for side, wants in wanted if wants is not None]
 
-    def set(self, number: int, mode: str, deadline: int, setter: Any = None) -> None:
-        changes = self.changing(number, mode, deadline)
+    def set(
+        self, number: int, mode: str, deadline: int, setter: Any = None, changes: list[tuple[int, bool]] | None = None
+    ) -> None:
+        """Sets the deadline. `changes` are those of `changing`, where they are known."""
         descriptor = self.descriptors[number]
         if descriptor.closing:
             return
+        if changes is None:
+            changes = self.changing(number, mode, deadline)
         for side in (READING, WRITING):
             if SIDES[side] in mode:
                 descriptor.deadlines[side], descriptor.setters[side] = deadline, setter

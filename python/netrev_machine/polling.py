@@ -85,9 +85,10 @@ def is_combo(desc: Desc) -> bool:
 def followed(is_running: bool, place: int, before: Sequence[int], now: Sequence[int]) -> Optional[bool]:
     """Whether the timer of a side is armed anew where these were the deadlines and are so now; None where it stays as it is."""
     both = are_both(now)
-    is_wanted = now[place] > 0 and not (place == at("w") and both)
-    has_moved = now[place] != before[place] or both != are_both(before)
-    return is_wanted if (has_moved if is_running else is_wanted) else None
+    is_wanted = now[place] > 0 and not (both and place)  # (the timer of reading is for both)
+    if not is_running:
+        return is_wanted or None
+    return is_wanted if now[place] != before[place] or both != are_both(before) else None
 
 
 def deadline_of(clock: int, time: int) -> int:

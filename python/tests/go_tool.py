@@ -8,7 +8,6 @@ import pathlib
 import signal
 import subprocess
 import sys
-import tempfile
 import time
 import unittest
 from typing import Callable
@@ -19,6 +18,7 @@ from netrev_go.fetching import here
 from netrev_go.toolchain import CHANGED, SOURCES, TRIED, find_go, overlay, points_program, quiet_go, release_of
 from netrev_words.built import netrev_program
 from nrdb.where import Lines
+from .folders import folder_of
 
 ROOT = pathlib.Path(__file__).resolve().parents[2]
 SAMPLES = ROOT / "tools/go/samples"
@@ -86,9 +86,7 @@ class Tool(unittest.TestCase):
     """A folder with a program, and netrev-go called in it."""
 
     def setUp(self) -> None:
-        folder = tempfile.TemporaryDirectory()
-        self.addCleanup(folder.cleanup)
-        self.folder = pathlib.Path(folder.name)
+        self.folder = folder_of(self)
 
     def written(self, text: str, name: str = "main.go") -> None:
         (self.folder / name).write_text(text)

@@ -4,7 +4,6 @@ import os
 import shutil
 import subprocess
 import sys
-import tempfile
 import unittest
 from pathlib import Path
 from unittest import mock
@@ -12,6 +11,7 @@ from unittest import mock
 from netrev_go import options
 from netrev_words import built, launching
 from nrdb import cli
+from .folders import folder_of
 
 ROOT = Path(__file__).resolve().parents[2]
 PROGRAMS = {"nrdb": cli.parser(), "netrev-go": options.parser()}
@@ -74,9 +74,7 @@ class Completion(unittest.TestCase):
 
 class Launching(unittest.TestCase):
     def setUp(self) -> None:
-        folder = tempfile.TemporaryDirectory()
-        self.addCleanup(folder.cleanup)
-        self.folder = Path(folder.name)
+        self.folder = folder_of(self)
         self.program = self.folder / "mine/netrev"
         self.launcher = self.folder / "pip/netrev"
         for path, text in (

@@ -7,6 +7,8 @@ import tempfile
 import unittest
 from pathlib import Path
 
+from .folders import folder_of
+
 ROOT = Path(__file__).resolve().parents[2]
 TESTS = """
 import signal, time, unittest, pathlib, pytest
@@ -45,9 +47,7 @@ class Tests(unittest.TestCase):
     """scripts/tests.sh in a tree with these tests."""
 
     def setUp(self) -> None:
-        folder = tempfile.TemporaryDirectory()
-        self.addCleanup(folder.cleanup)
-        self.top = Path(folder.name)
+        self.top = folder_of(self)
         for name in ("scripts/tests.sh", "scripts/pytest.sh", "conftest.py", "pyproject.toml"):
             (self.top / name).parent.mkdir(exist_ok=True)
             shutil.copy(ROOT / name, self.top / name)

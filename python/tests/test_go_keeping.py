@@ -27,6 +27,7 @@ from netrev_go.zeros import Zeros
 from netrev_words.files import whole
 
 from .test_go_converting import WORD, Points
+from .folders import folder_of
 
 PYTHON = pathlib.Path(__file__).resolve().parents[1]
 STORED = PYTHON.parent / "examples/real/past.log"
@@ -43,9 +44,7 @@ class Run(unittest.TestCase):
     """A folder in which netrev-go is called."""
 
     def setUp(self) -> None:
-        folder = tempfile.TemporaryDirectory()
-        self.addCleanup(folder.cleanup)
-        self.folder = pathlib.Path(folder.name)
+        self.folder = folder_of(self)
         self.log = self.folder / "stored"
         self.log.write_bytes(from_text(STORED.read_text())[0])
         before = os.getcwd()

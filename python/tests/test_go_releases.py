@@ -23,6 +23,7 @@ from netrev_go.toolchain import TRIED, Go, Trouble, is_tried, release_of, tried
 from netrev_go.trying import Trial, incomplete, ready, unchained
 
 from .test_go_converting import DESCRIPTOR, WORD, Points
+from .folders import folder_of
 
 ROOT = pathlib.Path(__file__).resolve().parents[2]
 READING, WRITING = ord("r"), ord("w")
@@ -284,9 +285,8 @@ class OfOthers(unittest.TestCase):
     WANTED = [suite for suite in OF_OTHERS if "golang.org/x/net" in suite.package]
 
     def setUp(self) -> None:
-        folder = tempfile.TemporaryDirectory()
-        self.addCleanup(folder.cleanup)
-        words = ["--go", "1.27", "--only", "golang.org/x/net", "--out", folder.name]
+        folder = folder_of(self)
+        words = ["--go", "1.27", "--only", "golang.org/x/net", "--out", str(folder)]
         go = Go("go", pathlib.Path("/nowhere"), "go1.27.3", "linux/amd64", "")
         self.recorder = real.Recorder(go, "1.27", real.options_of(words))
 

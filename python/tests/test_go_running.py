@@ -9,6 +9,7 @@ from unittest import mock
 
 from netrev_go.running import MOST_POINTS, logs_folder, logs_in, process_of
 from netrev_go.toolchain import Trouble
+from .folders import folder_of
 
 
 class Usage(NamedTuple):
@@ -24,9 +25,7 @@ def with_room(**free: int) -> ContextManager[object]:
 
 class Room(unittest.TestCase):
     def setUp(self) -> None:
-        folder = tempfile.TemporaryDirectory()
-        self.addCleanup(folder.cleanup)
-        self.folder = pathlib.Path(folder.name)
+        self.folder = folder_of(self)
 
     def made_with(self, **free: int) -> pathlib.Path:
         """The folder that is made where there is so much room. Its place has another one's name."""

@@ -29,6 +29,7 @@ from nrdb.where import Lines
 
 from .test_go_converting import Points
 from .test_go_keeping import PYTHON, Run
+from .folders import folder_of
 
 MAIN, RED, PART, GREEN, CHILD = 1, 10, 11, 20, 12  # goroutines
 PACKAGE = "example.org/toy/v2"
@@ -332,9 +333,7 @@ class Signals(unittest.TestCase):
     def setUp(self) -> None:
         for number in (signal.SIGINT, signal.SIGTERM, signal.SIGUSR1):
             self.addCleanup(signal.signal, number, signal.getsignal(number))
-        folder = tempfile.TemporaryDirectory()
-        self.addCleanup(folder.cleanup)
-        self.folder = pathlib.Path(folder.name)
+        self.folder = folder_of(self)
 
     def ended(self, script: str, called: Optional[list[bool]] = None) -> tuple[int, bool]:
         """How a command ended, and whether that was since it was cancelled."""

@@ -4,7 +4,6 @@ say to words of other debuggers."""
 import io
 import os
 import pty
-import tempfile
 import unittest
 from pathlib import Path
 from typing import Iterator
@@ -19,6 +18,7 @@ from nrdb.prompt.paging import MORE, Paged
 from nrdb.web.shared import OF_THE_PAGE, WITH_FILES
 from netrev_words.vocabulary import CELLS, KINDS
 from tests.test_program_places import READS, session_of
+from .folders import folder_of
 
 UNKNOWN, BAD = "fault 201 unknown command", "fault 202 bad argument"
 
@@ -133,9 +133,7 @@ class Saving(unittest.TestCase):
     def setUp(self) -> None:
         self.said = io.StringIO()
         self.session = session_of(self.said)
-        folder = tempfile.TemporaryDirectory()
-        self.addCleanup(folder.cleanup)
-        self.file = Path(folder.name, "marks.txt")
+        self.file = folder_of(self) / "marks.txt"
 
     def told(self, line: str) -> str:
         self.said.seek(0)

@@ -10,9 +10,9 @@ import shutil
 import signal
 import subprocess
 import sys
-import tempfile
 import time
 import unittest
+from .folders import folder_of
 
 ROOT = pathlib.Path(__file__).resolve().parents[2]
 NAMES = ("netrev", "nrdb", "netrev-go")
@@ -72,9 +72,7 @@ class Typed:
 
 class Shells(unittest.TestCase):
     def setUp(self) -> None:
-        folder = tempfile.TemporaryDirectory()
-        self.addCleanup(folder.cleanup)
-        self.folder = pathlib.Path(folder.name)
+        self.folder = folder_of(self)
         (self.folder / "recording.jsonl").touch()
         for shell in SHELLS:
             (self.folder / f"of_{shell}").mkdir()

@@ -81,10 +81,10 @@ def traced(recording: Recording) -> list[Event]:
     """The events of the trace of a recording, as JSON gives them back."""
     changes = changes_in(recording.data)
     told = chain(
-        Tracing(recording, changes).events("run.jsonl", lambda: None), beside(recording, changes, Looking(changes))
+        Tracing(recording, changes).events("run.jsonl", lambda: None),
+        map(json.dumps, beside(recording, changes, Looking(changes))),
     )
-    events: list[Event] = json.loads(json.dumps(list(told)))
-    return events
+    return [json.loads(event) for event in told]
 
 
 class Looking(Scout):

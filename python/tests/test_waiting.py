@@ -4,7 +4,6 @@ text; and by its steps from the end as by all of them."""
 import io
 import json
 import random
-import tempfile
 import unittest
 from collections import Counter
 from pathlib import Path
@@ -23,6 +22,7 @@ from nrdb.session import Session
 from nrdb.world import World
 
 from .modelled import Modelled, changes_at, changes_in, recording_at
+from .folders import folder_of
 
 
 def waiters(count: int, sockets: int = 1) -> str:
@@ -43,9 +43,7 @@ def waiters(count: int, sockets: int = 1) -> str:
 
 class Asked(unittest.TestCase):
     def setUp(self) -> None:
-        folder = tempfile.TemporaryDirectory()
-        self.addCleanup(folder.cleanup)
-        self.folder = Path(folder.name)
+        self.folder = folder_of(self)
 
     def session(self, text: str, asked: Counter[str]) -> tuple[Session, io.StringIO]:
         """A session at the end of a recording, what it prints, and a count of what netrev is asked."""

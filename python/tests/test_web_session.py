@@ -3,7 +3,6 @@ said while netrev is gone and when it is there again."""
 
 import json
 import sys
-import tempfile
 import unittest
 from concurrent.futures import Future
 from pathlib import Path
@@ -25,6 +24,7 @@ from nrdb.web.serving import Unavailable
 from nrdb.web.shared import NO_END, NO_FILES, NO_LINES, Saying, Shared
 
 from .modelled import Modelled, changes_at, recording_at
+from .folders import folder_of
 
 EXAMPLES = Path(__file__).resolve().parents[2] / "examples"
 FIRST, OTHER = EXAMPLES / "first.jsonl", EXAMPLES / "lost-wakeup.jsonl"
@@ -279,9 +279,8 @@ class Pictures(Played):
 
     def setUp(self) -> None:
         super().setUp()
-        folder = tempfile.TemporaryDirectory()
-        self.addCleanup(folder.cleanup)
-        program = Path(folder.name) / "netrev"
+        folder = folder_of(self)
+        program = folder / "netrev"
         program.write_text(
             f'#!/bin/sh\nexec {sys.executable} {EXAMPLES.parent / "python"} netrev_machine "$@"\n', encoding="ascii"
         )

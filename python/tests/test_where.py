@@ -13,6 +13,7 @@ from nrdb.files import written
 from nrdb.recording import NoRecording, Recording
 from nrdb.session import Misused
 from nrdb.where import MOST_BYTES, MOST_LINE, Lines
+from .folders import folder_of
 
 FIRST = {"where": 1, "steps": 2}
 CALL = {"call": 1, "function": "main.main", "file": "main.go", "line": 3, "of": "program"}
@@ -44,9 +45,8 @@ NO_JSON: tuple[bytes, ...] = (
 
 class Where(unittest.TestCase):
     def setUp(self) -> None:
-        folder = tempfile.TemporaryDirectory()
-        self.addCleanup(folder.cleanup)
-        self.recording = Path(folder.name, "x.jsonl")
+        folder = folder_of(self)
+        self.recording = folder / "x.jsonl"
         self.recording.write_text('{"netrev":1,"gor":1,"sock":1,"desc":1,"buf":16}\n["tick",1]\n["tick",2]\n')
         self.file = self.recording.with_suffix(".where")
 

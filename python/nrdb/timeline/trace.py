@@ -7,39 +7,44 @@ positions besides. Calls and suspects are nrdb's own."""
 import gzip
 import io
 import json
+from collections import Counter
 from contextlib import contextmanager
-from itertools import chain
+from itertools import chain, islice, repeat
 from pathlib import Path
 from typing import IO, Any, Callable, Iterator, Optional, cast
 
 from netrev_words.plain import plain
-from netrev_words.vocabulary import KINDS
+from netrev_words.vocabulary import OF_A_GOROUTINE
 
 from ..files import writing
-from ..backwards import OF_A_GOROUTINE
 from ..recorded_changes import RecordedChanges, value_at_start
 from ..recording import Recording, shortened
 from ..scout import Scout
 from ..session import Misused, Session
+from ..where import Lines
 from .beside import beside
 from .calls import names_data
-from .events import GOROUTINES, NETWORK, Event, event_of
+from .events import GOROUTINES, NETWORK, Event
 from .runs import Window
 
 COMPARED = 64  # positions
 POLLER, TIMERS, CLOCK = range(3)  # threads of the second, before the sockets
 SOCKETS = 10  # the number of the first socket's thread
 QUIET = ("idle", "gone")
+AT_ONCE = 1_024  # events that are written together
+END = (str(2**64), "", "")  # what comes behind the last change
+
+of_json = json.JSONEncoder(separators=(",", ":")).encode
 
 
 def write_trace(session: Session, path: str) -> str:
     """Writes the trace; what to say of it."""
     recording, scout = session.text(), session.looks()
     tracing = Tracing(recording, session.changes())
-    compared = _compared(scout, session.changes())
+    compared = _compared(scout, recording, session.changes())
     with packed(path, session.path) as file:
         events = tracing.events(Path(session.path).name, session.interrupts.check)
-        _write(file, chain(events, beside(recording, session.changes(), scout)))
+        write_events(file, chain(events, map(of_json, beside(recording, session.changes(), scout))))
     return f"{path}: {recording.length} steps, {tracing.slices} slices, {tracing.flows} wake-ups; statuses as netrev has them at {compared} positions"
 
 
@@ -55,54 +60,90 @@ def packed(path: str, recording: str) -> Iterator[IO[str]]:
             yield text
 
 
-def _write(file: IO[str], events: Iterator[Event]) -> None:
-    """Writes events as they come."""
+def write_events(file: IO[str], events: Iterator[str]) -> None:
+    """Writes events as they come, many at a time."""
     file.write('{"displayTimeUnit":"ns","traceEvents":[')
     before = "\n"
-    for event in events:
-        file.write(before + json.dumps(event, separators=(",", ":")))
+    while some := list(islice(events, AT_ONCE)):
+        file.write(before + ",\n".join(some))
         before = ",\n"
     file.write("\n]}\n")
 
 
-def _compared(scout: Scout, changes: RecordedChanges) -> int:
+def _compared(scout: Scout, recording: Recording, changes: RecordedChanges) -> int:
     """At how many positions netrev shows the statuses that it said; Misused where it doesn't."""
     every = max(changes.length // COMPARED, 1)
     compared = sorted({*range(every, changes.length + 1, every), changes.length} - {0})
-    goroutines = [cell for cell in changes.cells() if cell.startswith("gor ")]
+    spawned = sum(1 for _ in recording.steps_of(("spawn",), changes.length))
+    goroutines = [f"gor {g}" for g in range(spawned + 1)]
+    statuses = {cell: value_at_start(cell) for cell in goroutines}
+    changed = (change for change in changes.texts() if change[1][:4] == "gor ")
+    step, cell, value = next(changed, END)
     for position in compared:
-        for cell, shown in zip(goroutines, scout.values(position, goroutines)):
-            if shown != (said := changes.value(cell, position)):
-                raise Misused(f"netrev answers {cell} = {shown} at {position}, and said {said}")
+        while int(step) <= position:
+            statuses[cell] = value
+            step, cell, value = next(changed, END)
+        for cell_there, shown in zip(goroutines, scout.values(position, goroutines)):
+            if shown != (said := statuses[cell_there]):
+                raise Misused(f"netrev answers {cell_there} = {shown} at {position}, and said {said}")
     return len(compared)
 
 
 class Tracing:
-    """Follows the recording, and tells the events of the trace."""
+    """Follows the recording, and tells the events of the trace, each as JSON."""
 
     def __init__(self, recording: Recording, changes: RecordedChanges) -> None:
         self.recording, self.changes = recording, changes
         self.slices = self.flows = 0
         self._statuses: dict[int, str] = {}
-        self._clock = 0
         self._since: dict[int, int] = {}  # of each goroutine that does something, since when
 
-    def events(self, name: str, check: Callable[[], None]) -> Iterator[Event]:
+    def events(self, name: str, check: Callable[[], None]) -> Iterator[str]:
         """All events: names first, then slices and flows as steps come. Now and then it calls `check`."""
-        yield from self._names(name)
-        steps = zip(self.recording.arrays(), self.changes.by_step())
-        for number, ((kind, *arguments), changed) in enumerate(steps, 1):
+        yield from map(of_json, self._names(name))
+        clock, lines = 0, told_lines(self.recording.lines, self.recording.length)
+        changed = self._changed()
+        upcoming, statuses, ticked = next(changed)
+        for number, ((mine, where, what), line) in enumerate(zip(self.recording.rows(self._told), lines), 1):
             check()
-            told = arguments[:-1] if self.recording.has_answers else arguments
-            yield from self._step(number, kind, told, changed)
+            # (a million of these: so the text is put together here, and its parts are made once of lines that are alike)
+            yield f'{{"ph":"X",{where},"ts":{number - 1},"dur":1,{what},"args":{{"step":{number},"clock":{clock}{line}}}}}'
+            if number == upcoming:
+                yield from self._statuses_change(number, mine, where, statuses)
+                clock = clock if ticked is None else ticked
+                upcoming, statuses, ticked = next(changed)
+        self.slices += self.recording.length
         for g in sorted(self._since):
             yield self._status(g, self._statuses[g], self.recording.length + 1)
 
-    def _step(self, number: int, kind: str, arguments: list[Any], changed: list[tuple[str, str]]) -> Iterator[Event]:
-        """The events of a step, which is made between two positions."""
+    def _told(self, values: list[Any]) -> tuple[Optional[int], str, str]:
+        """Of a step's line the goroutine that makes it, where its slice lies, and what it is called."""
+        kind, *arguments = values[:-1] if self.recording.has_answers else values
         mine: Optional[int] = arguments[0] if kind in OF_A_GOROUTINE else None
-        yield self._slice_of_step(number, kind, arguments, mine)
-        statuses = {int(cell[4:]): status for cell, status in changed if cell.startswith("gor ")}
+        process, thread = (GOROUTINES, mine) if mine is not None else (NETWORK, _thread(kind, arguments))
+        text = " ".join([kind, *(shortened(str(one)) for one in arguments)])
+        return mine, f'"pid":{process},"tid":{thread}', f'"name":{of_json(text)},"cat":"step"'
+
+    def _changed(self) -> Iterator[tuple[int, dict[int, str], Optional[int]]]:
+        """Each step that changed a status or the clock, with the statuses, and the clock where it did; in the end no step."""
+        number, statuses, clock = 0, dict[int, str](), None
+        for step, cell, value in self.changes.texts():
+            if cell[:4] != "gor " and cell != "clock":
+                continue
+            if int(step) != number:
+                if number:
+                    yield number, statuses, clock
+                number, statuses, clock = int(step), {}, None
+            if cell == "clock":
+                clock = int(value)
+            else:
+                statuses[int(cell[4:])] = value
+        if number:
+            yield number, statuses, clock
+        yield 0, {}, None
+
+    def _statuses_change(self, number: int, mine: Optional[int], where: str, statuses: dict[int, str]) -> Iterator[str]:
+        """The slices that end at a step, and the flows from it."""
         before = {g: self._statuses.get(g, value_at_start(f"gor {g}")) for g in statuses}
         # (whoever sleeps is woken by another, of two at a descriptor the reader first)
         for g in sorted(statuses, key=lambda g: (g == mine, before[g].split()[-1])):
@@ -111,38 +152,26 @@ class Tracing:
             if statuses[g] not in QUIET:
                 self._since[g] = number
             if g != mine and before[g] != "absent":
-                yield from self._flow(number, kind, arguments, mine, g)
+                yield from self._flow(number, where, g)
         self._statuses |= statuses
-        self._clock = next((int(value) for cell, value in changed if cell == "clock"), self._clock)
 
-    def _status(self, g: int, words: str, until: int) -> Event:
+    def _status(self, g: int, words: str, until: int) -> str:
         """The slice of a status that ends."""
         since = self._since.pop(g)
         self.slices += 1
-        return event_of("X", GOROUTINES, g, since, dur=until - since, name=words, cat="status")
+        where = f'"pid":{GOROUTINES},"tid":{g},"ts":{since},"dur":{until - since}'
+        return f'{{"ph":"X",{where},"name":{of_json(words)},"cat":"status"}}'
 
-    def _slice_of_step(self, number: int, kind: str, arguments: list[Any], mine: Optional[int]) -> Event:
-        """The slice of a step, from the position before to the one behind."""
-        self.slices += 1
-        text = " ".join([kind, *(shortened(str(one)) for one in arguments)])
-        line = self.recording.lines.words(number)
-        told: Event = {"step": number, "clock": self._clock, **({"line": plain(line)} if line else {})}
-        process, thread = (GOROUTINES, mine) if mine is not None else (NETWORK, _thread(kind, arguments))
-        return event_of("X", process, thread, number - 1, dur=1, name=text, cat="step", args=told)
-
-    def _flow(self, number: int, kind: str, arguments: list[Any], mine: Optional[int], woken: int) -> Iterator[Event]:
+    def _flow(self, number: int, where: str, woken: int) -> Iterator[str]:
         """From the step that wakes to the status in which the woken one goes on."""
         self.flows += 1
-        process, thread = (GOROUTINES, mine) if mine is not None else (NETWORK, _thread(kind, arguments))
-        yield event_of("s", process, thread, number - 1, id=self.flows, name="wakes", cat="wake")
-        yield event_of("f", GOROUTINES, woken, number, id=self.flows, name="wakes", cat="wake", bp="e")
+        about = f'"id":{self.flows},"name":"wakes","cat":"wake"'
+        yield f'{{"ph":"s",{where},"ts":{number - 1},{about}}}'
+        yield f'{{"ph":"f","pid":{GOROUTINES},"tid":{woken},"ts":{number},{about},"bp":"e"}}'
 
     def _names(self, name: str) -> Iterator[Event]:
         """The names of processes and threads."""
-        kinds = {kind: 0 for kind in ("spawn", "sockopen")}
-        for kind, *_ in self.recording.arrays():
-            if kind in kinds:
-                kinds[kind] += 1
+        kinds = Counter(step.kind for step in self.recording.steps_of(("spawn", "sockopen"), self.recording.length))
         for process, title in ((GOROUTINES, f"goroutines of {plain(name)}"), (NETWORK, "network, poller and clock")):
             yield {"ph": "M", "pid": process, "name": "process_name", "args": {"name": title}}
         runs = names_data(self.recording, Window(0, self.recording.length))
@@ -160,3 +189,10 @@ def _thread(kind: str, arguments: list[Any]) -> int:
     if kind in ("arrive", "drain", "peerclose"):
         return SOCKETS + int(arguments[0])
     return {"pollevent": POLLER, "pop": TIMERS, "fire": TIMERS}.get(kind, CLOCK)
+
+
+def told_lines(lines: Lines, length: int) -> Iterator[str]:
+    """Of each step how its slice goes on where the program's line is known: each stack's text is made once."""
+    texts = {number: stack.words() for number, stack in lines.stacks.items()}
+    told = {number: f',"line":{of_json(plain(text))}' if text else "" for number, text in texts.items()}
+    return chain(map(told.__getitem__, lines.steps), repeat("", length - len(lines.steps)))

@@ -30,7 +30,7 @@ from pathlib import Path
 
 import pytest
 from netrev_machine.debugger import FULL, Recording, is_command, read_line  # (it tells Python where nrdb is)
-from netrev_machine.history import GaveUp, Search
+from tests.program.history import GaveUp, Search
 from netrev_words.vocabulary import CELLS, DUMPS, KINDS, MOST, Of
 
 from .sharing import NETREV, PATIENCE, ROOT, Server, Talker, Wrong, converse, expect, read_to_end, talk

@@ -17,13 +17,31 @@ from dataclasses import dataclass, field
 from itertools import count
 from pathlib import Path
 
-from netrev_machine.debugger import read_line
-from netrev_machine.history import Exchange
+from netrev_machine.debugger import FULL, Asked, Reply, is_command, read_line
 
 ROOT = Path(__file__).resolve().parents[3]
 NETREV = os.path.abspath(os.environ.get("NETREV", ROOT / "crates/netrev/out/netrev"))
 PATIENCE = 30  # seconds
 LOOPBACK = "127.0.0.1"
+
+
+@dataclass
+class Exchange:
+    """A line and the lines that it was answered. Sending and reading are told by numbers that rise over all fronts."""
+
+    asked: Asked
+    line: bytes
+    sent: int
+    reply: Reply = ()
+    read: int = 0
+
+    def is_placed(self) -> bool:
+        """Whether the line is a command that found a place in the journal."""
+        return is_command(self.asked) and self.reply != (FULL,)
+
+    def is_calm(self) -> bool:
+        """Whether the line changes nothing, wherever it has this reply."""
+        return not is_command(self.asked) or self.reply[0].startswith("fault ")
 
 
 class Wrong(Exception):

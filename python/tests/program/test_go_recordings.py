@@ -3,7 +3,6 @@ netrev's; and what Go did otherwise is found at its step."""
 
 import json
 import pathlib
-import tempfile
 import unittest
 
 from netrev_fuzz.logs import binary, from_text
@@ -16,6 +15,7 @@ from netrev_go.report import report
 
 from ..test_go_converting import DESCRIPTOR, WORD, Points
 from .nrdb.support import NETREV
+from tests.folders import folder_of
 
 REAL = pathlib.Path(__file__).resolve().parents[3] / "examples/real"
 NAMES = ("half", "hijacked", "hung", "leak", "lost", "older", "past")
@@ -23,9 +23,7 @@ NAMES = ("half", "hijacked", "hung", "leak", "lost", "older", "past")
 
 class Recorded(unittest.TestCase):
     def setUp(self) -> None:
-        folder = tempfile.TemporaryDirectory()
-        self.addCleanup(folder.cleanup)
-        self.name = pathlib.Path(folder.name, "made.jsonl")
+        self.name = folder_of(self) / "made.jsonl"
 
     def made(self, name: str) -> None:
         """The recording of a stored log, with its lock words."""

@@ -11,13 +11,16 @@ import select
 import signal
 import tempfile
 import time
+import unittest
 from contextlib import suppress
 from pathlib import Path
 from typing import Any
 
 from .browser import CHROMIUM, PATIENCE
+from .web_support import Web
 
 Body = dict[str, Any]
+LOADED = "document.getElementById('panel')?.innerText.includes('position')"
 TO, FROM = 3, 4  # the file descriptors that chromium speaks at
 FREE = 10  # above all that are given away
 ENDING = 10  # seconds
@@ -171,3 +174,22 @@ class Page:
             if event["method"] == "Log.entryAdded" and event["params"]["entry"]["level"] == "error":
                 found.append(event["params"]["entry"]["text"])
         return found
+
+
+@unittest.skipUnless(CHROMIUM, "chromium isn't on this machine (Debian: apt-get install chromium)")
+class InChromium(unittest.TestCase):
+    """Tests that share a browser."""
+
+    chromium: Chromium
+
+    @classmethod
+    def setUpClass(cls) -> None:
+        cls.chromium = Chromium()
+        cls.chromium.__enter__()
+        cls.addClassCleanup(cls.chromium.__exit__)
+
+    def opened(self, web: Web) -> Page:
+        """The page that is served, with its timeline."""
+        page = self.chromium.page(str(web.address))
+        page.until(LOADED)
+        return page

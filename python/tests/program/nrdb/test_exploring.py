@@ -20,6 +20,7 @@ from tests.program.sharing import NETREV
 
 from .support import EXAMPLES, nrdb
 from .test_suspects import checked
+from tests.folders import folder_of
 
 SOME = 4
 SCHEDULES = 100  # of each race
@@ -30,10 +31,9 @@ CAUSED = EXAMPLES.parent / "python/tests/caused"
 
 class Exploring(unittest.TestCase):
     def setUp(self) -> None:
-        folder = tempfile.TemporaryDirectory()
-        self.addCleanup(folder.cleanup)
+        folder = folder_of(self)
         self.addCleanup(os.chdir, os.getcwd())
-        os.chdir(folder.name)
+        os.chdir(folder)
 
     def test_what_is_kept_is_a_run_that_ends_with_the_suspect(self) -> None:
         said = nrdb("--explore", GOOD, status=SOME)

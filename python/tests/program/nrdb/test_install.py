@@ -6,12 +6,12 @@ import re
 import shutil
 import subprocess
 import sys
-import tempfile
 import unittest
 from pathlib import Path
 from typing import Optional
 
 from .support import EXAMPLES, NETREV, PATIENCE, ROOT, nrdb
+from tests.folders import folder_of
 
 ENVIRONMENT = {name: value for name, value in os.environ.items() if name not in ("NETREV", "MAKEFLAGS", "PYTHONPATH")}
 ASKED = ("--batch", "-ex", "continue", "-ex", "info goroutines", EXAMPLES / "first.jsonl")
@@ -55,9 +55,7 @@ def contents(folder: Path) -> dict[str, bytes]:
 
 class Install(unittest.TestCase):
     def setUp(self) -> None:
-        folder = tempfile.TemporaryDirectory()
-        self.addCleanup(folder.cleanup)
-        self.folder = Path(folder.name)
+        self.folder = folder_of(self)
 
     def test_what_is_installed_needs_nothing_that_is_not(self) -> None:
         self.assertEqual(len(INCLUDED), 1)
@@ -87,6 +85,26 @@ class Install(unittest.TestCase):
                 str((prefix / "bin/netrev").resolve()),
             )
             self.assertTrue((prefix / "share/man/man1/netrev.1").read_text().startswith(".TH NETREV 1"))
+
+    def test_what_make_installs_is_compiled_and_goes_by_the_source(self) -> None:
+        printed("make", "-s", "-C", ROOT, "-o", "netrev", "install", f"PROGRAM={NETREV}", f"PREFIX={self.folder}")
+        lib = self.folder / "lib/netrev"
+        modules = {path.relative_to(lib) for path in lib.rglob("*.py")}
+        compiled = list(lib.rglob("__pycache__/*.pyc"))
+        of = {path.relative_to(lib).parents[1] / f"{path.name.partition('.')[0]}.py" for path in compiled}
+        self.assertEqual(of, modules)
+        flags = {int.from_bytes(path.read_bytes()[4:8], "little") for path in compiled}
+        self.assertEqual(flags, {0b11})  # (PEP 552: by a sum of the source, which is looked at)
+        times = {path: path.stat().st_mtime_ns for path in compiled}
+        self.assertEqual(printed(self.folder / "bin/nrdb", *ASKED), nrdb(*ASKED))
+        self.assertEqual({path: path.stat().st_mtime_ns for path in lib.rglob("*.pyc")}, times)
+        source = lib / "netrev_words/version.py"
+        before = source.stat()
+        text = source.read_text(encoding="utf-8")
+        source.write_text(re.sub(r"\d(?=\"$)", "9", text, flags=re.MULTILINE), encoding="utf-8")
+        os.utime(source, ns=(before.st_atime_ns, before.st_mtime_ns))
+        self.assertEqual(source.stat().st_size, before.st_size)
+        self.assertIn(".9", printed(self.folder / "bin/nrdb", "--version"))
 
     def test_pip_installs_the_same(self) -> None:
         python = builder()

@@ -2,7 +2,6 @@
 a recording: nrdb and the timeline's page write it out."""
 
 import json
-import tempfile
 import unittest
 from pathlib import Path
 from typing import Any, Iterator
@@ -10,6 +9,7 @@ from typing import Any, Iterator
 from tests.test_strange import OBEYED, unseen
 
 from .support import EXAMPLES, nrdb
+from tests.folders import folder_of
 
 FIRST = EXAMPLES / "first.jsonl"
 HEADER = '{"netrev":2,"gor":2,"sock":1,"desc":1,"buf":16}'
@@ -65,9 +65,7 @@ def where_with(text: str, steps: int) -> str:
 
 class Obeyed(unittest.TestCase):
     def setUp(self) -> None:
-        folder = tempfile.TemporaryDirectory()
-        self.addCleanup(folder.cleanup)
-        self.file = Path(folder.name) / "x.jsonl"
+        self.file = folder_of(self) / "x.jsonl"
 
     def test_recordings_that_are_refused(self) -> None:
         for text in OBEYED:

@@ -3,12 +3,10 @@ what is behind it, light and dark. What is checked is what the browser makes of 
 chromium (Debian: apt-get install chromium)."""
 
 import tempfile
-import unittest
 from pathlib import Path
 from typing import Any, Iterator
 
-from .browser import CHROMIUM
-from .devtools import Chromium, Page
+from .devtools import InChromium, Page
 from .support import EXAMPLES
 from .test_calls_page import opened
 from .test_timeline_page import page_of
@@ -88,16 +86,12 @@ def parsed(colour: str) -> list[float]:
     return [int(colour[at : at + 2], 16) for at in (1, 3, 5)]
 
 
-@unittest.skipUnless(CHROMIUM, "chromium isn't on this machine (Debian: apt-get install chromium)")
-class Access(unittest.TestCase):
-    chromium: Chromium
+class Access(InChromium):
     pages: dict[str, str]
 
     @classmethod
     def setUpClass(cls) -> None:
-        cls.chromium = Chromium()
-        cls.chromium.__enter__()
-        cls.addClassCleanup(cls.chromium.__exit__)
+        super().setUpClass()
         cls.pages = {name: page_of(EXAMPLES / path) for name, path in PLACES.items()}
 
     def shown(self, address: str) -> Iterator[tuple[str, Page]]:

@@ -2,7 +2,6 @@
 reduced again; NAME.where goes with it."""
 
 import re
-import tempfile
 import unittest
 import xml.etree.ElementTree as ET
 from pathlib import Path
@@ -15,6 +14,7 @@ from tests.examples import KNOWN
 
 from .support import EXAMPLES, HUNTS, ROOT, netrev, nrdb
 from .test_suspects import checked
+from tests.folders import folder_of
 
 # of these the least that was reached, and some more
 MOST = {
@@ -51,9 +51,7 @@ def first_of(recording: Recording) -> Suspect:
 
 class Reducing(unittest.TestCase):
     def setUp(self) -> None:
-        folder = tempfile.TemporaryDirectory()
-        self.addCleanup(folder.cleanup)
-        self.folder = Path(folder.name)
+        self.folder = folder_of(self)
 
     def reduced(self, path: Path, *words: str) -> Recording:
         """What is left of a recording, which netrev accepts, and which isn't longer than it says."""

@@ -3,7 +3,6 @@ which netrev accepts; and `--suspects`, whose exit status says whether there are
 
 import json
 import subprocess
-import tempfile
 import unittest
 from pathlib import Path
 
@@ -13,6 +12,7 @@ from tests.examples import KNOWN, REFUSED
 from tests.test_suspects import PAIRS, recording_of
 
 from .support import EXAMPLES, nrdb, nrdb_process
+from tests.folders import folder_of
 
 DOUBT = "take care"
 SOME = 4
@@ -26,9 +26,7 @@ def checked(path: Path) -> str:
 
 class Suspects(unittest.TestCase):
     def setUp(self) -> None:
-        folder = tempfile.TemporaryDirectory()
-        self.addCleanup(folder.cleanup)
-        self.path = Path(folder.name) / "recording.jsonl"
+        self.path = folder_of(self) / "recording.jsonl"
 
     def test_netrev_answers_what_the_rules_reckon_with(self) -> None:
         for name, rule in KNOWN.items():

@@ -6,13 +6,13 @@ import pty
 import select
 import signal
 import struct
-import tempfile
 import termios
 import time
 import unittest
 from pathlib import Path
 
 from .support import EXAMPLES, NETREV, NRDB, PATIENCE
+from tests.folders import folder_of
 
 PROMPT = "(netrev) "
 INTERRUPT = "\x03"
@@ -99,9 +99,8 @@ def pairs_of_locks(path, steps):
 
 class Terminal(unittest.TestCase):
     def setUp(self):
-        folder = tempfile.TemporaryDirectory()
-        self.addCleanup(folder.cleanup)
-        self.home = folder.name
+        folder = folder_of(self)
+        self.home = str(folder)
 
     def typist(self, recording=EXAMPLES / "first.jsonl"):
         return Typist(recording, self.home)

@@ -2,23 +2,21 @@
 
 import gzip
 import json
-import tempfile
 import unittest
 from pathlib import Path
 from unittest.mock import patch
 
-from nrdb.recorded_changes import RecordedChanges
+from nrdb.arriving_changes import ArrivingChanges
 from nrdb.timeline.trace import COMPARED
 from tests.test_trace import faults_of
 
 from .support import EXAMPLES, HUNTS, nrdb
+from tests.folders import folder_of
 
 
 class Trace(unittest.TestCase):
     def setUp(self) -> None:
-        folder = tempfile.TemporaryDirectory()
-        self.addCleanup(folder.cleanup)
-        self.path = Path(folder.name) / "run.json"
+        self.path = folder_of(self) / "run.json"
 
     def test_the_file_is_whole(self) -> None:
         for words in (("--trace", self.path), ("--batch", "-ex", f"trace {self.path}")):
@@ -42,7 +40,7 @@ class Trace(unittest.TestCase):
 
     def test_nothing_is_written_where_netrev_answers_otherwise(self) -> None:
         path = EXAMPLES / "lost-wakeup.jsonl"
-        with patch.object(RecordedChanges, "value", lambda changes, cell, position: "parking 0 r"):
+        with patch.object(ArrivingChanges, "texts", lambda changes: iter([("1", "gor 0", "parking 0 r")])):
             said = nrdb("--trace", self.path, path, status=3)
         self.assertIn("| netrev answers gor 0 = idle at 1, and said parking 0 r", said)
         self.assertFalse(self.path.exists())

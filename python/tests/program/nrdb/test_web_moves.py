@@ -5,17 +5,16 @@ apt-get install chromium)."""
 import subprocess
 import tempfile
 import time
-import unittest
 from pathlib import Path
 
 import pytest
 
 from tests.program.sharing import ROOT
 
-from .browser import CHROMIUM, PATIENCE
-from .devtools import Chromium, Page
+from .browser import PATIENCE
+from .devtools import LOADED, InChromium, Page
 from .support import EXAMPLES
-from .test_web_page import LOADED, says, stands
+from .test_web_page import says, stands
 from .web_support import Web
 
 HIJACKED = EXAMPLES / "real/hijacked.jsonl"
@@ -36,21 +35,7 @@ def writes(page: Page, text: str) -> None:
     page.does("Input.insertText", text=text)
 
 
-@unittest.skipUnless(CHROMIUM, "chromium isn't on this machine (Debian: apt-get install chromium)")
-class Working(unittest.TestCase):
-    chromium: Chromium
-
-    @classmethod
-    def setUpClass(cls) -> None:
-        cls.chromium = Chromium()
-        cls.chromium.__enter__()
-        cls.addClassCleanup(cls.chromium.__exit__)
-
-    def opened(self, web: Web) -> Page:
-        page = self.chromium.page(str(web.address))
-        page.until(LOADED)
-        return page
-
+class Working(InChromium):
     def test_moves_by_buttons_and_keys(self) -> None:
         with Web(HIJACKED) as web:
             page = self.opened(web)

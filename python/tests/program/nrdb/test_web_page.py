@@ -4,20 +4,17 @@ that tries its luck, and texts of others, which stay texts. Left out where there
 import shutil
 import signal
 import tempfile
-import unittest
 from pathlib import Path
 
 from tests.program.sharing import Server
 
-from .browser import CHROMIUM
-from .devtools import Chromium, Page
+from .devtools import InChromium, Page
 from .support import EXAMPLES
 from .test_join import Joined, replies
 from .web_support import Web
 
 LOST = EXAMPLES / "lost-wakeup.jsonl"
 HOSTILE = "<img src=x onerror=\"document.title='obeyed'\">"
-LOADED = "document.getElementById('panel')?.innerText.includes('position')"
 LOG, GONE = "document.getElementById('log').innerText", "document.getElementById('gone').innerText"
 
 
@@ -33,22 +30,7 @@ def stands(page: Page, position: int, steps: int = 22) -> None:
                f"|| document.getElementById('panel').innerText.includes('position {position}\\n')")  # fmt: skip
 
 
-@unittest.skipUnless(CHROMIUM, "chromium isn't on this machine (Debian: apt-get install chromium)")
-class InChromium(unittest.TestCase):
-    chromium: Chromium
-
-    @classmethod
-    def setUpClass(cls) -> None:
-        cls.chromium = Chromium()
-        cls.chromium.__enter__()
-        cls.addClassCleanup(cls.chromium.__exit__)
-
-    def opened(self, web: Web) -> Page:
-        """The page, with its timeline."""
-        page = self.chromium.page(str(web.address))
-        page.until(LOADED)
-        return page
-
+class Together(InChromium):
     def test_two_browsers_and_a_terminal_in_one_session(self) -> None:
         with Server(LOST, fronts=2, connections=0) as server:
             server.call(0).close()

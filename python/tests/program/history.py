@@ -1,7 +1,7 @@
 """Finds one history for what all fronts of a session were answered, or that there is none.
 
 A history is an order of all lines in which each front's own order is kept, in which a line whose reply had been read
-before another line was sent comes before that one, and in which each reply is what the debugger of debugger.py answers
+before another line was sent comes before that one, and in which each reply is what netrev_machine's debugger answers
 in the state that the commands before it lead to. So a look shows a state between its sending and its reply, and none
 older than what its front was shown before; and once the session has placed as many commands as it has room for, each
 further one is answered so.
@@ -21,7 +21,9 @@ from dataclasses import dataclass
 from itertools import accumulate
 from typing import Any, NamedTuple, Optional, Sequence
 
-from .debugger import CHECKPOINTS_FULL, FULL, MARKS_FULL, Asked, Recording, Reply, State, is_command
+from netrev_machine.debugger import CHECKPOINTS_FULL, FULL, MARKS_FULL, Asked, Recording, Reply, State, is_command
+
+from .sharing import Exchange
 
 AT = re.compile(r"at (\d+)( end| start)?( by [\d ]+)?$")
 CHECKPOINT = re.compile(r"checkpoint (\d+) at (\d+)$")
@@ -30,25 +32,6 @@ DELETED = re.compile(r"deleted (mark|checkpoint) (\d+)$")
 
 Name = tuple[str, int]  # a mark or a checkpoint, by its number
 Choice = tuple[int, State]  # a front, and the state behind its next line
-
-
-@dataclass
-class Exchange:
-    """A line and the lines that it was answered. Sending and reading are told by numbers that rise over all fronts."""
-
-    asked: Asked
-    line: bytes
-    sent: int
-    reply: Reply = ()
-    read: int = 0
-
-    def is_placed(self) -> bool:
-        """Whether the line is a command that found a place in the journal."""
-        return is_command(self.asked) and self.reply != (FULL,)
-
-    def is_calm(self) -> bool:
-        """Whether the line changes nothing, wherever it has this reply."""
-        return not is_command(self.asked) or self.reply[0].startswith("fault ")
 
 
 class Clue(NamedTuple):

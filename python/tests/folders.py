@@ -1,0 +1,12 @@
+"""A folder of a test's own."""
+
+import tempfile
+import unittest
+from pathlib import Path
+
+
+def folder_of(test: unittest.TestCase) -> Path:
+    """A folder that is gone behind the test."""
+    folder = tempfile.TemporaryDirectory()
+    test.addCleanup(folder.cleanup)
+    return Path(folder.name)
