@@ -9,7 +9,6 @@ from typing import Callable, Iterable, Iterator, NamedTuple, Optional, Sequence
 from .changed_lines import ChangedLines, NoChanges
 
 FEW = 300  # questions, up to which the answer is looked for in the lines
-NONE = ("", "", "")  # what comes behind the last change, as texts
 AT_START = {"clock": "0", "waiters": "0", "timers": "0", "firings": "0", "gor 0": "idle"}
 
 
@@ -147,18 +146,6 @@ class RecordedChanges:
     def __iter__(self) -> Iterator[Change]:
         """All changes, step by step."""
         return (Change(int(step), cell, value) for step, cell, value in self.texts())
-
-    def by_step(self) -> Iterator[list[tuple[str, str]]]:
-        """Of each step in turn what it changed, as `at` has it."""
-        changes = self.texts()
-        upcoming, cell, value = next(changes, NONE)
-        for step in range(1, self._length + 1):
-            changed: list[tuple[str, str]] = []
-            number = str(step)
-            while upcoming == number:
-                changed.append((cell, value))
-                upcoming, cell, value = next(changes, NONE)
-            yield changed
 
     def told(self) -> Iterator[Told]:
         """All changes, some thousands of steps at a time, for who needs few of them: no line is looked at alone."""
