@@ -1,5 +1,5 @@
-"""A little Go, to write recordings of: goroutines are generators that make Go's calls, by the control flow of internal/poll
-and runtime/netpoll, a step of the model's machine at each turn; a scheduler with dice takes them by turns."""
+"""A little Go, to write recordings of. A goroutine is a generator that makes Go's calls, by the control flow of internal/poll and
+runtime/netpoll: one step of the model's machine at each turn. A scheduler with dice says whose turn it is."""
 
 import json
 import random

@@ -14,14 +14,10 @@ from .notes import CLOSED, Look, Looks, Notes
 from .recording import Recording
 from .whose import NONE, Whose
 
-Maker = Callable[
-    ..., Look
-]  # takes the book, the notes, and the arguments of the step, of which the first is its goroutine
+Maker = Callable[..., Look]  # takes the book, the notes, and the step's arguments, of which the first is its goroutine
 SETTING = {"r": "SetReadDeadline", "w": "SetWriteDeadline", "rw": "SetDeadline"}
 LOCKING = {"r": "Read", "w": "Write"}
 WAITING = {"r": "WaitRead", "w": "WaitWrite"}
-
-
 CODES = {1: Outcome.CLOSED, 2: Outcome.TIMED_OUT, 3: Outcome.EVENT_ERROR}
 
 
@@ -261,8 +257,8 @@ def writes(book: Book, notes: Notes, g: int, s: int, digits: str) -> Look:
     return look
 
 
-def names(name: Callable[[str], str]) -> Maker:
-    """A step that tells what a `Control` is: by its mode, where it has one."""
+def names_control(name: Callable[[str], str]) -> Maker:
+    """A step that names the call which its `incref` began as a `Control`: `setdeadline`, by its mode, and `closewrite`."""
 
     def of(book: Book, notes: Notes, g: int, which: int, mode: str = "", *_: object) -> Look:
         calls = book.open[g]
@@ -291,8 +287,8 @@ LOOKS: dict[str, Maker] = {
     "waitcheck": checks_again,
     "sysread": reads,
     "syswrite": writes,
-    "setdeadline": names(lambda mode: SETTING[mode]),
-    "closewrite": names(lambda _: CLOSE_WRITE),
+    "setdeadline": names_control(lambda mode: SETTING[mode]),
+    "closewrite": names_control(lambda _: CLOSE_WRITE),
 }
 
 

@@ -8,6 +8,7 @@ from typing import Iterator
 from netrev_words.vocabulary import CELLS, KINDS, REASONS, Of, cell_of, number_of
 
 from .answers_of_calls import OF_CALLS, answer_errors, arrive, taken_most, usage
+from .answers_of_files import answer_explore, answer_reduce, answer_report, answer_timeline, answer_trace
 from ..changes import history_table
 from ..commands import ALL_TOPICS, COMMANDS, OF_NETREV, OF_NRDB, TOPICS, Origin, whole_command
 from ..holders import holders_table
@@ -205,41 +206,6 @@ def answer_history(session: Session, words: list[str]) -> None:
     most = taken_most("history", rest)
     table = history_table(session.changes(), session.text(), cell, session.stands().position, most)
     session.printer.table(table)
-
-
-def answer_timeline(session: Session, words: list[str]) -> None:
-    numbers = [number_of(word) for word in words[1:]]
-    if len(words) not in (1, 3) or None in numbers:
-        raise Misused(usage("timeline"))
-    from ..timeline import write_timeline
-
-    session.printer.note(write_timeline(session, words[0], *numbers))
-
-
-def answer_trace(session: Session, words: list[str]) -> None:
-    if len(words) != 1:
-        raise Misused(usage("trace"))
-    from ..timeline import write_trace
-
-    session.printer.note(write_trace(session, words[0]))
-
-
-def answer_reduce(session: Session, words: list[str]) -> None:
-    from ..reducing import answer_reduce as answer
-
-    answer(session, words)
-
-
-def answer_report(session: Session, words: list[str]) -> None:
-    from ..reducing import answer_report as answer
-
-    answer(session, words)
-
-
-def answer_explore(session: Session, words: list[str]) -> None:
-    from ..exploring import answer_explore as answer
-
-    answer(session, words)
 
 
 def answer_source(session: Session, words: list[str]) -> bool:

@@ -33,7 +33,7 @@ def quietly(call, *arguments, **more):
         return call(*arguments, **more), printed.getvalue()
 
 
-def reason_exchanged(world, g, s):
+def decref_with_another_reason(world, g, s):
     """`decref` with another reason where there is no reference."""
     try:
         return steps.decref(world, g, s)
@@ -61,7 +61,7 @@ def shut_for_nothing(world, g, s, data):
 EVENT, WRITE = polling.event, steps.syswrite
 # what is planted in the model, and a seed whose first cases show it (a change of how cases are made wants other seeds)
 PLANTED: dict[str, tuple[str, Callable[[], ContextManager[object]]]] = {
-    "a reason exchanged": ("86", lambda: mock.patch.dict(steps.OF_KIND, decref=reason_exchanged)),
+    "a decref with another reason": ("86", lambda: mock.patch.dict(steps.OF_KIND, decref=decref_with_another_reason)),
     "a mark that stays": ("17", lambda: mock.patch.object(polling, "event", error_stays)),
     "a command line shorter by one": ("4", lambda: mock.patch("netrev_machine.debugger.MOST_LINE", 255)),
     "a temporary break that stays": (
@@ -104,14 +104,14 @@ class Finding(unittest.TestCase):
                 self.assertNotEqual((folder / "told").read_bytes(), (folder / "wanted").read_bytes())
 
     def test_what_is_kept_can_be_played_again(self):
-        with planted("a reason exchanged", self.out) as folder:
+        with planted("a decref with another reason", self.out) as folder:
             again, said = quietly(main, ["--again", str(folder)])
         self.assertIn("reason 7', the model's", said)
         self.assertEqual((again, quietly(main, ["--again", str(folder)])[0]), (1, 0))
         self.assertEqual((folder / "whole-recording.jsonl").read_bytes(), make(kept(folder).seed).recording)
 
     def test_what_is_kept_has_no_line_too_many(self):
-        with planted("a reason exchanged", self.out) as folder:
+        with planted("a decref with another reason", self.out) as folder:
             small = kept(folder)
             lines = small.recording.split(b"\n")
             for at in range(len(lines)):

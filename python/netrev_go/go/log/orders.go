@@ -14,7 +14,7 @@ const (
 	netrevClosedKind   = 121
 	netrevEndedKind    = 122 // the channel was found closed, with nothing in it
 	netrevParksKind    = 124 // the goroutine waits: a is for what
-	netrevGoesOnKind   = 125 // and goes on
+	netrevGoesOnKind   = 125 // a goroutine that waited goes on
 )
 
 // netrevOrder is a point of a goroutine's; where the scheduler itself acts there is none.

@@ -49,11 +49,11 @@ def open_descriptors(recording, position):
 
 def balance(recording, words, position):
     """How many references of a socket each goroutine has, by how its lock word's count changed at that one's steps."""
-    counts = [0 if word == "absent" else lock_fields(word)[3] for word in words]
+    references = [0 if word == "absent" else lock_fields(word)[3] for word in words]
     held: Counter[int] = Counter()
-    for number in range(1, position + 1):
-        if change := counts[number] - counts[number - 1]:
-            held[recording.step(number).argument("g")] += change
+    for step in range(1, position + 1):
+        if change := references[step] - references[step - 1]:
+            held[recording.step(step).argument("g")] += change
     return +held
 
 

@@ -1,0 +1,124 @@
+"""What notes the steps of sockets and their references (`noting.py`)."""
+
+from __future__ import annotations
+
+from typing import TYPE_CHECKING, Callable
+
+from .noted import By, Hold
+from .noting_goroutines import Note, stepped
+
+if TYPE_CHECKING:
+    from .notes import Notes
+
+REFERENCES = (2**20 - 1) << 3  # in a lock word
+
+
+def arrived(notes: Notes, s: int, digits: str) -> Note:
+    inputs, came, told, cell = notes.inputs, notes.arrived, notes.told.get, f" in {s}"
+
+    def note(step: int, number: str) -> None:
+        came[s] = step
+        if shown := told(number + cell):
+            inputs[s] = int(shown)
+
+    return note
+
+
+def drained(notes: Notes, s: int, count: int) -> Note:
+    outputs, told, cell = notes.outputs, notes.told.get, f" out {s}"
+
+    def note(step: int, number: str) -> None:
+        if shown := told(number + cell):
+            outputs[s] = int(shown)
+
+    return note
+
+
+def peer_closed(notes: Notes, s: int) -> Note:
+    def note(step: int, number: str) -> None:
+        notes.peer[s] = step
+
+    return note
+
+
+def read(notes: Notes, g: int, s: int, most: int) -> Note:
+    goroutine, inputs, told, cell = notes.goroutine(g), notes.inputs, notes.told.get, f" in {s}"
+
+    def note(step: int, number: str) -> None:
+        goroutine.tried = step
+        notes.moved = 0
+        if shown := told(number + cell):
+            notes.moved = inputs[s] - int(shown)
+            inputs[s] = int(shown)
+
+    return note
+
+
+def written(notes: Notes, g: int, s: int, digits: str) -> Note:
+    goroutine, outputs, told, cell = notes.goroutine(g), notes.outputs, notes.told.get, f" out {s}"
+
+    def note(step: int, number: str) -> None:
+        goroutine.tried = step
+        notes.moved = 0
+        if shown := told(number + cell):
+            notes.moved = int(shown) - outputs.get(s, 0)
+            outputs[s] = int(shown)
+        if s in notes.shut:
+            notes.refused_writes.append((step, g, s))
+
+    return note
+
+
+def shut(notes: Notes, g: int, s: int) -> Note:
+    def note(step: int, number: str) -> None:
+        notes.shut.setdefault(s, By(step, g))
+
+    return note
+
+
+def referred(kind: str) -> Callable[..., Note]:
+    """What notes a step of a kind that may take a reference: where the lock word has one more, and the lock of a side with it, if one is named."""
+
+    def of(notes: Notes, g: int, s: int, side: str = "") -> Note:
+        goroutine, locks, told, cell = notes.goroutine(g), notes.locks, notes.told.get, f" lock {s}"
+        holds = notes.holds.setdefault(s, [])
+        own = None if kind == "incref" else stepped(notes, g)
+
+        def note(step: int, number: str) -> None:
+            if shown := told(number + cell):
+                before, word = locks.get(s, 0), int(shown)
+                locks[s] = word
+                if word & REFERENCES > before & REFERENCES:
+                    holds.append(Hold(g, step, kind, side))
+                    notes.holds_more(goroutine, 1)
+                    if kind == "increfclose":
+                        notes.closer[s] = By(step, g)
+            if own:
+                own(step, number)
+
+        return note
+
+    return of
+
+
+def given(notes: Notes, g: int, s: int, side: str = "") -> Note:
+    """A goroutine gives up a reference: its own last one of that sort, else another's, since Go counts and names none."""
+    locks, told, cell, holds = notes.locks, notes.told.get, f" lock {s}", notes.holds.setdefault(s, [])
+    own, longest = stepped(notes, g) if side else None, notes.longest_holds
+
+    def note(step: int, number: str) -> None:
+        if shown := told(number + cell):
+            locks[s] = int(shown)
+        hold = holds[-1]
+        if hold.goroutine != g or hold.side != side:
+            fitting = [one for one in holds if one.side == side]
+            mine = [one for one in fitting if one.goroutine == g]
+            hold = (mine or fitting or holds)[-1]
+        holds.remove(hold)
+        notes.holds_more(notes.goroutines[hold.goroutine], -1)
+        if step - hold.step > longest.get(hold.kind, -1):
+            longest[hold.kind] = step - hold.step
+        if own:
+            own(step, number)
+
+    return note
