@@ -166,30 +166,22 @@ def gives(book: Book, notes: Notes, g: int, s: int, side: str = "") -> Look:
     return look
 
 
-def refers(book: Book, notes: Notes, g: int, s: int) -> Look:
-    goroutine, calls = notes.goroutine(g), book.open[g]
+def begins(name: str, has_failed: Callable[[Notes, int, int, int], bool]) -> Maker:
+    """A step by which a call begins that has failed at once where the socket was closed before."""
 
-    def look(step: int) -> None:
-        call = book.begin(step, g, CONTROL, s, calls)
-        if notes.is_closed(s):
-            call.is_ending = True
-            fail(notes, call, Outcome.CLOSED)
-            book.settle(step, goroutine, calls)
+    def of(book: Book, notes: Notes, g: int, s: int) -> Look:
+        goroutine, calls = notes.goroutine(g), book.open[g]
 
-    return look
+        def look(step: int) -> None:
+            call = book.begin(step, g, name, s, calls)
+            if has_failed(notes, step, g, s):
+                call.is_ending = True
+                fail(notes, call, Outcome.CLOSED)
+                book.settle(step, goroutine, calls)
 
+        return look
 
-def closes(book: Book, notes: Notes, g: int, s: int) -> Look:
-    goroutine, calls = notes.goroutine(g), book.open[g]
-
-    def look(step: int) -> None:
-        call = book.begin(step, g, CLOSE, s, calls)
-        if notes.closer[s] != (step, g):
-            call.is_ending = True
-            fail(notes, call, Outcome.CLOSED)
-            book.settle(step, goroutine, calls)
-
-    return look
+    return of
 
 
 def destroys(book: Book, notes: Notes, g: int, d: int) -> Look:
@@ -278,9 +270,9 @@ LOOKS: dict[str, Maker] = {
     "pollopen": opens,
     "rwlock": locks,
     "rwunlock": gives,
-    "incref": refers,
+    "incref": begins(CONTROL, lambda notes, step, g, s: notes.is_closed(s)),
     "decref": gives,
-    "increfclose": closes,
+    "increfclose": begins(CLOSE, lambda notes, step, g, s: notes.closer[s] != (step, g)),
     "pollclose": destroys,
     "pollreset": checks,
     "waitbegin": checks,

@@ -7,8 +7,6 @@ from typing import Iterator, Optional
 
 LINE = re.compile(rb"\d+ [a-z]+(?: \d+)? = [ -~]+")
 LINES = re.compile(r"^(\d+) ([a-z]+(?: \d+)?) = ([ -~]+)$", re.MULTILINE | re.ASCII)
-
-
 WINDOW = 2**16  # bytes of lines that are taken apart at once
 
 
@@ -54,9 +52,8 @@ class ChangedLines:
                 continue
             text += b"".join(pieces).decode("latin-1")
             last = text[text.rindex("\n", 0, -1) + 1 :]
-            step = last[
-                : last.index(" ")
-            ]  # (more lines of it may come; `take` has looked at the last line of each piece)
+            # (more lines of its step may come; `take` has looked at the last line of each piece)
+            step = last[: last.index(" ")]
             begin = text.index(f"\n{step} ") + 1
             if begin > 1:
                 yield int(step), text[:begin]

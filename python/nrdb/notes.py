@@ -46,9 +46,8 @@ class Notes:
         self._text = ""  # the same as lines, and where in it the last step was looked for
         self._from = 0
         self.clock = 0
-        self.pauses: dict[str, Pauses] = {
-            "idle": Pauses()
-        }  # of each place; who is idle pauses as long as it holds a reference
+        # of each place; who is idle pauses as long as it holds a reference
+        self.pauses: dict[str, Pauses] = {"idle": Pauses()}
         self._pauses_at: dict[str, Pauses] = {"idle": NoPauses()}  # of each status those of its place
         self.goroutines: dict[int, Goroutine] = {}
         self.goroutine(0).is_made(0)
@@ -78,9 +77,8 @@ class Notes:
         self.ready: set[int] = set()
         self.stale: dict[int, tuple[int, int]] = {}
         self.timeouts: list[Timeout] = []
-        self.refused_writes: list[
-            tuple[int, int, int]
-        ] = []  # those behind a CloseWrite: the step, by whom, and the socket
+        # those behind a CloseWrite: the step, by whom, and the socket
+        self.refused_writes: list[tuple[int, int, int]] = []
         self.longest_holds: dict[str, int] = {}  # of each kind, of those that ended
         self._rows = recording.rows(self._row)
         self._go_through()

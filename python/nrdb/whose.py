@@ -13,9 +13,8 @@ from .timers import timers_of
 NONE = -1
 Place = tuple[int, int]  # a socket and a descriptor
 NOWHERE = NONE, NONE
-OF_A_SOCKET, OF_A_DESCRIPTOR, AS_BEFORE, OF_NONE, OTHER = range(
-    5
-)  # how it is found of which socket and descriptor a step is
+# how it is found of which socket and descriptor a step is
+OF_A_SOCKET, OF_A_DESCRIPTOR, AS_BEFORE, OF_NONE, OTHER = range(5)
 OTHERS = ("sockopen", "pollopen", "pollclose", "pollevent", "pop", "fire")
 
 
