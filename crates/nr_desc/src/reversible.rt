@@ -1,11 +1,9 @@
 //! Operations applied and undone.
 
-ghost use Rattle.std.specs.Prelude.{◌≡◌, IfOk, None};
-ghost use Rattle.nr_rev.specs.Auxiliary.Refusing.{Gives};
-ghost use Rattle.nr_desc.specs.Auxiliary.Change.{both_let_go, made_view};
+ghost use Rattle.std.specs.Prelude.{◌≡◌, None};
+ghost use Rattle.nr_desc.specs.Auxiliary.Change.{made_view};
 ghost use Rattle.nr_desc.specs.declared.op.DescOp.TheVariants as op;
-ghost use Rattle.nr_desc.specs.Op.{outcome};
-ghost use Rattle.nr_desc.specs.Auxiliary.Op.{woken_by};
+ghost use Rattle.nr_desc.specs.Auxiliary.Op.{ComesTo};
 ghost use Rattle.nr_rev.specs.Sides as sides;
 ghost use Rattle.nr_rev.specs.Descriptor as spec;
 
@@ -60,8 +58,7 @@ impl Desc {
     /// What an operation comes to.
     #[inline(always)]
     fn made(self, op: DescOp) -> Result<Made, Refusal>
-        ensures viewed { Gives made_view result (outcome self op) }
-        ensures woken { IfOk result (λ made. made.change.woken ≡ woken_by op self made.change.desc) }
+        ensures { ComesTo op self result }
     {
         match op {
             DescOp::Open { socket } => self.made_by_open(socket),
@@ -80,8 +77,7 @@ impl Desc {
 
     #[inline(always)]
     fn made_by_open(self, socket: u32) -> Result<Made, Refusal>
-        ensures viewed { Gives made_view result (outcome self (op.Open socket)) }
-        ensures woken { IfOk result (λ made. made.change.woken ≡ sides.twice None) }
+        ensures { ComesTo (op.Open socket) self result }
     {
         let desc = self.opened_for(socket)?;
         Ok(made_quiet(Answer::Done, desc))
@@ -89,8 +85,7 @@ impl Desc {
 
     #[inline(always)]
     fn made_by_close(self) -> Result<Made, Refusal>
-        ensures viewed { Gives made_view result (outcome self op.Close) }
-        ensures woken { IfOk result (λ made. made.change.woken ≡ sides.twice None) }
+        ensures { ComesTo op.Close self result }
     {
         let desc = self.closed()?;
         Ok(made_quiet(Answer::Done, desc))
@@ -98,8 +93,7 @@ impl Desc {
 
     #[inline(always)]
     fn made_by_reset(self, side: Side) -> Result<Made, Refusal>
-        ensures viewed { Gives made_view result (outcome self (op.Reset side)) }
-        ensures woken { IfOk result (λ made. made.change.woken ≡ sides.twice None) }
+        ensures { ComesTo (op.Reset side) self result }
     {
         let Answered { answer, desc } = self.reset(side)?;
         Ok(made_quiet(answer, desc))
@@ -107,16 +101,14 @@ impl Desc {
 
     #[inline(always)]
     fn made_by_check(self, side: Side) -> Result<Made, Refusal>
-        ensures viewed { Gives made_view result (outcome self (op.Check side)) }
-        ensures woken { IfOk result (λ made. made.change.woken ≡ sides.twice None) }
+        ensures { ComesTo (op.Check side) self result }
     {
         Ok(made_quiet(Answer::Code(self.check(side)), self))
     }
 
     #[inline(always)]
     fn made_by_arm(self, side: Side) -> Result<Made, Refusal>
-        ensures viewed { Gives made_view result (outcome self (op.Arm side)) }
-        ensures woken { IfOk result (λ made. made.change.woken ≡ sides.twice None) }
+        ensures { ComesTo (op.Arm side) self result }
     {
         let Answered { answer, desc } = self.arm(side)?;
         Ok(made_quiet(answer, desc))
@@ -124,8 +116,7 @@ impl Desc {
 
     #[inline(always)]
     fn made_by_commit(self, side: Side, goroutine: Goroutine) -> Result<Made, Refusal>
-        ensures viewed { Gives made_view result (outcome self (op.Commit side goroutine)) }
-        ensures woken { IfOk result (λ made. made.change.woken ≡ sides.twice None) }
+        ensures { ComesTo (op.Commit side goroutine) self result }
     {
         let Answered { answer, desc } = self.commit(side, goroutine.number());
         Ok(made_quiet(answer, desc))
@@ -133,8 +124,7 @@ impl Desc {
 
     #[inline(always)]
     fn made_by_swap(self, side: Side) -> Result<Made, Refusal>
-        ensures viewed { Gives made_view result (outcome self (op.Swap side)) }
-        ensures woken { IfOk result (λ made. made.change.woken ≡ sides.twice None) }
+        ensures { ComesTo (op.Swap side) self result }
     {
         let Answered { answer, desc } = self.swap(side);
         Ok(made_quiet(answer, desc))
@@ -142,8 +132,7 @@ impl Desc {
 
     #[inline(always)]
     fn made_by_deadline(self, clock: i64, mode: Mode, time: i64) -> Result<Made, Refusal>
-        ensures viewed { Gives made_view result (outcome self (op.SetDeadline clock mode time)) }
-        ensures woken { IfOk result (λ made. made.change.woken ≡ both_let_go self.words made.change.desc.words) }
+        ensures { ComesTo (op.SetDeadline clock mode time) self result }
     {
         match change_by_deadline(clock, mode, time, self) {
             Ok(change) => Ok(Made {
@@ -156,8 +145,7 @@ impl Desc {
 
     #[inline(always)]
     fn made_by_evict(self) -> Result<Made, Refusal>
-        ensures viewed { Gives made_view result (outcome self op.Evict) }
-        ensures woken { IfOk result (λ made. made.change.woken ≡ both_let_go self.words made.change.desc.words) }
+        ensures { ComesTo op.Evict self result }
     {
         Ok(Made {
             answer: Answer::Done,
@@ -167,8 +155,7 @@ impl Desc {
 
     #[inline(always)]
     fn made_by_firing(self, function: TimerFunction, sequence: u64) -> Result<Made, Refusal>
-        ensures viewed { Gives made_view result (outcome self (op.Fire function sequence)) }
-        ensures woken { IfOk result (λ made. made.change.woken ≡ both_let_go self.words made.change.desc.words) }
+        ensures { ComesTo (op.Fire function sequence) self result }
     {
         match change_by_firing(function, sequence, self)? {
             Some(change) => Ok(Made {
@@ -181,8 +168,7 @@ impl Desc {
 
     #[inline(always)]
     fn made_by_event(self, tag: u64, mode: Mode, error: bool) -> Result<Made, Refusal>
-        ensures viewed { Gives made_view result (outcome self (op.Event tag mode error)) }
-        ensures woken { IfOk result (λ made. made.change.woken ≡ both_let_go self.words made.change.desc.words) }
+        ensures { ComesTo (op.Event tag mode error) self result }
     {
         if tag != self.fdseq() {
             return Ok(made_quiet(Answer::Stale, self));

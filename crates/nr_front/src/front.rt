@@ -74,9 +74,7 @@ where
             return Err(FrontFault::Placed(self.place()));
         }
         self.catch_up(journal)?;
-        if let Err(fault) = self.offer_until_placed(journal, command) {
-            return Err(fault);
-        }
+        self.offer_until_placed(journal, command)?;
         match self.run(command) {
             Ok(reply) => Ok(reply),
             Err(_) => Err(FrontFault::Placed(self.place())),

@@ -50,8 +50,9 @@ impl GTable {
         GTable::with_descriptors(alloc, goroutines, sockets, 0)
     }
 
-    /// The table of `with_limits` in which those inside a wait are counted, for each side of so many descriptors. An error is
-    /// that there is no memory for that.
+    /// The table of `with_limits` in which those inside a wait are counted, for each side of so many descriptors: what is
+    /// asked of a side of these looks at no goroutine. That shows in time alone: no clause says it. An error is that there is
+    /// no memory for that.
     pub fn with_descriptors(
         alloc: Global,
         goroutines: u32,

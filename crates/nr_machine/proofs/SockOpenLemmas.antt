@@ -24,9 +24,9 @@ use Rattle.nr_rev.specs.Worlds.{bytes_left, refusal_of}
 use Rattle.nr_rev.proofs.ListUpdateLemmas.{slice_get-push_all, slice_get-set_cases}
 use Rattle.nr_rev.proofs.SideLemmas.{each_side}
 use Rattle.nr_sockbuf.specs.Delta as sock_delta
-use Rattle.nr_sockbuf.proofs.MachineLemmas.{sockopen_agrees}
+use Rattle.nr_sockbuf.proofs.AgreementLemmas.{sockopen_agrees}
 use Rattle.nr_sockbuf.specs.Laws.{leaves_open, refused_for}
-use Rattle.nr_sockbuf.specs.Machine.{lifted_opening, put_back}
+use Rattle.nr_sockbuf.specs.Agreement.{lifted_opening, put_back}
 use Rattle.nr_sockbuf.specs.Op as sock
 use Rattle.nr_sockbuf.specs.Sock.{OpenSock, SockParts, is_opened, never_opened}
 use Rattle.nr_sockbuf.specs.declared.delta.SockDelta.{SockDelta}

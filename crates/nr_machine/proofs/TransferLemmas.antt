@@ -17,9 +17,9 @@ use Rattle.nr_rev.specs.Worlds.{bytes_left, refusal_of}
 use Rattle.nr_rev.proofs.ListUpdateLemmas.{slice_get-set_cases, slice_get-set_here}
 use Rattle.nr_sockbuf.specs.Delta as sock_delta
 use Rattle.nr_sockbuf.proofs.MemoryLemmas.{memory_is_for_bytes}
-use Rattle.nr_sockbuf.proofs.MachineLemmas.{arrive_agrees, closewrite_agrees, drain_agrees, peerclose_agrees, sysread_agrees, syswrite_agrees}
+use Rattle.nr_sockbuf.proofs.AgreementLemmas.{arrive_agrees, closewrite_agrees, drain_agrees, peerclose_agrees, sysread_agrees, syswrite_agrees}
 use Rattle.nr_sockbuf.specs.Laws.{leaves_open, refused_for}
-use Rattle.nr_sockbuf.specs.Machine.{IsThere, SockLoses, lifted, put_back, sock_of}
+use Rattle.nr_sockbuf.specs.Agreement.{IsThere, SockLoses, lifted, put_back, sock_of}
 use Rattle.nr_sockbuf.specs.Op as sock
 use Rattle.nr_sockbuf.specs.Sock.{OpenSock, SockParts, is_opened}
 use Rattle.nr_sockbuf.specs.declared.delta.SockDelta.{SockDelta}

@@ -22,7 +22,7 @@ use Rattle.serde_json.proofs.Numbers.{number_of-decimal}
 use Rattle.nr_recording.specs.declared.part.Part.{Part}
 use Rattle.nr_recording.specs.Part.{parts_data}
 use Rattle.nr_recording.specs.Plain.{Begins, ReadsBack, ends_item, items_after_comma, items_behind, part_tokens}
-use Rattle.nr_recording.proofs.ReadBack.{tokens_read}
+use Rattle.nr_recording.proofs.ReadBackLemmas.{tokens_read}
 
 -- ---- one item
 

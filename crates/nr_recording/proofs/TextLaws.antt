@@ -14,7 +14,7 @@ use Rattle.nr_recording.specs.declared.version.Version.{Version}
 use Rattle.nr_recording.specs.Recording.{Recorded}
 use Rattle.nr_recording.specs.declared.recording.RecordedStep.{RecordedStep}
 use Rattle.nr_recording.specs.Faults.{◌>>=◌}
-use Rattle.nr_recording.proofs.Binds.{bind_ok, guard_ok, choice, same_ok}
+use Rattle.nr_recording.proofs.BoundPartLemmas.{bind_ok, guard_ok, choice, same_ok}
 use Rattle.nr_recording.specs.Header.{version_of, header_of}
 use Rattle.nr_recording.specs.Steps.{step_of}
 use Rattle.nr_recording.specs.Reading.{Seen, nothing, lines, is_blank, value_of, with_value, with_line, at_line, with_lines, recording_at_end, reading}

@@ -9,7 +9,7 @@ use crate::version::Version;
 use nr_rev::{Limits, MOST_DESCRIPTORS, MOST_GOROUTINES, MOST_SOCKETS, is_limit};
 use serde_json::Value;
 
-#[tactic(auto, using(crate::proofs::Members::members_len_of_view))]
+#[tactic(auto, using(crate::proofs::MembersLemmas::members_len_of_view))]
 fn member_count(value: &Value) -> Option<usize>
     ensures { result ≡ count_of (view value.now) }
 {

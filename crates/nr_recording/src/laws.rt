@@ -14,7 +14,7 @@ ghost use Rattle.nr_recording.specs.declared.reading.TheConstants.{MOST_LINE_BYT
 
 /// What is written of a recording is a text of it, and is read as that recording. `HasTypedArguments` says of
 /// a step and its answer just what their types say: each number is in the range of its type.
-#[tactic(auto, using(crate::proofs::Written::text_is_text, crate::proofs::Written::text_read_again))]
+#[tactic(auto, using(crate::proofs::WrittenLemmas::text_is_text, crate::proofs::WrittenLemmas::text_read_again))]
 pub fn what_is_written_is_read_again()
     ensures text { (r : Recorded) → IsRecording r → All HasTypedArguments r.steps → IsTextOf (text r) r }
     ensures reading { (r : Recorded) → IsRecording r → All HasTypedArguments r.steps

@@ -26,8 +26,8 @@ use serde_json::Value;
 use std::alloc::Global;
 use std::marker::Model;
 
-#[tactic(auto, using(crate::proofs::Lines::value_of_valid, crate::proofs::Lines::json_reported))]
-fn value(alloc: Global, line: &[u8]) -> Result<Value, LineError>
+#[tactic(auto, using(crate::proofs::LineValueLemmas::value_of_valid, crate::proofs::LineValueLemmas::json_reported))]
+fn json_value(alloc: Global, line: &[u8]) -> Result<Value, LineError>
     ensures { ReadsBy view result (value_of line.now) }
 {
     Ok(Value::from_slice(alloc, line)?)
@@ -146,7 +146,7 @@ impl RecordingReader {
         Ok(())
     }
 
-    fn value(&mut self, alloc: Global, value: &Value) -> Result<(), LineError>
+    fn take_value(&mut self, alloc: Global, value: &Value) -> Result<(), LineError>
         ensures seen { ReadsBy (λ _. self.new) result
             (with_value self.old self.old.header (view value.now)) }
         ensures memory { result ≡ Err (LineError.Memory refused_memory)
@@ -184,8 +184,8 @@ impl RecordingReader {
                 return self.step(begun, alloc, Parts::Plain(parts.as_slice().iter()));
             }
         }
-        let value = value(alloc, line)?;
-        self.value(alloc, &value)
+        let value = json_value(alloc, line)?;
+        self.take_value(alloc, &value)
     }
 
     fn finish(self, last: usize) -> Result<Recording, ReadFault>

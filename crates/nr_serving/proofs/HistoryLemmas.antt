@@ -13,7 +13,7 @@ use Rattle.nr_journal.specs.Rule.{Covers, IsOthers, StartsWith, tag_of}
 use Rattle.nr_journal.specs.Auxiliary.Rule.{HasTagBelow, informed}
 use Rattle.nr_journal.specs.declared.view.PassState.{PassState}
 use Rattle.nr_serving.specs.Session.{IsHistory, IsTheirs, numbers_below}
-use Rattle.nr_serving.specs.Auxiliary.Session.{HasOwn, IsSeenBy, words_of}
+use Rattle.nr_serving.specs.Auxiliary.Session.{HasItsOwnWords, IsSeenBy, words_of}
 use Rattle.nr_serving.specs.declared.fronts.Done.{Done}
 
 -- what holds of all of a list holds of those in front
@@ -26,7 +26,7 @@ covers_on : (tag : ℕ) (xs ys zs : List ℕ) → Covers ys tag xs → Covers zs
 covers_on tag xs ys zs (a, p, others) (b, q, more) = (a ++ b, q ∙ ap (λ (l : List ℕ). l ++ b) p ∙ append_assoc xs a b, All-append (IsOthers tag) a b others more)
 
 -- who saw the history has all of its own words in it
-pub own_seen : (room : ℕ) (words : List ℕ) (pass_state : PassState) → IsSeenBy room words pass_state → HasOwn words pass_state
+pub own_seen : (room : ℕ) (words : List ℕ) (pass_state : PassState) → IsSeenBy room words pass_state → HasItsOwnWords words pass_state
 own_seen room words pass_state s =
     let more : Covers s.after.seen pass_state.tag s.before.seen = subst (λ (t : ℕ). Covers s.after.seen t s.before.seen) s.tag (s.sees_others.0, s.sees_others.1, s.sees_others.2) in
     subst (λ (w : List ℕ). Covers w pass_state.tag pass_state.seen) (sym s.is) (covers_on pass_state.tag pass_state.seen s.before.seen s.after.seen s.others more)
@@ -61,7 +61,7 @@ seen_before room (Err fault) old mid reported g s = tt
 
 -- What a pass had seen was taken in, and then it saw the history and found no word of its own.
 own_more : (room : ℕ) (words fin reported : List ℕ) (mid own later : PassState) → IsSeenBy room words mid → words ≡ fin → StartsWith mid.seen own.seen → SeesOthers (informed own reported) later
-    → StartsWith later.seen fin → HasOwn words own
+    → StartsWith later.seen fin → HasItsOwnWords words own
 own_more room words fin reported mid own later s is (x, p) g (y, q) =
     let c = own_seen room words mid s in
     let whole : words ≡ own.seen ++ (x ++ c.0) = c.1 ∙ ap (λ (l : List ℕ). l ++ c.0) p ∙ append_assoc own.seen x c.0 in
@@ -72,12 +72,12 @@ own_more room words fin reported mid own later s is (x, p) g (y, q) =
 -- one pass more has its own words in the history
 pub others_more : (room : ℕ) (given : Result (Vec ℕ) Memory) (rest all : List Done) (other : Done) (met mid fin later : PassState) (reported more : List ℕ) → all ≡ rest ++ other ∷ []
     → IfOk given (λ words. IsSeenBy room words.items mid) → IfOk given (λ words. words.items ≡ fin.seen) → StartsWith mid.seen other.pass.pass_state.seen
-    → met ≡ informed other.pass.pass_state reported → SeesOthers (informed met more) later → StartsWith later.seen fin.seen → IfOk given (λ words. All (λ d. HasOwn words.items d.pass.pass_state) rest)
-    → IfOk given (λ words. All (λ d. HasOwn words.items d.pass.pass_state) all)
+    → met ≡ informed other.pass.pass_state reported → SeesOthers (informed met more) later → StartsWith later.seen fin.seen → IfOk given (λ words. All (λ d. HasItsOwnWords words.items d.pass.pass_state) rest)
+    → IfOk given (λ words. All (λ d. HasItsOwnWords words.items d.pass.pass_state) all)
 others_more room (Ok words) rest all other met mid fin later reported more split s is first was sees_others last own =
     let g : SeesOthers (informed (informed other.pass.pass_state reported) more) later = subst (λ (t : PassState). SeesOthers (informed t more) later) was sees_others in
-    subst (All (λ d. HasOwn words.items d.pass.pass_state)) (sym split)
-    (All-push (λ d. HasOwn words.items d.pass.pass_state) rest other own (own_more room words.items fin.seen more mid other.pass.pass_state later s is first g last))
+    subst (All (λ d. HasItsOwnWords words.items d.pass.pass_state)) (sym split)
+    (All-push (λ d. HasItsOwnWords words.items d.pass.pass_state) rest other own (own_more room words.items fin.seen more mid other.pass.pass_state later s is first g last))
 others_more room (Err fault) rest all other met mid fin later reported more split s is first was sees_others last own = tt
 
 -- the tags of the words, where as many passes may be
@@ -90,8 +90,8 @@ below_seen (Ok words) passes passes' seen is are below = subst (All (HasTagBelow
 below_seen (Err fault) passes passes' seen is are below = tt
 
 -- none of the others is left
-pub others_none : (given : Result (Vec ℕ) Memory) (all : List Done) → all ≡ [] → IfOk given (λ words. All (λ d. HasOwn words.items d.pass.pass_state) all)
-others_none (Ok words) all none = subst (All (λ d. HasOwn words.items d.pass.pass_state)) (sym none) (All-nil (λ d. HasOwn words.items d.pass.pass_state))
+pub others_none : (given : Result (Vec ℕ) Memory) (all : List Done) → all ≡ [] → IfOk given (λ words. All (λ d. HasItsOwnWords words.items d.pass.pass_state) all)
+others_none (Ok words) all none = subst (All (λ d. HasItsOwnWords words.items d.pass.pass_state)) (sym none) (All-nil (λ d. HasItsOwnWords words.items d.pass.pass_state))
 others_none (Err fault) all none = tt
 
 -- the numbers of a list with one item more
@@ -126,15 +126,15 @@ theirs words n all passes tags is below =
 
 -- the history of those that ended
 pub history_of : (room n : ℕ) (given : Result (Vec ℕ) Memory) (rest all : List Done) (last : Done) → all ≡ rest ++ last ∷ [] → IfOk given (λ words. IsSeenBy room words.items last.pass.pass_state)
-    → IfOk given (λ words. All (λ d. HasOwn words.items d.pass.pass_state) rest) → IfOk given (λ words. All (HasTagBelow last.pass.pass_state.passes) words.items)
+    → IfOk given (λ words. All (λ d. HasItsOwnWords words.items d.pass.pass_state) rest) → IfOk given (λ words. All (HasTagBelow last.pass.pass_state.passes) words.items)
     → map (λ d. d.pass.pass_state.tag) all ≡ numbers_below n → All (λ d. d.pass.pass_state.passes ≡ n) all
     → IfSome (words_of given) (IsHistory room (map (λ d. d.pass.pass_state) all))
 history_of room n (Ok words) rest all last split s own below tags passes = record {
   theirs = theirs words.items n all last.pass.pass_state.passes tags
       (all_last (λ d. d.pass.pass_state.passes ≡ n) rest last (subst (All (λ d. d.pass.pass_state.passes ≡ n)) split passes)) below;
-  own = subst (λ (l : List Done). All (HasOwn words.items) (map (λ d. d.pass.pass_state) l)) (sym split)
-      (All-map (HasOwn words.items) (λ d. d.pass.pass_state) (rest ++ last ∷ [])
-      (All-push (λ d. HasOwn words.items d.pass.pass_state) rest last own (own_seen room words.items last.pass.pass_state s)));
+  own = subst (λ (l : List Done). All (HasItsOwnWords words.items) (map (λ d. d.pass.pass_state) l)) (sym split)
+      (All-map (HasItsOwnWords words.items) (λ d. d.pass.pass_state) (rest ++ last ∷ [])
+      (All-push (λ d. HasItsOwnWords words.items d.pass.pass_state) rest last own (own_seen room words.items last.pass.pass_state s)));
   whole = inl (
     last.pass.pass_state,
     subst (λ (l : List PassState). Contains l last.pass.pass_state) (sym (ap (map (λ d. d.pass.pass_state)) split ∙ map-append (λ d. d.pass.pass_state) rest (last ∷ [])))
@@ -147,7 +147,7 @@ history_of room n (Err fault) rest all last split s own below tags passes = tt
 -- there was none
 pub no_history : (room : ℕ) (all : List Done) (words : List ℕ) → all ≡ [] → words ≡ [] → IsHistory room (map (λ d. d.pass.pass_state) all) words
 no_history room all words none empty = record {
-  own = subst (λ (l : List Done). All (HasOwn words) (map (λ d. d.pass.pass_state) l)) (sym none) (All-nil (HasOwn words));
+  own = subst (λ (l : List Done). All (HasItsOwnWords words) (map (λ d. d.pass.pass_state) l)) (sym none) (All-nil (HasItsOwnWords words));
   theirs = subst (All (IsTheirs (map (λ d. d.pass.pass_state) all))) (sym empty) (All-nil (IsTheirs (map (λ d. d.pass.pass_state) all)));
   whole = inr (ap (map (λ d. d.pass.pass_state)) none, empty);
 }

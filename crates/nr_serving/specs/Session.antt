@@ -9,7 +9,7 @@ use Rattle.nr_front.specs.FrontState.{FrontState}
 use Rattle.nr_serving.specs.Conversations.{FrontsLog, Passed}
 use Rattle.nr_serving.specs.Fronts.{Course, has_failed, passed_in}
 use Rattle.nr_serving.specs.Auxiliary.Fronts.{ServesCallers}
-use Rattle.nr_serving.specs.Auxiliary.Session.{HasOwn, IsFresh, IsSeenBy}
+use Rattle.nr_serving.specs.Auxiliary.Session.{HasItsOwnWords, IsFresh, IsSeenBy}
 
 -- the numbers below this one, in their order
 abbrev pub numbers_below : ℕ → List ℕ
@@ -23,7 +23,7 @@ IsTheirs pass_states word = Contains (map (λ p. p.tag) pass_states) (tag_of wor
 -- The history of the passes that knew this in the end: each has all of its own words in it, no word
 -- is anybody else's, and one of them saw it to its end. Where there was no pass it is empty.
 pub record IsHistory (room : ℕ) (pass_states : List PassState) (history : List ℕ) : Type 0 where
-  pub own : All (HasOwn history) pass_states
+  pub own : All (HasItsOwnWords history) pass_states
   pub theirs : All (IsTheirs pass_states) history
   pub whole : ((pass_state : PassState) × Contains pass_states pass_state
       × IsSeenBy room history pass_state)

@@ -11,7 +11,7 @@ ghost use Rattle.nr_journal.specs.Auxiliary.Rule.{entering, HasTagBelow};
 ghost use Rattle.nr_serving.specs.Conversations.{Passed};
 ghost use Rattle.nr_serving.specs.Auxiliary.Fronts.{none_passed};
 ghost use Rattle.nr_serving.specs.Session.{IsHistory, IsShared, Opens, numbers_below};
-ghost use Rattle.nr_serving.specs.Auxiliary.Session.{HasOwn, IsFresh, IsSeenBy, any_failed, words_of};
+ghost use Rattle.nr_serving.specs.Auxiliary.Session.{HasItsOwnWords, IsFresh, IsSeenBy, any_failed, words_of};
 
 use crate::connection::Ports;
 use crate::fronts::{Done, serve_each};
@@ -224,7 +224,7 @@ fn collect(journal: &Journal, last: &mut Pass, mut done: Vec<Done>) -> Result<Ve
     ensures table { last.new.table ≡ last.old.table }
     ensures seen { IfOk result (λ words. words.items ≡ last.new.pass_state.seen) }
     ensures last { IfOk result (λ words. IsSeenBy (journal_room journal.now) words.items last.old.pass_state) }
-    ensures others { IfOk result (λ words. All (λ d. HasOwn words.items d.pass.pass_state) done.items) }
+    ensures others { IfOk result (λ words. All (λ d. HasItsOwnWords words.items d.pass.pass_state) done.items) }
     ensures tags { IfOk result (λ words. All (HasTagBelow last.old.pass_state.passes) words.items) }
 {
     let Some(mut other) = take_done(journal, &mut done) else {

@@ -1,4 +1,4 @@
-pub mod Copies
-pub mod Frames
+pub mod CopiesLemmas
+pub mod FrameLemmas
 pub mod AnswerLemmas
 pub mod RefusedLemmas

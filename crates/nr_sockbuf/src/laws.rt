@@ -8,7 +8,7 @@ ghost use Rattle.nr_sockbuf.specs.declared.delta.SockDelta.{SockDelta};
 ghost use Rattle.nr_sockbuf.specs.declared.reversible.TheConstants.{MOST_WORDS};
 ghost use Rattle.nr_sockbuf.specs.Op.{TakesMemory, sock_reason};
 ghost use Rattle.nr_sockbuf.specs.Sock.{SockParts};
-ghost use Rattle.nr_sockbuf.specs.Machine.{ArriveAgrees, CloseWriteAgrees, DrainAgrees, IsThere, PeerCloseAgrees, SockLoses, SockOpenAgrees, SysReadAgrees, SysWriteAgrees};
+ghost use Rattle.nr_sockbuf.specs.Agreement.{ArriveAgrees, CloseWriteAgrees, DrainAgrees, IsThere, PeerCloseAgrees, SockLoses, SockOpenAgrees, SysReadAgrees, SysWriteAgrees};
 
 /// At the buffers of a socket that is there, a step has the answer, the buffers and the reason that the machine's step
 /// has, once the goroutine is idle. So does an opening, where the machine has room for a socket more.

@@ -10,8 +10,8 @@ use Rattle.nr_text.specs.Calls.{Call, a_read_failed, bytes_of, finds_end, moved,
 use Rattle.nr_text.specs.Moments.{Moment}
 use Rattle.nr_text.specs.Streams.{Incoming, Receives}
 use Rattle.nr_text.specs.Auxiliary.Streams.{Reads}
-use Rattle.nr_text.specs.declared.calls.Outcome.{Outcome}
-use Rattle.nr_text.specs.declared.calls.Outcome.TheVariants.{Moved, Interrupted, Failed}
+use Rattle.nr_text.specs.declared.calls.CallOutcome.{CallOutcome}
+use Rattle.nr_text.specs.declared.calls.CallOutcome.TheVariants.{Moved, Interrupted, Failed}
 
 -- the last call alone says whether the end was found
 last_finds : (calls : List Call) (call : Call) → finds_end (calls ++ call ∷ []) ≡ moves_none call
@@ -65,7 +65,7 @@ pub reads_none : (old : Incoming) (before remaining : Option (List ℕ)) (calls 
     → Reads old (seen remaining made passed) buffer (outcome_of_kind k)
 reads_none old before remaining calls made moments passed buffer k is more kept =
     let consumed = subst (λ known. Consumes known remaining []) (ap (λ s. s.remaining) is) (kept_is_none before remaining kept) in
-    let received : (outcome : Outcome) → made ≡ calls ++ (buffer, outcome) ∷ [] → moved (buffer, outcome) ≡ [] → Receives old (seen remaining made passed) [] =
+    let received : (outcome : CallOutcome) → made ≡ calls ++ (buffer, outcome) ∷ [] → moved (buffer, outcome) ≡ [] → Receives old (seen remaining made passed) [] =
     λ outcome more none. record { received = ap bytes_of more ∙ more_bytes calls (buffer, outcome) ∙ ap (λ t. bytes_of calls ++ t) none ∙ ap (λ s. s.received ++ []) is; consumed = consumed } in
     ⊎_elim
     (λ e. rw e ((received Interrupted (rw e at more) refl, ap a_read_failed (rw e at more) ∙ any_more _ calls (buffer, Interrupted) ∙ search rules ∙ ap (λ s. s.failed) is)))

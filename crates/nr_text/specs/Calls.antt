@@ -4,15 +4,15 @@ use Rattle.std.specs.Coded.{Coded, code_by, coded×, coded_ℕ, coded_list, code
 use Rattle.std.specs.List.{list_any}
 use Rattle.std.specs.declared.io.ErrorKind.{ErrorKind}
 use Rattle.std.specs.declared.io.ErrorKind.TheVariants as kind
-use Rattle.nr_text.specs.declared.calls.Outcome.{Outcome}
-use Rattle.nr_text.specs.declared.calls.Outcome.TheVariants.{Moved, Interrupted, Failed}
+use Rattle.nr_text.specs.declared.calls.CallOutcome.{CallOutcome}
+use Rattle.nr_text.specs.declared.calls.CallOutcome.TheVariants.{Moved, Interrupted, Failed}
 
 -- a call: its buffer, and how it came out
 abbrev pub Call : Type 0
-Call = List ℕ × Outcome
+Call = List ℕ × CallOutcome
 
 -- how a call came out that returned an error of this kind
-abbrev pub outcome_of_kind : ErrorKind → Outcome
+abbrev pub outcome_of_kind : ErrorKind → CallOutcome
 outcome_of_kind kind.Interrupted = Interrupted
 outcome_of_kind _ = Failed
 
@@ -53,22 +53,22 @@ a_write_failed calls = list_any (λ call. fails call || moves_none call) calls
 
 -- ---- how the prover stores calls
 
-abbrev to_parts : Outcome → Option (Option ℕ)
+abbrev to_parts : CallOutcome → Option (Option ℕ)
 to_parts (Moved n) = Some (Some n)
 to_parts Interrupted = Some None
 to_parts Failed = None
 
-abbrev from_parts : Option (Option ℕ) → Outcome
+abbrev from_parts : Option (Option ℕ) → CallOutcome
 from_parts (Some (Some n)) = Moved n
 from_parts (Some None) = Interrupted
 from_parts None = Failed
 
-pub from_parts-to_parts : (outcome : Outcome) → from_parts (to_parts outcome) ≡ outcome
+pub from_parts-to_parts : (outcome : CallOutcome) → from_parts (to_parts outcome) ≡ outcome
 from_parts-to_parts (Moved n) = refl
 from_parts-to_parts Interrupted = refl
 from_parts-to_parts Failed = refl
 
-abbrev outcome_code : Coded Outcome
+abbrev outcome_code : Coded CallOutcome
 outcome_code =
     code_by (Option (Option ℕ)) (coded_option (coded_option coded_ℕ)) to_parts from_parts
     from_parts-to_parts

@@ -6,7 +6,7 @@ ghost use Rattle.nr_text.specs.Calls.{bytes_of};
 ghost use Rattle.nr_text.specs.Auxiliary.Streams.{TakesSome, unwritten};
 ghost use Rattle.nr_text.specs.declared.buffered.TheConstants.{ROOM};
 
-use crate::calls::{Calls, Outcome};
+use crate::calls::{CallOutcome, Calls};
 use crate::logged::LoggedWriter;
 use crate::text::Text;
 use arrayvec::ArrayVec;
@@ -163,9 +163,9 @@ fn write_some<W: Write>(writer: &mut LoggedWriter<W>, bytes: &[u8]) -> Result<us
 {
     for _ in 0..u64::MAX {
         match writer.write(bytes) {
-            Outcome::Moved(count) => return Ok(count),
-            Outcome::Interrupted => {}
-            Outcome::Failed => return Err(WriteFailed),
+            CallOutcome::Moved(count) => return Ok(count),
+            CallOutcome::Interrupted => {}
+            CallOutcome::Failed => return Err(WriteFailed),
         }
     }
     writer.give_up();

@@ -7,14 +7,14 @@ ghost use Rattle.std.specs.declared.io.ErrorKind.{ErrorKind as CallErrorKind};
 ghost use Rattle.nr_text.specs.Calls.{bytes_of, calls_code, outcome_of_kind};
 ghost use Rattle.nr_text.specs.Moments.{Moment};
 ghost use Rattle.nr_text.specs.Auxiliary.Moments.{moments_code};
-ghost use Rattle.nr_text.specs.declared.calls.Outcome.{Outcome as CallOutcome};
+ghost use Rattle.nr_text.specs.declared.calls.CallOutcome.{CallOutcome as Outcome};
 
 use std::io::ErrorKind;
 use std::marker::Model;
 
 /// How a call of a reader or a writer came out.
 #[derive(Clone, Copy, Debug, PartialEq, Eq)]
-pub enum Outcome {
+pub enum CallOutcome {
     /// It moved the first so many bytes of its buffer.
     Moved(usize),
     /// It was interrupted, and moved none.
@@ -23,14 +23,14 @@ pub enum Outcome {
     Failed,
 }
 
-impl Outcome {
+impl CallOutcome {
     // That of a call that returned an error of this kind.
-    pub(crate) fn of_kind(kind: ErrorKind) -> Outcome
+    pub(crate) fn of_kind(kind: ErrorKind) -> CallOutcome
         ensures { result ≡ outcome_of_kind kind }
     {
         match kind {
-            ErrorKind::Interrupted => Outcome::Interrupted,
-            _ => Outcome::Failed,
+            ErrorKind::Interrupted => CallOutcome::Interrupted,
+            _ => CallOutcome::Failed,
         }
     }
 }
@@ -39,13 +39,13 @@ impl Outcome {
 #[derive(Clone, Copy)]
 pub(crate) struct Call<'a> {
     pub(crate) buffer: &'a [u8],
-    pub(crate) outcome: Outcome,
+    pub(crate) outcome: CallOutcome,
 }
 
 /// The calls that were made, in their order.
 #[derive(Drop)]
 pub(crate) struct Calls {
-    ghost made: { List (List ℕ × CallOutcome) } by { calls_code },
+    ghost made: { List (List ℕ × Outcome) } by { calls_code },
 }
 
 impl Model for Calls {

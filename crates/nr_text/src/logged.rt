@@ -5,7 +5,7 @@ ghost use Rattle.nr_text.specs.Calls.{bytes_of};
 ghost use Rattle.nr_text.specs.Streams.{Passes};
 ghost use Rattle.nr_text.specs.Auxiliary.Streams.{Reads, Takes, unread, unwritten};
 
-use crate::calls::{Call, Calls, Moments, Outcome};
+use crate::calls::{Call, CallOutcome, Calls, Moments};
 use std::io::{Read, Write};
 use std::marker::Model;
 
@@ -59,15 +59,15 @@ impl<R: Read> LoggedReader<R> {
 
     // Reads once, when these writes had been made.
     #[inline(always)]
-    pub(crate) fn read(&mut self, writes: &Calls, buffer: &mut [u8]) -> Outcome
+    pub(crate) fn read(&mut self, writes: &Calls, buffer: &mut [u8]) -> CallOutcome
         ensures reads { Reads self.old self.new buffer.new result }
         ensures moment { Passes self.old self.new
             (record { received = self.old.received; sent = bytes_of writes.now.made } ∷ []) }
     {
         self.moments = self.moments.and(&self.calls, writes);
         let outcome = match self.reader.read(buffer) {
-            Ok(count) => Outcome::Moved(count),
-            Err(error) => Outcome::of_kind(error.kind()),
+            Ok(count) => CallOutcome::Moved(count),
+            Err(error) => CallOutcome::of_kind(error.kind()),
         };
         let buffer: &[u8] = buffer;
         self.calls = self.calls.and(&Call { buffer, outcome });
@@ -76,12 +76,12 @@ impl<R: Read> LoggedReader<R> {
 
     // Gives up: the last read counts as failed.
     pub(crate) fn give_up(&mut self)
-        ensures reads { Reads self.old self.new [] Outcome.Failed }
+        ensures reads { Reads self.old self.new [] CallOutcome.Failed }
         ensures moments { Passes self.old self.new [] }
     {
         let call = Call {
             buffer: &[],
-            outcome: Outcome::Failed,
+            outcome: CallOutcome::Failed,
         };
         self.calls = self.calls.and(&call);
     }
@@ -136,12 +136,12 @@ impl<W: Write> LoggedWriter<W> {
 
     // Writes once.
     #[inline(always)]
-    pub(crate) fn write(&mut self, buffer: &[u8]) -> Outcome
+    pub(crate) fn write(&mut self, buffer: &[u8]) -> CallOutcome
         ensures { Takes self.old self.new buffer.now result }
     {
         let outcome = match self.writer.write(buffer) {
-            Ok(count) => Outcome::Moved(count),
-            Err(error) => Outcome::of_kind(error.kind()),
+            Ok(count) => CallOutcome::Moved(count),
+            Err(error) => CallOutcome::of_kind(error.kind()),
         };
         self.calls = self.calls.and(&Call { buffer, outcome });
         outcome
@@ -149,11 +149,11 @@ impl<W: Write> LoggedWriter<W> {
 
     // Gives up: the last write counts as failed.
     pub(crate) fn give_up(&mut self)
-        ensures { Takes self.old self.new [] Outcome.Failed }
+        ensures { Takes self.old self.new [] CallOutcome.Failed }
     {
         let call = Call {
             buffer: &[],
-            outcome: Outcome::Failed,
+            outcome: CallOutcome::Failed,
         };
         self.calls = self.calls.and(&call);
     }

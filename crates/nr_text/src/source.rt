@@ -4,7 +4,7 @@ ghost use Rattle.std.specs.Prelude.{◌≡◌, []};
 ghost use Rattle.nr_text.specs.Streams.{Passes};
 ghost use Rattle.nr_text.specs.Auxiliary.Streams.{Reads, ReadsNow, ReadsSome, unread};
 
-use crate::calls::Outcome;
+use crate::calls::CallOutcome;
 use crate::logged::LoggedReader;
 use crate::sink::Sink;
 use std::io::{Read, Write};
@@ -68,9 +68,9 @@ impl<R: Read> Source<R> {
     {
         for _ in 0..u64::MAX {
             match self.reader.read(replies.calls(), buf) {
-                Outcome::Moved(count) => return Ok(count),
-                Outcome::Interrupted => {}
-                Outcome::Failed => {
+                CallOutcome::Moved(count) => return Ok(count),
+                CallOutcome::Interrupted => {}
+                CallOutcome::Failed => {
                     self.failed = true;
                     return Err(ReadFailed);
                 }
@@ -82,7 +82,7 @@ impl<R: Read> Source<R> {
 
     /// Gives up: the last read counts as failed.
     pub fn give_up(&mut self)
-        ensures failed { Reads self.old self.new [] Outcome.Failed }
+        ensures failed { Reads self.old self.new [] CallOutcome.Failed }
         ensures moments { Passes self.old self.new [] }
     {
         self.reader.give_up();

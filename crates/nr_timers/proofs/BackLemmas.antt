@@ -9,7 +9,7 @@ use Rattle.nr_timers.specs.Order.{at, blank}
 use Rattle.nr_timers.specs.Auxiliary.Change.{TakenBack, RemovedBack}
 use Rattle.nr_timers.specs.BackLaws.{TakenBack-unique}
 use Rattle.nr_timers.specs.Index.{key, Absent, Keyed}
-use Rattle.nr_timers.proofs.LineLemmas.{at-swap}
+use Rattle.nr_timers.proofs.PathLemmas.{at-swap}
 use Rattle.nr_timers.proofs.ChangeLemmas.{length-TakenBack}
 
 -- the entry to be put back fits

@@ -6,48 +6,48 @@ use Rattle.std.proofs.lemmas.List.Edits.{Swapped, length-swap}
 use Rattle.std.proofs.lemmas.Bool.{cases_eq}
 use Rattle.nr_rev.specs.declared.timer.Entry.{Entry}
 use Rattle.nr_timers.specs.Order.{at, blank, is_less}
-use Rattle.nr_timers.specs.Line.{parent, Leads, OnLine, Ordered, Raised, Sunk}
-use Rattle.nr_timers.specs.Auxiliary.Line.{moved_up, moved_down, OrderedAbove, OrderedBelow, OrderedAround, Sifted}
-use Rattle.nr_timers.specs.LineLaws.{Leads-le, Leads-lt, OnLine-le, OnLine-cases}
+use Rattle.nr_timers.specs.PathToRoot.{parent, Leads, OnPath, Ordered, Raised, Sunk}
+use Rattle.nr_timers.specs.Auxiliary.PathToRoot.{moved_up, moved_down, OrderedAbove, OrderedBelow, OrderedAround, Sifted}
+use Rattle.nr_timers.specs.PathLaws.{Leads-le, Leads-lt, OnPath-le, OnPath-cases}
 use Rattle.nr_timers.specs.Change.{Inserted, Removed}
 use Rattle.nr_timers.specs.Auxiliary.Change.{refilled, TakenBack, InsertedBack, RemovedBack}
 use Rattle.nr_timers.proofs.OrderLemmas.{less_once, not_less-trans, same_less}
-use Rattle.nr_timers.proofs.LineLemmas.{Leads-between, at-swap, swap-swap, moved_down-moved_up, moved_up-moved_down, length-moved_up, length-moved_down}
-use Rattle.nr_timers.proofs.SiftLemmas.{line_end, size_of, size_of_up}
+use Rattle.nr_timers.proofs.PathLemmas.{Leads-between, at-swap, swap-swap, moved_down-moved_up, moved_up-moved_down, length-moved_up, length-moved_down}
+use Rattle.nr_timers.proofs.SiftLemmas.{path_end, size_of, size_of_up}
 
 -- a way up or down over a list that differs at p alone
 module _ (mid old new : List Entry) (p : ℕ) (x : Entry) (within : p < length new) (was_at : x ≡ at mid p) (same : (k : ℕ) → k < length new → k ≢ p → at mid k ≡ at old k) where
   pub Raised-over : (q : ℕ) → Raised mid p (at mid p) q new → Raised old p x q new
   Raised-over q h =
-      let low = OnLine-le p q h.on_line in
+      let low = OnPath-le p q h.on_path in
       record {
-        on_line = h.on_line;
+        on_path = h.on_path;
         arrives = h.arrives ∙ sym was_at;
-        lower = λ k on lt. let le = OnLine-le p k on in h.lower k on lt ∙ same (parent k) (omega arith) (λ e. omega arith);
-        greater = λ k on lt. let le = OnLine-le p k on in same_less _ _ _ _ true was_at (sym (same (parent k) (omega arith) (λ e. omega arith))) (h.greater k on lt);
+        lower = λ k on lt. let le = OnPath-le p k on in h.lower k on lt ∙ same (parent k) (omega arith) (λ e. omega arith);
+        greater = λ k on lt. let le = OnPath-le p k on in same_less _ _ _ _ true was_at (sym (same (parent k) (omega arith) (λ e. omega arith))) (h.greater k on lt);
         highest = λ above. same_less _ _ _ _ false was_at (sym (same (parent q) (omega arith) (λ e. omega arith))) (h.highest above);
         others = λ k lt off. h.others k lt off ∙ same k lt (λ e. off (0, e) (omega arith));
       }
 
   pub Sunk-over : (q : ℕ) → Sunk mid p (at mid p) q new → Sunk old p x q new
   Sunk-over q h =
-      let low = OnLine-le q p h.on_line in
+      let low = OnPath-le q p h.on_path in
       let inside = h.within in
-      let below : (k : ℕ) → OnLine q k → p < k → p ≤ parent k =
-      λ k on lt. ⊎_elim (λ e. absurd (omega arith)) (λ rest. OnLine-le (parent k) p rest.1)
-      (OnLine-cases k p (Leads-between on.0 h.on_line.0 q k p on.1 h.on_line.1 (omega arith))) in
+      let below : (k : ℕ) → OnPath q k → p < k → p ≤ parent k =
+      λ k on lt. ⊎_elim (λ e. absurd (omega arith)) (λ rest. OnPath-le (parent k) p rest.1)
+      (OnPath-cases k p (Leads-between on.0 h.on_path.0 q k p on.1 h.on_path.1 (omega arith))) in
       record {
-        on_line = h.on_line;
+        on_path = h.on_path;
         within = h.within;
         arrives = h.arrives ∙ sym was_at;
-        higher = λ k on lt. let le = OnLine-le q k on in h.higher k on lt ∙ same k (omega arith) (λ e. omega arith);
-        less = λ k on lt. let le = OnLine-le q k on in same_less _ _ _ _ true (sym (same k (omega arith) (λ e. omega arith))) was_at (h.less k on lt);
+        higher = λ k on lt. let le = OnPath-le q k on in h.higher k on lt ∙ same k (omega arith) (λ e. omega arith);
+        less = λ k on lt. let le = OnPath-le q k on in same_less _ _ _ _ true (sym (same k (omega arith) (λ e. omega arith))) was_at (h.less k on lt);
         least = λ k i on lt above i_within beside.
-            let le = OnLine-le q k on in
+            let le = OnPath-le q k on in
             let lower = below k on lt in
             same_less _ _ _ _ false (sym (same i i_within (λ e. omega arith))) (sym (same k (omega arith) (λ e. omega arith))) (h.least k i on lt above i_within beside);
         lowest = λ i above i_within child. same_less _ _ _ _ false (sym (same i i_within (λ e. omega arith))) was_at (h.lowest i above i_within child);
-        others = λ k lt off. h.others k lt off ∙ same k lt (λ e. off (subst (λ j. OnLine q j) (sym e) h.on_line) (omega arith));
+        others = λ k lt off. h.others k lt off ∙ same k lt (λ e. off (subst (λ j. OnPath q j) (sym e) h.on_path) (omega arith));
       }
 
 -- insertion
@@ -107,8 +107,8 @@ pub uninserted : (old mid new : List Entry) (q last len : ℕ) (entry : Entry) �
 uninserted old mid new q last len entry some size is moved e =
     let last_is : last ≡ length old - 1 = omega arith in
     let size_mid : length mid ≡ length old = size_of old mid last q moved in
-    let lines : Leads moved.0 (length old - 1) q = subst (λ x. Leads moved.0 x q) last_is moved.1 in
-    (some, moved.0, lines, e ∙ ap (λ n. take (n - 1) mid) size_mid ∙ ap (take (length old - 1)) (moved.2 ∙ ap (moved_down moved.0 old) last_is))
+    let path : Leads moved.0 (length old - 1) q = subst (λ x. Leads moved.0 x q) last_is moved.1 in
+    (some, moved.0, path, e ∙ ap (λ n. take (n - 1) mid) size_mid ∙ ap (take (length old - 1)) (moved.2 ∙ ap (moved_down moved.0 old) last_is))
 
 pub uninserted_entry : (old mid : List Entry) (q last len : ℕ) (entry : Entry) → 0 < length old → len ≡ length old → last ≡ len - 1 → ((n : ℕ) × Leads n last q × (mid ≡ moved_down n old last))
     → entry ≡ at mid (length mid - 1) → entry ≡ at old q
@@ -167,7 +167,7 @@ module _ (old mid : List Entry) (p up : ℕ) (within : p < length old) (raised :
 
   module _ (ge : p ≤ up) where
     stays : up ≡ p
-    stays = line_end p up raised.on_line ge
+    stays = path_end p up raised.on_path ge
 
     pub same_mid : mid ≡ old
     same_mid = not_moved old mid p up stays moved

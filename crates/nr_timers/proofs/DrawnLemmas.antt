@@ -7,11 +7,11 @@ use Rattle.std.proofs.lemmas.Bool.{cases_eq, cases_lt}
 use Rattle.std.proofs.lemmas.Bool.Decides.{nat_tests}
 use Rattle.nr_rev.specs.declared.timer.Entry.{Entry}
 use Rattle.nr_timers.specs.Order.{at, blank, Apart}
-use Rattle.nr_timers.specs.Line.{parent}
-use Rattle.nr_timers.specs.Auxiliary.Line.{moved_up, moved_down}
+use Rattle.nr_timers.specs.PathToRoot.{parent}
+use Rattle.nr_timers.specs.Auxiliary.PathToRoot.{moved_up, moved_down}
 use Rattle.nr_timers.specs.BackLaws.{TakenBack-unique}
 use Rattle.nr_timers.specs.Auxiliary.Change.{TakenBack, InsertedBack, RemovedBack}
-use Rattle.nr_timers.proofs.LineLemmas.{at-swap, swap-swap, moved_down-moved_up, moved_up-moved_down, length-moved_up, length-moved_down}
+use Rattle.nr_timers.proofs.PathLemmas.{at-swap, swap-swap, moved_down-moved_up, moved_up-moved_down, length-moved_up, length-moved_down}
 use Rattle.nr_timers.proofs.ChangeLemmas.{at_pushed, at_last, at-moved_down, length-TakenBack, TakenBack-none}
 
 -- each entry of the one is in the other, at a place of its own

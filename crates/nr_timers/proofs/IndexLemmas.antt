@@ -9,7 +9,7 @@ use Rattle.nr_rev.specs.declared.timer.Entry.{Entry}
 use Rattle.nr_timers.specs.Order.{at, blank}
 use Rattle.nr_timers.specs.Index.{key, Absent, Keyed}
 use Rattle.nr_timers.specs.Auxiliary.Index.{free, IsIndexed}
-use Rattle.nr_timers.proofs.LineLemmas.{at-swap}
+use Rattle.nr_timers.proofs.PathLemmas.{at-swap}
 
 -- what the index holds
 pub keyed : (xs : List Entry) (ix : List ℕ) → IsIndexed xs ix → Keyed xs (length ix)

@@ -1,5 +1,5 @@
 pub mod OrderLemmas
-pub mod LineLemmas
+pub mod PathLemmas
 pub mod ExchangeLemmas
 pub mod SiftLemmas
 pub mod IndexLemmas

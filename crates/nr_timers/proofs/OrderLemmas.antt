@@ -4,7 +4,7 @@ use Rattle.std.proofs.lemmas.Bool.Decides.{nat_tests}
 use Rattle.std.proofs.lemmas.Int.{ints}
 use Rattle.nr_rev.specs.declared.timer.Entry.{Entry}
 use Rattle.nr_timers.specs.Order.{is_less, at}
-use Rattle.nr_timers.specs.Line.{parent, Ordered}
+use Rattle.nr_timers.specs.PathToRoot.{parent, Ordered}
 
 pub less_once : (a b : Entry) → is_less a b ≡ true → is_less b a ≡ false
 unfolding is_less

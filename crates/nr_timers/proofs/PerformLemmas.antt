@@ -13,7 +13,7 @@ use Rattle.nr_timers.specs.declared.delta.TimersUndo.TheVariants.{Popped, Taken}
 use Rattle.nr_timers.specs.declared.heap.Gone.{Gone}
 use Rattle.nr_timers.specs.declared.op.TimersOp.TheVariants.{Arm, Stop, Pop, TakeFiring}
 use Rattle.nr_timers.specs.Order.{at, blank, number}
-use Rattle.nr_timers.specs.Line.{Ordered}
+use Rattle.nr_timers.specs.PathToRoot.{Ordered}
 use Rattle.nr_timers.specs.Index.{key, key_of, Absent}
 use Rattle.nr_timers.specs.Change.{Inserted, Removed}
 use Rattle.nr_timers.specs.Auxiliary.Change.{InsertedBack, RemovedBack}

@@ -5,11 +5,11 @@ use Rattle.std.proofs.lemmas.List.Edits.{Swapped, length-swap}
 use Rattle.std.proofs.lemmas.Bool.{cases_eq, cases_lt}
 use Rattle.nr_rev.specs.declared.timer.Entry.{Entry}
 use Rattle.nr_timers.specs.Order.{at, is_less}
-use Rattle.nr_timers.specs.Line.{parent, Leads, OnLine, Ordered, Raised, Sunk}
-use Rattle.nr_timers.specs.Auxiliary.Line.{moved_up, moved_down, OrderedAbove, OrderedBelow}
+use Rattle.nr_timers.specs.PathToRoot.{parent, Leads, OnPath, Ordered, Raised, Sunk}
+use Rattle.nr_timers.specs.Auxiliary.PathToRoot.{moved_up, moved_down, OrderedAbove, OrderedBelow}
 use Rattle.nr_timers.proofs.OrderLemmas.{less_self, less_once, not_less-trans}
-use Rattle.nr_timers.specs.LineLaws.{Leads-more, OnLine-le}
-use Rattle.nr_timers.proofs.LineLemmas.{at-swap, moved_down-more, length-moved_up, length-moved_down}
+use Rattle.nr_timers.specs.PathLaws.{Leads-more, OnPath-le}
+use Rattle.nr_timers.proofs.PathLemmas.{at-swap, moved_down-more, length-moved_up, length-moved_down}
 use Rattle.nr_timers.proofs.ExchangeLemmas.{OrderedAbove-up, Raised-up, OrderedBelow-down, Sunk-down}
 
 -- the least so far and one more
@@ -44,10 +44,10 @@ module _ (old mid last : List Entry) (p q : ℕ) (above : 0 < p) (within : p < l
 
 pub Raised-none : (old : List Entry) (p : ℕ) → (0 < p → is_less (at old p) (at old (parent p)) ≡ false) → Raised old p (at old p) p old
 Raised-none old p h = record {
-  on_line = (0, refl);
+  on_path = (0, refl);
   arrives = refl;
-  lower = λ k on lt. let le = OnLine-le p k on in absurd (omega arith);
-  greater = λ k on lt. let le = OnLine-le p k on in absurd (omega arith);
+  lower = λ k on lt. let le = OnPath-le p k on in absurd (omega arith);
+  greater = λ k on lt. let le = OnPath-le p k on in absurd (omega arith);
   highest = h;
   others = λ k lt off. refl;
 }
@@ -72,12 +72,12 @@ module _ (old mid last : List Entry) (p c q : ℕ) (above : 0 < c) (is_child : p
 module _ (old : List Entry) (p : ℕ) (within : p < length old) (lowest : (i : ℕ) → 0 < i → i < length old → parent i ≡ p → is_less (at old i) (at old p) ≡ false) where
   pub Sunk-none : Sunk old p (at old p) p old
   Sunk-none = record {
-    on_line = (0, refl);
+    on_path = (0, refl);
     within = within;
     arrives = refl;
-    higher = λ k on lt. let le = OnLine-le p k on in absurd (omega arith);
-    less = λ k on lt. let le = OnLine-le p k on in absurd (omega arith);
-    least = λ k i on lt. let le = OnLine-le p k on in absurd (omega arith);
+    higher = λ k on lt. let le = OnPath-le p k on in absurd (omega arith);
+    less = λ k on lt. let le = OnPath-le p k on in absurd (omega arith);
+    least = λ k i on lt. let le = OnPath-le p k on in absurd (omega arith);
     lowest = lowest;
     others = λ k lt off. refl;
   }
@@ -99,9 +99,9 @@ pub lift_more : (old mid new : List Entry) (p q : ℕ) → q < p → mid ≡ swa
     → (n : ℕ) × Leads n p q × (new ≡ moved_up n old p)
 lift_more old mid new p q lt e h = (suc h.0, (omega arith, h.1), h.2 ∙ ap (λ xs. moved_up h.0 xs (parent p)) e)
 
--- the end of a line that isn't below its start is the start
-pub line_end : (p q : ℕ) → OnLine p q → p ≤ q → q ≡ p
-line_end p q on le = let ge = OnLine-le p q on in omega arith
+-- the end of a path that isn't below its start is the start
+pub path_end : (p q : ℕ) → OnPath p q → p ≤ q → q ≡ p
+path_end p q on le = let ge = OnPath-le p q on in omega arith
 
 pub size_of : (old new : List Entry) (p q : ℕ) → ((n : ℕ) × Leads n p q × (new ≡ moved_down n old p)) → length new ≡ length old
 size_of old new p q h = ap length h.2 ∙ length-moved_down h.0 old p

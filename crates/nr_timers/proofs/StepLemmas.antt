@@ -12,7 +12,7 @@ use Rattle.nr_rev.specs.declared.timer.Entry.{Entry}
 use Rattle.nr_rev.specs.declared.timer.TimerFunction.{TimerFunction}
 use Rattle.nr_timers.specs.declared.heap.Gone.{Gone}
 use Rattle.nr_timers.specs.Order.{at, blank, number, Apart}
-use Rattle.nr_timers.specs.Line.{Ordered}
+use Rattle.nr_timers.specs.PathToRoot.{Ordered}
 use Rattle.nr_timers.specs.Index.{key, key_of, Absent, Keyed}
 use Rattle.nr_timers.specs.Change.{Inserted, Removed}
 use Rattle.nr_timers.specs.Auxiliary.Change.{InsertedBack, RemovedBack}
@@ -193,10 +193,10 @@ module _ (old : State) (well : IsTimers old) (e : Entry) (mid new : List Entry) 
       (λ x h same. let lt = before x h in let is : number x ≡ number e = same ∙ ap number arrives in let next = numbered in omega arith)
 
   pub arms : old.next < 2 ^ 64 - 1 → Clears (key e) old.entries mid → Inserted mid e q new → Arms old e (record old { entries = new; next = old.next + 1 })
-  arms room clear inserted =
+  arms numbers_left clear inserted =
       record {
         descriptor = within;
-        number = room;
+        number = numbers_left;
         places = (mid, clear, (q, inserted));
         timers = sets_timer e.descriptor e.side (Some e.timer) old.entries new (timer_found e.descriptor e.side new e apart_key has_e (key_is e))
             (

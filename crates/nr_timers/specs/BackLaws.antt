@@ -2,9 +2,9 @@
 use Rattle.std.proofs.Common.{◌≡◌, inl, inr, ℕ, zero, suc, ◌-◌, List, [], ◌∷◌, ◌++◌, length, take, sym, ap, ◌∙◌, arith}
 use Rattle.std.specs.List.{swap}
 use Rattle.nr_rev.specs.declared.timer.Entry.{Entry}
-use Rattle.nr_timers.specs.Line.{Leads}
-use Rattle.nr_timers.specs.Auxiliary.Line.{moved_up, moved_down}
-use Rattle.nr_timers.specs.LineLaws.{Leads-le, Leads-lt, Leads-unique}
+use Rattle.nr_timers.specs.PathToRoot.{Leads}
+use Rattle.nr_timers.specs.Auxiliary.PathToRoot.{moved_up, moved_down}
+use Rattle.nr_timers.specs.PathLaws.{Leads-le, Leads-lt, Leads-unique}
 use Rattle.nr_timers.specs.Auxiliary.Change.{TakenBack, InsertedBack, RemovedBack}
 
 still_down : (n : ℕ) (new a : List Entry) (p q : ℕ) → q ≡ p → Leads n p q → a ≡ moved_down n new p

@@ -2,9 +2,9 @@
 use Rattle.std.specs.Prelude.{◌≡◌, ◌⊎◌, ℕ, suc, ◌<◌, ◌-◌, true, false, List, length, take}
 use Rattle.nr_rev.specs.declared.timer.Entry.{Entry}
 use Rattle.nr_timers.specs.Order.{is_less, at}
-use Rattle.nr_timers.specs.Line.{parent, Raised, Sunk}
+use Rattle.nr_timers.specs.PathToRoot.{parent, Raised, Sunk}
 
--- the entry is put on the line from the new last place to place 0, and is at q
+-- the entry is put on the path from the new last place to the root, and is at q
 pub record Inserted (old : List Entry) (entry : Entry) (q : ℕ) (new : List Entry) : Type 0 where
   pub size : length new ≡ suc (length old)
   pub raised : Raised old (length old) entry q new

@@ -4,8 +4,8 @@ use Rattle.std.proofs.lemmas.List.{ext_get_or}
 use Rattle.std.proofs.lemmas.Bool.{cases_eq, cases_lt}
 use Rattle.nr_rev.specs.declared.timer.Entry.{Entry}
 use Rattle.nr_timers.specs.Order.{at, blank, is_less}
-use Rattle.nr_timers.specs.Line.{parent, Leads, OnLine, Raised, Sunk}
-use Rattle.nr_timers.specs.LineLaws.{Leads-le, Leads-lt, Leads-more, OnLine-le, OnLine-more, OnLine-ends, on_line_or_not}
+use Rattle.nr_timers.specs.PathToRoot.{parent, Leads, OnPath, Raised, Sunk}
+use Rattle.nr_timers.specs.PathLaws.{Leads-le, Leads-lt, Leads-more, OnPath-le, OnPath-more, OnPath-ends, on_path_or_not}
 use Rattle.nr_timers.specs.Change.{Inserted, Removed}
 
 -- of two entries at two places one is less
@@ -21,7 +21,7 @@ clash b on off = absurd (true≢false (sym on ∙ off))
 raised_no_lower : (old : List Entry) (p : ℕ) (x : Entry) (q r : ℕ) (a b : List Entry)
     → Raised old p x q a → Raised old p x r b → q < r → ⊥
 raised_no_lower old p x q r a b g h lt =
-    clash (is_less x (at old (parent r))) (g.greater r h.on_line lt) (h.highest (omega arith))
+    clash (is_less x (at old (parent r))) (g.greater r h.on_path lt) (h.highest (omega arith))
 
 pub raised_place : (old : List Entry) (p : ℕ) (x : Entry) (q r : ℕ) (a b : List Entry)
     → Raised old p x q a → Raised old p x r b → q ≡ r
@@ -36,7 +36,7 @@ pub raised_same : (old : List Entry) (p : ℕ) (x : Entry) (q : ℕ) (a b : List
 raised_same old p x q a b size g h =
     ext_get_or blank a b size
     (
-    λ k lt. let off : (OnLine p k → q ≤ k → ⊥) → at a k ≡ at b k =
+    λ k lt. let off : (OnPath p k → q ≤ k → ⊥) → at a k ≡ at b k =
     λ away. g.others k lt away ∙ sym (h.others k (omega arith) away) in
     ⊎_elim
     (
@@ -46,7 +46,7 @@ raised_same old p x q a b size g h =
     (cases_lt q k)
     )
     (λ away. off (λ on _. away on))
-    (on_line_or_not p p k (omega arith))
+    (on_path_or_not p p k (omega arith))
     )
 
 pub Inserted-unique : (old : List Entry) (x : Entry) (q r : ℕ) (a b : List Entry)
@@ -60,20 +60,20 @@ module _ (old : List Entry) (p : ℕ) (x : Entry) (distinct : Distinct old) wher
   module _ (q r : ℕ) (a b : List Entry) (size : length a ≡ length b)
       (inside : length a ≤ length old) (g : Sunk old p x q a) (h : Sunk old p x r b) where
     -- the least child is one
-    same_child : (k i : ℕ) → OnLine q k → OnLine r i → p < k → p < i → 0 < i → parent i ≡ parent k
+    same_child : (k i : ℕ) → OnPath q k → OnPath r i → p < k → p < i → 0 < i → parent i ≡ parent k
         → k ≡ i
     same_child k i on_q on_r lt_k lt_i above e =
-        let le_k = OnLine-le q k on_q in
-        let le_i = OnLine-le r i on_r in
+        let le_k = OnPath-le q k on_q in
+        let le_i = OnPath-le r i on_r in
         let in_q = g.within in
         let in_r = h.within in
         distinct k i (omega arith) (omega arith)
         (h.least i k on_r lt_i (omega arith) (omega arith) (sym e))
         (g.least k i on_q lt_k above (omega arith) e)
 
-    -- one line goes on where the other one ends
-    meets : (n s : ℕ) → Leads n s p → OnLine q s → OnLine r s ⊎ OnLine s r
-    meets zero s h0 on = inl (subst (λ i. OnLine r i) h0 h.on_line)
+    -- one path goes on where the other one ends
+    meets : (n s : ℕ) → Leads n s p → OnPath q s → OnPath r s ⊎ OnPath s r
+    meets zero s h0 on = inl (subst (λ i. OnPath r i) h0 h.on_path)
     meets (suc n) s leads on =
         let lt = Leads-lt n s p leads in
         let low = Leads-le n (parent s) p leads.1 in
@@ -83,42 +83,42 @@ module _ (old : List Entry) (p : ℕ) (x : Entry) (distinct : Distinct old) wher
         (
         λ last. let same : s ≡ last.0 = same_child s last.0 on last.1 lt
         (let e = last.3 in let some = last.2 in omega arith) last.2 last.3 in
-        inl (subst (λ i. OnLine r i) (sym same) last.1)
+        inl (subst (λ i. OnPath r i) (sym same) last.1)
         )
-        (OnLine-ends r (parent s) there)
+        (OnPath-ends r (parent s) there)
         )
-        (λ there. inr (OnLine-more s r leads.0 there))
+        (λ there. inr (OnPath-more s r leads.0 there))
         (meets n (parent s) leads.1 (let more = Leads-more on.0 q s on.1 leads.0 in
         (suc on.0, more)))
 
     -- it goes on no further than where no child is less
-    no_further : OnLine r q → q ≡ r
+    no_further : OnPath r q → q ≡ r
     no_further on =
         ⊎_elim (λ e. e)
         (
-        λ last. let low = OnLine-le q p g.on_line in
-        let le = OnLine-le r last.0 last.1 in
+        λ last. let low = OnPath-le q p g.on_path in
+        let le = OnPath-le r last.0 last.1 in
         let in_r = h.within in
         let e = last.3 in
         let some = last.2 in
         clash (is_less (at old last.0) x) (h.less last.0 last.1 (omega arith))
         (g.lowest last.0 last.2 (omega arith) last.3)
         )
-        (OnLine-ends r q on)
+        (OnPath-ends r q on)
 
   pub sunk_place : (q r : ℕ) (a b : List Entry) → length a ≡ length b → length a ≤ length old
       → Sunk old p x q a → Sunk old p x r b → q ≡ r
   sunk_place q r a b size inside g h =
       ⊎_elim (λ on. no_further q r a b size inside g h on)
       (λ on. sym (no_further r q b a (sym size) (omega arith) h g on))
-      (meets q r a b size inside g h g.on_line.0 q g.on_line.1 (0, refl))
+      (meets q r a b size inside g h g.on_path.0 q g.on_path.1 (0, refl))
 
 pub sunk_same : (old : List Entry) (p : ℕ) (x : Entry) (q : ℕ) (a b : List Entry)
     → length a ≡ length b → Sunk old p x q a → Sunk old p x q b → a ≡ b
 sunk_same old p x q a b size g h =
     ext_get_or blank a b size
     (
-    λ k lt. let off : (OnLine q k → p ≤ k → ⊥) → at a k ≡ at b k =
+    λ k lt. let off : (OnPath q k → p ≤ k → ⊥) → at a k ≡ at b k =
     λ away. g.others k lt away ∙ sym (h.others k (omega arith) away) in
     ⊎_elim
     (
@@ -131,12 +131,12 @@ sunk_same old p x q a b size g h =
     ap (at a) (sym last.3) ∙ g.higher last.0 last.1 lower
     ∙ sym (ap (at b) (sym last.3) ∙ h.higher last.0 last.1 lower)
     )
-    (OnLine-ends q k on)
+    (OnPath-ends q k on)
     )
     (cases_lt k p)
     )
     (λ away. off (λ on _. away on))
-    (on_line_or_not q q k (omega arith))
+    (on_path_or_not q q k (omega arith))
     )
 
 pub Removed-unique : (old : List Entry) (p q r : ℕ) (a b : List Entry) → Distinct old

@@ -1,6 +1,6 @@
 -- what the laws of THEOREM.md rest on, whole files
 pub mod Order
-pub mod Line
+pub mod PathToRoot
 pub mod Index
 pub mod TimersOf
 pub mod State
@@ -13,7 +13,7 @@ pub mod ReversibleLaws
 pub mod Places
 pub mod Clearing
 pub mod Performing
-pub mod LineLaws
+pub mod PathLaws
 pub mod ChangeLaws
 pub mod BackLaws
 -- what goes on with the files that the laws rest on

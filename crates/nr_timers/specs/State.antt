@@ -2,7 +2,7 @@
 use Rattle.std.specs.Prelude.{◌≢◌, ℕ, ◌*◌, ◌^◌, ◌<◌, ◌≤◌, List, length}
 use Rattle.nr_rev.specs.declared.timer.Entry.{Entry}
 use Rattle.nr_timers.specs.Order.{at, number, AllBelow, Apart}
-use Rattle.nr_timers.specs.Line.{Ordered}
+use Rattle.nr_timers.specs.PathToRoot.{Ordered}
 use Rattle.nr_timers.specs.Index.{Keyed}
 
 -- the entries by place, the firings in order, the next arming number, and how many descriptors

@@ -5,7 +5,7 @@ use crate::op::TimersOp;
 use crate::timers::Timers;
 use nr_rev::{Refusal, Reversible};
 
-/// The heap's entries change places along one line of parents, so that an entry and places lead back.
+/// The heap's entries change places along one path to the root, so that an entry and places lead back.
 impl Reversible for Timers {
     ghost use Rattle.nr_timers.specs.Back.{TimersBack, delta_weight, op_allowance};
     ghost use Rattle.nr_timers.specs.ReversibleLaws.{TimersBack-unique, memory_is_no_reason, refused_has_no_step, steps_unique, weight_is_within};

@@ -6,8 +6,8 @@ ghost use Rattle.nr_timers.specs.Change.{Inserted, Removed};
 ghost use Rattle.nr_timers.specs.Auxiliary.Change.{InsertedBack, RemovedBack, TakenBack, refilled};
 ghost use Rattle.nr_timers.specs.Clearing.{Cleared, ClearedBack};
 ghost use Rattle.nr_timers.specs.Index.{Absent, Keyed, key};
-ghost use Rattle.nr_timers.specs.Line.{Leads, Ordered};
-ghost use Rattle.nr_timers.specs.Auxiliary.Line.{OrderedAround, Sifted};
+ghost use Rattle.nr_timers.specs.PathToRoot.{Leads, Ordered};
+ghost use Rattle.nr_timers.specs.Auxiliary.PathToRoot.{OrderedAround, Sifted};
 ghost use Rattle.nr_timers.specs.Order.{at};
 
 use crate::heap::{Gone, Heap};
@@ -34,7 +34,7 @@ impl Heap {
     #[inline(always)]
     pub(crate) fn uninsert(&mut self, place: usize) -> Entry
         requires some { 0 < length self.old.entries }
-        requires line { (n : ℕ) × Leads n (length self.old.entries - 1) place }
+        requires path { (n : ℕ) × Leads n (length self.old.entries - 1) place }
         ensures entry { result ≡ at self.old.entries place }
         ensures back { InsertedBack place self.old.entries self.new.entries }
         ensures limit { self.new.limit ≡ self.old.limit }
@@ -95,7 +95,7 @@ impl Heap {
         (entry, self.sift(place))
     }
 
-    /// Takes the entry at the place `from` back along the line of parents to a place.
+    /// Takes the entry at the place `from` back along the path to the root to a place.
     #[inline(always)]
     fn take_back(&mut self, place: usize, from: usize)
         requires places { (place ≡ length self.old.entries) × (from ≡ place)

@@ -9,7 +9,7 @@ ghost use Rattle.nr_rev.specs.Timer.{entries_from, least_of};
 ghost use Rattle.nr_timers.specs.declared.delta.TimersDelta.{TimersDelta};
 ghost use Rattle.nr_timers.specs.declared.op.TimersOp.TheVariants.{Arm, Pop, Stop, TakeFiring};
 ghost use Rattle.nr_timers.specs.Back.{delta_weight, op_allowance};
-ghost use Rattle.nr_timers.specs.Line.{parent};
+ghost use Rattle.nr_timers.specs.PathToRoot.{parent};
 ghost use Rattle.nr_timers.specs.Order.{at, is_less};
 ghost use Rattle.nr_timers.specs.State.{IsTimers, State};
 ghost use Rattle.nr_timers.specs.Auxiliary.TimersOf.{AreTimers};

@@ -1,8 +1,8 @@
-//! Entries that move up and down along their lines of parents.
+//! Entries that move up and down along their paths to the root.
 
 ghost use Rattle.std.specs.Prelude.{◌≡◌, ℕ, ◌+◌, ◌*◌, ◌<◌, false, length};
-ghost use Rattle.nr_timers.specs.Line.{parent, Leads, Ordered, Raised, Sunk};
-ghost use Rattle.nr_timers.specs.Auxiliary.Line.{moved_up, moved_down, OrderedAbove, OrderedBelow};
+ghost use Rattle.nr_timers.specs.PathToRoot.{parent, Leads, Ordered, Raised, Sunk};
+ghost use Rattle.nr_timers.specs.Auxiliary.PathToRoot.{moved_up, moved_down, OrderedAbove, OrderedBelow};
 ghost use Rattle.nr_timers.specs.Order.{at, is_less};
 
 use crate::heap::Heap;
@@ -73,7 +73,7 @@ impl Heap {
     /// Takes the entry at the place above down to the place.
     pub(crate) fn lower(&mut self, place: usize, above: usize)
         requires place { place < length self.old.entries }
-        requires line { (n : ℕ) × Leads n place above }
+        requires path { (n : ℕ) × Leads n place above }
         ensures entries { (n : ℕ) × Leads n place above
             × (self.new.entries ≡ moved_down n self.old.entries place) }
         ensures size { length self.new.entries ≡ length self.old.entries }
@@ -89,7 +89,7 @@ impl Heap {
     /// Takes the entry at the place up to the place above.
     pub(crate) fn lift(&mut self, place: usize, above: usize)
         requires place { place < length self.old.entries }
-        requires line { (n : ℕ) × Leads n place above }
+        requires path { (n : ℕ) × Leads n place above }
         ensures entries { (n : ℕ) × Leads n place above
             × (self.new.entries ≡ moved_up n self.old.entries place) }
         ensures size { length self.new.entries ≡ length self.old.entries }

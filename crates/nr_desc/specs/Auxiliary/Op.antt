@@ -1,13 +1,15 @@
 -- Beside `Op`: what contracts and proofs cite, and no law of THEOREM.md rests on.
-use Rattle.std.specs.Prelude.{◌≡◌, ℕ, Option, Some, None, Ok, Err}
+use Rattle.std.specs.Prelude.{◌≡◌, ℕ, Option, Some, None, Result, Ok, Err, IfOk}
 use Rattle.nr_rev.specs.declared.descriptor.Descriptor.{Descriptor}
 use Rattle.nr_rev.specs.declared.refusal.Refusal.{Refusal}
+use Rattle.nr_rev.specs.Auxiliary.Refusing.{Gives}
 use Rattle.nr_rev.specs.Sides.{twice}
 use Rattle.nr_rev.specs.declared.sides.Sides.{Sides}
-use Rattle.nr_desc.specs.Auxiliary.Change.{both_let_go}
+use Rattle.nr_desc.specs.Auxiliary.Change.{both_let_go, made_view}
 use Rattle.nr_desc.specs.declared.op.DescAnswer.{DescAnswer}
 use Rattle.nr_desc.specs.declared.op.DescOp.{DescOp}
 use Rattle.nr_desc.specs.declared.op.DescOp.TheVariants as op
+use Rattle.nr_desc.specs.declared.reversible.Made.{Made}
 use Rattle.nr_desc.specs.Op.{Outcome, left, outcome}
 
 -- who is woken of each side: whom its word held before, where the operation unblocks words
@@ -17,6 +19,12 @@ woken_by op.Evict old new = both_let_go old.words new.words
 woken_by (op.Fire function sequence) old new = both_let_go old.words new.words
 woken_by (op.Event tag mode error) old new = both_let_go old.words new.words
 woken_by _ old new = twice None
+
+-- what is made is the operation's outcome, and wakes whom that wakes; or its reason is given
+abbrev pub ComesTo : DescOp → Descriptor → Result Made Refusal → Type 0
+ComesTo op old result =
+    Gives made_view result (outcome old op)
+    × IfOk result (λ made. made.change.woken ≡ woken_by op old made.change.desc)
 
 -- an operation that applies, by its answer and the descriptor afterwards
 pub record StepTo (old : Descriptor) (op : DescOp) (answer : DescAnswer) (new : Descriptor) : Type 0

@@ -32,8 +32,8 @@ words_of (Ok words) = Some words.items
 words_of (Err fault) = None
 
 -- The history begins with what this pass has seen, and all words of the pass's own are among it.
-abbrev pub HasOwn : List ℕ → PassState → Type 0
-HasOwn history pass_state = Covers history pass_state.tag pass_state.seen
+abbrev pub HasItsOwnWords : List ℕ → PassState → Type 0
+HasItsOwnWords history pass_state = Covers history pass_state.tag pass_state.seen
 
 -- The pass saw words of others, until one look more found no word, or all were seen that there is
 -- room for. What it had seen then is the history.

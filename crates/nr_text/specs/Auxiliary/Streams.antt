@@ -2,8 +2,8 @@
 use Rattle.std.specs.Prelude.{◌≡◌, ℕ, ◌<◌, ◌≤◌, true, false, List, [], length, take, Option, Result, Ok, Err}
 use Rattle.std.specs.List.{All}
 use Rattle.nr_text.specs.Moments.{Moment}
-use Rattle.nr_text.specs.declared.calls.Outcome.{Outcome}
-use Rattle.nr_text.specs.declared.calls.Outcome.TheVariants.{Moved, Interrupted, Failed}
+use Rattle.nr_text.specs.declared.calls.CallOutcome.{CallOutcome}
+use Rattle.nr_text.specs.declared.calls.CallOutcome.TheVariants.{Moved, Interrupted, Failed}
 use Rattle.nr_text.specs.declared.sink.Part.{Part}
 use Rattle.nr_text.specs.Streams.{Incoming, IsOver, Outgoing, Passes, Receives, Sends, WritesAll, WritesPrefix}
 
@@ -17,7 +17,7 @@ abbrev pub unwritten : Option (List ℕ) → Outgoing
 unwritten known = record { contents = known; sent = []; failed = false }
 
 -- One call of a reader with this buffer, and how it came out.
-abbrev pub Reads : Incoming → Incoming → List ℕ → Outcome → Type 0
+abbrev pub Reads : Incoming → Incoming → List ℕ → CallOutcome → Type 0
 Reads old new buffer (Moved n) =
     (n ≤ length buffer) × Receives old new (take n buffer) × (new.failed ≡ old.failed)
     × (n ≡ 0 → 0 < length buffer → IsOver new)
@@ -25,7 +25,7 @@ Reads old new buffer Interrupted = Receives old new [] × (new.failed ≡ old.fa
 Reads old new buffer Failed = Receives old new [] × (new.failed ≡ true)
 
 -- one call of a writer with this buffer, and how it came out
-abbrev pub Takes : Outgoing → Outgoing → List ℕ → Outcome → Type 0
+abbrev pub Takes : Outgoing → Outgoing → List ℕ → CallOutcome → Type 0
 Takes old new buffer (Moved n) =
     (n ≤ length buffer) × Sends old new (take n buffer) × (0 < n → new.failed ≡ old.failed)
     × (n ≡ 0 → 0 < length buffer → new.failed ≡ true)

@@ -2,14 +2,14 @@
 use Rattle.std.specs.Prelude.{◌≡◌, ◌⊎◌, ℕ, ◌<◌, ◌-◌, List, [], ◌∷◌, ◌++◌, length, take}
 use Rattle.std.specs.List.{swap}
 use Rattle.nr_rev.specs.declared.timer.Entry.{Entry}
-use Rattle.nr_timers.specs.Line.{Leads}
-use Rattle.nr_timers.specs.Auxiliary.Line.{moved_up, moved_down}
+use Rattle.nr_timers.specs.PathToRoot.{Leads}
+use Rattle.nr_timers.specs.Auxiliary.PathToRoot.{moved_up, moved_down}
 
 -- the last entry at p, and the entry from p gone
 abbrev pub refilled : List Entry → ℕ → List Entry
 refilled old p = take (length old - 1) (swap old p (length old - 1))
 
--- the entry at q taken back to p along the line of parents
+-- the entry at q taken back to p along the path to the root
 abbrev pub TakenBack : ℕ → ℕ → List Entry → List Entry → Type 0
 TakenBack p q new rest =
     ((n : ℕ) × Leads n p q × (rest ≡ moved_down n new p))

@@ -2,7 +2,7 @@ use Rattle.std.proofs.Common.{◌≡◌, get_or, ap, ◌∙◌, arith}
 use Rattle.std.proofs.lemmas.Str.{IsUtf8-from_ascii}
 use Rattle.std.specs.Str.{IsUtf8}
 use Rattle.serde_json.specs.Read.{read}
-use Rattle.nr_recording.proofs.Lines.{value_of_valid}
+use Rattle.nr_recording.proofs.LineValueLemmas.{value_of_valid}
 use Rattle.nr_recording.proofs.PlainLemmas.{split_front}
 use Rattle.nr_recording.proofs.plain.gather_plain.Goals as goal
 

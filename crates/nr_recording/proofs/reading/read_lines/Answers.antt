@@ -7,7 +7,7 @@ use Rattle.std.proofs.lemmas.Iterator.Splits.{YieldsList-from_slice_split}
 use Rattle.nr_recording.specs.Recording.{Recorded}
 use Rattle.nr_recording.specs.declared.fault.ReadFault.{ReadFault}
 use Rattle.nr_recording.specs.Reading.{lines}
-use Rattle.nr_recording.proofs.Loop.{goes_on, stops, ends, wanted, never_wanted, itself}
+use Rattle.nr_recording.proofs.ReadLoopLemmas.{goes_on, stops, ends, wanted, never_wanted, itself}
 use Rattle.nr_recording.proofs.reading.read_lines.Goals as goal
 
 abbrev failed : ReadFault → Result Recorded ReadFault

@@ -5,7 +5,7 @@ use Rattle.serde_json.specs.declared.value.Value.{Value}
 use Rattle.serde_json.proofs.Views.{view-Array}
 use Rattle.nr_recording.specs.Spelling.{answer}
 use Rattle.nr_recording.specs.Auxiliary.Spelling.{IsSpelling}
-use Rattle.nr_recording.proofs.Behind.{spelling_pushed}
+use Rattle.nr_recording.proofs.FurtherPartLemmas.{spelling_pushed}
 use Rattle.nr_recording.proofs.steps.with_answer.Goals as goal
 
 pub returns-in_ok-push-in-Array : goal.returns-in_ok-push-in-Array

@@ -10,9 +10,9 @@ use Rattle.nr_recording.specs.Auxiliary.Recording.{IsRecording}
 use Rattle.nr_recording.specs.Writing.{HasTypedArguments}
 use Rattle.nr_recording.specs.declared.recording.RecordedStep.{RecordedStep}
 use Rattle.nr_recording.proofs.RecordedLemmas.{both_there}
-use Rattle.nr_recording.proofs.Texts.{IsStepAt, one_more_line, part_of_line}
+use Rattle.nr_recording.proofs.WriteLoopLemmas.{IsStepAt, one_more_line, part_of_line}
 use Rattle.nr_recording.proofs.TextLaws.{reading_again}
-use Rattle.nr_recording.proofs.Written.{text_is_text}
+use Rattle.nr_recording.proofs.WrittenLemmas.{text_is_text}
 use Rattle.nr_recording.proofs.writing.write.Goals as goal
 
 -- a step that is read and its answer are at their place

@@ -1,5 +1,5 @@
 use Rattle.std.proofs.Common.{ap}
-use Rattle.nr_snaps.proofs.Frames.{Replays-unique}
+use Rattle.nr_snaps.proofs.FrameLemmas.{Replays-unique}
 use Rattle.nr_machine.specs.ReversibleLaws.{steps_unique}
 use Rattle.nr_machine.specs.Step.{StepTo}
 use Rattle.nr_machine.specs.World.{WorldParts}

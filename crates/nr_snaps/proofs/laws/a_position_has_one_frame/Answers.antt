@@ -1,4 +1,4 @@
-use Rattle.nr_snaps.proofs.Frames.{Replays-unique}
+use Rattle.nr_snaps.proofs.FrameLemmas.{Replays-unique}
 use Rattle.nr_snaps.proofs.laws.a_position_has_one_frame.Goals as goal
 
 pub returns : goal.returns

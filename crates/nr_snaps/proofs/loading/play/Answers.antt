@@ -6,7 +6,7 @@ use Rattle.nr_rev.proofs.RunLemmas.{IsGoodTo-prefix}
 use Rattle.nr_snaps.specs.Answers.{Agrees, AnswersAgreeTo, AnswersOtherwiseAt, Differs}
 use Rattle.nr_snaps.specs.Replay.{LeadsOn}
 use Rattle.nr_snaps.proofs.AnswerLemmas.{agree-next}
-use Rattle.nr_snaps.proofs.Frames.{IsFrame-good, IsFrame-next}
+use Rattle.nr_snaps.proofs.FrameLemmas.{IsFrame-good, IsFrame-next}
 use Rattle.nr_snaps.proofs.loading.play.Goals as goal
 
 -- the steps before it were replayed, so they apply, and it doesn't

@@ -8,8 +8,8 @@ use Rattle.nr_snaps.specs.Film.{IsFrame}
 use Rattle.nr_snaps.specs.Replay.{Replays}
 use Rattle.nr_recording.specs.Recording.{run_of}
 use Rattle.nr_snaps.proofs.AnswerLemmas.{steps_of_run}
-use Rattle.nr_snaps.proofs.Copies.{each-push}
-use Rattle.nr_snaps.proofs.Frames.{Replays-good}
+use Rattle.nr_snaps.proofs.CopiesLemmas.{each-push}
+use Rattle.nr_snaps.proofs.FrameLemmas.{Replays-good}
 use Rattle.nr_snaps.proofs.loading.replay.Goals as goal
 
 -- one copy more

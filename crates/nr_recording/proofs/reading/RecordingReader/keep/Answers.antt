@@ -6,7 +6,7 @@ use Rattle.nr_recording.specs.Auxiliary.Reading.{AreOfHeader}
 use Rattle.nr_recording.specs.Recording.{recorded}
 use Rattle.nr_recording.specs.Auxiliary.Recording.{are_writable, has_line}
 use Rattle.nr_recording.specs.Auxiliary.Version.{may_have}
-use Rattle.nr_recording.proofs.Ranges.{one_more_of}
+use Rattle.nr_recording.proofs.RangeLemmas.{one_more_of}
 use Rattle.nr_recording.proofs.RecordedLemmas.{count_wanted, one_more, one_more_few}
 use Rattle.nr_recording.proofs.reading.RecordingReader.keep.Goals as goal
 

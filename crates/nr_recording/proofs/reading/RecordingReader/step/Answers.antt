@@ -1,4 +1,4 @@
-use Rattle.nr_recording.proofs.Ranges.{step_writable}
+use Rattle.nr_recording.proofs.RangeLemmas.{step_writable}
 use Rattle.nr_recording.proofs.reading.RecordingReader.step.Goals as goal
 
 pub keep-requires-clause-writable : goal.keep-requires-clause-writable

@@ -34,11 +34,11 @@ and_spec 𝓤 𝓛 𝓜 𝓡 wired I O laws_I laws_O read read_at write write_at
     let stayed : Stays ended.signature.params ended.kept = (stay_dropped _ yes, (stay_dropped _ yes, (stay_dropped _ yes, (stay_dropped _ yes, tt)))) in
     let c = f.clauses I O read read_at write write_at 𝓛 𝓜.mem 𝓡.returns in let 𝓣 = tables 𝓤 𝓛.H 𝓜 𝓡 𝓡.env in
     let args : Args = bounded (a_type ∷ a_type ∷ []) (I, (O, tt)) (dcons read_at (dcons write_at dnil)) in
-    let self_goes = Goes-dropped 𝓛 6 (RefOf (0 ∷ []) tt (plain (λ _. Conversations.the_row)) (λ _. tt)) yes (λ κs x r. refl) in
-    let source_goes = Goes-dropped 𝓛 6 (RefOf (1 ∷ []) tt (plain (λ _. Source.the_row (param 0 I) read)) (λ _. tt)) yes (λ κs x r. refl) in
-    let sink_goes = Goes-dropped 𝓛 6 (RefOf (2 ∷ []) tt (plain (λ _. Sink.the_row (param 1 O) write)) (λ _. tt)) yes (λ κs x r. refl) in
-    let ending_goes = Goes-dropped 𝓛 6 (RefOf (3 ∷ []) tt (plain (λ _. Result.the_row End.the_row LineEnd.the_row)) (λ _. tt)) yes (λ κs x r. refl) in
-    proved 𝓛 ended stayed c 𝓜 𝓡 (self_goes, (source_goes, (sink_goes, (ending_goes, tt)))) (f.Key.name args) (inst_fn args code.function) (code.unfolded 𝓤 𝓛.H 𝓜 𝓡 wired (I, (O, tt)) read_at write_at)
+    let self_is_dropped = Goes-dropped 𝓛 6 (RefOf (0 ∷ []) tt (plain (λ _. Conversations.the_row)) (λ _. tt)) yes (λ κs x r. refl) in
+    let source_is_dropped = Goes-dropped 𝓛 6 (RefOf (1 ∷ []) tt (plain (λ _. Source.the_row (param 0 I) read)) (λ _. tt)) yes (λ κs x r. refl) in
+    let sink_is_dropped = Goes-dropped 𝓛 6 (RefOf (2 ∷ []) tt (plain (λ _. Sink.the_row (param 1 O) write)) (λ _. tt)) yes (λ κs x r. refl) in
+    let ending_is_dropped = Goes-dropped 𝓛 6 (RefOf (3 ∷ []) tt (plain (λ _. Result.the_row End.the_row LineEnd.the_row)) (λ _. tt)) yes (λ κs x r. refl) in
+    proved 𝓛 ended stayed c 𝓜 𝓡 (self_is_dropped, (source_is_dropped, (sink_is_dropped, (ending_is_dropped, tt)))) (f.Key.name args) (inst_fn args code.function) (code.unfolded 𝓤 𝓛.H 𝓜 𝓡 wired (I, (O, tt)) read_at write_at)
     (λ κs. (shr_vals, (shr_vals, (shr_vals, (shr_vals, tt))))) (λ κs. ((λ r vs is. is.0), ((λ r vs is. is.0), ((λ r vs is. is.0), ((λ r vs is. is.0), tt))))) (λ κs qs bounds a g are.
     let y : (walk_of 𝓛 ended stayed c).Ghost = ((κs, qs, bounds, a, (shr_vals a.0, (shr_vals a.1.0, (shr_vals a.1.1.0, (shr_vals a.1.1.1.0, tt))))), g) in
     let longer : Conversations.the_row.Denot = record { arrivals = a.0.now.arrivals; callers = a.0.now.callers ++ record { input = a.1.0.now; output = a.1.1.0.now; ending = a.1.1.1.0.now } ∷ [] } in

@@ -27,9 +27,9 @@ stayed = (stay_dropped _ yes, (stay_dropped _ yes, tt))
 pub arrived_spec : {M : Type 1} → statement M
 arrived_spec 𝓤 𝓛 𝓜 𝓡 wired =
     let c = f.clauses 𝓛 𝓜.mem 𝓡.returns in let 𝓣 = tables 𝓤 𝓛.H 𝓜 𝓡 𝓡.env in
-    let self_goes = Goes-dropped 𝓛 2 (RefOf (0 ∷ []) tt (plain (λ _. Conversations.the_row)) (λ _. tt)) yes (λ κs x r. refl) in
-    let arrival_goes = Goes-dropped 𝓛 2 (RefOf (1 ∷ []) tt (plain (λ _. Arrival.the_row)) (λ _. tt)) yes (λ κs x r. refl) in
-    proved 𝓛 f.ended stayed c 𝓜 𝓡 (self_goes, (arrival_goes, tt)) f.Key.name code.function (code.unfolded 𝓤 𝓛.H 𝓜 𝓡 wired)
+    let self_is_dropped = Goes-dropped 𝓛 2 (RefOf (0 ∷ []) tt (plain (λ _. Conversations.the_row)) (λ _. tt)) yes (λ κs x r. refl) in
+    let arrival_is_dropped = Goes-dropped 𝓛 2 (RefOf (1 ∷ []) tt (plain (λ _. Arrival.the_row)) (λ _. tt)) yes (λ κs x r. refl) in
+    proved 𝓛 f.ended stayed c 𝓜 𝓡 (self_is_dropped, (arrival_is_dropped, tt)) f.Key.name code.function (code.unfolded 𝓤 𝓛.H 𝓜 𝓡 wired)
     (λ κs. (shr_vals, (shr_vals, tt))) (λ κs. ((λ r vs is. is.0), ((λ r vs is. is.0), tt))) (λ κs qs bounds a g are.
     let y : (walk_of 𝓛 f.ended stayed c).Ghost = ((κs, qs, bounds, a, (shr_vals a.0, (shr_vals a.1.0, tt))), g) in
     let longer : Conversations.the_row.Denot = record { arrivals = a.0.now.arrivals ++ a.1.0.now ∷ []; callers = a.0.now.callers } in

@@ -26,9 +26,9 @@ stayed = (stay_dropped _ yes, (stay_dropped _ yes, tt))
 pub opened_spec : {M : Type 1} → statement M
 opened_spec 𝓤 𝓛 𝓜 𝓡 wired =
     let c = f.clauses 𝓛 𝓜.mem 𝓡.returns in let 𝓣 = tables 𝓤 𝓛.H 𝓜 𝓡 𝓡.env in
-    let self_goes = Goes-dropped 𝓛 2 (RefOf (0 ∷ []) tt (plain (λ _. Fronts.the_row)) (λ _. tt)) yes (λ κs x r. refl) in
-    let number_goes = Goes-dropped 𝓛 2 (RefOf (1 ∷ []) tt (plain (λ _. usize)) (λ _. tt)) yes (λ κs x r. refl) in
-    proved 𝓛 f.ended stayed c 𝓜 𝓡 (self_goes, (number_goes, tt)) f.Key.name code.function (code.unfolded 𝓤 𝓛.H 𝓜 𝓡 wired)
+    let self_is_dropped = Goes-dropped 𝓛 2 (RefOf (0 ∷ []) tt (plain (λ _. Fronts.the_row)) (λ _. tt)) yes (λ κs x r. refl) in
+    let number_is_dropped = Goes-dropped 𝓛 2 (RefOf (1 ∷ []) tt (plain (λ _. usize)) (λ _. tt)) yes (λ κs x r. refl) in
+    proved 𝓛 f.ended stayed c 𝓜 𝓡 (self_is_dropped, (number_is_dropped, tt)) f.Key.name code.function (code.unfolded 𝓤 𝓛.H 𝓜 𝓡 wired)
     (λ κs. (shr_vals, (shr_vals, tt))) (λ κs. ((λ r vs is. is.0), ((λ r vs is. is.0), tt))) (λ κs qs bounds a g are.
     let y : (walk_of 𝓛 f.ended stayed c).Ghost = ((κs, qs, bounds, a, (shr_vals a.0, (shr_vals a.1.0, tt))), g) in
     let longer : Fronts.the_row.Denot = record { opened = a.0.now.opened ++ a.1.0.now ∷ []; ended = a.0.now.ended } in

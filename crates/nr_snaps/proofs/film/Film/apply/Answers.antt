@@ -1,6 +1,6 @@
 use Rattle.std.proofs.Common.{rules}
 use Rattle.nr_snaps.specs.Replay.{LeadsOn}
-use Rattle.nr_snaps.proofs.Frames.{IsFrame-next}
+use Rattle.nr_snaps.proofs.FrameLemmas.{IsFrame-next}
 use Rattle.nr_snaps.proofs.film.Film.apply.Goals as goal
 
 -- the step leads on from the frame

@@ -2,7 +2,7 @@ use Rattle.std.proofs.Common.{◌≡◌, ◌+◌, ◌-◌, ◌*◌, ◌/◌, ◌
 use Rattle.std.proofs.lemmas.Option.{slice_get_read}
 use Rattle.nr_recording.specs.Recording.{run_of}
 use Rattle.nr_snaps.specs.Film.{IsFrame, Reel}
-use Rattle.nr_snaps.proofs.Copies.{div-mono}
+use Rattle.nr_snaps.proofs.CopiesLemmas.{div-mono}
 use Rattle.nr_snaps.proofs.film.Film.snap_below.Goals as goal
 
 -- the copy that is lent is the one of its position

@@ -28,10 +28,10 @@ stayed = (stay_dropped _ yes, (stay_dropped _ yes, (stay_dropped _ yes, tt)))
 pub and_spec : {M : Type 1} → statement M
 and_spec 𝓤 𝓛 𝓜 𝓡 wired =
     let c = f.clauses 𝓛 𝓜.mem 𝓡.returns in let 𝓣 = tables 𝓤 𝓛.H 𝓜 𝓡 𝓡.env in
-    let self_goes = Goes-dropped 𝓛 3 (RefOf (0 ∷ []) tt (plain (λ _. Moments.the_row)) (λ _. tt)) yes (λ κs x r. refl) in
-    let reads_go = Goes-dropped 𝓛 3 (RefOf (1 ∷ []) tt (plain (λ _. Calls.the_row)) (λ _. tt)) yes (λ κs x r. refl) in
-    let writes_go = Goes-dropped 𝓛 3 (RefOf (2 ∷ []) tt (plain (λ _. Calls.the_row)) (λ _. tt)) yes (λ κs x r. refl) in
-    proved 𝓛 f.ended stayed c 𝓜 𝓡 (self_goes, (reads_go, (writes_go, tt))) f.Key.name code.function (code.unfolded 𝓤 𝓛.H 𝓜 𝓡 wired)
+    let self_is_dropped = Goes-dropped 𝓛 3 (RefOf (0 ∷ []) tt (plain (λ _. Moments.the_row)) (λ _. tt)) yes (λ κs x r. refl) in
+    let reads_are_dropped = Goes-dropped 𝓛 3 (RefOf (1 ∷ []) tt (plain (λ _. Calls.the_row)) (λ _. tt)) yes (λ κs x r. refl) in
+    let writes_are_dropped = Goes-dropped 𝓛 3 (RefOf (2 ∷ []) tt (plain (λ _. Calls.the_row)) (λ _. tt)) yes (λ κs x r. refl) in
+    proved 𝓛 f.ended stayed c 𝓜 𝓡 (self_is_dropped, (reads_are_dropped, (writes_are_dropped, tt))) f.Key.name code.function (code.unfolded 𝓤 𝓛.H 𝓜 𝓡 wired)
     (λ κs. (shr_vals, (shr_vals, (shr_vals, tt)))) (λ κs. ((λ r vs is. is.0), ((λ r vs is. is.0), ((λ r vs is. is.0), tt)))) (λ κs qs bounds a g are.
     let y : (walk_of 𝓛 f.ended stayed c).Ghost = ((κs, qs, bounds, a, (shr_vals a.0, (shr_vals a.1.0, (shr_vals a.1.1.0, tt)))), g) in
     let longer : Moments.the_row.Denot = record { passed = a.0.now.passed ++ record { received = bytes_of a.1.0.now.made; sent = bytes_of a.1.1.0.now.made } ∷ [] } in

@@ -1,9 +1,9 @@
 use Rattle.std.proofs.Common.{refl}
-use Rattle.nr_timers.proofs.SiftLemmas.{lower_more, line_end, size_of}
+use Rattle.nr_timers.proofs.SiftLemmas.{lower_more, path_end, size_of}
 use Rattle.nr_timers.proofs.heap.Heap.+lower.Goals as goal
 
 pub returns-else-place-above-clause-entries : goal.returns-else-place-above-clause-entries
-returns-else-place-above-clause-entries t c = (0, line_end c.args.place c.args.above c.requires.line c.if-place-above.false, refl)
+returns-else-place-above-clause-entries t c = (0, path_end c.args.place c.args.above c.requires.path c.if-place-above.false, refl)
 
 pub returns-then-place-above-clause-entries : goal.returns-then-place-above-clause-entries
 returns-then-place-above-clause-entries t c =

@@ -1,5 +1,5 @@
 use Rattle.std.proofs.Common.{sym, arith}
-use Rattle.nr_walker.proofs.Ways.{IsWay-last, IsWay-backward}
+use Rattle.nr_walker.proofs.WayBackLemmas.{IsWay-last, IsWay-backward}
 use Rattle.nr_walker.proofs.walker.Walker.backward.Goals as goal
 
 -- the last delta leads back to the position before

@@ -1,5 +1,5 @@
 use Rattle.std.proofs.Common.{◌<◌, length, sym, subst}
-use Rattle.nr_walker.proofs.Ways.{IsWay-forward}
+use Rattle.nr_walker.proofs.WayBackLemmas.{IsWay-forward}
 use Rattle.nr_walker.proofs.walker.Walker.forward.Goals as goal
 
 -- the new delta leads back to where the walker was

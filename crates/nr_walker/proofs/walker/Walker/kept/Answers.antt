@@ -1,5 +1,5 @@
 use Rattle.std.proofs.Common.{◌≤◌, subst, arith}
-use Rattle.nr_walker.proofs.Ways.{IsWay-kept}
+use Rattle.nr_walker.proofs.WayBackLemmas.{IsWay-kept}
 use Rattle.nr_walker.proofs.walker.Walker.kept.Goals as goal
 
 -- each delta leads back over one step

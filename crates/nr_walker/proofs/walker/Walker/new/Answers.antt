@@ -1,6 +1,6 @@
 use Rattle.std.proofs.Common.{sym, subst, arith}
 use Rattle.nr_snaps.specs.Film.{IsFrame}
-use Rattle.nr_walker.proofs.Ways.{IsWay-none}
+use Rattle.nr_walker.proofs.WayBackLemmas.{IsWay-none}
 use Rattle.nr_walker.proofs.walker.Walker.new.Goals as goal
 
 -- it is at position 0, and nothing leads back

@@ -1,6 +1,6 @@
 use Rattle.std.proofs.Common.{◌*◌, ◌/◌, ◌≤◌, length, sym, subst, arith, rules}
 use Rattle.std.proofs.Math.Nat.{div-mul-le_self}
-use Rattle.nr_walker.proofs.Ways.{IsWay-none}
+use Rattle.nr_walker.proofs.WayBackLemmas.{IsWay-none}
 use Rattle.nr_walker.proofs.walker.Walker.to_copy_below.Goals as goal
 
 -- it is where the film's copy is, and nothing leads back

@@ -1,4 +1,4 @@
--- Exchanges along lines of parents.
+-- Exchanges along paths to the root.
 use Rattle.std.proofs.Common.{◌≡◌, ⊎_elim, ℕ, zero, suc, ◌<◌, ◌≤◌, List, length, refl, sym, ap, ◌∙◌, subst, arith}
 use Rattle.std.specs.List.{swap}
 use Rattle.std.proofs.lemmas.List.{ext_get_or}
@@ -6,12 +6,12 @@ use Rattle.std.proofs.lemmas.List.Edits.{Swapped, swapped_from_swap, length-swap
 use Rattle.std.proofs.lemmas.Bool.{cases_eq}
 use Rattle.nr_rev.specs.declared.timer.Entry.{Entry}
 use Rattle.nr_timers.specs.Order.{at, blank}
-use Rattle.nr_timers.specs.Line.{parent, Leads, OnLine}
-use Rattle.nr_timers.specs.Auxiliary.Line.{moved_up, moved_down}
-use Rattle.nr_timers.specs.LineLaws.{Leads-lt}
+use Rattle.nr_timers.specs.PathToRoot.{parent, Leads, OnPath}
+use Rattle.nr_timers.specs.Auxiliary.PathToRoot.{moved_up, moved_down}
+use Rattle.nr_timers.specs.PathLaws.{Leads-lt}
 
--- of two places on a line the lower number is on the line of the other
-pub Leads-between : (n m p q k : ℕ) → Leads n p q → Leads m p k → k ≤ q → OnLine q k
+-- of two places on a path the lower number is on the path of the other
+pub Leads-between : (n m p q k : ℕ) → Leads n p q → Leads m p k → k ≤ q → OnPath q k
 Leads-between zero m p q k a b le = (m, subst (λ x. Leads m x k) (sym a) b)
 Leads-between (suc n) zero p q k a b le = let below = Leads-lt n p q a in absurd (omega arith)
 Leads-between (suc n) (suc m) p q k a b le = Leads-between n m (parent p) q k a.1 b.1 le

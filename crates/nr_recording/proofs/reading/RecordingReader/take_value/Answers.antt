@@ -7,9 +7,9 @@ use Rattle.nr_recording.specs.Part.{elements}
 use Rattle.nr_recording.specs.Recording.{recorded}
 use Rattle.nr_recording.specs.Reading.{with_value}
 use Rattle.nr_recording.specs.Auxiliary.Reading.{value_takes_memory}
-use Rattle.nr_recording.proofs.Elements.{seen_by_elements, memory_by_elements}
-use Rattle.nr_recording.proofs.Ranges.{header_fits, none_before}
-use Rattle.nr_recording.proofs.reading.RecordingReader.value.Goals as goal
+use Rattle.nr_recording.proofs.ElementsLemmas.{seen_by_elements, memory_by_elements}
+use Rattle.nr_recording.proofs.RangeLemmas.{header_fits, none_before}
+use Rattle.nr_recording.proofs.reading.RecordingReader.take_value.Goals as goal
 
 pub invariant_of-self : goal.invariant_of-self
 invariant_of-self c =

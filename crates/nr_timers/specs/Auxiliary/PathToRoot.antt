@@ -1,16 +1,16 @@
--- Beside `Line`: what contracts and proofs cite, and no law of THEOREM.md rests on.
+-- Beside `PathToRoot`: what contracts and proofs cite, and no law of THEOREM.md rests on.
 use Rattle.std.specs.Prelude.{◌≡◌, ◌⊎◌, ℕ, zero, suc, ◌<◌, false, List, length}
 use Rattle.std.specs.List.{swap}
 use Rattle.nr_rev.specs.declared.timer.Entry.{Entry}
 use Rattle.nr_timers.specs.Order.{is_less, at}
-use Rattle.nr_timers.specs.Line.{InOrder, Raised, Sunk, parent}
+use Rattle.nr_timers.specs.PathToRoot.{InOrder, Raised, Sunk, parent}
 
--- the entry at p, n places of the line up
+-- the entry at p, n places of the path up
 abbrev pub moved_up : ℕ → List Entry → ℕ → List Entry
 moved_up zero places p = places
 moved_up (suc n) places p = moved_up n (swap places p (parent p)) (parent p)
 
--- the entry n places of the line above p, down at p
+-- the entry n places of the path above p, down at p
 abbrev pub moved_down : ℕ → List Entry → ℕ → List Entry
 moved_down zero places p = places
 moved_down (suc n) places p = swap (moved_down n places (parent p)) p (parent p)

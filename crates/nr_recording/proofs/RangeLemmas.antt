@@ -33,7 +33,7 @@ use Rattle.nr_recording.specs.Arguments.{most_digits, bytes_named, hex_of, i64_o
 use Rattle.nr_recording.specs.Shapes.{step_from}
 use Rattle.nr_recording.specs.Steps.{first_of, step_in, answer_in, ends, step_of}
 use Rattle.nr_recording.specs.Header.{limit_of, limits_of, unsigned_at, member_count, header_of}
-use Rattle.nr_recording.proofs.Binds.{bind_ok, passed_ok, found_ok, map_some, then_some, kept_some, same_ok}
+use Rattle.nr_recording.proofs.BoundPartLemmas.{bind_ok, passed_ok, found_ok, map_some, then_some, kept_some, same_ok}
 
 -- ---- limits
 

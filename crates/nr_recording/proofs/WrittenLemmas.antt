@@ -21,8 +21,8 @@ use Rattle.nr_recording.specs.Text.{AreSteps, AreLinesOf, IsTextOf}
 use Rattle.nr_recording.specs.Spelling.{Argument}
 use Rattle.nr_recording.specs.Auxiliary.Steps.{arguments_of, answer_arguments, spelling_of}
 use Rattle.nr_recording.specs.Writing.{step_data, HasTypedArguments, header_data, line_text, text}
-use Rattle.nr_recording.proofs.Again.{step_again, version_again, header_again}
-use Rattle.nr_recording.proofs.ReadBack.{line_read, header_read}
+use Rattle.nr_recording.proofs.ReadAgainLemmas.{step_again, version_again, header_again}
+use Rattle.nr_recording.proofs.ReadBackLemmas.{line_read, header_read}
 use Rattle.nr_recording.proofs.PlainTextLemmas.{are_printable, are_plain, widths, line_printable, line_short, header_printable, header_short, utf8_printable, lines-line_text}
 use Rattle.nr_recording.proofs.TextLaws.{reading_again}
 
