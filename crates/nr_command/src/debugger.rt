@@ -1,8 +1,8 @@
 //! A debugger, a state machine: its position in a film, what it keeps, and what it answers.
 
-ghost use Rattle.std.specs.Prelude.{◌≡◌, ◌<◌, ◌≤◌, ◌^◌, length, IfOk, OnErr};
+ghost use Rattle.std.specs.Prelude.{◌≡◌, ◌<◌, ◌≤◌, ◌^◌, length, false, IfOk, OnErr};
 ghost use Rattle.nr_command.specs.Debugger.{NeedsWorlds, Searches, stop_at, continue, delete_checkpoint, delete_mark, keep_position, make_mark, opening, restart, run, step, to_end};
-ghost use Rattle.nr_command.specs.Auxiliary.Debugger.{IsWithin};
+ghost use Rattle.nr_command.specs.Auxiliary.Debugger.{IsWithin, continues};
 
 use crate::checkpoint::{CheckpointFault, Checkpoints};
 use crate::command::Command;
@@ -101,12 +101,25 @@ impl Debugger {
         ensures unchanged { OnErr result (self.new ≡ self.old) }
         ensures memory { OnErr result (Searches film.now.recording command self.old) }
     {
+        match command {
+            Command::Continue => self.continue_in(film, finder, self.direction),
+            Command::ReverseContinue => self.continue_in(film, finder, Direction::Backward),
+            other => Ok(self.obey(film, other)),
+        }
+    }
+
+    /// Runs a command that searches nothing.
+    fn obey<W: Worlds + Drop>(&mut self, film: &Film<W>, command: Command) -> Reply
+    where
+        W::Snapshot: Drop,
+        requires position { self.old.position ≤ length film.now.recording.steps }
+        requires command { continues command ≡ false }
+        ensures { (result, self.new) ≡ run film.now.recording command self.old }
+    {
         let last = film.len();
-        let reply = match command {
+        match command {
             Command::Step(count) => self.step(self.direction, count.get(), last),
             Command::ReverseStep(count) => self.step(Direction::Backward, count.get(), last),
-            Command::Continue => return self.continue_in(film, finder, self.direction),
-            Command::ReverseContinue => return self.continue_in(film, finder, Direction::Backward),
             Command::SetDirection(direction) => {
                 self.direction = direction;
                 Reply::Direction(direction)
@@ -118,8 +131,8 @@ impl Debugger {
             Command::Checkpoint => self.keep_position(),
             Command::Restart(number) => self.restart(number),
             Command::DeleteCheckpoint(number) => self.delete_checkpoint(number),
-        };
-        Ok(reply)
+            Command::Continue | Command::ReverseContinue => unreachable!(),
+        }
     }
 
     /// Goes to where the film ends that way.

@@ -1,18 +1,33 @@
 //! What a look shows.
 
-ghost use Rattle.std.specs.Prelude.{◌≡◌, ◌≤◌, length, true, false, IfNone, IfOk, IfSome, OnErr, OnSome};
+ghost use Rattle.std.specs.Prelude.{◌≡◌, ◌≤◌, length, true, false, IfOk, OnErr};
 ghost use Rattle.nr_rev.specs.Auxiliary.Run.{IsWorldAt};
 ghost use Rattle.nr_command.specs.Debugger.{query_reply};
 ghost use Rattle.nr_command.specs.Auxiliary.Debugger.{Copies};
 ghost use Rattle.nr_command.specs.Looking.{is_at_world};
+ghost use Rattle.nr_command.specs.declared.command.Query.TheVariants as queries;
 
 use crate::command::Query;
 use crate::debugger::Debugger;
 use crate::reply::Reply;
 use arrayvec::ArrayVec;
-use nr_rev::{Memory, Worlds};
+use nr_rev::{Memory, Side, Worlds};
 use nr_snaps::Film;
 
+impl Query {
+    /// Whether it looks at the world, as a value and the dumps do. The others look at what the debugger keeps.
+    pub fn is_at_world(self) -> bool
+        ensures { result ≡ is_at_world self }
+    {
+        match self {
+            Query::Print(_) | Query::DumpBytes { .. } | Query::DumpQueue { .. } => true,
+            Query::Position | Query::Breakpoints | Query::Checkpoints => false,
+        }
+    }
+}
+
+// A reply has room for 64 marks, and a function clears all its locals when it is entered. So each kind of look is a function of
+// its own.
 impl Debugger {
     /// What a look shows: of the world, which is that of the debugger's position, or of what the debugger keeps. It
     /// changes nothing.
@@ -30,53 +45,98 @@ impl Debugger {
         ensures ok { IfOk result (λ reply. reply ≡ query_reply film.now.recording self.now query) }
         ensures err { OnErr result (Copies film.now.recording self.now query) }
     {
-        if let Some(reply) = self.look_within(film, query) {
-            return Ok(reply);
+        if query.is_at_world() {
+            return self.look_at_world(film, world, query);
         }
+        Ok(self.look_within(film, query))
+    }
+
+    /// What a look at the world shows. It fails as `look` does.
+    pub fn look_at_world<W: Worlds + Drop>(
+        &self,
+        film: &Film<W>,
+        world: &W,
+        query: Query,
+    ) -> Result<Reply, Memory>
+    where
+        W::Snapshot: Drop,
+        requires world { IsWorldAt W.is_well_formed W.world film.now.recording self.now.position world.now }
+        requires query { is_at_world query ≡ true }
+        ensures ok { IfOk result (λ reply. reply ≡ query_reply film.now.recording self.now query) }
+        ensures err { OnErr result (Copies film.now.recording self.now query) }
+    {
         match query {
             Query::Print(cell) => {
                 let value = world.cell(cell);
                 Ok(Reply::Printed { cell, value })
             }
-            Query::DumpBytes { side, socket } => {
-                let bytes = world.bytes(socket, side)?;
-                Ok(Reply::Bytes {
-                    side,
-                    socket,
-                    bytes,
-                })
-            }
-            Query::DumpQueue { side, socket } => {
-                let queue = world.queue(socket, side)?;
-                Ok(Reply::Queue {
-                    side,
-                    socket,
-                    queue,
-                })
-            }
+            Query::DumpBytes { side, socket } => self.dump_bytes(film, world, side, socket),
+            Query::DumpQueue { side, socket } => self.dump_queue(film, world, side, socket),
             Query::Position | Query::Breakpoints | Query::Checkpoints => unreachable!(),
         }
     }
 
-    /// What a look shows that is at the debugger alone: it needs no world, and takes no memory. `None`: the look is at the
-    /// world, as a value and the dumps are.
-    pub fn look_within<W: Worlds + Drop>(&self, film: &Film<W>, query: Query) -> Option<Reply>
+    /// What a look shows that is at the debugger alone: it needs no world, and takes no memory.
+    pub fn look_within<W: Worlds + Drop>(&self, film: &Film<W>, query: Query) -> Reply
     where
         W::Snapshot: Drop,
-        ensures some { IfSome result (λ reply. reply ≡ query_reply film.now.recording self.now query) }
-        ensures within { OnSome result (is_at_world query ≡ false) }
-        ensures at_world { IfNone result (is_at_world query ≡ true) }
+        requires { is_at_world query ≡ false }
+        ensures { result ≡ query_reply film.now.recording self.now query }
     {
         match query {
-            Query::Print(_) | Query::DumpBytes { .. } | Query::DumpQueue { .. } => None,
-            Query::Position => Some(Reply::Position {
+            Query::Position => Reply::Position {
                 position: self.position,
                 last: film.len(),
                 direction: self.direction,
-            }),
-            Query::Breakpoints => Some(Reply::Marks(listed(self.marks.as_slice()))),
-            Query::Checkpoints => Some(Reply::Checkpoints(listed(self.checkpoints.as_slice()))),
+            },
+            Query::Breakpoints => Reply::Marks(listed(self.marks.as_slice())),
+            Query::Checkpoints => Reply::Checkpoints(listed(self.checkpoints.as_slice())),
+            Query::Print(_) | Query::DumpBytes { .. } | Query::DumpQueue { .. } => unreachable!(),
         }
+    }
+
+    fn dump_bytes<W: Worlds + Drop>(
+        &self,
+        film: &Film<W>,
+        world: &W,
+        side: Side,
+        socket: u32,
+    ) -> Result<Reply, Memory>
+    where
+        W::Snapshot: Drop,
+        requires { IsWorldAt W.is_well_formed W.world film.now.recording self.now.position world.now }
+        ensures ok { IfOk result (λ reply. reply
+            ≡ query_reply film.now.recording self.now (queries.DumpBytes side socket)) }
+        ensures err { OnErr result (Copies film.now.recording self.now (queries.DumpBytes side socket)) }
+    {
+        let bytes = world.bytes(socket, side)?;
+        Ok(Reply::Bytes {
+            side,
+            socket,
+            bytes,
+        })
+    }
+
+    fn dump_queue<W: Worlds + Drop>(
+        &self,
+        film: &Film<W>,
+        world: &W,
+        side: Side,
+        socket: u32,
+    ) -> Result<Reply, Memory>
+    where
+        W::Snapshot: Drop,
+        requires { IsWorldAt W.is_well_formed W.world film.now.recording self.now.position world.now }
+        ensures ok { IfOk result (λ reply. reply
+            ≡ query_reply film.now.recording self.now (queries.DumpQueue side socket)) }
+        ensures err { OnErr result (Copies film.now.recording self.now (queries.DumpQueue side socket)) }
+    {
+        let queue = world.queue(socket, side)?;
+        Ok(Reply::Queue {
+            side,
+            socket,
+            queue,
+        })
     }
 }
 

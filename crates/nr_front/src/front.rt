@@ -74,7 +74,10 @@ where
             return Err(FrontFault::Placed(self.place()));
         }
         self.catch_up(journal)?;
-        self.offer_until_placed(journal, command)?;
+        // (`?` would make the fault anew, and the prover not know that it is the same)
+        if let Err(fault) = self.offer_until_placed(journal, command) {
+            return Err(fault);
+        }
         match self.run(command) {
             Ok(reply) => Ok(reply),
             Err(_) => Err(FrontFault::Placed(self.place())),

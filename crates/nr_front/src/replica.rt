@@ -109,11 +109,11 @@ where
         ensures led { OnOk result (self.new.walker_state ≡ after_look query self.old) }
         ensures memory { OnErr result (LookIsRefused query self.old self.new.walker_state) }
     {
-        if let Some(reply) = self.debugger.look_within(self.walker.film(), query) {
-            return Ok(reply);
+        if !query.is_at_world() {
+            return Ok(self.debugger.look_within(self.walker.film(), query));
         }
         self.walker.goto(self.debugger.position())?;
         self.debugger
-            .look(self.walker.film(), self.walker.world(), query)
+            .look_at_world(self.walker.film(), self.walker.world(), query)
     }
 }

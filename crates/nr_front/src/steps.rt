@@ -56,9 +56,21 @@ where
         ensures memory { OnErr result (SearchIsPending self.old) }
         ensures company { HasCompany self.old.pending self.old.pass_state.passes }
     {
-        if let Some(command) = self.pending.command() {
-            self.run(command)?;
+        match self.pending.command() {
+            Some(command) => self.run_unanswered(command),
+            None => Ok(()),
         }
+    }
+
+    /// Runs the command that is due, and lets its reply go. Out of memory, nothing has changed.
+    fn run_unanswered(&mut self, command: Command) -> Result<(), Memory>
+        requires { pending_command self.old.pending ≡ Some command }
+        ensures without_pending { OnOk result (self.new ≡ without_pending self.old) }
+        ensures unchanged { OnErr result (self.new ≡ self.old) }
+        ensures memory { OnErr result (SearchIsPending self.old) }
+        ensures company { HasCompany self.old.pending self.old.pass_state.passes }
+    {
+        self.run(command)?;
         Ok(())
     }
 

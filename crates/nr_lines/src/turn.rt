@@ -1,10 +1,13 @@
 //! One line and its answer.
 
-ghost use Rattle.std.specs.Prelude.{◌≡◌, ℕ, List, true, IfErr, IfOk, OnErr, OnOk};
+ghost use Rattle.std.specs.Prelude.{◌≡◌, ℕ, List, true, None, IfErr, IfNone, IfOk, IfSome, OnErr, OnOk};
 ghost use Rattle.nr_text.specs.Streams.{Sends};
+ghost use Rattle.nr_text.specs.Auxiliary.Streams.{Prints};
 ghost use Rattle.nr_command.specs.Command.{meaning_of};
+ghost use Rattle.nr_command.specs.Reply.{text_of};
+ghost use Rattle.nr_command.specs.declared.reply.Reply.TheVariants as replies;
 ghost use Rattle.nr_lines.specs.Turn.{is_quit};
-ghost use Rattle.nr_lines.specs.Auxiliary.Turn.{StopsInside, MayReply, Turn, count_with, reply_given, resumed, fault_reply};
+ghost use Rattle.nr_lines.specs.Auxiliary.Turn.{MayReply, PrintsReply, StopsInside, Turn, count_with, fault_reply, reply_given, resumed};
 
 use crate::ending::LineEnd;
 use nr_command::{Command, Fault, Line, LineFault, Reply};
@@ -40,16 +43,13 @@ where
     ensures failed { OnErr result (w.new.failed ≡ true) }
 {
     let asked = Command::parse(line);
-    let quits = is_quit(asked);
-    let Some(reply) = reply_to_line(front, journal, asked) else {
-        return Ok(false);
-    };
-    match w.print(&reply) {
-        Ok(()) => {
+    match print_reply(asked, w, front, journal) {
+        None => Ok(false),
+        Some(Ok(())) => {
             *whole = whole.saturating_add(1);
-            Ok(quits)
+            Ok(is_quit(asked))
         }
-        Err(Part(part)) => Err(LineEnd::Write {
+        Some(Err(Part(part))) => Err(LineEnd::Write {
             whole: *whole,
             part,
         }),
@@ -66,61 +66,82 @@ fn is_quit(asked: Result<Line, LineFault>) -> bool
     }
 }
 
-/// The reply, unless the line is empty.
-fn reply_to_line<S: Worlds + Drop + Sync, F: Finder>(
+// A reply has room for 64 marks, and a function clears all its locals when it is entered. So each is printed where it is
+// made, by a function of its own.
+
+/// Prints the reply; `None` where there is none, since the line is empty.
+fn print_reply<W: Write, S: Worlds + Drop + Sync, F: Finder>(
+    asked: Result<Line, LineFault>,
+    w: &mut Sink<W>,
     front: &mut Front<'_, S, F>,
     journal: &Journal,
-    asked: Result<Line, LineFault>,
-) -> Option<Reply>
+) -> Option<Result<(), Part>>
 where
     S::Delta: Drop,
     S::Snapshot: Drop + Sync,
     requires { front.old.table ≡ journal.now }
     ensures table { front.new.table ≡ front.old.table }
-    ensures reply { MayReply asked front.old result front.new }
+    ensures printed { IfSome result (λ printed. PrintsReply asked front.old front.new w.old w.new printed) }
+    ensures silent { IfNone result (MayReply asked front.old None front.new) }
+    ensures nothing { IfNone result (w.new ≡ w.old) }
 {
     let line = match asked {
         Ok(line) => line,
-        Err(fault) => return Some(Reply::Fault(Fault::Line(fault))),
+        Err(fault) => return Some(print_fault(Fault::Line(fault), w)),
     };
     match line {
-        Line::Run(command) => Some(reply_given(front.exec(journal, command))),
-        Line::Look(query) => Some(reply_given(front.look(journal, query))),
-        Line::Resume => Some(resumed(front.resume())),
-        Line::Quit => Some(Reply::Bye),
+        Line::Run(command) => Some(print_given(&front.exec(journal, command), w)),
+        Line::Look(query) => Some(print_given(&front.look(journal, query), w)),
+        Line::Resume => Some(print_resumed(&front.resume(), w)),
+        Line::Quit => Some(print_bye(w)),
         Line::Empty => None,
     }
 }
 
-/// The reply to a command or to a look.
-fn reply_given(given: Result<Reply, FrontFault>) -> Reply
-    ensures { result ≡ reply_given given }
+/// Prints the reply to a command or to a look.
+fn print_given<W: Write>(given: &Result<Reply, FrontFault>, w: &mut Sink<W>) -> Result<(), Part>
+    ensures { Prints w.old w.new (text_of (reply_given given.now)) result }
 {
     match given {
-        Ok(reply) => reply,
-        Err(fault) => fault_reply(fault),
+        Ok(reply) => w.print(reply),
+        Err(fault) => print_fault(fault_of(*fault), w),
     }
 }
 
-/// The reply where one was asked for once more.
-fn resumed(given: Result<Option<Reply>, FrontFault>) -> Reply
-    ensures { result ≡ resumed given }
+/// Prints the reply where one was asked for once more.
+fn print_resumed<W: Write>(
+    given: &Result<Option<Reply>, FrontFault>,
+    w: &mut Sink<W>,
+) -> Result<(), Part>
+    ensures { Prints w.old w.new (text_of (resumed given.now)) result }
 {
     match given {
-        Ok(Some(reply)) => reply,
-        Ok(None) => Reply::NothingOwed,
-        Err(fault) => fault_reply(fault),
+        Ok(Some(reply)) => w.print(reply),
+        Ok(None) => w.print(&Reply::NothingOwed),
+        Err(fault) => print_fault(fault_of(*fault), w),
     }
 }
 
-/// The reply that says why there is none.
-fn fault_reply(fault: FrontFault) -> Reply
-    ensures { result ≡ fault_reply fault }
+fn print_bye<W: Write>(w: &mut Sink<W>) -> Result<(), Part>
+    ensures { Prints w.old w.new (text_of replies.Bye) result }
 {
-    let fault = match fault {
+    w.print(&Reply::Bye)
+}
+
+/// Prints the reply that says why nothing was done.
+fn print_fault<W: Write>(fault: Fault, w: &mut Sink<W>) -> Result<(), Part>
+    ensures { Prints w.old w.new (text_of (replies.Fault fault)) result }
+{
+    w.print(&Reply::Fault(fault))
+}
+
+/// What a front's fault is reported as.
+fn fault_of(fault: FrontFault) -> Fault
+    ensures { replies.Fault result ≡ fault_reply fault }
+{
+    match fault {
         FrontFault::Memory(refused) => Fault::Memory(refused),
         FrontFault::Placed(place) => Fault::Placed(place),
         FrontFault::Full => Fault::JournalFull,
-    };
-    Reply::Fault(fault)
+    }
 }

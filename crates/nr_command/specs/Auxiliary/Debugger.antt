@@ -1,10 +1,11 @@
 -- Beside `Debugger`: what contracts and proofs cite, and no law of THEOREM.md rests on.
-use Rattle.std.specs.Prelude.{ℕ, ◌≤◌, All, List}
+use Rattle.std.specs.Prelude.{ℕ, ◌≤◌, Bool, true, false, All, List}
 use Rattle.nr_rev.specs.Cell.{bytes_of, queue_of}
 use Rattle.nr_rev.specs.Run.{Recording, world_at}
 use Rattle.nr_rev.specs.Auxiliary.Worlds.{HasItems}
 use Rattle.nr_command.specs.Checkpoints as checkpoints
 use Rattle.nr_command.specs.declared.command.Command.{Command}
+use Rattle.nr_command.specs.declared.command.Command.TheVariants as commands
 use Rattle.nr_command.specs.declared.command.Query.{Query}
 use Rattle.nr_command.specs.declared.command.Query.TheVariants as queries
 use Rattle.nr_command.specs.declared.debugger.Debugger.{Debugger}
@@ -15,6 +16,12 @@ use Rattle.nr_command.specs.Debugger.{after_words, opening, run}
 pub record IsWithin (last : ℕ) (d : Debugger) : Type 0 where
   pub position : d.position ≤ last
   pub kept : All (λ c. c.item ≤ last) d.checkpoints.present
+
+-- the command is `continue` or `reverse-continue`: no other searches
+abbrev pub continues : Command → Bool
+continues commands.Continue = true
+continues commands.ReverseContinue = true
+continues command = false
 
 -- what a command is answered behind a history
 abbrev pub reply_behind : Recording → List ℕ → Command → Reply

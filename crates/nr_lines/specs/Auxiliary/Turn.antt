@@ -2,6 +2,9 @@
 use Rattle.std.specs.Prelude.{◌≡◌, ℕ, ◌+◌, ◌<◌, nat_lt, List, length, take, Option, Some, None, Result, Ok, Err, if◌then◌else◌}
 use Rattle.nr_command.specs.Command.{meaning_of}
 use Rattle.nr_text.specs.Streams.{Outgoing, Sends, saturating_count}
+use Rattle.nr_text.specs.Auxiliary.Streams.{Prints}
+use Rattle.nr_text.specs.declared.sink.Part.{Part}
+use Rattle.nr_command.specs.Reply.{text_of}
 use Rattle.nr_command.specs.declared.command.Line.{Line}
 use Rattle.nr_command.specs.declared.command.Line.TheVariants.{Run, Look, Resume, Quit, Empty}
 use Rattle.nr_command.specs.declared.command.LineFault.{LineFault}
@@ -45,6 +48,13 @@ MayReply (Ok Resume) d reply d' =
 MayReply (Ok Quit) d reply d' = (reply ≡ Some Bye) × (d' ≡ d)
 MayReply (Ok Empty) d reply d' = (reply ≡ None) × (d' ≡ d)
 MayReply (Err fault) d reply d' = (reply ≡ Some (Fault (faults.Line fault))) × (d' ≡ d)
+
+-- A front that is asked this may return this reply, and be so then. The reply was printed, or how
+-- much of it is out is reported.
+abbrev pub PrintsReply : Result Line LineFault → FrontState → FrontState → Outgoing → Outgoing
+    → Result (Unit {0}) Part → Type 0
+PrintsReply asked d d' old new printed =
+    (reply : Reply) × MayReply asked d (Some reply) d' × Prints old new (text_of reply) printed
 
 -- One line: its text, and the front after it.
 abbrev pub Turn : FrontState → List ℕ → List ℕ → FrontState → Type 0
