@@ -7,5 +7,6 @@ pub mod BufferLemmas
 pub mod ContinueLemmas
 pub mod OpenLemmas
 pub mod PlanLemmas
+pub mod TakeLemmas
 pub mod FreshLemmas
 pub mod LockLemmas

@@ -67,7 +67,7 @@ module _ (q b : ℕ) (x : Socket) where
 
   -- the bytes that left the front come back
   pub bytes_return : (side : Side) (bytes : List ℕ) → take (length bytes) (of_side side x.buffers).bytes ≡ bytes → length (of_side side x.buffers).bytes ≤ b
-      → UndoesSocket q b (undo.Restore side bytes) (after_socket_edit (edit.Take side bytes) x) x
+      → UndoesSocket q b (undo.Restore side bytes) (on_bytes side (drop (length bytes)) x) x
   bytes_return Read bytes front short = (
     fits_again bytes x.buffers.read.bytes front short,
     ap (λ (held : List ℕ). on_bytes Read (λ _. held) x) (sym (front_restored x.buffers.read.bytes bytes front)),

@@ -2,6 +2,7 @@
 pub mod World
 pub mod Plan
 pub mod Delta
+pub mod Making
 pub mod Worlds
 pub mod ReversibleLaws
 -- inner: what only definitions and proofs of this crate use
