@@ -1,5 +1,4 @@
 pub mod ListLemmas
-pub mod SocketEditLemmas
 pub mod SocketTableLemmas
 pub mod ItemLemmas
 pub mod RoomLemmas

@@ -2,7 +2,6 @@
 pub mod World
 pub mod Plan
 pub mod Delta
-pub mod Making
 pub mod Worlds
 pub mod ReversibleLaws
 -- inner: what only definitions and proofs of this crate use
@@ -17,3 +16,4 @@ pub mod Edit
 pub mod Reads
 pub mod Change
 pub mod Continuing
+pub mod Making

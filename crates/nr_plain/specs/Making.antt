@@ -41,4 +41,5 @@ Makes {Place} keeps holds place step old (Ok answer) new =
     (outcome old step ≡ Ok (answer, new)) × IfKept keeps holds place
     (LeadsBackWithin (MOST_WORDS + (bytes_left step answer + 7) / 8) new old)
 Makes {Place} keeps holds place step old (Err reason) new =
-    Refuses world_reason (λ w taken. (keeps ≡ true) × LosesBytes w taken) old step reason × (new ≡ old)
+    Refuses world_reason (λ w made. (keeps ≡ true) × LosesBytes w made) old step reason
+    × (new ≡ old)

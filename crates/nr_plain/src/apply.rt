@@ -154,8 +154,7 @@ impl PlainWorld {
     }
 }
 
-/// A step is planned first, which changes nothing, and then made of primitive changes; undoing it undoes
-/// these, from the last to the first.
+/// A step that is refused has changed nothing. Undoing one undoes its changes, from the last to the first.
 impl Reversible for PlainWorld {
     ghost use Rattle.nr_rev.specs.Auxiliary.Step.{StepTo};
     ghost use Rattle.nr_rev.specs.WellFormed.{WellFormed};
