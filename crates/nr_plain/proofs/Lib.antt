@@ -1,5 +1,4 @@
 pub mod ListLemmas
-pub mod SocketEditLemmas
 pub mod SocketTableLemmas
 pub mod ItemLemmas
 pub mod RoomLemmas
@@ -7,5 +6,6 @@ pub mod BufferLemmas
 pub mod ContinueLemmas
 pub mod OpenLemmas
 pub mod PlanLemmas
+pub mod TakeLemmas
 pub mod FreshLemmas
 pub mod LockLemmas

@@ -1,5 +1,5 @@
--- Plans of steps that take no memory.
-use Rattle.std.proofs.Common.{Result, Ok, Err, ap, inl, sym, subst}
+-- Steps whose plan is made, and who stays well formed by what is made.
+use Rattle.std.proofs.Common.{◌≡◌, ◌≤◌, Bool, Result, Ok, Err, arith, sym, subst}
 use Rattle.nr_rev.specs.declared.refusal.Refusal.{Refusal}
 use Rattle.nr_rev.specs.declared.step.Step.{Step}
 use Rattle.nr_rev.specs.declared.answer.Answer.{Answer}
@@ -7,16 +7,22 @@ use Rattle.nr_rev.specs.Auxiliary.Step.{IsTimely}
 use Rattle.nr_rev.specs.World.{World}
 use Rattle.nr_rev.specs.WellFormed.{WellFormed}
 use Rattle.nr_laws.proofs.StepKeepsLemmas.{step_keeps}
-use Rattle.nr_rev.specs.Worlds.{refusal_of}
+use Rattle.nr_plain.specs.declared.delta.PlainDelta.{PlainDelta}
 use Rattle.nr_plain.specs.declared.plan.Plan.{Plan}
-use Rattle.nr_plain.specs.Plan.{Advances, Plans, PlansUnlessMemory}
+use Rattle.nr_plain.specs.Delta.{PlainBack, delta_weight}
+use Rattle.nr_plain.specs.Making.{Makes}
+use Rattle.nr_plain.specs.Plan.{LeadsTo, after_edits, total_weight}
 
--- they are plans of steps that may take some
-pub unless_memory : (step : Step) (w : World) (r : Result Plan Refusal) → Plans step w r → PlansUnlessMemory step w r
-unless_memory step w (Ok plan) h = h
-unless_memory step w (Err reason) h = inl (ap refusal_of h)
+-- what is made stays well formed
+pub makes_well_formed : {Place : Type 0} (keeps : Bool) (holds : Place → PlainDelta → Type 0) (place : Place) (step : Step) (old new : World) (r : Result Answer Refusal)
+    → IsTimely step → WellFormed old → Makes keeps holds place step old r new → WellFormed new
+makes_well_formed {Place} keeps holds place step old new (Ok answer) timely fits made = step_keeps old step answer new timely fits made.0
+makes_well_formed {Place} keeps holds place step old new (Err reason) timely fits made = subst WellFormed (sym made.1) fits
 
--- what is advanced stays well formed
-pub advances_keeps : (step : Step) (old new : World) (r : Result Answer Refusal) → IsTimely step → WellFormed old → Advances step old r new → WellFormed new
-advances_keeps step old new (Ok answer) timely h a = step_keeps old step answer new timely h a
-advances_keeps step old new (Err reason) timely h a = subst WellFormed (sym a.1) h
+-- a plan is made by its changes
+pub plan_made : {Place : Type 0} (keeps : Bool) (holds : Place → PlainDelta → Type 0) (place : Place) (step : Step) (old new : World) (plan : Plan) (delta : PlainDelta)
+    → LeadsTo step old plan → new ≡ after_edits plan.edits.items old → holds place delta → PlainBack delta new old → delta_weight delta ≤ total_weight plan.edits.items
+    → Makes keeps holds place step old (Ok plan.answer) new
+plan_made {Place} keeps holds place step old new plan delta leads is held back weight =
+    let light = leads.light in
+    (rw is leads.answer, λ _. (delta, held, (back, omega (arith, weight, light))))

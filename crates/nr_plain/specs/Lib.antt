@@ -16,3 +16,4 @@ pub mod Edit
 pub mod Reads
 pub mod Change
 pub mod Continuing
+pub mod Making

@@ -2,11 +2,10 @@
 use Rattle.std.specs.Prelude.{◌≡◌, ℕ, ◌+◌, ◌/◌, ◌≤◌, List, [], ◌∷◌, length, sum_by, Option, Result, Ok, Err}
 use Rattle.nr_rev.specs.declared.refusal.Refusal.{Refusal}
 use Rattle.nr_rev.specs.declared.step.Step.{Step}
-use Rattle.nr_rev.specs.declared.answer.Answer.{Answer}
+use Rattle.nr_rev.specs.declared.step.Step.TheVariants.{SysRead, Drain}
 use Rattle.nr_rev.specs.Step.{outcome}
 use Rattle.nr_rev.specs.World.{World}
-use Rattle.nr_rev.specs.Reversible.{Refuses}
-use Rattle.nr_rev.specs.Worlds.{LosesBytes, bytes_left, refusal_of}
+use Rattle.nr_rev.specs.Worlds.{bytes_left, refusal_of}
 use Rattle.nr_plain.specs.declared.delta.TheConstants.{MOST_WORDS}
 use Rattle.nr_plain.specs.declared.edit.Edit.{Edit}
 use Rattle.nr_plain.specs.declared.plan.Plan.{Plan}
@@ -39,18 +38,13 @@ pub record LeadsTo (step : Step) (w : World) (plan : Plan) : Type 0 where
 abbrev pub world_reason : World → Step → Option Refusal
 world_reason w step = refusal_of (outcome w step)
 
+-- no bytes leave a buffer by the step, so it takes no memory
+abbrev pub IsPlanned : Step → Type 0
+IsPlanned (SysRead g s n) = ⊥
+IsPlanned (Drain s n) = ⊥
+IsPlanned _ = Unit {0}
+
 -- a plan that leads to the step's outcome, or its reason
 abbrev pub Plans : Step → World → Result Plan Refusal → Type 0
 Plans step w (Ok plan) = LeadsTo step w plan
 Plans step w (Err reason) = outcome w step ≡ Err reason
-
--- a plan that leads to the step's outcome, or its reason, or out of memory where bytes are to be
--- kept
-abbrev pub PlansUnlessMemory : Step → World → Result Plan Refusal → Type 0
-PlansUnlessMemory step w (Ok plan) = LeadsTo step w plan
-PlansUnlessMemory step w (Err reason) = Refuses world_reason LosesBytes w step reason
-
--- the step's outcome, and nothing else
-abbrev pub Advances : Step → World → Result Answer Refusal → World → Type 0
-Advances step old (Ok answer) new = outcome old step ≡ Ok (answer, new)
-Advances step old (Err reason) new = (outcome old step ≡ Err reason) × (new ≡ old)

@@ -1,6 +1,6 @@
 -- What a machine owes whose steps can be undone, of a world over lists: the laws that `Reversible`
 -- asks of it.
-use Rattle.std.proofs.Common.{◌≡◌, ◌≤◌, Some, None, Ok, Err, Result, sym, ap, ◌∙◌, lit≤}
+use Rattle.std.proofs.Common.{◌≡◌, ◌≤◌, Some, None, Ok, Err, sym, ap, ◌∙◌, lit≤}
 use Rattle.nr_rev.specs.declared.answer.Answer.{Answer}
 use Rattle.nr_rev.specs.declared.refusal.Refusal.{Refusal}
 use Rattle.nr_rev.specs.Refusing.{out_of_memory}

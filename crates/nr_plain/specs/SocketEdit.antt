@@ -42,8 +42,6 @@ after_socket_edit (edit.Release side) socket =
     on_semaphore side
     (λ semaphore. record { count = semaphore.count + 1; queue = drop 1 semaphore.queue }) socket
 after_socket_edit (edit.Append side bytes) socket = on_bytes side (λ held. held ++ bytes.now) socket
-after_socket_edit (edit.Take side bytes) socket =
-    on_bytes side (λ held. drop (length bytes) held) socket
 after_socket_edit edit.ClosePeer socket = record socket { peer_closed = true }
 after_socket_edit (edit.Shut shut) socket = record socket { shut = shut }
 
@@ -68,8 +66,7 @@ after_socket_undo (undo.Restore side bytes) socket = on_bytes side (λ held. byt
 after_socket_undo undo.OpenPeer socket = record socket { peer_closed = false }
 after_socket_undo (undo.Shut shut) socket = record socket { shut = shut }
 
--- there is room for the change in queues and buffers of this room, and what leaves a buffer is what
--- is at its front
+-- there is room for the change in queues and buffers of this room
 abbrev pub CanEditSocket : ℕ → ℕ → SocketEdit → Socket → Type 0
 CanEditSocket queue_room byte_room (edit.Lock lock) socket = Unit {0}
 CanEditSocket queue_room byte_room (edit.Count side count) socket = Unit {0}
@@ -79,8 +76,6 @@ CanEditSocket queue_room byte_room (edit.Release side) socket =
     (of_side side socket.semaphores).count + 1 < 2 ^ 32
 CanEditSocket queue_room byte_room (edit.Append side bytes) socket =
     length (of_side side socket.buffers).bytes + length bytes.now ≤ byte_room
-CanEditSocket queue_room byte_room (edit.Take side bytes) socket =
-    take (length bytes) (of_side side socket.buffers).bytes ≡ bytes
 CanEditSocket queue_room byte_room edit.ClosePeer socket = socket.peer_closed ≡ false
 CanEditSocket queue_room byte_room (edit.Shut shut) socket = Unit {0}
 
@@ -122,6 +117,5 @@ socket_edit_weight (edit.Count side count) = 3
 socket_edit_weight (edit.Enqueue side g) = 2
 socket_edit_weight (edit.Release side) = 4
 socket_edit_weight (edit.Append side bytes) = 3
-socket_edit_weight (edit.Take side bytes) = 2 + bytes_weight bytes
 socket_edit_weight edit.ClosePeer = 1
 socket_edit_weight (edit.Shut shut) = 2

@@ -5,21 +5,49 @@ ghost use Rattle.nr_rev.specs.Auxiliary.Step.{IsTimely};
 ghost use Rattle.nr_rev.specs.Transaction.{LeadsBack};
 ghost use Rattle.nr_rev.specs.WellFormed.{WellFormed};
 ghost use Rattle.nr_plain.specs.Edit.{Undoes, undo_weight};
-ghost use Rattle.nr_plain.specs.Plan.{CanEditAll, PlansUnlessMemory, after_edits, total_weight};
+ghost use Rattle.nr_plain.specs.Making.{Makes};
+ghost use Rattle.nr_plain.specs.Plan.{CanEditAll, IsPlanned, Plans, after_edits, total_weight};
 
 use crate::delta::{MOST_WORDS, PlainDelta};
 use crate::edit::{Edit, Undo};
 use crate::plan::{MOST_EDITS, Plan};
 use crate::world::PlainWorld;
 use arrayvec::ArrayVec;
-use nr_rev::{Answer, Refusal, Reversible, Step};
+use nr_rev::{Answer, Keeper, Refusal, Reversible, Step};
 
 impl PlainWorld {
-    /// What the step comes to: its answer and the changes to make, or why it does not apply.
-    #[tactic(auto, using(crate::proofs::PlanLemmas::unless_memory))]
+    /// Makes the step, and puts the way back over it; or changes nothing and says why it does not apply.
+    #[tactic(auto, using(crate::proofs::PlanLemmas::makes_well_formed))]
+    pub(crate) fn make<K: Keeper<PlainDelta>>(
+        &mut self,
+        step: &Step,
+        way: &mut K,
+    ) -> Result<Answer, Refusal>
+        requires { WellFormed self.old }
+        ensures made { Makes K.KEEPS K.holds way.new step.now self.old result self.new }
+        ensures fits { WellFormed self.new }
+    {
+        match step {
+            Step::SysRead {
+                goroutine,
+                socket,
+                count,
+            } => self.sysread(*goroutine, *socket, *count, way),
+            Step::Drain { socket, count } => self.drain(*socket, *count, way),
+            _ => {
+                let Plan { answer, edits } = self.plan(step)?;
+                let undos = self.perform_all(edits);
+                way.put(PlainDelta { undos });
+                Ok(answer)
+            }
+        }
+    }
+
+    /// What a step comes to by which no bytes leave a buffer: its answer and the changes to make, or why it does not apply.
     fn plan<'a>(&self, step: &'a Step) -> Result<Plan<'a>, Refusal>
-        requires { WellFormed self.now }
-        ensures plans { PlansUnlessMemory step.now self.now result }
+        requires fits { WellFormed self.now }
+        requires planned { IsPlanned step.now }
+        ensures plans { Plans step.now self.now result }
         ensures timely { IsTimely step.now }
     {
         match step {
@@ -31,17 +59,11 @@ impl PlainWorld {
             } => self.sockopen(*rc, *wc),
             Step::Arrive { socket: s, bytes } => self.arrive(*s, bytes),
             Step::PeerClose { socket: s } => self.peerclose(*s),
-            Step::SysRead {
-                goroutine: g,
-                socket: s,
-                count,
-            } => self.sysread(*g, *s, *count),
             Step::SysWrite {
                 goroutine: g,
                 socket: s,
                 bytes,
             } => self.syswrite(*g, *s, bytes),
-            Step::Drain { socket: s, count } => self.drain(*s, *count),
             Step::CloseWrite {
                 goroutine: g,
                 socket: s,
@@ -112,6 +134,7 @@ impl PlainWorld {
             Step::Tick { time } => self.tick(*time),
             Step::Pop => self.pop(),
             Step::Fire { place } => self.fire(*place),
+            Step::SysRead { .. } | Step::Drain { .. } => unreachable!(),
         }
     }
 
@@ -131,8 +154,7 @@ impl PlainWorld {
     }
 }
 
-/// A step is planned first, which changes nothing, and then made of primitive changes; undoing it undoes
-/// these, from the last to the first.
+/// A step that is refused has changed nothing. Undoing one undoes its changes, from the last to the first.
 impl Reversible for PlainWorld {
     ghost use Rattle.nr_rev.specs.Auxiliary.Step.{StepTo};
     ghost use Rattle.nr_rev.specs.WellFormed.{WellFormed};
@@ -169,9 +191,9 @@ impl Reversible for PlainWorld {
     ghost bytes_out = { bytes_left };
 
     fn apply(&mut self, step: &Step) -> Result<(Answer, PlainDelta), Refusal> {
-        let Plan { answer, edits } = self.plan(step)?;
-        let undos = self.perform_all(edits);
-        Ok((answer, PlainDelta { undos }))
+        let mut delta = PlainDelta::default();
+        let answer = self.make(step, &mut delta)?;
+        Ok((answer, delta))
     }
 
     fn undo(&mut self, delta: PlainDelta) {

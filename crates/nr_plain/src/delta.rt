@@ -1,8 +1,11 @@
 //! The way back over a step.
 
+ghost use Rattle.std.specs.Prelude.{◌≡◌, ◌∷◌, []};
+
 use crate::edit::Undo;
 use crate::plan::MOST_EDITS;
 use arrayvec::ArrayVec;
+use nr_rev::Keeper;
 
 /// The most words that a delta holds, beside the bytes that left a buffer.
 pub(crate) const MOST_WORDS: u32 = 64;
@@ -18,5 +21,31 @@ impl Default for PlainDelta {
         PlainDelta {
             undos: ArrayVec::new(),
         }
+    }
+}
+
+impl PlainDelta {
+    /// The way back over a single change.
+    pub(crate) fn of(undo: Undo) -> PlainDelta
+        ensures { result.undos.items ≡ undo ∷ [] }
+    {
+        let mut undos = ArrayVec::new();
+        undos.push(undo);
+        PlainDelta { undos }
+    }
+}
+
+/// A delta is a place for a delta.
+impl Keeper<PlainDelta> for PlainDelta {
+    ghost use Rattle.std.specs.Prelude.{◌≡◌, true};
+
+    const KEEPS: bool = true;
+
+    ghost KEEPS = { true };
+
+    ghost holds = { λ place delta. place ≡ delta };
+
+    fn put(&mut self, delta: PlainDelta) {
+        *self = delta;
     }
 }

@@ -15,8 +15,6 @@ pub(crate) enum SocketEdit<'a> {
     Release { side: Side },
     /// Appends bytes to a buffer.
     Append { side: Side, bytes: &'a [u8] },
-    /// Takes these bytes, which are at its front, out of a buffer.
-    Take { side: Side, bytes: KeptBytes },
     /// Marks that the peer closed.
     ClosePeer,
     /// Marks whether the write side is shut.

@@ -10,7 +10,7 @@ ghost use Rattle.nr_plain.specs.Sockets.{Edits};
 use crate::list_edit::ListEdit;
 use crate::socket::PlainSocket;
 use crate::socket_edit::{SocketEdit, SocketUndo};
-use nr_rev::{KeptBytes, Lock, Side};
+use nr_rev::{Lock, Side};
 
 impl PlainSocket {
     /// Makes the change, and returns what undoes it.
@@ -24,7 +24,6 @@ impl PlainSocket {
             SocketEdit::Enqueue { side, goroutine } => self.enqueue(side, goroutine),
             SocketEdit::Release { side } => self.release(side),
             SocketEdit::Append { side, bytes } => self.append(side, bytes),
-            SocketEdit::Take { side, bytes } => self.take(side, bytes),
             SocketEdit::ClosePeer => self.close_peer(),
             SocketEdit::Shut(shut) => self.set_shut(shut),
         }
@@ -99,16 +98,7 @@ impl PlainSocket {
         SocketUndo::Cut { side, len }
     }
 
-    fn take(&mut self, side: Side, bytes: KeptBytes) -> SocketUndo
-        requires { CanEditSocket self.old.queue_room self.old.byte_room
-            (edit.Take side bytes) self.old.socket }
-        ensures { Edits (edit.Take side bytes) result self.old self.new }
-    {
-        self.lose(side, bytes.len());
-        SocketUndo::Restore { side, bytes }
-    }
-
-    /// So many bytes leave the front of a buffer, and nothing keeps them.
+    /// So many bytes leave the front of a buffer.
     pub(crate) fn lose(&mut self, side: Side, count: usize)
         ensures after { self.new ≡ record self.old {
           socket = on_bytes side (λ held. drop count held) self.old.socket;

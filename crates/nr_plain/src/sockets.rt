@@ -139,7 +139,7 @@ impl Sockets {
         }
     }
 
-    /// So many bytes leave the front of a socket's buffer, and nothing keeps them.
+    /// So many bytes leave the front of a socket's buffer, if it is opened.
     pub(crate) fn lose(&mut self, socket: u32, side: Side, count: usize)
         ensures after { self.new ≡ record self.old {
           sockets = with_changed socket

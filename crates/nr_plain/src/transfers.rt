@@ -1,19 +1,23 @@
 //! The steps that open sockets, and move bytes into their buffers and out of them.
 
-ghost use Rattle.std.specs.Prelude.{◌≡◌, ◌^◌, ◌<◌, IfOk, OnErr, length, min, take};
+ghost use Rattle.std.specs.Prelude.{◌≡◌, ◌+◌, ◌/◌, ◌^◌, ◌<◌, ◌≤◌, true, IfOk, OnErr, length, min, take};
 ghost use Rattle.nr_rev.specs.declared.step.Step.TheVariants as steps;
 ghost use Rattle.nr_rev.specs.Socket.{output_room};
 ghost use Rattle.nr_rev.specs.Step as step;
+ghost use Rattle.nr_rev.specs.Auxiliary.Reversible.{IfKept};
 ghost use Rattle.nr_rev.specs.WellFormed.{WellFormed};
 ghost use Rattle.nr_plain.specs.Buffer.{buffer_view};
-ghost use Rattle.nr_plain.specs.Plan.{Advances, Plans, PlansUnlessMemory};
+ghost use Rattle.nr_plain.specs.declared.delta.TheConstants.{MOST_WORDS};
+ghost use Rattle.nr_plain.specs.Making.{IsFrontOf, LeadsBackWithin, Makes, after_taking};
+ghost use Rattle.nr_plain.specs.Plan.{Plans};
 
 use crate::buffer::PlainBuffer;
-use crate::edit::Edit;
+use crate::delta::PlainDelta;
+use crate::edit::{Edit, Undo};
 use crate::plan::Plan;
-use crate::socket_edit::SocketEdit;
+use crate::socket_edit::{SocketEdit, SocketUndo};
 use crate::world::PlainWorld;
-use nr_rev::{Answer, Bytes, KeptBytes, Memory, Refusal, Side};
+use nr_rev::{Answer, Bytes, Keeper, KeptBytes, Memory, Refusal, Side};
 use std::alloc::Global;
 
 impl PlainWorld {
@@ -72,27 +76,6 @@ impl PlainWorld {
         Ok(Plan::new(Answer::Done).then(Edit::Socket { socket, edit }))
     }
 
-    /// The plan of `sysread`, which has a copy of the bytes that leave.
-    pub(crate) fn sysread<'a>(
-        &self,
-        goroutine: u32,
-        socket: u32,
-        count: u32,
-    ) -> Result<Plan<'a>, Refusal>
-        ensures { PlansUnlessMemory (steps.SysRead goroutine socket count) self.now result }
-    {
-        self.idle(goroutine)?;
-        let row = self.socket_of(socket)?;
-        self.sized(count)?;
-        let bytes = front(self.alloc, row.buffer(Side::Read), count)?;
-        let answer = read_answer(bytes.len() as u32, row.state().peer_closed);
-        let edit = SocketEdit::Take {
-            side: Side::Read,
-            bytes,
-        };
-        Ok(Plan::new(answer).then(Edit::Socket { socket, edit }))
-    }
-
     /// The plan of `syswrite`.
     #[tactic(auto, using(crate::proofs::BufferLemmas::written_fits))]
     pub(crate) fn syswrite<'a>(
@@ -119,27 +102,6 @@ impl PlainWorld {
         Ok(Plan::new(answer).then(Edit::Socket { socket, edit }))
     }
 
-    /// The plan of `drain`, which has a copy of the bytes that leave.
-    pub(crate) fn drain<'a>(&self, socket: u32, count: u32) -> Result<Plan<'a>, Refusal>
-        ensures { PlansUnlessMemory (steps.Drain socket count) self.now result }
-    {
-        let row = self.socket_of(socket)?;
-        if count == 0 {
-            return Err(Refusal::SizeOutOfRange);
-        }
-        if row.buffer(Side::Write).bytes.len() < count as usize {
-            return Err(Refusal::TooFewBytes);
-        }
-        let bytes = front(self.alloc, row.buffer(Side::Write), count)?;
-        let edit = SocketEdit::Take {
-            side: Side::Write,
-            bytes,
-        };
-        Ok(Plan::new(Answer::Done).then(Edit::Socket { socket, edit }))
-    }
-}
-
-impl PlainWorld {
     /// The plan of `closewrite`.
     pub(crate) fn closewrite<'a>(&self, goroutine: u32, socket: u32) -> Result<Plan<'a>, Refusal>
         ensures { Plans (steps.CloseWrite goroutine socket) self.now result }
@@ -151,49 +113,88 @@ impl PlainWorld {
     }
 }
 
+/// The steps by which bytes leave a buffer. They alone take memory, for a copy of these bytes, and none where no way back is kept.
 impl PlainWorld {
-    /// `sysread` with no way back.
-    pub(crate) fn sysread_away(
+    /// Makes a `sysread`, and puts the way back over it.
+    pub(crate) fn sysread<K: Keeper<PlainDelta>>(
         &mut self,
         goroutine: u32,
         socket: u32,
         count: u32,
+        way: &mut K,
     ) -> Result<Answer, Refusal>
-        ensures { Advances (steps.SysRead goroutine socket count) self.old result self.new }
+        ensures { Makes K.KEEPS K.holds way.new (steps.SysRead goroutine socket count)
+            self.old result self.new }
     {
         self.idle(goroutine)?;
         let row = self.socket_of(socket)?;
         self.sized(count)?;
-        let taken = (count as usize).min(row.buffer(Side::Read).bytes.len());
-        let answer = read_answer(taken as u32, row.state().peer_closed);
-        self.sockets.lose(socket, Side::Read, taken);
+        let buffer = row.buffer(Side::Read);
+        let count = (count as usize).min(buffer.bytes.len());
+        let answer = read_answer(count as u32, row.state().peer_closed);
+        let bytes = kept_front::<K>(self.alloc, buffer.bytes, count)?;
+        self.take(socket, Side::Read, count, bytes, way);
         Ok(answer)
     }
 
-    /// `drain` with no way back.
-    pub(crate) fn drain_away(&mut self, socket: u32, count: u32) -> Result<Answer, Refusal>
-        ensures { Advances (steps.Drain socket count) self.old result self.new }
+    /// Makes a `drain`, and puts the way back over it.
+    pub(crate) fn drain<K: Keeper<PlainDelta>>(
+        &mut self,
+        socket: u32,
+        count: u32,
+        way: &mut K,
+    ) -> Result<Answer, Refusal>
+        ensures { Makes K.KEEPS K.holds way.new (steps.Drain socket count) self.old result self.new }
     {
         let row = self.socket_of(socket)?;
         if count == 0 {
             return Err(Refusal::SizeOutOfRange);
         }
-        if row.buffer(Side::Write).bytes.len() < count as usize {
+        let buffer = row.buffer(Side::Write);
+        let count = count as usize;
+        if buffer.bytes.len() < count {
             return Err(Refusal::TooFewBytes);
         }
-        self.sockets.lose(socket, Side::Write, count as usize);
+        let bytes = kept_front::<K>(self.alloc, buffer.bytes, count)?;
+        self.take(socket, Side::Write, count, bytes, way);
         Ok(Answer::Done)
+    }
+
+    /// So many bytes leave the front of a socket's buffer. These bytes lead back, where they are kept.
+    fn take<K: Keeper<PlainDelta>>(
+        &mut self,
+        socket: u32,
+        side: Side,
+        count: usize,
+        bytes: KeptBytes,
+        way: &mut K,
+    )
+        requires { K.KEEPS ≡ true → IsFrontOf socket side count self.old bytes }
+        ensures after { self.new ≡ after_taking socket side count self.old }
+        ensures back { IfKept K.KEEPS K.holds way.new
+            (LeadsBackWithin (MOST_WORDS + (count + 7) / 8) self.new self.old) }
+    {
+        self.sockets.lose(socket, side, count);
+        let undo = SocketUndo::Restore { side, bytes };
+        way.put(PlainDelta::of(Undo::Socket { socket, undo }));
     }
 }
 
-/// A copy of so many bytes at the front, or of all where there are fewer.
-fn front(alloc: Global, buffer: PlainBuffer, count: u32) -> Result<KeptBytes, Memory>
-    ensures bytes { IfOk result (λ bytes. bytes ≡ take count buffer.entry.bytes.now) }
-    ensures len { IfOk result (λ bytes. length bytes ≡ min count (length buffer.entry.bytes.now)) }
-    ensures err { OnErr result (0 < min count (length buffer.entry.bytes.now)) }
+/// A copy of so many bytes at the front, where the way back is kept. Else nobody reads it, and it is empty.
+fn kept_front<K: Keeper<PlainDelta>>(
+    alloc: Global,
+    bytes: &[u8],
+    count: usize,
+) -> Result<KeptBytes, Memory>
+    requires { count ≤ length bytes.now }
+    ensures bytes { IfOk result (λ kept. K.KEEPS ≡ true → kept ≡ take count bytes.now) }
+    ensures err { OnErr result ((K.KEEPS ≡ true) × (0 < count)) }
 {
-    let count = (count as usize).min(buffer.bytes.len());
-    KeptBytes::copy_of(alloc, &buffer.bytes[..count])
+    if K::KEEPS {
+        KeptBytes::copy_of(alloc, &bytes[..count])
+    } else {
+        Ok(KeptBytes::none(alloc))
+    }
 }
 
 /// The answer of `sysread` that got so many bytes.

@@ -8,7 +8,7 @@ use crate::descriptor::summary;
 use crate::sockets::Sockets;
 use crate::world::PlainWorld;
 use nr_rev::{
-    Answer, Bytes, Cell, CellValue, Limits, Memory, Queue, Refusal, Reversible, RoomedList, Side,
+    Answer, Bytes, Cell, CellValue, Limits, Memory, NoWayBack, Queue, Refusal, RoomedList, Side,
     Status, Step, Worlds,
 };
 use std::alloc::Global;
@@ -86,25 +86,11 @@ impl Worlds for PlainWorld {
     }
 
     fn apply_to(&mut self, step: &Step, delta: &mut PlainDelta) -> Result<Answer, Refusal> {
-        let (answer, made) = self.apply(step)?;
-        *delta = made;
-        Ok(answer)
+        self.make(step, delta)
     }
 
-    #[tactic(auto, using(crate::proofs::PlanLemmas::advances_keeps))]
     fn advance(&mut self, step: &Step) -> Result<Answer, Refusal> {
-        match step {
-            Step::SysRead {
-                goroutine,
-                socket,
-                count,
-            } => self.sysread_away(*goroutine, *socket, *count),
-            Step::Drain { socket, count } => self.drain_away(*socket, *count),
-            _ => {
-                let (answer, _) = self.apply(step)?;
-                Ok(answer)
-            }
-        }
+        self.make(step, &mut NoWayBack)
     }
 
     fn cell(&self, what: Cell) -> CellValue {
