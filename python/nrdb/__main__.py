@@ -12,9 +12,9 @@ def leave(ended: list[int]) -> None:
     """Ends the process where nrdb has ended with a status. Python would give back what is known of a recording piece by piece before, of
     a million steps a second long."""
     with suppress(OSError, ValueError):  # (what can't be printed is told by Python, as always)
-        for stream in (sys.stdout, sys.stderr):
-            stream.flush()
         for status in ended:
+            for stream in filter(None, (sys.stdout, sys.stderr)):
+                stream.flush()
             os._exit(status)
 
 

@@ -180,7 +180,7 @@ class Recording:
     def _rows_together(
         self, made: Callable[[list[Any]], Row], begin: int, end: Optional[int]
     ) -> Iterator[Iterable[Row]]:
-        """The same, of those steps together that are read together."""
+        """What is made of each step's array, of the steps together that are read together."""
         end = self.length if end is None else min(end, self.length)
         for first in range(begin, end + 1, AT_ONCE):
             last = min(first + AT_ONCE, end + 1) - 1

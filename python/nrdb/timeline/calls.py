@@ -2,6 +2,7 @@
 of the program. They are nrdb's reckoning, by the recording's steps and the file beside it."""
 
 import re
+from operator import sub
 from typing import Any, Optional
 
 from ..causes.hanging import is_waiting
@@ -46,17 +47,20 @@ COLUMNS = ("g", "s", "first", "long", "name", "came", "line", "state", "waited",
 def calls_data(recording: Recording, window: Window) -> Data:
     """The calls of the window, in columns, of which one that has one value alone has that once. `first` counts from the call before; `long`
     is a call's steps, 0 where it hasn't ended; `name`, `came` and `line` are places in `texts`."""
-    telling, rows, before = Telling(recording), [], 0
-    for call in shown_calls(recording, window):
-        long = call.last - call.first + 1 if call.last else 0
-        rows.append(
-            (call.goroutine, call.socket, call.first - before, long, *telling.of(call), call.waited, call.slept)
-        )
-        before = call.first
-    columns = {name: list(column) for name, column in zip(COLUMNS, zip(*rows))}
+    telling, calls = Telling(recording), shown_calls(recording, window)
+    firsts = [call.first for call in calls]
+    columns = [
+        [call.goroutine for call in calls],
+        [call.socket for call in calls],
+        list(map(sub, firsts, [0, *firsts])),
+        [call.last - call.first + 1 if call.last else 0 for call in calls],
+        *map(list, zip(*map(telling.of, calls))),
+        [call.waited for call in calls],
+        [call.slept for call in calls],
+    ]
     return {
-        "count": len(rows),
-        **{name: short_column(column) for name, column in columns.items()},
+        "count": len(calls),
+        **({name: short_column(column) for name, column in zip(COLUMNS, columns)} if calls else {}),
         "texts": list(telling.texts),
     }
 
