@@ -3,6 +3,7 @@ waits for it."""
 
 import subprocess
 import time
+from contextlib import contextmanager
 from threading import Condition, Thread, current_thread
 from typing import Callable, Iterator, Optional
 
@@ -78,12 +79,14 @@ class ArrivingChanges(RecordedChanges):
 
     def texts(self) -> Iterator[tuple[str, str, str]]:
         self._wait(None)
-        try:
+        with self._lost_where_wrong():
             for piece in range(len(self._lines.pieces)):
                 self._interrupts.check()
                 yield from self._lines.texts(piece, piece + 1)
-        except NoChanges as wrong:
-            raise Lost(f"{' '.join(self._words)}: {wrong}") from None
+
+    def between(self, first: int, last: int) -> Iterator[tuple[int, list[tuple[str, str]]]]:
+        with self._lost_where_wrong():
+            yield from super().between(first, last)
 
     def told(self) -> Iterator[Told]:
         for told in super().told():
@@ -91,8 +94,14 @@ class ArrivingChanges(RecordedChanges):
             yield told
 
     def _hold(self) -> None:
-        try:
+        with self._lost_where_wrong():
             super()._hold()
+
+    @contextmanager
+    def _lost_where_wrong(self) -> Iterator[None]:
+        """Within, a line that is no change is netrev's failure."""
+        try:
+            yield
         except NoChanges as wrong:
             raise Lost(f"{' '.join(self._words)}: {wrong}") from None
 

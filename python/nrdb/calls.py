@@ -5,11 +5,12 @@ from collections import defaultdict
 from functools import cached_property, lru_cache, partial
 from typing import Any, Callable, Optional
 
-from netrev_calls.flow import ASLEEP, BY_STATUS
+from netrev_calls.flow import BY_STATUS
 from netrev_words.vocabulary import OF_A_GOROUTINE
 
 from .one_call import CLOSE, CLOSE_WRITE, CONTROL, OPEN, Call, Outcome
-from .noted import AT, Goroutine
+from .noted import AT
+from .noted_goroutines import Goroutine
 from .notes import CLOSED, Look, Looks, Notes
 from .recording import Recording
 from .whose import NONE, Whose
@@ -74,7 +75,7 @@ class Book:
         if self.error and calls:
             calls[-1].outcome, calls[-1].error = Outcome.SYSTEM_ERROR, self.error
             self.error = ""
-        while calls and calls[-1].is_ending and goroutine.status == "idle" and not calls[-1].destroys:
+        while calls and calls[-1].is_ending and goroutine.status.is_idle and not calls[-1].destroys:
             calls.pop().last = step
 
 
@@ -117,7 +118,7 @@ def goes_on_or_sleeps(book: Book, notes: Notes, g: int) -> Look:
                 calls[-1].slept += notes.clock - clock
         if calls and calls[-1].is_ending:
             settle(step, goroutine, calls)
-        if goroutine.status.startswith(ASLEEP):
+        if goroutine.status.is_asleep:
             asleep[g] = step, notes.clock
 
     return look
@@ -142,7 +143,7 @@ def locks(book: Book, notes: Notes, g: int, s: int, side: str) -> Look:
         if not (top and top.is_asking):
             top = book.begin(step, g, name, s, calls)
             top.side = side
-        top.is_asking = goroutine.status.startswith("acquiring")
+        top.is_asking = goroutine.status.is_acquiring
         if not top.is_asking and locked.get(s, 0) & CLOSED:
             top.is_ending = True
             fail(notes, top, Outcome.CLOSED)
@@ -218,7 +219,7 @@ def checks_again(book: Book, notes: Notes, g: int) -> Look:
     goroutine, calls = notes.goroutine(g), book.open[g]
 
     def look(step: int) -> None:
-        if calls and goroutine.status == "idle":
+        if calls and goroutine.status.is_idle:
             fail(notes, calls[-1], CODES[notes.code])
         book.settle(step, goroutine, calls)
 

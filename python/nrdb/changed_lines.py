@@ -42,6 +42,13 @@ class ChangedLines:
                 raise NoChanges("a line that is no change")
             yield from found
 
+    def between(self, first: int, last: int) -> Iterator[tuple[str, str, str]]:
+        """What `texts` says of the steps that lead from one position to another."""
+        begin, end = (bisect_right(self._lasts, position) for position in (first, last))
+        for step, cell, value in self.texts(begin, end + 1):
+            if first < int(step) <= last:
+                yield step, cell, value
+
     def whole_steps(self, end: int) -> Iterator[tuple[int, str]]:
         """The lines in texts that have all lines of their steps, a line feed before the first; and behind which step each text ends. The last
         one ends before `end`."""

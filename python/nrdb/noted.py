@@ -1,9 +1,10 @@
-"""What is noted of a recording: each sort of note, and the uses of descriptors, which most are of."""
+"""What is noted of a recording: each sort of note, and the uses of descriptors, which most are of. (Goroutines: `noted_goroutines.py`.)"""
 
 from bisect import bisect_left, bisect_right
 from typing import NamedTuple, Optional
 
 CLOSING, TIMED_OUT, EVENT_ERROR = 1, 2, 3  # the codes of a side
+new = tuple.__new__  # (of a million steps some 100,000 notes are made, and a named tuple's own takes thrice as long)
 
 
 class Setting(NamedTuple):
@@ -72,64 +73,19 @@ class By(NamedTuple):
     goroutine: int
 
 
-MANY = 3  # pauses of a place that ended, from which on the longest of them says something
-
-
-class Pauses:
-    """How many pauses of a place ended, as far as MANY, and the longest of them. One that is longer than `enough` has to be told."""
-
-    __slots__ = ("count", "longest", "enough")
-
-    def __init__(self) -> None:
-        self.count, self.longest, self.enough = 0, 0, -1
-
-    def ends(self, steps: int) -> None:
-        """A pause of so many steps has ended."""
-        self.count += 1
-        self.longest = max(self.longest, steps)
-        if self.count >= MANY:
-            self.enough = self.longest
-
-
-class NoPauses(Pauses):
-    """Of who has nothing to do: no pause has to be told."""
-
-    __slots__ = ()
-
-    def __init__(self) -> None:
-        super().__init__()
-        self.enough = 2**63
-
-
-class Goroutine:
-    """A goroutine: its status, since when, the step from which on it could make its next one, its last step, `pollreset`, and read or write, how
-    many references it holds, and the pauses of its place."""
-
-    __slots__ = ("number", "status", "since", "stood", "last", "reset", "tried", "held", "pauses")
-
-    def __init__(self, number: int, pauses: Pauses) -> None:
-        self.number, self.pauses = number, pauses
-        self.status = "absent"
-        self.since = self.stood = self.last = self.reset = self.tried = self.held = 0
-
-    def is_made(self, step: int) -> None:
-        self.status = "idle"
-        self.since = self.stood = self.last = step
-
-
 AT = {"r": 0, "w": 1}  # where what is kept of both sides has those of each
 
 
 class Use:
-    """A use of a descriptor: for which socket, since which step, its tag, and what happened in it."""
+    """A use of a descriptor: for which socket, from which step to which (0: the end), its tag, and what happened in it."""
 
     __slots__ = (
-        *("descriptor", "socket", "opened", "tag", "settings", "last_settings", "passings", "last_events", "errors"),
-        *("waits", "thrown", "taken", "late"),
+        *("descriptor", "socket", "opened", "closed", "tag", "late"),
+        *("settings", "last_settings", "passings", "last_events", "errors", "waits", "thrown", "taken"),
     )
 
     def __init__(self, descriptor: int, socket: int, opened: int, tag: int) -> None:
-        self.descriptor, self.socket, self.opened, self.tag = descriptor, socket, opened, tag
+        self.descriptor, self.socket, self.opened, self.closed, self.tag = descriptor, socket, opened, 0, tag
         self.settings: list[Setting] = []
         self.errors: list[ErrorEvent] = []
         self.thrown: list[Taking] = []  # readinesses for reading that a pollreset threw away
@@ -143,8 +99,8 @@ class Use:
 
     def passes(self, side: str, is_late: bool) -> None:
         """The deadline of a side has passed, or it has one that hasn't."""
-        if is_late or self.late:  # (in most runs few pass)
-            self.late = "".join(one for one in "rw" if (is_late if one == side else one in self.late))
+        others = self.late.replace(side, "")
+        self.late = "rw" if is_late and others else others or side * is_late
 
     def last_event(self, side: str) -> int:
         """The step of the last event of a side; 0 where none came."""

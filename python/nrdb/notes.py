@@ -6,13 +6,14 @@ already whom the step names, and which cells it asks for (`noting.py`)."""
 
 from collections import deque
 from types import MappingProxyType
-from typing import Any, Callable, Mapping, Optional
+from typing import Any, Callable, Iterator, Mapping, Optional
 
 from netrev_words.vocabulary import OF_A_GOROUTINE
 
 from .long_passes import without_collections
 from .modelled_changes import changes_of
-from .noted import AT, TIMED_OUT, By, Goroutine, Hold, NoPauses, Pauses, Timeout, Use, code_of
+from .noted import AT, TIMED_OUT, By, Hold, Timeout, Use, code_of
+from .noted_goroutines import IDLE, Goroutine, Statuses
 from .noting import NOTES, Note
 from .recorded_changes import RecordedChanges, Told
 from .recording import Recording
@@ -21,7 +22,7 @@ Look = Callable[[int], None]  # takes the step's number
 Looks = Mapping[str, Callable[..., Look]]  # of a kind what makes such, of the notes and a step's arguments
 Row = tuple[Goroutine, Optional[Note], Optional[Look]]
 CLOSED = 1  # in a lock word
-MOST_CHANGED = 2_000  # bytes of the lines of a step, of which there are a dozen at most
+MOST_CHANGED = 32  # cells that a step changes, of which there are a dozen at most
 
 
 class Now(dict[str, str]):
@@ -43,16 +44,16 @@ class Notes:
         self.recording, self.changes, self._looks = recording, changes_of(recording), looks
         self.step = self.moved = self.code = 0  # the step, the bytes that it moved, and the code that it found
         self.told: dict[str, str] = {}  # what the steps near this one changed: `12 lock 0`, with what that shows
-        self._text = ""  # the same as lines, and where in it the last step was looked for
-        self._from = 0
+        self._cells: list[str] = []  # the cells of that in their order, and where in these the last firing was found
+        self._fired_at = 0
         self.clock = 0
-        # of each place; who is idle pauses as long as it holds a reference
-        self.pauses: dict[str, Pauses] = {"idle": Pauses()}
-        self._pauses_at: dict[str, Pauses] = {"idle": NoPauses()}  # of each status those of its place
+        self.statuses = Statuses()
+        self.pauses = self.statuses.pauses
         self.goroutines: dict[int, Goroutine] = {}
-        self.goroutine(0).is_made(0)
+        self.goroutine(0).is_made(0, self.statuses[IDLE])
         self.made = 1  # goroutines
-        self.parked: dict[str, Goroutine] = {}  # who is at a status that one alone can have: `parked 0 r`
+        self.wakers: dict[int, Note] = {}  # of descriptors, what notes who is woken there
+        self.parked: dict[str, Goroutine] = {}  # who was at a status last that one alone can have: `parked 0 r`
         self.queued: dict[str, dict[Goroutine, None]] = {}  # who sleeps for a lock, by the status, the first one first
         # of sockets: their lock words and what their buffers hold, who holds them, who closed them or their write sides, and when bytes
         # came, the peer closed, and an evict was
@@ -95,12 +96,11 @@ class Notes:
             deque(self.changes.texts(), maxlen=0)  # (if a line is no change, that tells it)
             raise
         self.told.clear()
-        self._text = ""
+        self._cells = []
 
     def _note_steps(self, steps: range) -> None:
         """Goes through these steps."""
         for step, number, (goroutine, note, look) in zip(steps, map(str, steps), self._rows):
-            self.step = step
             if step - goroutine.stood > goroutine.pauses.enough:
                 goroutine.pauses.ends(step - goroutine.stood)
             goroutine.last = goroutine.stood = step
@@ -108,12 +108,13 @@ class Notes:
                 note(step, number)
             if look:
                 look(step)
+        self.step = steps.stop - 1
 
     def _holds(self, told: Told) -> None:
         """Has what the next steps changed. It stays one table, which those know who ask it."""
         self.told.clear()
-        self.told.update(told.values)
-        self._text, self._from = told.text, 0
+        self.told.update(zip(told.cells, told.values))
+        self._cells, self._fired_at = told.cells, 0
 
     def _row(self, values: list[Any]) -> Row:
         """What is made of a step's array: the goroutine that makes the step, if one does, who notes it and who looks at it."""
@@ -126,48 +127,32 @@ class Notes:
         """A goroutine, which may still have to be made."""
         found = self.goroutines.get(g)
         if found is None:
-            found = self.goroutines[g] = Goroutine(g, self._pauses_at["idle"])
+            found = self.goroutines[g] = Goroutine(g)
         return found
 
-    def changed(self, names: tuple[str, ...]) -> list[tuple[str, int, str]]:
-        """What this step changed of cells with these names, each with its number and its value."""
-        number, found = f"\n{self.step} ", []
-        at = self._from = max(self._text.find(number, self._from), self._from)
-        *lines, last = self._text[at : at + MOST_CHANGED].split(number)[1:] or ["\n"]
-        for line in (*lines, last[: last.index("\n")]):
-            cell, _, value = line.partition(" = ")
-            name, _, which = cell.partition(" ")
-            if name in names:
-                found.append((name, int(which), value))
-        return found
+    def fired(self, number: str) -> Iterator[tuple[str, str]]:
+        """The cells that a firing changed, each with what it shows: netrev says first that there is one less."""
+        at = self._fired_at = self._cells.index(f"{number} firings", self._fired_at)
+        for key in self._cells[at + 1 : at + MOST_CHANGED]:
+            step, _, cell = key.partition(" ")
+            if step != number:
+                break
+            yield cell, self.told[key]
 
     # what a step may do to a goroutine
 
-    def moves(self, goroutine: Goroutine, step: int, status: str) -> None:
+    def moves(self, goroutine: Goroutine, step: int, shown: str) -> None:
         """A goroutine has another status."""
-        before, goroutine.status = goroutine.status, status
+        before, status = goroutine.status, self.statuses[shown]
+        goroutine.status = status
         goroutine.since = goroutine.stood = step
-        if status == "idle" and goroutine.held:
-            goroutine.pauses = self.pauses["idle"]
-        else:
-            goroutine.pauses = self._pauses_at.get(status) or self._pauses_of(status)
-        if status.startswith("parked"):
-            self.parked[status] = goroutine
-        elif status.startswith("queued"):
-            self.queued.setdefault(status, {})[goroutine] = None
-        elif before.startswith("queued"):
-            del self.queued[before][goroutine]
-
-    def _pauses_of(self, status: str) -> Pauses:
-        """The pauses of the place of a status."""
-        pauses = self._pauses_at[status] = self.pauses.setdefault(status.partition(" ")[0], Pauses())
-        return pauses
-
-    def holds_more(self, goroutine: Goroutine, more: int) -> None:
-        """A goroutine holds a reference more, or one less."""
-        goroutine.held += more
-        if goroutine.status == "idle":
-            goroutine.pauses = self.pauses["idle"] if goroutine.held else self._pauses_at["idle"]
+        goroutine.pauses = status.held_pauses if goroutine.held else status.pauses
+        if status.is_parked:
+            self.parked[shown] = goroutine
+        elif status.is_queued:
+            self.queued.setdefault(shown, {})[goroutine] = None
+        elif before.is_queued:
+            del self.queued[str(before)][goroutine]
 
     def ends(self, step: int, g: int, d: int, side: str) -> bool:
         """Whether a call ends with the code that its side has."""
@@ -188,4 +173,4 @@ class Notes:
         return bool(self.locks.get(s, 0) & CLOSED)
 
 
-NOBODY = Goroutine(-1, NoPauses())  # who makes the steps of the network and of the clock
+NOBODY = Goroutine(-1)  # who makes the steps of the network and of the clock

@@ -4,7 +4,7 @@ from __future__ import annotations
 
 from typing import TYPE_CHECKING
 
-from .noted import AT, CLOSING, ErrorEvent, Passing, Setting, Taking, Use, Wait
+from .noted import AT, CLOSING, ErrorEvent, Passing, Setting, Taking, Use, Wait, new
 from .noting_goroutines import Note, stepped, waking
 
 if TYPE_CHECKING:
@@ -38,6 +38,7 @@ def closed(notes: Notes, g: int, d: int) -> Note:
     def note(step: int, number: str) -> None:
         notes.open.discard(d)
         notes.free.append(d)
+        notes.use_of[d].closed = step
         if shown := told(number + cell):
             notes.tags[d] = int(shown)
 
@@ -59,27 +60,29 @@ def reset(notes: Notes, g: int, d: int, side: str) -> Note:
 
 
 def began_to_wait(notes: Notes, g: int, d: int, side: str) -> Note:
-    goroutine, own, infos, at = notes.goroutine(g), stepped(notes, g), notes.infos, AT[side]
+    goroutine, told, own, moves = notes.goroutine(g), notes.told.get, f" gor {g}", notes.moves
+    infos, use_of, at = notes.infos, notes.use_of, AT[side]
 
     def note(step: int, number: str) -> None:
         notes.code = 0
         if not (infos[d] and notes.ends(step, g, d, side)):
-            notes.use_of[d].waits[at].append(Wait(step, g, goroutine.tried))
-        own(step, number)
+            use_of[d].waits[at].append(new(Wait, (step, g, goroutine.tried)))
+        if status := told(number + own):
+            moves(goroutine, step, status)
 
     return note
 
 
 def took(notes: Notes, g: int) -> Note:
     """A goroutine arms its wait or wakes: where its word was ready it takes that."""
-    goroutine, own, ready = notes.goroutine(g), stepped(notes, g), notes.ready
+    goroutine, told, own, moves, ready = notes.goroutine(g), notes.told.get, f" gor {g}", notes.moves, notes.ready
 
     def note(step: int, number: str) -> None:
-        if ready and goroutine.status.endswith("r"):
-            d = int(goroutine.status.split()[1])
-            if d in ready:
-                taken(notes, step, number, g, d)
-        own(step, number)
+        before = goroutine.status
+        if before.number in ready and before.side == "r":
+            taken(notes, step, number, g, before.number)
+        if status := told(number + own):
+            moves(goroutine, step, status)
 
     return note
 
@@ -89,8 +92,8 @@ def taken(notes: Notes, step: int, number: str, g: int, d: int) -> Taking:
     if f"{number} rg {d}" in notes.told:
         notes.ready.discard(d)
     use = notes.use_of[d]
-    use.taken = Taking(step, g, use.last_event("r"))
-    return use.taken
+    taking = use.taken = new(Taking, (step, g, use.last_events[AT["r"]]))
+    return taking
 
 
 def looked(notes: Notes, g: int) -> Note:
@@ -98,8 +101,7 @@ def looked(notes: Notes, g: int) -> Note:
     goroutine, own = notes.goroutine(g), stepped(notes, g)
 
     def note(step: int, number: str) -> None:
-        _, d, side = goroutine.status.split()
-        notes.ends(step, g, int(d), side)
+        notes.ends(step, g, goroutine.status.number, goroutine.status.side)
         own(step, number)
 
     return note
@@ -107,17 +109,18 @@ def looked(notes: Notes, g: int) -> Note:
 
 def set_deadline(notes: Notes, g: int, d: int, mode: str, time: int) -> Note:
     told, cells, wakes = notes.told.get, [(side, AT[side], f" {side}d {d}") for side in mode], waking(notes, d)
+    infos, use_of = notes.infos, notes.use_of
 
     def note(step: int, number: str) -> None:
-        if notes.infos[d] & CLOSING:
+        if infos[d] & CLOSING:
             return
-        use = notes.use_of[d]
-        use.settings.append(Setting(step, g, mode, time, use.late))
+        use = use_of[d]
+        use.settings.append(new(Setting, (step, g, mode, time, use.late)))
         for side, at, cell in cells:
             use.last_settings[at] = step
             if time < 0:
                 use.passings[at].append(Passing(step, "setdeadline"))
-            if shown := told(number + cell):
+            if (shown := told(number + cell)) and (use.late or shown[0] == "-"):
                 use.passes(side, shown[0] == "-")
         wakes(step, number)
 
@@ -136,18 +139,17 @@ def evicted(notes: Notes, g: int, d: int) -> Note:
 
 def came(notes: Notes, d: int, tag: int, mode: str, error: int) -> Note:
     """An event comes."""
-    wakes = waking(notes, d)
+    wakes, told, cell, sides = waking(notes, d), notes.told.get, f" rg {d}", [AT[side] for side in mode]
 
     def note(step: int, number: str) -> None:
-        if d not in notes.open or tag != notes.use_of[d].tag:
+        if d not in notes.open or tag != (use := notes.use_of[d]).tag:
             notes.stale[d] = step, tag
             return
-        use = notes.use_of[d]
         if error:
             use.errors.append(ErrorEvent(step, mode))
-        for side in mode:
-            use.last_events[AT[side]] = step
-        if notes.told.get(f"{number} rg {d}") == "ready":
+        for at in sides:
+            use.last_events[at] = step
+        if told(number + cell) == "ready":
             notes.ready.add(d)
         wakes(step, number)
 
@@ -155,15 +157,18 @@ def came(notes: Notes, d: int, tag: int, mode: str, error: int) -> Note:
 
 
 def fired(notes: Notes, i: int) -> Note:
+    """A deadline passes: whose that is tells the cell."""
+
     def note(step: int, number: str) -> None:
-        for name, which, value in notes.changed(("rd", "wd", "info", "gor")):
+        for cell, value in notes.fired(number):
+            name, _, which = cell.partition(" ")
             if name == "info":
-                notes.infos[which] = int(value)
+                notes.infos[int(which)] = int(value)
             elif name == "gor":
-                notes.moves(notes.goroutines[which], step, value)
-            else:
-                use = notes.use_of[which]
-                use.passings[AT[name[0]]].append(Passing(step, "fire"))
+                notes.moves(notes.goroutines[int(which)], step, value)
+            elif name in ("rd", "wd"):
+                use = notes.use_of[int(which)]
+                use.passings[AT[name[0]]].append(new(Passing, (step, "fire")))
                 use.passes(name[0], value[0] == "-")
 
     return note

@@ -4,7 +4,7 @@ from __future__ import annotations
 
 from typing import TYPE_CHECKING, Callable, Optional
 
-from .noted import Goroutine
+from .noted_goroutines import IDLE, PARKED, QUEUED, Goroutine
 
 if TYPE_CHECKING:
     from .notes import Notes
@@ -14,7 +14,7 @@ Note = Callable[[int, str], None]  # takes the step's number, and that as text
 
 def spawned(notes: Notes) -> Note:
     def note(step: int, number: str) -> None:
-        notes.goroutine(notes.made).is_made(step)
+        notes.goroutine(notes.made).is_made(step, notes.statuses[IDLE])
         notes.made += 1
 
     return note
@@ -29,11 +29,11 @@ def ticked(notes: Notes, time: int) -> Note:
 
 def stepped(notes: Notes, g: int, *_: object) -> Note:
     """The goroutine may have another status."""
-    goroutine, told, cell = notes.goroutine(g), notes.told.get, f" gor {g}"
+    goroutine, told, cell, moves = notes.goroutine(g), notes.told.get, f" gor {g}", notes.moves
 
     def note(step: int, number: str) -> None:
         if status := told(number + cell):
-            notes.moves(goroutine, step, status)
+            moves(goroutine, step, status)
 
     return note
 
@@ -43,9 +43,9 @@ def released(notes: Notes, g: int) -> Note:
     goroutine, own = notes.goroutine(g), stepped(notes, g)
 
     def note(step: int, number: str) -> None:
-        _, s, *_ = goroutine.status.split()
+        s = goroutine.status.number
         own(step, number)
-        for status in (f"queued {s} r", f"queued {s} w"):
+        for status in (f"{QUEUED} {s} r", f"{QUEUED} {s} w"):
             wake(notes, next(iter(notes.queued.get(status, ())), None), step, number)
 
     return note
@@ -59,13 +59,19 @@ def wake(notes: Notes, goroutine: Optional[Goroutine], step: int, number: str) -
 
 def waking(notes: Notes, d: int) -> Note:
     """It may wake who is parked at a descriptor."""
-    at, told, cell = (f"parked {d} r", f"parked {d} w"), notes.told.get, f" info {d}"
+    if d not in notes.wakers:
+        notes.wakers[d] = _waking(notes, d)
+    return notes.wakers[d]
+
+
+def _waking(notes: Notes, d: int) -> Note:
+    at, told, cell = (f"{PARKED} {d} r", f"{PARKED} {d} w"), notes.told.get, f" info {d}"
     parked, infos = notes.parked, notes.infos
 
     def note(step: int, number: str) -> None:
         for status in at:
-            if status in parked and (one := parked[status]).status == status:
-                wake(notes, one, step, number)
+            if status in parked and parked[status].status.is_parked:
+                wake(notes, parked[status], step, number)
         if shown := told(number + cell):
             infos[d] = int(shown)
 

@@ -4,8 +4,8 @@ from __future__ import annotations
 
 from typing import TYPE_CHECKING, Callable
 
-from .noted import By, Hold
-from .noting_goroutines import Note, stepped
+from .noted import By, Hold, new
+from .noting_goroutines import Note
 
 if TYPE_CHECKING:
     from .notes import Notes
@@ -81,20 +81,19 @@ def referred(kind: str) -> Callable[..., Note]:
 
     def of(notes: Notes, g: int, s: int, side: str = "") -> Note:
         goroutine, locks, told, cell = notes.goroutine(g), notes.locks, notes.told.get, f" lock {s}"
-        holds = notes.holds.setdefault(s, [])
-        own = None if kind == "incref" else stepped(notes, g)
+        holds, own, may_move = notes.holds.setdefault(s, []), f" gor {g}", kind != "incref"
 
         def note(step: int, number: str) -> None:
             if shown := told(number + cell):
                 before, word = locks.get(s, 0), int(shown)
                 locks[s] = word
                 if word & REFERENCES > before & REFERENCES:
-                    holds.append(Hold(g, step, kind, side))
-                    notes.holds_more(goroutine, 1)
+                    holds.append(new(Hold, (g, step, kind, side)))
+                    goroutine.holds(1)
                     if kind == "increfclose":
                         notes.closer[s] = By(step, g)
-            if own:
-                own(step, number)
+            if may_move and (status := told(number + own)):
+                notes.moves(goroutine, step, status)
 
         return note
 
@@ -102,23 +101,31 @@ def referred(kind: str) -> Callable[..., Note]:
 
 
 def given(notes: Notes, g: int, s: int, side: str = "") -> Note:
-    """A goroutine gives up a reference: its own last one of that sort, else another's, since Go counts and names none."""
+    """A goroutine gives up a reference."""
     locks, told, cell, holds = notes.locks, notes.told.get, f" lock {s}", notes.holds.setdefault(s, [])
-    own, longest = stepped(notes, g) if side else None, notes.longest_holds
+    goroutine, own, longest = notes.goroutine(g), f" gor {g}", notes.longest_holds
 
     def note(step: int, number: str) -> None:
         if shown := told(number + cell):
             locks[s] = int(shown)
         hold = holds[-1]
-        if hold.goroutine != g or hold.side != side:
-            fitting = [one for one in holds if one.side == side]
-            mine = [one for one in fitting if one.goroutine == g]
-            hold = (mine or fitting or holds)[-1]
-        holds.remove(hold)
-        notes.holds_more(notes.goroutines[hold.goroutine], -1)
+        if hold.goroutine == g and hold.side == side:
+            holds.pop()
+            goroutine.holds(-1)
+        else:
+            hold = fitting(holds, g, side)
+            holds.remove(hold)
+            notes.goroutines[hold.goroutine].holds(-1)
         if step - hold.step > longest.get(hold.kind, -1):
             longest[hold.kind] = step - hold.step
-        if own:
-            own(step, number)
+        if side and (status := told(number + own)):
+            notes.moves(goroutine, step, status)
 
     return note
+
+
+def fitting(holds: list[Hold], g: int, side: str) -> Hold:
+    """The reference that a goroutine gives up: its own last one of that sort, else another's, since Go counts and names none."""
+    of_the_sort = [one for one in holds if one.side == side]
+    mine = [one for one in of_the_sort if one.goroutine == g]
+    return (mine or of_the_sort or holds)[-1]

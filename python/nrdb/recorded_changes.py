@@ -4,6 +4,8 @@ of cells."""
 
 from array import array
 from bisect import bisect_left, bisect_right
+from itertools import groupby
+from operator import itemgetter
 from typing import Callable, Iterable, Iterator, NamedTuple, Optional, Sequence
 
 from .changed_lines import ChangedLines, NoChanges
@@ -21,13 +23,12 @@ class Change(NamedTuple):
 
 
 class Told(NamedTuple):
-    """What the steps from one number to another changed: each value by the step and the cell (`12 lock 0`), and the same as lines, with a line feed
-    before the first."""
+    """What the steps from one number to another changed: each step with a cell (`12 lock 0`), and what those show."""
 
     first: int
     end: int
-    values: Iterator[tuple[str, str]]
-    text: str
+    cells: list[str]
+    values: list[str]
 
 
 class Texts(dict[str, int]):
@@ -96,6 +97,12 @@ class RecordedChanges:
         self._wait(step)
         return self._lines.at(step)
 
+    def between(self, first: int, last: int) -> Iterator[tuple[int, list[tuple[str, str]]]]:
+        """The steps that lead from one position to another, as far as they changed a cell, each with what `at` says of it."""
+        self._wait(last)
+        for step, lines in groupby(self._lines.between(first, last), itemgetter(0)):
+            yield int(step), [(cell, value) for _, cell, value in lines]
+
     def value(self, cell: str, position: int) -> str:
         """What a cell shows at a position."""
         return next((value for _, value in self.back(cell, position)), value_at_start(cell))
@@ -153,7 +160,7 @@ class RecordedChanges:
         first = 1
         for end, text in self._lines.whole_steps(self._length + 1):
             cells_and_values = text[1:-1].replace(" = ", "\n").split("\n")
-            yield Told(first, end, zip(cells_and_values[::2], cells_and_values[1::2]), text)
+            yield Told(first, end, cells_and_values[::2], cells_and_values[1::2])
             first = end
 
     def _is_asked_little(self) -> bool:

@@ -7,6 +7,7 @@ import re
 import stat
 from bisect import bisect_left
 from functools import cached_property
+from itertools import chain
 from os.path import commonprefix
 from typing import Any, Callable, Iterable, Iterator, NamedTuple, Optional, Sequence, TypeVar
 
@@ -174,6 +175,12 @@ class Recording:
 
     def rows(self, made: Callable[[list[Any]], Row], begin: int = 1, end: Optional[int] = None) -> Iterator[Row]:
         """What is made of each step's array, one after the other: once of lines that are alike and near."""
+        return chain.from_iterable(self._rows_together(made, begin, end))
+
+    def _rows_together(
+        self, made: Callable[[list[Any]], Row], begin: int, end: Optional[int]
+    ) -> Iterator[Iterable[Row]]:
+        """What is made of each step's array, of the steps together that are read together."""
         end = self.length if end is None else min(end, self.length)
         for first in range(begin, end + 1, AT_ONCE):
             last = min(first + AT_ONCE, end + 1) - 1
@@ -185,7 +192,7 @@ class Recording:
                 lines = [line for line in lines if line and not line.isspace()]
             unlike = dict.fromkeys(lines)
             rows = dict(zip(unlike, map(made, parsed(b"[%s]" % b",".join(unlike)))))
-            yield from map(rows.__getitem__, lines)
+            yield map(rows.__getitem__, lines)
 
     def steps_of(self, kinds: tuple[str, ...], until: int, socket: Optional[int] = None) -> Iterator[Step]:
         """The steps of these kinds among the first so many; and, where one is named, of this socket."""

@@ -1,7 +1,6 @@
 """Whose each step of a recording is: of which goroutine, socket and descriptor."""
 
 from array import array
-from collections import Counter
 from typing import Any, NamedTuple
 
 from netrev_words.vocabulary import KINDS
@@ -69,11 +68,6 @@ class Whose:
     def descriptors(self) -> "array[int]":
         self._look_at_timers()
         return self._descriptors
-
-    def touched(self, first: int, last: int) -> "Counter[Place]":
-        """How many steps of each goroutine are of each socket, in some steps."""
-        begin = max(first - 1, 0)
-        return Counter(zip(self.goroutines[begin:last], self._sockets[begin:last]))
 
     def _go_through(self) -> None:
         named, descriptor_of, socket_of = self._named, self._descriptor_of, self._socket_of

@@ -76,6 +76,14 @@ def test_pieces_may_end_within_lines(size: int) -> None:
     assert list(changes.steps_of("lock 0")) == [3, 4] and list(changes.steps_of("wg 7")) == []
 
 
+@pytest.mark.parametrize("path", RECORDINGS, ids=lambda path: path.stem)
+def test_what_is_told_between_two_positions_is_what_their_steps_changed(path: Path) -> None:
+    changes = RecordedChanges.read(in_pieces(said(path), 40))
+    each = [(step, changes.at(step)) for step in range(1, changes.length + 1)]
+    for first, last in ((0, changes.length), (0, 0), (changes.length // 3, changes.length // 2)):
+        assert list(changes.between(first, last)) == [one for one in each[first:last] if one[1]]
+
+
 @pytest.mark.parametrize("window", [1, 60, 10**6])
 @pytest.mark.parametrize("path", RECORDINGS, ids=lambda path: path.stem)
 def test_what_is_told_together_has_all_lines_of_its_steps(
@@ -83,13 +91,13 @@ def test_what_is_told_together_has_all_lines_of_its_steps(
 ) -> None:
     monkeypatch.setattr(changed_lines, "WINDOW", window)
     changes = RecordedChanges.read(in_pieces(said(path), 40))
-    end, found = 1, []
+    end = 1
+    found: list[tuple[str, str]] = []
     for told in changes.told():
         assert told.first == end
-        end, values = told.end, list(told.values)
-        assert told.text == "\n" + "".join(f"{name} = {value}\n" for name, value in values)
-        assert all(told.first <= int(name.split()[0]) < told.end for name, _ in values)
-        found += values
+        end = told.end
+        assert all(told.first <= int(name.split()[0]) < told.end for name in told.cells)
+        found += zip(told.cells, told.values)
     assert end == changes.length + 1
     assert found == [(f"{step} {cell}", value) for step, cell, value in changes]
 

@@ -6,7 +6,8 @@ from typing import Optional
 from netrev_machine.machine import INSIDE
 
 from ..causes.index import Index, index_of
-from ..noted import AT, MANY, Use
+from ..noted import AT, Use
+from ..noted_goroutines import MANY
 from ..notes import Notes
 from ..words import counted
 

@@ -2,12 +2,13 @@
 of the program. They are nrdb's reckoning, by the recording's steps and the file beside it."""
 
 import re
+from operator import sub
 from typing import Any, Optional
 
 from ..causes.hanging import is_waiting
 from ..causes.index import Index, index_of
 from ..causes.words import is_by_go, name_of, short
-from ..one_call import Call
+from ..one_call import Call, Outcome
 from ..recording import Recording
 from ..where import OF_THE_PROGRAM, Stack
 from .runs import Window
@@ -46,19 +47,21 @@ COLUMNS = ("g", "s", "first", "long", "name", "came", "line", "state", "waited",
 def calls_data(recording: Recording, window: Window) -> Data:
     """The calls of the window, in columns, of which one that has one value alone has that once. `first` counts from the call before; `long`
     is a call's steps, 0 where it hasn't ended; `name`, `came` and `line` are places in `texts`."""
-    index, texts = index_of(recording), Texts({"": 0})
-    lines, rows, before = Lines(recording, texts), [], 0
-    for call in shown_calls(recording, window):
-        long = call.last - call.first + 1 if call.last else 0
-        told = texts[name_of(recording, call) if recording.lines else call.name], texts[_came(index, call)]
-        about = lines.of(call.first), state_of(index, call), call.waited, call.slept
-        rows.append((call.goroutine, call.socket, call.first - before, long, *told, *about))
-        before = call.first
-    columns = {name: list(column) for name, column in zip(COLUMNS, zip(*rows))}
+    telling, calls = Telling(recording), shown_calls(recording, window)
+    firsts = [call.first for call in calls]
+    columns = [
+        [call.goroutine for call in calls],
+        [call.socket for call in calls],
+        list(map(sub, firsts, [0, *firsts])),
+        [call.last - call.first + 1 if call.last else 0 for call in calls],
+        *map(list, zip(*map(telling.of, calls))),
+        [call.waited for call in calls],
+        [call.slept for call in calls],
+    ]
     return {
-        "count": len(rows),
-        **{name: short_column(column) for name, column in columns.items()},
-        "texts": list(texts),
+        "count": len(calls),
+        **({name: short_column(column) for name, column in zip(COLUMNS, columns)} if calls else {}),
+        "texts": list(telling.texts),
     }
 
 
@@ -67,28 +70,45 @@ def short_column(column: list[int]) -> list[int]:
     return column[:1] if len(set(column)) == 1 else column
 
 
-def _came(index: Index, call: Call) -> str:
-    """What came of a call, in words: of one that takes a connection that is no byte."""
-    if not call.last or (call.name == "Read" and not call.outcome.is_error and index.is_listening(call)):
-        return ""
-    return call.came()
+class Telling:
+    """What is told of calls beside their numbers: name, what came of them, and line, each as its place in `texts`; and the state."""
 
+    def __init__(self, recording: Recording) -> None:
+        self.texts = Texts({"": 0})
+        self._recording, self._index = recording, index_of(recording)
+        self._lines: dict[int, int] = {}  # of stacks
+        self._known: dict[tuple[str, Optional[int], int], tuple[int, ...]] = {}
 
-class Lines:
-    """The lines of the program, each stack's once, by their places among the texts."""
+    def of(self, call: Call) -> tuple[int, ...]:
+        """The name, what came, the line and the state. Of calls that went well, which most did, many are alike."""
+        stack = self._stack(call.first)
+        if not call.last or call.outcome is not Outcome.DONE:
+            return self._told(call, stack)
+        alike = call.name, call.moved, stack
+        if alike not in self._known:
+            self._known[alike] = self._told(call, stack)
+        return self._known[alike]
 
-    def __init__(self, recording: Recording, texts: Texts) -> None:
-        self._lines, self._texts = recording.lines, texts
-        self._known: dict[int, int] = {}
+    def _told(self, call: Call, stack: int) -> tuple[int, ...]:
+        name = name_of(self._recording, call) if self._recording.lines else call.name
+        return self.texts[name], self.texts[self._came(call)], self._line(stack), state_of(self._index, call)
 
-    def of(self, step: int) -> int:
-        """The place of the text of a step's line."""
-        if not 0 < step <= len(self._lines.steps):
-            return 0
-        stack = self._lines.steps[step - 1]
-        if stack not in self._known:
-            self._known[stack] = self._texts[self._lines.stacks[stack].words()]
-        return self._known[stack]
+    def _came(self, call: Call) -> str:
+        """What came of a call, in words: of one that takes a connection that is no byte."""
+        if not call.last or (call.name == "Read" and not call.outcome.is_error and self._index.is_listening(call)):
+            return ""
+        return call.came()
+
+    def _stack(self, step: int) -> int:
+        """The number of a step's stack; 0 where none is known."""
+        steps = self._recording.lines.steps
+        return steps[step - 1] if 0 < step <= len(steps) else 0
+
+    def _line(self, stack: int) -> int:
+        """The place of the text of a stack's line, of which no stack has an empty one."""
+        if stack not in self._lines:
+            self._lines[stack] = self.texts[self._recording.lines.stacks[stack].words()]
+        return self._lines[stack]
 
 
 def names_data(recording: Recording, window: Window) -> dict[int, str]:

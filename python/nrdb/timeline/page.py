@@ -15,6 +15,7 @@ from .picture import MOST, Shown, collected
 from .runs import Window
 
 PAGE = Path(__file__).parents[1] / "page"
+of_json = json.JSONEncoder(separators=(",", ":")).encode
 NUMBERS = frozenset((int, float, bool, type(None)))
 SCRIPTS = (
     "data",
@@ -60,7 +61,7 @@ def told_at_the_terminal(text: str) -> None:
 
 def page(data: Data) -> str:
     """The page of these data."""
-    told = json.dumps(plainly(data), separators=(",", ":")).replace("<", "\\u003c")
+    told = plain_json(data).replace("<", "\\u003c")
     script = "\n".join(read_part(f"{name}.js") for name in SCRIPTS)
     text = read_part("timeline.html").replace("/*STYLE*/", read_part("timeline.css")).replace("/*SCRIPT*/", script)
     return text.replace("/*DATA*/", told)
@@ -69,6 +70,12 @@ def page(data: Data) -> str:
 def read_part(name: str) -> str:
     """The text of a file of which pages are made."""
     return (PAGE / name).read_text(encoding="utf-8")
+
+
+def plain_json(value: Any) -> str:
+    """The value in JSON, each text in it fit to be shown."""
+    told = of_json(value)
+    return of_json(plainly(value)) if "\\" in told else told  # (JSON has an escape where a text isn't plain)
 
 
 def plainly(value: Any) -> Any:

@@ -38,8 +38,7 @@ def runs_of(scout: Scout, changes: RecordedChanges, window: Window) -> tuple[Run
     start = {cell: changes.value(cell, window.first) for cell in cells if not cell.startswith(QUEUES)}
     queues = Queues(changes, start, window.first)
     runs: Runs = {cell: [(window.first, start[cell] if cell in start else queues.shown(cell))] for cell in cells}
-    for step in range(window.first + 1, window.last + 1):
-        changed = changes.at(step)
+    for step, changed in changes.between(window.first, window.last):
         for cell, value in (*changed, *queues.follow(changed)):
             runs[cell].append((step, value))
     compared = window.compared()

@@ -9,6 +9,8 @@ from ..calls import book_of
 from ..recorded_changes import RecordedChanges
 from ..recording import Recording
 from ..shapes import Listed
+from ..touched import Touched
+from ..whose import NONE
 from .calls import Data
 from .runs import Runs, Window
 
@@ -22,26 +24,16 @@ class Connections:
     from which position to which (None: the end); and the socket that each goroutine has most to do with."""
 
     def __init__(self, recording: Recording, window: Window) -> None:
-        self.uses: list[list[Any]] = []
-        self._window = window
+        self._window, notes = window, book_of(recording).notes
+        self.uses: list[list[Any]] = [
+            [use.descriptor, use.socket, use.opened, use.closed if 0 < use.closed <= window.last else None]
+            for use in notes.uses
+            if use.opened <= window.last
+        ]
         self._touched: dict[int, dict[int, int]] = {}
-        self._opens(recording, window.last)
-        for (g, s), many in sorted(book_of(recording).whose.touched(window.first, window.last).items()):
-            if g >= 0 and s >= 0:
+        for (g, s), many in sorted(Touched(notes, window.first, window.last).items()):
+            if s != NONE:
                 self._touched.setdefault(g, {})[s] = many
-
-    def _opens(self, recording: Recording, last: int) -> None:
-        """Follows which descriptor is whose: one that was closed last is opened first."""
-        of: dict[int, list[Any]] = {}
-        free: list[int] = []
-        for number, (kind, *arguments) in recording.arrays_like(("pollopen", "pollclose"), last):
-            if kind == "pollclose":
-                free.append(arguments[1])
-                of[free[-1]][3] = number
-            elif kind == "pollopen":
-                d = free.pop() if free else len(of)
-                of[d] = [d, arguments[1], number, None]
-                self.uses.append(of[d])
 
     def groups(self, runs: Runs) -> dict[int, int]:
         """The socket of each goroutine: the one at which it waits for the most steps, or makes the most."""

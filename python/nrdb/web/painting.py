@@ -18,7 +18,7 @@ from ..recording import NoRecording, Recording
 from ..scout import Lost, Scout
 from ..session import Misused
 from ..shapes import Refused
-from ..timeline.page import plainly
+from ..timeline.page import plain_json
 from ..timeline.picture import Shown, collected, part_of
 from ..timeline.runs import Window
 from .serving import Unavailable
@@ -132,7 +132,7 @@ def answer(shown: Shown, line: str) -> None:
         data = collected(shown) if wanted is None else part_of(shown, Window(*wanted))
     except (Lost, Misused, Refused) as why:
         return say(FAILS, str(why))
-    sys.stdout.write(json.dumps(plainly(data), separators=(",", ":")) + "\n")
+    sys.stdout.write(plain_json(data) + "\n")
     sys.stdout.flush()
 
 

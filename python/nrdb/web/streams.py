@@ -2,14 +2,13 @@
 All but `tell` is called in the server's own thread."""
 
 import asyncio
-import json
 from collections import deque
 from contextlib import contextmanager
 from http import HTTPStatus
 from itertools import count
 from typing import Any, Callable, Iterator
 
-from ..timeline.page import plainly
+from ..timeline.page import plain_json
 from .requests import Rejected
 
 MOST_STREAMS = 16
@@ -22,7 +21,7 @@ Event = dict[str, Any]
 
 def message(event: Event) -> bytes:
     """An event as it is sent. Each text in it is made fit to be shown."""
-    return f"data: {json.dumps(plainly(event), separators=(',', ':'))}\n\n".encode("ascii")
+    return f"data: {plain_json(event)}\n\n".encode("ascii")
 
 
 class Stream:

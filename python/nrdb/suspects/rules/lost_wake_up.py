@@ -11,7 +11,8 @@ from ..weighing import is_accepting, of_a_goroutine
 
 
 def rule(run: Run) -> Iterator[Suspect]:
-    found = [thrown_away(run, use, *both) for use in run.notes.uses for both in waits_behind_a_throw(use)]
+    throwing = (use for use in run.notes.uses if use.thrown)
+    found = [thrown_away(run, use, *both) for use in throwing for both in waits_behind_a_throw(use)]
     named = {suspect.goroutine for suspect in found}
     found += [suspect for suspect in taken_for_nothing(run) if suspect.goroutine not in named]
     for suspect in found:

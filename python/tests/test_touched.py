@@ -1,0 +1,37 @@
+"""Whose the steps of a part of a recording are, by the part alone, is what they are by all steps from the first one."""
+
+import random
+from collections import Counter
+
+from netrev_fuzz.injections import Bug, Traffic
+from netrev_fuzz.randomsteps import Author
+from nrdb.calls import book_of
+from nrdb.modelled_changes import PlayedSteps
+from nrdb.recording import Recording
+from nrdb.touched import Touched
+from nrdb.whose import NONE
+
+SEEDS = range(40)
+PARTS = 12
+
+
+def recording_of(seed: int) -> Recording:
+    """A random recording: every fourth one is of connections, whose goroutines wait for long."""
+    if seed % 4 == 0:
+        return Recording(Traffic(seed, list(Bug)[seed % len(Bug)], 600).run().text())
+    return PlayedSteps(Author(random.Random(f"touched {seed}")).recording(300)[0].steps)
+
+
+def test_a_part_alone_tells_whose_its_steps_are() -> None:
+    met = 0
+    for seed in SEEDS:
+        book, dice = book_of(recording_of(seed)), random.Random(seed)
+        whose, length = book.whose, book.notes.step
+        for _ in range(PARTS):
+            first = dice.randint(0, length)
+            last = dice.randint(first, length)
+            steps = slice(max(first - 1, 0), last)
+            pairs = Counter(zip(whose.goroutines[steps], whose.sockets[steps]))
+            assert Touched(book.notes, first, last) == {pair: many for pair, many in pairs.items() if pair[0] != NONE}
+            met += len(pairs)
+    assert met > 1_000
