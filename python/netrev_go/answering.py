@@ -15,7 +15,9 @@ class Unconvertible(Exception):
 
 
 def parts(count: int, most: int) -> list[int]:
-    """A number of bytes in parts that a step can move."""
+    """A number of bytes in parts that a step can move: mostly all of them are one."""
+    if 0 < count <= most:
+        return [count]
     return [most] * (count // most) + ([count % most] if count % most else [])
 
 

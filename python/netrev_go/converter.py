@@ -13,31 +13,20 @@ from netrev_machine.deadlines import READING, WRITING, Deadlines
 from netrev_machine.machine import SIDES
 from netrev_machine.polling import deadline_of
 
-from .answering import BROKEN_PIPE, Unconvertible, can_answer, lock_answer, mode_of, parts, side_of
+from .answering import BROKEN_PIPE, Unconvertible, can_answer, mode_of, parts
 from .beside import Beside
 from .orders import Made
 from .points import LOCKING, Kind, Point
-from .sockets import AGAIN, BUFFER, Socket
-from .zeros import Line, line_with
+from .repeated import REPEATED, read_line, repeated_line
+from .sockets import AGAIN, BUFFER, FEW_BYTES, Socket
+from .zeros import Line, arrival, written
 
 CURRENT_READ, STALE = 1, 4
 EVENT_ERROR, EVENT_STALE = 1, 2
 GREATEST = 2**63 - 1
-LOCK_STEPS: dict[int, str] = {
-    Kind.INCREF: "incref",
-    Kind.INCREF_CLOSE: "increfclose",
-    Kind.DECREF: "decref",
-    Kind.RW_LOCK: "rwlock",
-    Kind.RW_UNLOCK: "rwunlock",
-}
-CHECK, WAIT_CHECK, FIRE = int(Kind.CHECK), int(Kind.WAIT_CHECK), int(Kind.FIRE)
-SIDED = {int(Kind.RW_LOCK), int(Kind.RW_UNLOCK)}
-CHECKS: dict[int, str] = {
-    Kind.RESET: "pollreset",
-    Kind.WAIT_BEGIN: "waitbegin",
-    Kind.CHECK: "blockcheck",
-    Kind.WAIT_CHECK: "waitcheck",
-}
+READ, FIRE = int(Kind.READ), int(Kind.FIRE)
+
+Repeated = tuple[Line | None, Line, int]  # the bytes that arrive before, the goroutine's own line, and its number
 
 
 class Converter:
@@ -48,8 +37,6 @@ class Converter:
         self.begin = begin
         self.lines: list[Line] = []
         self.stacks: list[int] = []
-        self.words: list[tuple[int, int, int]] = []  # after which step, which socket, and Go's word then
-        self.olds: list[int] = []  # and Go's word before
         self.goroutines: dict[int, int] = {}
         self.last_steps: list[int] = []  # of each goroutine
         self.names: list[int] = []  # Go's own, of each goroutine
@@ -57,8 +44,6 @@ class Converter:
         self.made: list[Made] = []  # the goroutines' steps, by Go's names
         self._number = 0  # of the point
         self.last_stacks: list[int] = []
-        self._lock_texts: dict[tuple[int, bool, int], tuple[str, str]] = {}
-        self._check_texts: dict[tuple[int, int, int], tuple[str, str]] = {}
         self.sockets = 0
         self.free: list[int] = []
         self.descriptors = 0
@@ -70,19 +55,50 @@ class Converter:
         self.beside = Beside()
 
     def convert(self) -> None:
-        table: dict[int, Callable[[Point, Socket], None]] = dict.fromkeys(LOCKING, self.lock_word)
-        table |= dict.fromkeys(CHECKS, self.check)
-        table |= {
+        """Makes the steps of all points."""
+        lines, stacks, made, ended = self.lines, self.stacks, self.made, self.ended
+        last_stacks, last_steps = self.last_stacks, self.last_steps
+        others, known = self._others(), dict[tuple[object, ...], Repeated]()
+        # (there may be a million points: repeated lines are put together once, and no function is called for them again)
+        for point, socket in self.points:
+            number, kind, identity, _, a, b, c, _, stack = point
+            said: tuple[object, ...]
+            if kind in LOCKING:
+                said = kind, identity, socket, a == b, c
+            elif kind in REPEATED or kind == READ and 0 < b <= FEW_BYTES:
+                said = kind, identity, socket, a, b
+            else:
+                self._number = number
+                others[kind](point, socket)
+                ended.append(len(lines))
+                continue
+            repeated = known.get(said)
+            if repeated is None:
+                repeated = known[said] = self._repeated(point, socket)
+            before, line, g = repeated
+            if before:
+                lines.append(before)
+                stacks.append(0)
+            if stack:  # (as `of` has it)
+                last_stacks[g] = stack
+            lines.append(line)
+            stacks.append(stack or last_stacks[g])
+            step = last_steps[g] = len(lines)
+            made.append((number, identity, step))
+            ended.append(step)
+
+    def _repeated(self, point: Point, socket: Socket) -> Repeated:
+        g = self.goroutine(point.goroutine)
+        before = arrival(socket.number, point.b) if point.kind == READ else None
+        return before, repeated_line(point, g, socket), g
+
+    def _others(self) -> dict[int, Callable[[Point, Socket], None]]:
+        """What makes the steps of points that aren't one repeated line."""
+        return {
             Kind.INIT: self.socket_opens, Kind.READ: self.read, Kind.WRITE: self.write, Kind.CLOSE_WRITE: self.close_write,
-            Kind.ACQUIRE: self.acquire, Kind.RELEASE: self.release, Kind.OPEN: self.open, Kind.CLOSE: self.close,
-            Kind.ARM: self.arm, Kind.PARK: self.park, Kind.SWAP: self.swap, Kind.SET_DEADLINE: self.set_deadline,
+            Kind.OPEN: self.open, Kind.CLOSE: self.close, Kind.PARK: self.park, Kind.SET_DEADLINE: self.set_deadline,
             Kind.EVICT: self.evict, Kind.EVENT: self.event, Kind.FIRE: self.fire, Kind.NAMED: self.named,
         }  # fmt: skip
-        lines, ended = self.lines, self.ended
-        for point, socket in self.points:
-            self._number = point[0]
-            table[point[1]](point, socket)
-            ended.append(len(lines))
 
     def made_of(self) -> dict[int, int]:
         """How many steps were made of each socket, by its opening."""
@@ -102,8 +118,8 @@ class Converter:
             self.last_stacks[g] = stack
         self.lines.append(text)
         self.stacks.append(stack or self.last_stacks[g])
-        self.last_steps[g] = len(self.lines)
-        self.made.append((self._number, self.names[g], len(self.lines)))
+        step = self.last_steps[g] = len(self.lines)
+        self.made.append((self._number, self.names[g], step))
 
     def goroutine(self, identity: int) -> int:
         """A goroutine's number; one that wasn't met before is spawned."""
@@ -128,72 +144,39 @@ class Converter:
         self.sockets += 1
         self.of(g, point.stack, f'["sockopen",{BUFFER},{socket.capacity()},["number",{socket.number}]]')
 
-    def lock_word(self, point: Point, socket: Socket) -> None:
-        _, kind, identity, _, old, new, bits, _, stack = point
-        g = self.goroutines.get(identity)
-        if g is None:
-            g = self.goroutine(identity)
-        said = kind, old == new, bits
-        before, behind = self._lock_texts.get(said) or self._lock_text(said)
-        if stack:  # (as `of` has it: nearly half of all points come by here)
-            self.last_stacks[g] = stack
-        else:
-            stack = self.last_stacks[g]
-        lines = self.lines
-        lines.append(f"{before}{g},{socket.number}{behind}")
-        self.stacks.append(stack)
-        step = self.last_steps[g] = len(lines)
-        self.made.append((self._number, identity, step))
-        self.words.append((step, socket.number, new))
-        self.olds.append(old)
-
-    def _lock_text(self, said: tuple[int, bool, int]) -> tuple[str, str]:
-        """What stands before and behind the numbers in the line of a lock word's step."""
-        kind, was_closed, bits = said
-        side = (',"r"' if bits & 1 else ',"w"') if kind in SIDED else ""
-        text = f'["{LOCK_STEPS[kind]}",', f'{side},"{lock_answer(kind, was_closed, bits)}"]'
-        self._lock_texts[said] = text
-        return text
-
-    def acquire(self, point: Point, _: Socket) -> None:
-        g = self.goroutine(point.goroutine)
-        self.of(g, point.stack, f'["acquire",{g},"{"yes" if point.a else "wait"}"]')
-
-    def release(self, point: Point, _: Socket) -> None:
-        g = self.goroutine(point.goroutine)
-        self.of(g, point.stack, f'["release",{g},"done"]')
-
     def read(self, point: Point, socket: Socket) -> None:
+        """A read that gets nothing, or many bytes. (Of a few bytes it is repeated.)"""
         g = self.goroutine(point.goroutine)
         if not can_answer(socket, point):
             return self.beside.failed(self.last_steps[g], point)
-        text = f'["sysread",{g},{socket.number},{min(max(point.a, 1), BUFFER)}'
         for count in parts(max(point.b, 0), BUFFER):
-            self.step(line_with(f'["arrive",{socket.number},"', count, '","done"]'))
-            self.of(g, point.stack, f'{text},["got",{count}]]')
+            self.step(arrival(socket.number, count))
+            self.of(g, point.stack, read_line(g, socket.number, point.a, f'["got",{count}]'))
         if point.b > 0:
             return
         if point.c != AGAIN and not socket.peer_closed:
             socket.peer_closed = True
             self.step(f'["peerclose",{socket.number},"done"]')
-        self.of(g, point.stack, f'{text},"{"again" if point.c == AGAIN else "eof"}"]')
+        answer = '"again"' if point.c == AGAIN else '"eof"'
+        self.of(g, point.stack, read_line(g, socket.number, point.a, answer))
 
     def write(self, point: Point, socket: Socket) -> None:
         g = self.goroutine(point.goroutine)
         if not can_answer(socket, point):
             return self.beside.failed(self.last_steps[g], point)
-        text = f'["syswrite",{g},{socket.number}'
-        if point.b <= 0:
-            answer = "pipe" if point.c == BROKEN_PIPE else "again"
-            self.of(g, point.stack, line_with(f'{text},"', min(max(point.a, 1), BUFFER), f'","{answer}"]'))
+        _, _, _, _, asked, put, error, _, stack = point
+        if put <= 0:
+            answer = '"pipe"' if error == BROKEN_PIPE else '"again"'
+            self.of(g, stack, written(g, socket.number, min(max(asked, 1), BUFFER), answer))
             return
-        for count in parts(point.b, min(socket.capacity(), BUFFER)):
-            missing = socket.held + count - socket.capacity()
+        capacity = socket.capacity()
+        for count in parts(put, min(capacity, BUFFER)):
+            missing = socket.held + count - capacity
             if missing > 0:
                 self.step(f'["drain",{socket.number},{missing},"done"]')
                 socket.held -= missing
             socket.held += count
-            self.of(g, point.stack, line_with(f'{text},"', count, f'",["put",{count}]]'))
+            self.of(g, stack, written(g, socket.number, count, f'["put",{count}]'))
         if socket.last_put == point.number and socket in self.put_off:
             self.shut(socket, *self.put_off.pop(socket))
 
@@ -209,41 +192,9 @@ class Converter:
         socket.shut = True
         self.of(g, stack, f'["closewrite",{g},{socket.number},"done"]')
 
-    def check(self, point: Point, socket: Socket) -> None:
-        """One of the four checks of a descriptor."""
-        number, kind, identity, _, mode, code, _, _, stack = point
-        g = self.goroutines.get(identity)
-        if g is None:
-            g = self.goroutine(identity)
-        said = kind, mode, code
-        before, behind = self._check_texts.get(said) or self._check_text(point)
-        where = "" if kind == CHECK or kind == WAIT_CHECK else f",{socket.descriptor}"
-        if stack:  # (as `of` has it)
-            self.last_stacks[g] = stack
-        self.lines.append(f"{before}{g}{where}{behind}")
-        self.stacks.append(stack or self.last_stacks[g])
-        step = self.last_steps[g] = len(self.lines)
-        self.made.append((number, identity, step))
-
-    def _check_text(self, point: Point) -> tuple[str, str]:
-        """What stands before and behind the numbers in the line of a check."""
-        side = "" if point.kind in (Kind.CHECK, Kind.WAIT_CHECK) else f',"{side_of(point)}"'
-        text = f'["{CHECKS[point.kind]}",', f'{side},["code",{point.b}]]'
-        self._check_texts[point.kind, point.a, point.b] = text
-        return text
-
-    def arm(self, point: Point, _: Socket) -> None:
-        g = self.goroutine(point.goroutine)
-        answer = '["code",0]' if point.b else '"wait"'
-        self.of(g, point.stack, f'["blockarm",{g},{answer}]')
-
     def park(self, point: Point, _: Socket) -> None:
         g = self.goroutine(point.goroutine)
         self.of(g, 0, f'["parkcommit",{g},"{"yes" if point.b else "no"}"]')
-
-    def swap(self, point: Point, _: Socket) -> None:
-        g = self.goroutine(point.goroutine)
-        self.of(g, point.stack, f'["blockswap",{g},"{"yes" if point.b else "no"}"]')
 
     def event(self, point: Point, socket: Socket) -> None:
         """One that was fetched before the descriptor was closed comes too late: Go says so where its events have tags, and lets
@@ -276,34 +227,34 @@ class Converter:
 
     def evict(self, point: Point, socket: Socket) -> None:
         g = self.goroutine(point.goroutine)
-        self.pop_what_fires(socket, [READING, WRITING])
+        for side in (READING, WRITING):
+            self.pop_what_fires(socket, side)
         self.deadlines.evict(socket.descriptor)
         self.of(g, point.stack, f'["evict",{g},{socket.descriptor},"done"]')
 
     def set_deadline(self, point: Point, socket: Socket) -> None:
         """The deadline is just Go's, also where another processor had read a later time before this one's point."""
-        g, mode = self.goroutine(point.goroutine), mode_of(point)
-        now = point.time - self.begin
+        g, mode, number = self.goroutine(point.goroutine), mode_of(point), socket.descriptor
+        time, now = point.b, point.time - self.begin
         self.go_on_to(now)
-        first = ends = deadline_of(now, point.b)
-        changes = self.deadlines.changing(socket.descriptor, mode, ends)
-        self.pop_what_fires(socket, [side for side, _ in changes])
-        time = point.b
-        if time > 0:
+        first = ends = deadline_of(now, time)
+        changes = self.deadlines.changing(number, mode, first)
+        for side, _ in changes:
+            self.pop_what_fires(socket, side)
+        if time > 0 and (self.clock != now or time + point.time > GREATEST):
             time = max(1, time - (self.clock - now)) if time + point.time <= GREATEST else GREATEST
             ends = min(self.clock + time, GREATEST)
-        self.deadlines.set(socket.descriptor, mode, ends, changes=changes if ends == first else None)
-        self.of(g, point.stack, f'["setdeadline",{g},{socket.descriptor},"{mode}",{time},"done"]')
+        self.deadlines.set(number, mode, ends, changes=changes if ends == first else None)
+        self.of(g, point.stack, f'["setdeadline",{g},{number},"{mode}",{time},"done"]')
 
-    def pop_what_fires(self, socket: Socket, sides: list[int]) -> None:
+    def pop_what_fires(self, socket: Socket, side: int) -> None:
         """A timer that is about to be stopped or armed anew goes off first, where the log has its firing: Go's timer had left
         its heap by then."""
-        for side in sides:
-            timer = self.deadlines.armed(socket.descriptor, side)
-            if timer and (socket, side, timer.sequence + socket.sequences[side]) in self.later_fires:
-                self.go_on_to(timer.due)
-                while timer.armed:
-                    self.pop()
+        timer = self.deadlines.armed(socket.descriptor, side)
+        if timer and (socket, side, timer.sequence + socket.sequences[side]) in self.later_fires:
+            self.go_on_to(timer.due)
+            while timer.armed:
+                self.pop()
 
     def pop(self) -> None:
         self.deadlines.pop()

@@ -28,6 +28,7 @@ MOST_STACKS = 2**20
 # As many points may be under way on other processors while one is written.
 UNDER_WAY = 64
 LOW = 2**32 - 1
+OF_KINDS = bytes(KINDS)
 
 
 class NoLog(Exception):
@@ -81,7 +82,7 @@ def whole_points(file: BinaryIO, header: Header) -> tuple[list[Point], int]:
         for place in range(begin, end, AT_ONCE):
             file.seek(ring + place * POINT_BYTES)
             text = file.read(min(AT_ONCE, end - place) * POINT_BYTES)
-            if text.count(0) < len(text):
+            if text != bytes(len(text)):
                 points += points_of(text[: len(text) // POINT_BYTES * POINT_BYTES], number + place - begin)
     return points, held
 
@@ -93,28 +94,33 @@ made = cast(Callable[[tuple[int, ...]], Point], partial(tuple.__new__, Point))
 def points_of(text: bytes, first: int) -> list[Point]:
     """The whole points of a part of the ring, in which the first has this number. (A column at a time, as there may be
     millions.)"""
-    words, signed = array("Q", text), array("q", text)
-    heads, lasts = words[0::POINT_WORDS], words[7::POINT_WORDS]
+    signed = array("q", text)
+    heads, *columns, lasts = (signed[column::POINT_WORDS] for column in range(POINT_WORDS))
     numbers = range(first, first + len(heads))
-    kinds, stacks = [head & 255 for head in heads], [last & LOW for last in lasts]
-    columns = [signed[column::POINT_WORDS] for column in range(1, 7)]
+    kinds, stacks = (
+        text[::POINT_BYTES],
+        array("I", text)[14::16],
+    )  # the lowest byte of the head, the lower half of the last word
     points = map(made, zip(numbers, kinds, *columns, stacks))
-    if are_whole(numbers, heads, [words[column::POINT_WORDS] for column in range(1, 7)], lasts):
-        return list(points) if KINDS.issuperset(kinds) else [point for point in points if point.kind in KINDS]
+    if are_whole(first, heads, columns, lasts):
+        return (
+            list(points) if not kinds.translate(None, OF_KINDS) else [point for point in points if point.kind in KINDS]
+        )
+    words = array("Q", text)
     sums: Iterable[int] = numbers
     for column in range(1, 7):
         sums = map(xor, sums, words[column::POINT_WORDS])
     whole = [
         head >> 8 == number + 1 and head & 255 in KINDS and (total ^ total >> 32) & LOW == last >> 32
-        for number, head, total, last in zip(numbers, heads, sums, lasts)
+        for number, head, total, last in zip(numbers, words[0::POINT_WORDS], sums, words[7::POINT_WORDS])
     ]
     return list(compress(points, whole))
 
 
-def are_whole(numbers: range, heads: array[int], columns: list[array[int]], lasts: array[int]) -> bool:
+def are_whole(first: int, heads: array[int], columns: list[array[int]], lasts: array[int]) -> bool:
     """Whether all of these points are: each column is one great number, as that is much faster than point by point."""
-    kinds, low, ones = masks(len(heads))
-    total = as_one(array("Q", numbers))
+    kinds, low, ones, counted = masks(len(heads))
+    total = counted + first * ones
     if as_one(heads) & ~kinds != total + ones << 8:
         return False
     for column in columns:
@@ -123,10 +129,10 @@ def are_whole(numbers: range, heads: array[int], columns: list[array[int]], last
 
 
 @lru_cache(2)
-def masks(count: int) -> tuple[int, int, int]:
-    """Of so many words, as one number, the lowest byte of each, the lower half, and a one in each."""
+def masks(count: int) -> tuple[int, int, int, int]:
+    """Of so many words, as one number, the lowest byte of each, the lower half, a one in each, and in each how many come before it."""
     kinds, low, ones = (as_one(array("Q", (word,)) * count) for word in (255, LOW, 1))
-    return kinds, low, ones
+    return kinds, low, ones, as_one(array("Q", range(count)))
 
 
 def as_one(column: array[int]) -> int:

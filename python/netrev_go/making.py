@@ -4,8 +4,9 @@ from __future__ import annotations
 
 import json
 import pathlib
-from collections.abc import Callable
+from collections.abc import Callable, Iterator
 from dataclasses import dataclass, field
+from functools import cached_property
 
 from netrev_words.files import whole
 
@@ -13,11 +14,14 @@ from .answering import Unconvertible
 from .beside import Beside
 from .converter import Converter
 from .orders import Made, orders_of
-from .points import ORDERING, WAITING, Log, Point
+from .points import AT_A_SOCKET, LOCKING, ORDERING, Log, Point
 from .sockets import FEW_BYTES, MOST_MEGABYTES, MOST_SOCKETS, MOST_STEPS, Owned, Socket, chosen, owned
 from .times import times_of
-from .waits import waits_of
+from .waits import CONCERNED, waits_of
 from .zeros import Line
+
+
+LockWord = tuple[int, int, int]  # behind which step, of which socket, and the word
 
 
 class Nothing(Exception):
@@ -35,21 +39,34 @@ class Recording:
     header: str
     lines: list[Line]
     stacks: list[int]
-    words: list[tuple[int, int, int]]
     goroutines: int
     last_steps: list[int]
     sockets: int
     orders: list[tuple[int, int]] | None = None  # None where the log has nothing of them
     notes: list[str] = field(default_factory=list)
-    olds: list[int] = field(default_factory=list)  # Go's lock words before those of `words`
     beside: Beside = field(default_factory=Beside)
     bytes: int | None = None  # as which a read or a write counts at most, where one moved more
     made: list[Made] = field(default_factory=list)  # the goroutines' steps
     times: list[int] | None = None  # of the steps, from the log's begin; None where the log has none
+    points: list[tuple[Point, Socket]] = field(default_factory=list)
+    ended: list[int] = field(default_factory=list)  # how many steps there are behind each point
+
+    @cached_property
+    def words(self) -> list[LockWord]:
+        """Go's lock words."""
+        return [(step, socket.number, point.b) for point, socket, step in self._locks()]
+
+    @cached_property
+    def olds(self) -> list[int]:
+        """And what each of them was before."""
+        return [point.a for point, _, _ in self._locks()]
+
+    def _locks(self) -> Iterator[tuple[Point, Socket, int]]:
+        """The points that changed a lock word, and the step of each."""
+        return ((*pair, step) for pair, step in zip(self.points, self.ended) if pair[0].kind in LOCKING)
 
 
 Part = Callable[[Log, Owned], list[Socket]]
-NO_STEPS = ORDERING | WAITING
 AT_ONCE = 1_024  # lines that are written together
 
 
@@ -62,8 +79,7 @@ def make(
 ) -> Recording:
     """The recording of a log's newest sockets, at most so many, whose bytes are at most so many megabytes of text; of a part of them,
     where one is named."""
-    points = [point for point in log.points if point.kind not in NO_STEPS]
-    found = owned(points, all_bytes)
+    found = owned(list(log.of_kinds(AT_A_SOCKET)), all_bytes)
     notes = list(log.notes)
     if not found.sockets:
         if log.from_the_start:
@@ -78,13 +94,13 @@ def make(
         notes.append(f"it has {fitted.kept} of {len(wanted)} sockets: those still open first, and the newest")
     if found.cut:
         notes.append(f"reads and writes count at most {FEW_BYTES} bytes each: --all-bytes counts all")
-    orders = orders_of(log.points, converter.made) if log.has_orders else None
-    converter.beside.waits = waits_of(log.points, converter.made, converter.goroutines)
+    orders = orders_of(log.of_kinds(ORDERING), converter.made) if log.has_orders else None
+    converter.beside.waits = waits_of(log.of_kinds(CONCERNED), converter.made, converter.goroutines)
     return Recording(
-        converter.header(), converter.lines, converter.stacks, converter.words,
-        len(converter.goroutines), converter.last_steps, converter.sockets, orders, notes, converter.olds,
+        converter.header(), converter.lines, converter.stacks,
+        len(converter.goroutines), converter.last_steps, converter.sockets, orders, notes,
         converter.beside, FEW_BYTES if found.cut else None, converter.made,
-        times_of((point for point, _ in converter.points), converter.ended, log.begin),
+        times_of([point for point, _ in converter.points], converter.ended, log.begin), converter.points, converter.ended,
     )  # fmt: skip
 
 

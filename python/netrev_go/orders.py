@@ -6,7 +6,12 @@ from __future__ import annotations
 from collections import defaultdict, deque
 from collections.abc import Iterable, Iterator
 
-from .points import ORDERING, Kind, Point
+from .points import Kind, Point
+
+READY, SENT, RECEIVED, MET, CHANNEL_CLOSED = map(
+    int, (Kind.READY, Kind.SENT, Kind.RECEIVED, Kind.MET, Kind.CHANNEL_CLOSED)
+)
+END = Point(2**63, 0, 0, 0, 0, 0, 0, 0, 0)  # behind the last one
 
 Frontier = dict[int, int]  # the last steps, by goroutine, behind which something comes
 
@@ -66,33 +71,36 @@ class Orders:
 
     def point(self, point: Point) -> None:
         """The program puts goroutines in order."""
-        g = point.goroutine
-        if point.kind == Kind.READY:
-            self._comes_behind(point.a, self._frontier(g))
-        elif point.kind == Kind.MET:
-            there = self._frontier(point.a)
-            self._comes_behind(point.a, self._frontier(g))
+        _, kind, g, at, a, b, _, _, _ = point
+        if kind == READY:
+            self._comes_behind(a, self._frontier(g))
+        elif kind == SENT or kind == RECEIVED:
+            self._buffer(kind == SENT, self.channels[at], g, a, b)
+        elif kind == CHANNEL_CLOSED:
+            self.channels[at].closed = self._frontier(g)
+        elif kind == MET:
+            there = self._frontier(a)
+            self._comes_behind(a, self._frontier(g))
             self._comes_behind(g, there)
-        elif point.kind == Kind.CHANNEL_CLOSED:
-            self.channels[point.at].closed = self._frontier(g)
-        elif point.kind == Kind.FOUND_CLOSED:
-            self._comes_behind(g, self.channels[point.at].closed)
         else:
-            self._buffer(point)
+            self._comes_behind(g, self.channels[at].closed)
 
-    def _buffer(self, point: Point) -> None:
+    def _buffer(self, sends: bool, channel: Channel, goroutine: int, length: int, room: int) -> None:
         """A value goes into a channel's buffer, or out of it."""
-        channel, held = self.channels[point.at], max(0, min(point.a, point.b))
+        held = max(0, min(length, room))
         channel.values.fit(held)
-        channel.places.fit(max(0, point.b) - held)
-        taken, put = (channel.places, channel.values) if point.kind == Kind.SENT else (channel.values, channel.places)
+        channel.places.fit(max(0, room) - held)
+        taken, put = (channel.places, channel.values) if sends else (channel.values, channel.places)
         if taken:
-            self._comes_behind(point.goroutine, taken.take())
-            put.put(self._frontier(point.goroutine))
+            self._comes_behind(goroutine, taken.take())
+            put.put(self._frontier(goroutine))
 
     def _frontier(self, goroutine: int) -> Frontier:
-        own = {goroutine: self.own[goroutine]} if goroutine in self.own else {}
-        return {**self.behind.get(goroutine, {}), **own}
+        behind, own = self.behind.get(goroutine), self.own.get(goroutine)
+        frontier = behind.copy() if behind else {}
+        if own is not None:
+            frontier[goroutine] = own
+        return frontier
 
     def _comes_behind(self, goroutine: int, frontier: Frontier) -> None:
         known, behind = self.known[goroutine], self.behind[goroutine]
@@ -106,15 +114,18 @@ Made = tuple[int, int, int]  # a step of a goroutine's: the number of its point,
 
 
 def orders_of(points: Iterable[Point], steps: Iterable[Made]) -> list[tuple[int, int]]:
-    """Pairs of steps of which the first comes first in each run, by the second. Points and steps come in the points' order."""
+    """Pairs of steps of which the first comes first in each run, by the second, for points that put goroutines in order. Points and steps
+    come in the points' order."""
     orders = Orders()
-    ordering = iter([point for point in points if point.kind in ORDERING])
-    point = next(ordering, None)
+    ordering = iter(points)
+    point = next(ordering, END)
+    upcoming = point[0]
     own, behind = orders.own, orders.behind
     for number, goroutine, step in steps:
-        while point is not None and point.number < number:
+        while upcoming < number:
             orders.point(point)
-            point = next(ordering, None)
+            point = next(ordering, END)
+            upcoming = point[0]
         if goroutine in behind:
             orders.step(goroutine, step)
         else:

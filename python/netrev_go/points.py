@@ -2,8 +2,12 @@
 
 from __future__ import annotations
 
+from collections.abc import Iterator
 from dataclasses import dataclass, field
 from enum import IntEnum
+from functools import cached_property
+from itertools import compress
+from operator import itemgetter
 from typing import NamedTuple
 
 from netrev_words.vocabulary import NUMBERS
@@ -48,14 +52,16 @@ class Kind(IntEnum):
     GOES_ON = 125
 
 
-KINDS = frozenset(int(kind) for kind in Kind)
+# Sets of plain numbers, as points have them: an enumeration's members are compared much more slowly.
+KINDS = frozenset(map(int, Kind))
 # Points at which the program itself puts goroutines in order, and which are at no socket.
-ORDERING = frozenset(kind for kind in KINDS if Kind.READY <= kind <= Kind.FOUND_CLOSED)
+ORDERING = frozenset(range(Kind.READY, Kind.FOUND_CLOSED + 1))
 # Points at which a goroutine begins to wait outside of the poller, and goes on.
-WAITING = frozenset({Kind.PARKS, Kind.GOES_ON})
-LOCKING = frozenset({Kind.INCREF, Kind.INCREF_CLOSE, Kind.DECREF, Kind.RW_LOCK, Kind.RW_UNLOCK})
+WAITING = frozenset(map(int, (Kind.PARKS, Kind.GOES_ON)))
+AT_A_SOCKET = KINDS - ORDERING - WAITING
+LOCKING = frozenset(map(int, (Kind.INCREF, Kind.INCREF_CLOSE, Kind.DECREF, Kind.RW_LOCK, Kind.RW_UNLOCK)))
 # Points at a lock word's address. All others but INIT are at a descriptor's.
-AT_A_WORD = LOCKING | {Kind.READ, Kind.WRITE, Kind.ACQUIRE, Kind.RELEASE, Kind.CLOSE_WRITE, Kind.NAMED}
+AT_A_WORD = LOCKING | set(map(int, (Kind.READ, Kind.WRITE, Kind.ACQUIRE, Kind.RELEASE, Kind.CLOSE_WRITE, Kind.NAMED)))
 
 
 class Point(NamedTuple):
@@ -71,6 +77,9 @@ class Point(NamedTuple):
     c: int
     time: int
     stack: int
+
+
+NUMBER, KIND, TIME = (itemgetter(Point._fields.index(name)) for name in ("number", "kind", "time"))
 
 
 class Stack(NamedTuple):
@@ -95,3 +104,12 @@ class Log:
     from_the_start: bool = True  # no point is missing before the first
     has_orders: bool = False  # of the program
     notes: list[str] = field(default_factory=list)
+
+    @cached_property
+    def kinds(self) -> bytes:
+        """The kind of each point."""
+        return bytes(map(KIND, self.points))
+
+    def of_kinds(self, wanted: frozenset[int]) -> Iterator[Point]:
+        """The points of these kinds. (There may be a million points: no loop of Python's goes over all of them.)"""
+        return compress(self.points, self.kinds.translate(bytes(kind in wanted for kind in range(256))))

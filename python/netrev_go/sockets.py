@@ -5,17 +5,22 @@ some sockets alone are a recording again. A socket is whole if the log has its o
 
 from __future__ import annotations
 
+from collections import Counter
 from dataclasses import dataclass, field
+from operator import itemgetter
 
-from .points import AT_A_WORD, LOCKING, Kind, Point
+from .points import AT_A_SOCKET, AT_A_WORD, LOCKING, Kind, Point
 
 BUFFER = 65_536
 OUTPUT = 4_096
 CLOSED = 1
 AGAIN = 1
 READ, WRITE, NAMED = int(Kind.READ), int(Kind.WRITE), int(Kind.NAMED)
+UNLIKE = {READ, WRITE, NAMED}  # these aren't just one more step of their socket
 INIT, OPEN, OPEN_FAILED, CLOSE = int(Kind.INIT), int(Kind.OPEN), int(Kind.OPEN_FAILED), int(Kind.CLOSE)
 EVENT, FIRE = int(Kind.EVENT), int(Kind.FIRE)
+AT_USE = AT_A_SOCKET - AT_A_WORD - {INIT, OPEN, OPEN_FAILED, CLOSE, EVENT, FIRE}  # at the descriptor's newest use
+SOCKET = itemgetter(1)
 MOST_SOCKETS, MOST_GOROUTINES, MOST_STEPS = 256, 4_096, 1_000_000
 MEGABYTE, MOST_MEGABYTES = 2**20, 1_024  # of a recording's text for the bytes that are moved
 FEW_BYTES = 64  # as which a read or a write counts that moved more, unless all are wanted
@@ -123,33 +128,48 @@ class Owners:
 
 def of_few(point: Point) -> Point:
     """A read or a write as one of few bytes."""
-    if point.b <= FEW_BYTES and (point.a <= FEW_BYTES or point.kind == Kind.READ):
-        return point
-    asked = point.a if point.kind == Kind.READ else min(point.a, FEW_BYTES)
-    return point._replace(a=asked, b=min(point.b, FEW_BYTES))
+    number, kind, goroutine, at, asked, moved, failed, time, stack = point
+    if kind == WRITE:
+        asked = min(asked, FEW_BYTES)
+    return Point(number, kind, goroutine, at, asked, min(moved, FEW_BYTES), failed, time, stack)
+
+
+def has_few(point: Point) -> bool:
+    """Whether it is one of few bytes as it is."""
+    return point.b <= FEW_BYTES and (point.a <= FEW_BYTES or point.kind == READ)
 
 
 def count_bytes(socket: Socket, point: Point) -> None:
     """Counts a read or a write at its socket: the text that it is, how large the output is, and of a read the steps."""
-    got = max(point.b, 0)
-    if point.kind == READ:
+    number, kind, _, _, asked, got, failed, _, _ = point
+    got = max(got, 0)
+    if kind == READ:
         socket.text += 2 * got
         socket.steps += 2 * -(-got // BUFFER) - 1
         return
-    socket.text += 2 * (got or min(max(point.a, 1), BUFFER))
+    socket.text += 2 * (got or min(max(asked, 1), BUFFER))
     socket.written += got
-    socket.largest = max(socket.largest, min(got, BUFFER))
     if got:
-        socket.last_put = point.number
-    if point.c == AGAIN and not socket.full_at:
+        socket.last_put = number
+        if got > socket.largest:
+            socket.largest = min(got, BUFFER)
+    if failed == AGAIN and not socket.full_at:
         socket.full_at = max(1, min(socket.written, BUFFER))
 
 
 def count_parts(points: list[tuple[Point, Socket]]) -> None:
     """Counts the steps of writes, when it is known how large the outputs are: a write is in parts that one has room for."""
     for point, socket in points:
-        if point[1] == WRITE:
-            socket.steps += -(-max(point.b, 0) // min(socket.capacity(), BUFFER)) - 1
+        socket.steps += -(-max(point.b, 0) // min(socket.capacity(), BUFFER)) - 1
+
+
+def count_points(points: list[tuple[Point, Socket]]) -> None:
+    """Counts the points of each socket as a step each, and the goroutines that passed them."""
+    for socket, steps in Counter(map(SOCKET, points)).items():
+        socket.steps += steps
+    for goroutine, socket in {(point[2], socket) for point, socket in points}:
+        if goroutine:
+            socket.goroutines.add(goroutine)
 
 
 @dataclass
@@ -165,29 +185,32 @@ class Owned:
 def owned(points: list[Point], all_bytes: bool = True) -> Owned:
     """Each point with its socket, of which the goroutines and the steps at least are counted."""
     owners = Owners()
-    of, words = owners.of, owners.words
+    of, words, uses = owners.of, owners.words, owners.uses
     mine: list[tuple[Point, Socket]] = []
+    writes: list[tuple[Point, Socket]] = []
     cut = 0
     for point in points:
-        _, kind, goroutine, at, _, _, _, _, _ = point
-        socket = words.get(at) if kind in AT_A_WORD else None
+        kind, at = point[1], point[3]
+        # (what `of` finds for nearly all points, as there may be a million)
+        socket = words.get(at) if kind in AT_A_WORD else used[-1] if kind in AT_USE and (used := uses.get(at)) else None
         if socket is None or socket.closed:
             socket = of(point)
             if socket is None:
                 continue
-        if kind == READ or kind == WRITE:
-            if not all_bytes and (counted := of_few(point)) is not point:
-                cut += counted.b != point.b
-                point = counted
-            count_bytes(socket, point)
-        if goroutine not in socket.goroutines:
-            socket.goroutines.add(goroutine)
-        socket.steps += kind != NAMED
+        if kind in UNLIKE:
+            if kind == NAMED:
+                socket.steps -= 1
+            else:
+                if not all_bytes and not has_few(point):
+                    cut += point.b > FEW_BYTES
+                    point = of_few(point)
+                count_bytes(socket, point)
+                if kind == WRITE:
+                    writes.append((point, socket))
         mine.append((point, socket))
-    count_parts(mine)
+    count_points(mine)
+    count_parts(writes)
     known = [socket for socket in owners.sockets if socket.has_descriptor and not socket.failed]
-    for socket in known:
-        socket.goroutines.discard(0)
     return Owned(mine, known, len(points) - len(mine), cut)
 
 

@@ -4,22 +4,23 @@ was made for."""
 from __future__ import annotations
 
 from collections.abc import Iterable
-from itertools import accumulate, chain, repeat
+from itertools import accumulate, chain, repeat, starmap
 from operator import sub
 
-from .points import Point
+from .points import TIME, Point
 
 
 def times_of(points: Iterable[Point], ended: list[int], begin: int) -> list[int] | None:
     """Of each step the nanoseconds since the log began, where so many steps are there behind each point. Points have their order by a
     counter, and read the clock just behind that, so a time that is a little before the one before is taken for that. None where a point
     has no time, as in logs of before."""
-    read = [point[7] for point in points]
+    read = list(map(TIME, points))
     if not all(read):
         return None
-    latest = accumulate((time - begin for time in read), max, initial=0)
+    latest = accumulate(read, max, initial=begin)
     next(latest)
-    return list(chain.from_iterable(repeat(time, steps) for time, steps in zip(latest, deltas(ended))))
+    times = chain.from_iterable(starmap(repeat, zip(latest, deltas(ended))))
+    return list(map(sub, times, repeat(begin)))
 
 
 def deltas(numbers: list[int]) -> list[int]:

@@ -10,7 +10,8 @@ from typing import NamedTuple
 from .orders import Made
 from .points import Kind, Point
 
-CONCERNED = frozenset({Kind.READY, Kind.PARKS, Kind.GOES_ON})
+READY, PARKS, GOES_ON = int(Kind.READY), int(Kind.PARKS), int(Kind.GOES_ON)
+CONCERNED = frozenset((READY, PARKS, GOES_ON))
 WAITED_FOR = ("", "a value from a channel", "room in a channel", "a select", "a condition")
 
 
@@ -27,23 +28,28 @@ class Wait(NamedTuple):
 
 
 def waits_of(points: Iterable[Point], steps: list[Made], numbers: dict[int, int]) -> list[Wait]:
-    """The waits, in the order of their ends. `steps` has the steps that were made of a point, `numbers` the recording's numbers of
-    goroutines."""
+    """The waits of the points that are concerned, in the order of their ends. `steps` has the steps that were made of a point, `numbers`
+    the recording's numbers of goroutines."""
     begun: dict[int, Wait] = {}
     ready: dict[int, int] = {}
     found: list[Wait] = []
-    step = at = 0
-    for point in [point for point in points if point.kind in CONCERNED]:
-        behind = bisect_left(steps, (point.number,), at)
-        step, at = steps[behind - 1][2] if behind else step, behind
-        if point.kind == Kind.READY and not point.b:
-            ready[point.a] = numbers.get(point.goroutine, -1)
-        elif point.kind == Kind.PARKS and point.goroutine in numbers:
-            ready.pop(point.goroutine, None)
-            reason = WAITED_FOR[point.a] if 0 <= point.a < len(WAITED_FOR) else ""
-            begun[point.goroutine] = Wait(step, 0, numbers[point.goroutine], reason, point.stack, -1)
-        elif point.kind == Kind.GOES_ON and point.goroutine in begun:
-            wait = begun.pop(point.goroutine)
+    made = [number for number, _, _ in steps]
+
+    def step_before(number: int) -> int:
+        """The last step that was made before a point; 0 where none was."""
+        at = bisect_left(made, number)
+        return steps[at - 1][2] if at else 0
+
+    for number, kind, goroutine, _, a, b, _, _, stack in points:
+        if kind == READY and not b:
+            ready[a] = numbers.get(goroutine, -1)
+        elif kind == PARKS and goroutine in numbers:
+            ready.pop(goroutine, None)
+            reason = WAITED_FOR[a] if 0 <= a < len(WAITED_FOR) else ""
+            begun[goroutine] = Wait(step_before(number), 0, numbers[goroutine], reason, stack, -1)
+        elif kind == GOES_ON and goroutine in begun:
+            wait = begun.pop(goroutine)
+            step = step_before(number)
             if step > wait.first:
-                found.append(wait._replace(last=step, by=ready.get(point.goroutine, -1)))
+                found.append(wait._replace(last=step, by=ready.get(goroutine, -1)))
     return found + list(begun.values())

@@ -61,10 +61,10 @@ def write_where(
     besides; more lines; and the steps' times."""
     numbered = Numbered(calls)
     numbered.add({"where": 1, "steps": len(stacks)})
-    given = {key: numbered.stack(key) for key in dict.fromkeys(stacks)}
-    numbers = [given[key] for key in stacks]
+    number_of = {key: str(numbered.stack(key)) for key in dict.fromkeys(stacks)}.__getitem__
     for first in range(0, len(stacks), STEPS_A_LINE):
-        numbered.add({"step": first + 1, "stacks": numbers[first : first + STEPS_A_LINE]})
+        numbers = ",".join(map(number_of, stacks[first : first + STEPS_A_LINE]))
+        numbered.lines.append(f'{{"step":{first + 1},"stacks":[{numbers}]}}\n')
     for part in parts(orders, STEPS_A_LINE) if orders is not None else ():
         numbered.add({"orders": part})
     for first in range(0, len(beside.peers), STEPS_A_LINE):

@@ -2,9 +2,11 @@
 
 from __future__ import annotations
 
+from functools import lru_cache
 from typing import NamedTuple
 
-FEW = 32  # bytes, whose zeros are written out at once
+FEW = 64  # bytes, whose zeros are written out at once
+LINES_KEPT = 4_096  # since many lines are alike
 
 
 class Zeros(NamedTuple):
@@ -23,5 +25,15 @@ Line = str | Zeros
 
 def line_with(before: str, size: int, behind: str) -> Line:
     """A line with so many bytes, all zeros."""
-    line = Zeros(before, size, behind)
-    return line if size > FEW else str(line)
+    return Zeros(before, size, behind) if size > FEW else f"{before}{'00' * size}{behind}"
+
+
+def arrival(socket: int, count: int) -> Line:
+    """Bytes arrive at a socket."""
+    return line_with(f'["arrive",{socket},"', count, '","done"]')
+
+
+@lru_cache(LINES_KEPT)
+def written(g: int, socket: int, count: int, answer: str) -> Line:
+    """A write of so many bytes, with its answer as JSON."""
+    return line_with(f'["syswrite",{g},{socket},"', count, f'",{answer}]')

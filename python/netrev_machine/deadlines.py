@@ -11,9 +11,10 @@ from .machine import SIDES
 from .polling import are_both, followed
 
 READING, WRITING = 0, 1
+FEWEST = 64  # timers for which the heap is swept
 
 
-@dataclass(eq=False)
+@dataclass(eq=False, slots=True)
 class Timer:
     """An armed timer, or one that went off: whose it is, the sides that its function is for, and who had set the deadline."""
 
@@ -26,7 +27,7 @@ class Timer:
     armed: bool = True
 
 
-@dataclass
+@dataclass(slots=True)
 class Descriptor:
     """What a descriptor's deadlines hang on; each pair is of reading and of writing."""
 
@@ -43,7 +44,8 @@ class Deadlines:
 
     def __init__(self) -> None:
         self.descriptors: dict[int, Descriptor] = {}
-        self.heap: list[tuple[int, int, Timer]] = []
+        self.heap: list[tuple[int, int, Timer]] = []  # and timers that were stopped since
+        self._room = FEWEST  # for so many it is swept
         self.firings: list[Timer] = []
         self._keys: list[tuple[int, int, int]] = []  # of each firing its descriptor, side and sequence
         self.armings = 0
@@ -62,7 +64,8 @@ class Deadlines:
         timer = self.descriptors[number].timers[side]
         return timer if timer and timer.armed else None
 
-    def disarm(self, descriptor: Descriptor, side: int) -> None:
+    @staticmethod
+    def disarm(descriptor: Descriptor, side: int) -> None:
         timer = descriptor.timers[side]
         if timer:
             timer.armed = False
@@ -83,8 +86,12 @@ class Deadlines:
             return []
         read, write = old = descriptor.deadlines
         new = (deadline if "r" in mode else read, deadline if "w" in mode else write)
-        wanted = [(side, followed(descriptor.running[side], side, old, new)) for side in (READING, WRITING)]
-        return [(side, wants) for side, wants in wanted if wants is not None]
+        changes = []
+        for side, is_running in enumerate(descriptor.running):
+            # (most descriptors have no timer of writing, and get none)
+            if (is_running or new[side] > 0) and (wants := followed(is_running, side, old, new)) is not None:
+                changes.append((side, wants))
+        return changes
 
     def set(
         self, number: int, mode: str, deadline: int, setter: Any = None, changes: list[tuple[int, bool]] | None = None
@@ -95,24 +102,32 @@ class Deadlines:
             return
         if changes is None:
             changes = self.changing(number, mode, deadline)
-        for side in (READING, WRITING):
-            if SIDES[side] in mode:
-                descriptor.deadlines[side], descriptor.setters[side] = deadline, setter
+        if "r" in mode:
+            descriptor.deadlines[READING], descriptor.setters[READING] = deadline, setter
+        if "w" in mode:
+            descriptor.deadlines[WRITING], descriptor.setters[WRITING] = deadline, setter
         for side, wants in changes:
             descriptor.sequences[side] += descriptor.running[side]
             descriptor.running[side] = wants
             self.disarm(descriptor, side)
             if wants:
-                self.arm(number, side)
+                self.arm(number, descriptor, side)
 
-    def arm(self, number: int, side: int) -> None:
-        descriptor = self.descriptors[number]
+    def arm(self, number: int, descriptor: Descriptor, side: int) -> None:
         covers = SIDES if are_both(descriptor.deadlines) else SIDES[side]
-        due, sequence, setter = descriptor.deadlines[side], descriptor.sequences[side], descriptor.setters[side]
-        timer = Timer(due, number, side, sequence, covers, setter)
+        due = descriptor.deadlines[side]
+        timer = Timer(due, number, side, descriptor.sequences[side], covers, descriptor.setters[side])
         descriptor.timers[side] = timer
         self.armings += 1
-        heapq.heappush(self.heap, (timer.due, self.armings, timer))
+        if len(self.heap) >= self._room:
+            self._sweep()
+        heapq.heappush(self.heap, (due, self.armings, timer))
+
+    def _sweep(self) -> None:
+        """Takes the timers that were stopped out of the heap: most are, long before they are due."""
+        self.heap = [entry for entry in self.heap if entry[2].armed]
+        heapq.heapify(self.heap)
+        self._room = max(FEWEST, 2 * len(self.heap))
 
     def least(self) -> Timer | None:
         while self.heap and not self.heap[0][2].armed:

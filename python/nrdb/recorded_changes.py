@@ -150,6 +150,11 @@ class RecordedChanges:
         self._wait(None)
         return self._lines.texts(0, len(self._lines.pieces))
 
+    def pieces(self) -> Sequence[bytes]:
+        """The lines of all changes as they came, in pieces of whole lines."""
+        self._wait(None)
+        return self._lines.pieces
+
     def __iter__(self) -> Iterator[Change]:
         """All changes, step by step."""
         return (Change(int(step), cell, value) for step, cell, value in self.texts())

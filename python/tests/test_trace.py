@@ -82,7 +82,7 @@ def traced(recording: Recording) -> list[Event]:
     changes = changes_in(recording.data)
     told = chain(
         Tracing(recording, changes).events("run.jsonl", lambda: None),
-        map(json.dumps, beside(recording, changes, Looking(changes))),
+        beside(recording, changes, Looking(changes)),
     )
     return [json.loads(event) for event in told]
 

@@ -1,70 +1,105 @@
 """What a trace has beside statuses and steps: Go's calls, the deadlines, the clock, and what went wrong."""
 
 from itertools import chain
-from typing import Any, Iterator
+from typing import Iterator
 
 from netrev_words.plain import plain
 
 from ..causes.words import name_of
+from ..one_call import Call
 from ..recorded_changes import RecordedChanges
 from ..recording import Recording
 from ..scout import Scout
 from .calls import Data, shown_calls
-from .events import DEADLINES, GOROUTINES, NETWORK, Event, event_of
+from .events import DEADLINES, GOROUTINES, NETWORK, Event, event_of, of_json
 from .runs import Window
+from .searched import DEADLINES_AND_CLOCK, by_cell, searched
 from .stories import stories_data
 
 SIDES = {"rd": "read", "wd": "write"}
+Changed = list[tuple[int, str]]  # the steps that change a cell, with its value behind each
 
 
-def beside(recording: Recording, changes: RecordedChanges, scout: Scout) -> Iterator[Event]:
-    """All of it."""
+def beside(recording: Recording, changes: RecordedChanges, scout: Scout) -> Iterator[str]:
+    """All of it, each event as JSON."""
     suspects, causes = stories_data(scout, recording)
+    cells = by_cell(searched(changes, DEADLINES_AND_CLOCK))
+    clock = cells.pop("clock", [])
     stories = chain.from_iterable(story_events(story) for story in (*suspects, *causes))
-    return chain(call_events(recording), deadline_events(changes, recording.length), clock_events(changes), stories)
+    return chain(
+        call_events(recording), deadline_events(cells, recording.length), clock_events(clock), map(of_json, stories)
+    )
 
 
-def call_events(recording: Recording) -> Iterator[Event]:
+def call_events(recording: Recording) -> Iterator[str]:
     """A slice for each call that takes more than a step, round its goroutine's statuses and steps."""
+    telling = Telling(recording)
     for call in shown_calls(recording, Window(0, recording.length)):
         if call.last == call.first:
             continue
-        until, came = call.last or recording.length + 1, call.came()
-        name = f"{name_of(recording, call)} on socket {call.socket}{f': {came}' if came else ''}"
-        told = {"waited": call.waited, "slept_ns": call.slept, "line": plain(recording.lines.words(call.first))}
-        begin = call.first - 1
-        yield event_of("X", GOROUTINES, call.goroutine, begin, dur=until - begin, name=name, cat="call", args=told)
+        begin, until = call.first - 1, call.last or recording.length + 1
+        name, line = telling.of(call)
+        # (put together as text, as there may be some hundred thousand)
+        yield (
+            f'{{"ph":"X","pid":{GOROUTINES},"tid":{call.goroutine},"ts":{begin},"dur":{until - begin},"name":{name},"cat":"call",'
+            f'"args":{{"waited":{call.waited},"slept_ns":{call.slept},"line":{line}}}}}'
+        )
 
 
-def deadline_events(changes: RecordedChanges, length: int) -> Iterator[Event]:
+class Telling:
+    """What is told of calls in words, as JSON: what many have alike is put together once."""
+
+    def __init__(self, recording: Recording) -> None:
+        self._recording = recording
+        self._names: dict[tuple[str, int], str] = {}  # of calls, by their stacks
+        self._lines: dict[int, str] = {}  # of stacks
+
+    def of(self, call: Call) -> tuple[str, str]:
+        """The name of a call, with what came of it, and its line."""
+        stack = self._stack(call.first)
+        named = call.name, stack
+        if named not in self._names:
+            self._names[named] = name_of(self._recording, call)
+        if stack not in self._lines:
+            self._lines[stack] = of_json(plain(self._recording.lines.words(call.first)))
+        came = call.came()
+        name = f"{self._names[named]} on socket {call.socket}{': ' if came else ''}{came}"
+        return of_json(name), self._lines[stack]
+
+    def _stack(self, step: int) -> int:
+        """The number of a step's stack; 0 where none is known."""
+        steps = self._recording.lines.steps
+        return steps[step - 1] if 0 < step <= len(steps) else 0
+
+
+def deadline_events(cells: dict[str, Changed], length: int) -> Iterator[str]:
     """A thread for each side of a descriptor that ever has a deadline, with a slice for each."""
-    cells = [cell for cell in changes.cells() if cell[:3] in ("rd ", "wd ")]
     named = False
-    for thread, cell in enumerate(cells):
-        told = changes.changes_of(cell)
+    for thread, (cell, told) in enumerate(cells.items()):
         ends = [*(step for step, _ in told[1:]), length + 1]
         slices = [(begin, end, value) for (begin, value), end in zip(told, ends) if value not in ("0", "absent")]
         if not slices:
             continue
         if not named:
             named = True
-            yield {"ph": "M", "pid": DEADLINES, "name": "process_name", "args": {"name": "deadlines"}}
+            yield of_json({"ph": "M", "pid": DEADLINES, "name": "process_name", "args": {"name": "deadlines"}})
         title = f"{SIDES[cell[:2]]} deadline of descriptor {cell[3:]}"
-        yield {"ph": "M", "pid": DEADLINES, "tid": thread, "name": "thread_name", "args": {"name": title}}
+        yield of_json({"ph": "M", "pid": DEADLINES, "tid": thread, "name": "thread_name", "args": {"name": title}})
         for begin, end, value in slices:
             name = "has passed" if value.startswith("-") else f"at {value} ns"
-            yield event_of("X", DEADLINES, thread, begin, dur=end - begin, name=name, cat="deadline")
+            where = f'"pid":{DEADLINES},"tid":{thread},"ts":{begin},"dur":{end - begin}'
+            yield f'{{"ph":"X",{where},"name":"{name}","cat":"deadline"}}'
 
 
-def clock_events(changes: RecordedChanges) -> Iterator[Event]:
+def clock_events(ticks: Changed) -> Iterator[str]:
     """The clock, as a counter."""
-    for step, value in changes.changes_of("clock"):
-        yield event_of("C", NETWORK, 0, step, name="clock", args={"ns": int(value)})
+    for step, time in ticks:
+        yield f'{{"ph":"C","pid":{NETWORK},"tid":0,"ts":{step},"name":"clock","args":{{"ns":{int(time)}}}}}'
 
 
 def story_events(story: Data) -> Iterator[Event]:
     """A mark through all rows at each step of a story, numbered."""
-    says: dict[str, Any] = {"says": plain(story["says"]), "lines": [plain(line) for line in story["lines"]]}
+    says = {"says": plain(story["says"]), "lines": [plain(line) for line in story["lines"]]}
     for number, step in enumerate(story["steps"], 1):
         name = f"{number}. {story['rule']}"
         yield event_of("i", GOROUTINES, story["g"] or 0, step, s="g", name=name, cat="story", args=says)

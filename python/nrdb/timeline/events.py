@@ -1,8 +1,10 @@
 """Events of a trace, as Chrome and Perfetto read them."""
 
+import json
 from typing import Any
 
 Event = dict[str, Any]
+of_json = json.JSONEncoder(separators=(",", ":")).encode
 GOROUTINES, NETWORK, DEADLINES = 1, 2, 3  # processes of the trace
 
 

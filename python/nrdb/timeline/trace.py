@@ -6,7 +6,6 @@ positions besides. Calls and suspects are nrdb's own."""
 
 import gzip
 import io
-import json
 from collections import Counter
 from contextlib import contextmanager
 from itertools import chain, islice, repeat
@@ -18,23 +17,25 @@ from netrev_words.vocabulary import OF_A_GOROUTINE
 
 from ..files import writing
 from ..recorded_changes import RecordedChanges, value_at_start
-from ..recording import Recording, shortened
+from ..recording import SHOWN, Recording, shortened
 from ..scout import Scout
 from ..session import Misused, Session
 from ..where import Lines
 from .beside import beside
 from .calls import names_data
-from .events import GOROUTINES, NETWORK, Event
+from .events import GOROUTINES, NETWORK, Event, of_json
 from .runs import Window
+from .searched import STATUSES, STATUSES_AND_CLOCK, searched
 
 COMPARED = 64  # positions
 POLLER, TIMERS, CLOCK = range(3)  # threads of the second, before the sockets
 SOCKETS = 10  # the number of the first socket's thread
-QUIET = ("idle", "gone")
+BY_A_GOROUTINE = frozenset(OF_A_GOROUTINE)
+QUIET = frozenset(("idle", "gone"))
 AT_ONCE = 1_024  # events that are written together
 END = (str(2**64), "", "")  # what comes behind the last change
 
-of_json = json.JSONEncoder(separators=(",", ":")).encode
+Statuses = dict[int, str]  # of goroutines
 
 
 def write_trace(session: Session, path: str) -> str:
@@ -43,8 +44,8 @@ def write_trace(session: Session, path: str) -> str:
     tracing = Tracing(recording, session.changes())
     compared = _compared(scout, recording, session.changes())
     with packed(path, session.path) as file:
-        events = tracing.events(Path(session.path).name, session.interrupts.check)
-        write_events(file, chain(events, map(of_json, beside(recording, session.changes(), scout))))
+        steps = tracing.events_together(Path(session.path).name, session.interrupts.check)
+        write_events(file, chain(steps, together(beside(recording, session.changes(), scout))))
     return f"{path}: {recording.length} steps, {tracing.slices} slices, {tracing.flows} wake-ups; statuses as netrev has them at {compared} positions"
 
 
@@ -60,11 +61,16 @@ def packed(path: str, recording: str) -> Iterator[IO[str]]:
             yield text
 
 
-def write_events(file: IO[str], events: Iterator[str]) -> None:
+def together(events: Iterator[str]) -> Iterator[list[str]]:
+    """Events as they come, many at a time."""
+    return iter(lambda: list(islice(events, AT_ONCE)), [])
+
+
+def write_events(file: IO[str], events: Iterator[list[str]]) -> None:
     """Writes events as they come, many at a time."""
     file.write('{"displayTimeUnit":"ns","traceEvents":[')
     before = "\n"
-    while some := list(islice(events, AT_ONCE)):
+    for some in events:
         file.write(before + ",\n".join(some))
         before = ",\n"
     file.write("\n]}\n")
@@ -77,7 +83,7 @@ def _compared(scout: Scout, recording: Recording, changes: RecordedChanges) -> i
     spawned = sum(1 for _ in recording.steps_of(("spawn",), changes.length))
     goroutines = [f"gor {g}" for g in range(spawned + 1)]
     statuses = {cell: value_at_start(cell) for cell in goroutines}
-    changed = (change for change in changes.texts() if change[1][:4] == "gor ")
+    changed = searched(changes, STATUSES)
     step, cell, value = next(changed, END)
     for position in compared:
         while int(step) <= position:
@@ -95,64 +101,80 @@ class Tracing:
     def __init__(self, recording: Recording, changes: RecordedChanges) -> None:
         self.recording, self.changes = recording, changes
         self.slices = self.flows = 0
-        self._statuses: dict[int, str] = {}
+        self._has_answers = recording.has_answers
+        self._statuses: Statuses = {}
         self._since: dict[int, int] = {}  # of each goroutine that does something, since when
 
     def events(self, name: str, check: Callable[[], None]) -> Iterator[str]:
-        """All events: names first, then slices and flows as steps come. Now and then it calls `check`."""
-        yield from map(of_json, self._names(name))
-        clock, lines = 0, told_lines(self.recording.lines, self.recording.length)
+        """All events, one after the other."""
+        return chain.from_iterable(self.events_together(name, check))
+
+    def events_together(self, name: str, check: Callable[[], None]) -> Iterator[list[str]]:
+        """All events, many at a time: names first, then slices and flows as steps come. Each time it calls `check`."""
+        yield list(map(of_json, self._names(name)))
+        steps = zip(self.recording.rows(self._told), told_lines(self.recording.lines, self.recording.length))
         changed = self._changed()
         upcoming, statuses, ticked = next(changed)
-        for number, ((mine, where, what), line) in enumerate(zip(self.recording.rows(self._told), lines), 1):
+        before, clock = "0", "0"
+        for first in range(1, self.recording.length + 1, AT_ONCE):
             check()
-            # (a million of these: so the text is put together here, and its parts are made once of lines that are alike)
-            yield f'{{"ph":"X",{where},"ts":{number - 1},"dur":1,{what},"args":{{"step":{number},"clock":{clock}{line}}}}}'
-            if number == upcoming:
-                yield from self._statuses_change(number, mine, where, statuses)
-                clock = clock if ticked is None else ticked
-                upcoming, statuses, ticked = next(changed)
+            events: list[str] = []
+            for number, ((mine, where, what), line) in enumerate(islice(steps, AT_ONCE), first):
+                # (a million of these: so the text is put together here, and its parts are made once of lines that are alike)
+                step = str(number)
+                events.append(f'{{"ph":"X",{where},"ts":{before},"dur":1,{what}{step},"clock":{clock}{line}')
+                if number == upcoming:
+                    self._statuses_change(number, mine, where, statuses, events)
+                    clock = ticked or clock
+                    upcoming, statuses, ticked = next(changed)
+                before = step
+            yield events
         self.slices += self.recording.length
-        for g in sorted(self._since):
-            yield self._status(g, self._statuses[g], self.recording.length + 1)
+        if self._since:
+            yield [self._status(g, self._statuses[g], self.recording.length + 1) for g in sorted(self._since)]
 
     def _told(self, values: list[Any]) -> tuple[Optional[int], str, str]:
         """Of a step's line the goroutine that makes it, where its slice lies, and what it is called."""
-        kind, *arguments = values[:-1] if self.recording.has_answers else values
-        mine: Optional[int] = arguments[0] if kind in OF_A_GOROUTINE else None
-        process, thread = (GOROUTINES, mine) if mine is not None else (NETWORK, _thread(kind, arguments))
-        text = " ".join([kind, *(shortened(str(one)) for one in arguments)])
-        return mine, f'"pid":{process},"tid":{thread}', f'"name":{of_json(text)},"cat":"step"'
+        words = values[:-1] if self._has_answers else values
+        kind = words[0]
+        mine: Optional[int] = words[1] if kind in BY_A_GOROUTINE else None
+        process, thread = (GOROUTINES, mine) if mine is not None else (NETWORK, _thread(kind, words[1:]))
+        text = " ".join(map(str, words))
+        if len(text) > SHOWN:
+            text = " ".join([kind, *(shortened(str(one)) for one in words[1:])])
+        return mine, f'"pid":{process},"tid":{thread}', f'"name":{of_json(text)},"cat":"step","args":{{"step":'
 
-    def _changed(self) -> Iterator[tuple[int, dict[int, str], Optional[int]]]:
+    def _changed(self) -> Iterator[tuple[int, Statuses, str]]:
         """Each step that changed a status or the clock, with the statuses, and the clock where it did; in the end no step."""
-        number, statuses, clock = 0, dict[int, str](), None
-        for step, cell, value in self.changes.texts():
-            if cell[:4] != "gor " and cell != "clock":
-                continue
-            if int(step) != number:
-                if number:
-                    yield number, statuses, clock
-                number, statuses, clock = int(step), {}, None
+        last, clock = "", ""
+        statuses: Statuses = {}
+        for step, cell, value in searched(self.changes, STATUSES_AND_CLOCK):
+            if step != last:
+                if last:
+                    yield int(last), statuses, clock
+                last, statuses, clock = step, {}, ""
             if cell == "clock":
-                clock = int(value)
+                clock = value
             else:
                 statuses[int(cell[4:])] = value
-        if number:
-            yield number, statuses, clock
-        yield 0, {}, None
+        if last:
+            yield int(last), statuses, clock
+        yield 0, {}, ""
 
-    def _statuses_change(self, number: int, mine: Optional[int], where: str, statuses: dict[int, str]) -> Iterator[str]:
-        """The slices that end at a step, and the flows from it."""
-        before = {g: self._statuses.get(g, value_at_start(f"gor {g}")) for g in statuses}
+    def _statuses_change(
+        self, number: int, mine: Optional[int], where: str, statuses: Statuses, events: list[str]
+    ) -> None:
+        """Adds the slices that end at a step, and the flows from it."""
+        before = {g: self._statuses.get(g) or value_at_start(f"gor {g}") for g in statuses}
         # (whoever sleeps is woken by another, of two at a descriptor the reader first)
-        for g in sorted(statuses, key=lambda g: (g == mine, before[g].split()[-1])):
+        order = sorted(statuses, key=lambda g: (g == mine, before[g].split()[-1])) if len(statuses) > 1 else statuses
+        for g in order:
             if g in self._since:
-                yield self._status(g, before[g], number)
+                events.append(self._status(g, before[g], number))
             if statuses[g] not in QUIET:
                 self._since[g] = number
             if g != mine and before[g] != "absent":
-                yield from self._flow(number, where, g)
+                self._flow(number, where, g, events)
         self._statuses |= statuses
 
     def _status(self, g: int, words: str, until: int) -> str:
@@ -160,14 +182,14 @@ class Tracing:
         since = self._since.pop(g)
         self.slices += 1
         where = f'"pid":{GOROUTINES},"tid":{g},"ts":{since},"dur":{until - since}'
-        return f'{{"ph":"X",{where},"name":{of_json(words)},"cat":"status"}}'
+        return f'{{"ph":"X",{where},"name":"{words}","cat":"status"}}'
 
-    def _flow(self, number: int, where: str, woken: int) -> Iterator[str]:
+    def _flow(self, number: int, where: str, woken: int, events: list[str]) -> None:
         """From the step that wakes to the status in which the woken one goes on."""
         self.flows += 1
         about = f'"id":{self.flows},"name":"wakes","cat":"wake"'
-        yield f'{{"ph":"s",{where},"ts":{number - 1},{about}}}'
-        yield f'{{"ph":"f","pid":{GOROUTINES},"tid":{woken},"ts":{number},{about},"bp":"e"}}'
+        events.append(f'{{"ph":"s",{where},"ts":{number - 1},{about}}}')
+        events.append(f'{{"ph":"f","pid":{GOROUTINES},"tid":{woken},"ts":{number},{about},"bp":"e"}}')
 
     def _names(self, name: str) -> Iterator[Event]:
         """The names of processes and threads."""
@@ -192,7 +214,7 @@ def _thread(kind: str, arguments: list[Any]) -> int:
 
 
 def told_lines(lines: Lines, length: int) -> Iterator[str]:
-    """Of each step how its slice goes on where the program's line is known: each stack's text is made once."""
+    """Of each step how its slice ends, with the program's line where it is known: each stack's text is made once."""
     texts = {number: stack.words() for number, stack in lines.stacks.items()}
-    told = {number: f',"line":{of_json(plain(text))}' if text else "" for number, text in texts.items()}
-    return chain(map(told.__getitem__, lines.steps), repeat("", length - len(lines.steps)))
+    told = {number: f',"line":{of_json(plain(text))}}}}}' if text else "}}" for number, text in texts.items()}
+    return chain(map(told.__getitem__, lines.steps), repeat("}}", length - len(lines.steps)))

@@ -1,0 +1,52 @@
+"""Lines of the points that are one step each, and the same step whenever the same goroutine passes the same point at the same socket with the
+same answer: what came before doesn't matter. Three of four points are of these."""
+
+from __future__ import annotations
+
+from .answering import lock_answer, side_of
+from .points import Kind, Point
+from .sockets import BUFFER, Socket
+
+LOCK_STEPS: dict[int, str] = {
+    Kind.INCREF: "incref",
+    Kind.INCREF_CLOSE: "increfclose",
+    Kind.DECREF: "decref",
+    Kind.RW_LOCK: "rwlock",
+    Kind.RW_UNLOCK: "rwunlock",
+}
+SIDED = {int(Kind.RW_LOCK), int(Kind.RW_UNLOCK)}
+CHECKS: dict[int, str] = {
+    Kind.RESET: "pollreset",
+    Kind.WAIT_BEGIN: "waitbegin",
+    Kind.CHECK: "blockcheck",
+    Kind.WAIT_CHECK: "waitcheck",
+}
+OF_ONE_SIDE = {int(Kind.RESET), int(Kind.WAIT_BEGIN)}
+REPEATED = frozenset(map(int, (*CHECKS, Kind.ACQUIRE, Kind.RELEASE, Kind.ARM, Kind.SWAP)))
+
+
+def read_line(g: int, socket: int, asked: int, answer: str) -> str:
+    """A read of so many bytes, with its answer as JSON."""
+    return f'["sysread",{g},{socket},{min(max(asked, 1), BUFFER)},{answer}]'
+
+
+def repeated_line(point: Point, g: int, socket: Socket) -> str:
+    """The line of a point of these, which the goroutine of this number passed at its socket."""
+    kind = point.kind
+    if kind in LOCK_STEPS:
+        side = (',"r"' if point.c & 1 else ',"w"') if kind in SIDED else ""
+        answer = lock_answer(kind, point.a == point.b, point.c)
+        return f'["{LOCK_STEPS[kind]}",{g},{socket.number}{side},"{answer}"]'
+    if kind in CHECKS:
+        where = f',{socket.descriptor},"{side_of(point)}"' if kind in OF_ONE_SIDE else ""
+        return f'["{CHECKS[kind]}",{g}{where},["code",{point.b}]]'
+    if kind == Kind.READ:
+        return read_line(g, socket.number, point.a, f'["got",{point.b}]')
+    if kind == Kind.ACQUIRE:
+        return f'["acquire",{g},"{"yes" if point.a else "wait"}"]'
+    if kind == Kind.RELEASE:
+        return f'["release",{g},"done"]'
+    if kind == Kind.ARM:
+        answer = '["code",0]' if point.b else '"wait"'
+        return f'["blockarm",{g},{answer}]'
+    return f'["blockswap",{g},"{"yes" if point.b else "no"}"]'

@@ -1,0 +1,30 @@
+"""Changes of a few sorts of cells, for who needs no others: netrev's lines are searched for them, and no other line is taken apart."""
+
+import re
+from typing import Iterator
+
+from ..recorded_changes import RecordedChanges
+
+Lines = Iterator[tuple[str, str, str]]
+
+
+def spelled(cells: str) -> re.Pattern[str]:
+    """A line that says what a cell of this spelling shows behind a step."""
+    return re.compile(rf"^(\d+) ({cells}) = ([ -~]+)$", re.MULTILINE | re.ASCII)
+
+
+STATUSES, STATUSES_AND_CLOCK, DEADLINES_AND_CLOCK = map(spelled, (r"gor \d+", r"gor \d+|clock", r"[rw]d \d+|clock"))
+
+
+def searched(changes: RecordedChanges, lines: re.Pattern[str]) -> Lines:
+    """The step, the cell and its value of each of these lines, as texts."""
+    for piece in changes.pieces():
+        yield from lines.findall(piece.decode("latin-1"))
+
+
+def by_cell(lines: Lines) -> dict[str, list[tuple[int, str]]]:
+    """Of each cell that these lines change the steps, with its value behind each."""
+    cells: dict[str, list[tuple[int, str]]] = {}
+    for step, cell, value in lines:
+        cells.setdefault(cell, []).append((int(step), value))
+    return cells
