@@ -43,13 +43,15 @@ where
     ensures failed { OnErr result (w.new.failed ≡ true) }
 {
     let asked = Command::parse(line);
-    match print_reply(asked, w, front, journal) {
-        None => Ok(false),
-        Some(Ok(())) => {
+    let Some(printed) = print_reply(asked, w, front, journal) else {
+        return Ok(false);
+    };
+    match printed {
+        Ok(()) => {
             *whole = whole.saturating_add(1);
             Ok(is_quit(asked))
         }
-        Some(Err(Part(part))) => Err(LineEnd::Write {
+        Err(Part(part)) => Err(LineEnd::Write {
             whole: *whole,
             part,
         }),
