@@ -1,4 +1,5 @@
 // Wheel, pointers, keys and buttons; and how the page begins.
+const CLICK = 4; // pixels that a pointer moves at most in a click
 const pointers = new Map();
 let drag = null;
 
@@ -21,7 +22,7 @@ C.addEventListener("pointerdown", (event) => {
   pointers.set(event.pointerId, event);
   const inOverview = event.offsetY < 36 && event.offsetX > labels();
   const picks = event.shiftKey && event.offsetX > labels() ? Math.floor(positionAt(event.offsetX)) : undefined;
-  drag = { x: event.offsetX, y: event.offsetY, last: event.offsetX, top: V.top, far: 0, inOverview, apart: apart(), picks };
+  drag = { x: event.offsetX, y: event.offsetY, last: event.offsetX, top: V.top, moved: 0, inOverview, apart: apart(), picks };
   if (inOverview) overviewTo(event);
 });
 
@@ -32,8 +33,8 @@ C.addEventListener("pointermove", (event) => {
   if (pointers.size === 2) return pinch();
   if (drag.inOverview) return overviewTo(event);
   const x = event.offsetX - drag.x, y = event.offsetY - drag.y;
-  drag.far = Math.max(drag.far, Math.abs(x) + Math.abs(y));
-  if (drag.far <= 4) return;
+  drag.moved = Math.max(drag.moved, Math.abs(x) + Math.abs(y));
+  if (drag.moved <= CLICK) return;
   if (drag.picks !== undefined) return pick(drag.picks, Math.floor(positionAt(event.offsetX)));
   V.top = drag.top - y;
   moveBy(drag.last - event.offsetX);
@@ -45,7 +46,7 @@ for (const name of ["pointerup", "pointercancel"]) {
     pointers.delete(event.pointerId);
     const was = drag;
     if (!pointers.size) drag = null;
-    if (name === "pointerup" && was && was.far <= 4 && !was.inOverview && !pointers.size) click(event);
+    if (name === "pointerup" && was && was.moved <= CLICK && !was.inOverview && !pointers.size) click(event);
   });
 }
 C.addEventListener("pointerleave", () => { $("tip").style.display = "none"; });
@@ -58,7 +59,7 @@ function apart() {
 
 function pinch() {
   const [one, other] = [...pointers.values()], far = apart();
-  drag.far = 99;
+  drag.moved = Infinity; // two fingers are no click
   zoom(drag.apart / far, positionAt((one.offsetX + other.offsetX) / 2));
   drag.apart = far;
 }

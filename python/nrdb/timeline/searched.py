@@ -9,8 +9,8 @@ Lines = Iterator[tuple[str, str, str]]
 
 
 def spelled(cells: str) -> re.Pattern[str]:
-    """A line that says what a cell of this spelling shows behind a step."""
-    return re.compile(rf"^(\d+) ({cells}) = ([ -~]+)$", re.MULTILINE | re.ASCII)
+    """A line that says what a cell of this spelling shows behind a step: a number or words, which need no escape wherever they are written."""
+    return re.compile(rf"^(\d+) ({cells}) = ([\w -]+)$", re.MULTILINE | re.ASCII)
 
 
 STATUSES, STATUSES_AND_CLOCK, DEADLINES_AND_CLOCK = map(spelled, (r"gor \d+", r"gor \d+|clock", r"[rw]d \d+|clock"))
