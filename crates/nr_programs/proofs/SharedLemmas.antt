@@ -22,7 +22,7 @@ use Rattle.nr_serving.specs.Fronts.{Course}
 use Rattle.nr_serving.specs.Auxiliary.Fronts.{ServesCaller, ServesCallers}
 use Rattle.nr_serving.specs.Conversations.{Conversation, Passed}
 use Rattle.nr_serving.specs.Session.{BeginsFresh, IsShared, last_pass_state}
-use Rattle.nr_serving.specs.Auxiliary.Session.{HasOwn}
+use Rattle.nr_serving.specs.Auxiliary.Session.{HasItsOwnWords}
 use Rattle.nr_serving.proofs.TagLemmas.{serving_keeps_tag}
 use Rattle.nr_programs.specs.Shared.{AreAnswered, HeardOut, IsAnswered, HasRun, StartsList, words_seen}
 use Rattle.nr_programs.specs.Auxiliary.Shared.{tag_at_end}
@@ -181,7 +181,7 @@ module _ (table : TableId) (r : Recording) (fronts depth workers : ℕ) (history
   abbrev IsCourseAnswered : Course → Type 0
   IsCourseAnswered course = AreAnswered r size (tag_at_end course) history start [] course.callers
 
-  front_answered : (course : Course) → BeginsFresh table r fronts depth workers course → HasOwn history (last_pass_state course) → IsCourseAnswered course
+  front_answered : (course : Course) → BeginsFresh table r fronts depth workers course → HasItsOwnWords history (last_pass_state course) → IsCourseAnswered course
   front_answered course begins own =
       let here : IsInState r start begins.start = subst (IsInState r start) (sym begins.fresh.2) (record { recording = refl; placed = refl; owed = refl; at = refl }) in
       let none : begins.start.pass_state.seen ≡ [] = ap (λ (x : FrontState). x.pass_state.seen) begins.fresh.2 in
@@ -191,12 +191,12 @@ module _ (table : TableId) (r : Recording) (fronts depth workers : ℕ) (history
       (subst (λ (l : List ℕ). AreAnswered r (size_of begins.start) begins.start.pass_state.tag history start l course.callers) none
       (callers_answered r history course.callers start begins.start course.last here begins.serving own)))
 
-  all_answered_so : (courses : List Course) → All (BeginsFresh table r fronts depth workers) courses → All (HasOwn history) (map last_pass_state courses) → All IsCourseAnswered courses
+  all_answered_so : (courses : List Course) → All (BeginsFresh table r fronts depth workers) courses → All (HasItsOwnWords history) (map last_pass_state courses) → All IsCourseAnswered courses
   all_answered_so [] served own = All-nil IsCourseAnswered
   all_answered_so (course ∷ courses) served own =
       All-cons IsCourseAnswered course courses
-      (front_answered course (All-head (BeginsFresh table r fronts depth workers) course courses served) (All-head (HasOwn history) (last_pass_state course) (map last_pass_state courses) own))
-      (all_answered_so courses (All-tail (BeginsFresh table r fronts depth workers) course courses served) (All-tail (HasOwn history) (last_pass_state course) (map last_pass_state courses) own))
+      (front_answered course (All-head (BeginsFresh table r fronts depth workers) course courses served) (All-head (HasItsOwnWords history) (last_pass_state course) (map last_pass_state courses) own))
+      (all_answered_so courses (All-tail (BeginsFresh table r fronts depth workers) course courses served) (All-tail (HasItsOwnWords history) (last_pass_state course) (map last_pass_state courses) own))
 
 pub shared_answered : (r : Recording) (room fronts depth workers : ℕ) (passed : List Passed) (history : List ℕ) (failed : Bool) → (shared : IsShared r room fronts depth workers passed (Some history) failed)
     → All (λ course. AreAnswered r (record { room = room; passes = fronts }) (tag_at_end course) history start [] course.callers) shared.courses
