@@ -115,18 +115,24 @@ def has_prompt(wanted: argparse.Namespace) -> bool:
     return sys.stdin.isatty() and not ends and all(getattr(wanted, name) is None for name in WRITERS)
 
 
+def is_of_all(wanted: argparse.Namespace) -> bool:
+    """Whether what is wanted is told of all steps, wherever the session stands."""
+    return bool(wanted.suspects or wanted.trace or wanted.timeline)
+
+
 def session_of(wanted: argparse.Namespace, netrev: Netrev, interrupts: Interrupts, printer: Printer) -> Session:
     """The session that is wanted, which hasn't begun yet."""
     recording = Recording.read(wanted.file) if wanted.file else None
     if wanted.join and wanted.file and (fault := fault_of(wanted.netrev, wanted.file)):
         raise NoRecording(f"{wanted.file} isn't a recording: {fault}")
-    scout = Scout(lambda: Own(wanted.netrev, wanted.file, interrupts)) if wanted.file else None
+    lent = netrev if is_of_all(wanted) and not wanted.lines and not wanted.join else None
+    scout = Scout(lambda: Own(wanted.netrev, wanted.file, interrupts), lent) if wanted.file else None
     tell = printer.note if has_prompt(wanted) else lambda _: None  # (a batch is the same at any pace)
     recorded = ArrivingChanges(wanted.netrev, wanted.file, interrupts, tell) if wanted.file else None
     session = Session(netrev, recording, scout, printer, interrupts, ANSWERS, recorded=recorded)
     if recording and recorded and shutil.which(wanted.netrev):
         recording.changes = recorded
-        if wanted.lines or wanted.suspects or wanted.trace or wanted.timeline:
+        if wanted.lines or is_of_all(wanted):
             recorded.prepare()  # (while the other netrev reads the recording)
     session.program, session.path = wanted.netrev, wanted.file or ""
     return session

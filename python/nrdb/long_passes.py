@@ -16,3 +16,9 @@ def without_collections() -> Iterator[None]:
     finally:
         if was_on:
             gc.enable()
+
+
+def take_all_as_kept() -> None:
+    """All that there is counts as old, of which a collection is rare: the next one doesn't look through what a long pass has made."""
+    gc.freeze()
+    gc.unfreeze()

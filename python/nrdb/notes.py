@@ -81,7 +81,7 @@ class Notes:
         # those behind a CloseWrite: the step, by whom, and the socket
         self.refused_writes: list[tuple[int, int, int]] = []
         self.longest_holds: dict[str, int] = {}  # of each kind, of those that ended
-        self._rows = recording.rows(self._row)
+        self._has_answers, self._rows = recording.has_answers, recording.rows(self._row)
         self._go_through()
         self.goroutines = dict(sorted(self.goroutines.items()))
         self.now = Now(self.changes, self.step)
@@ -118,7 +118,7 @@ class Notes:
 
     def _row(self, values: list[Any]) -> Row:
         """What is made of a step's array: the goroutine that makes the step, if one does, who notes it and who looks at it."""
-        kind, *arguments = values[:-1] if self.recording.has_answers else values
+        kind, *arguments = values[:-1] if self._has_answers else values
         goroutine = self.goroutine(arguments[0]) if kind in OF_A_GOROUTINE else NOBODY
         note, look = NOTES.get(kind), self._looks.get(kind)
         return goroutine, note and note(self, *arguments), look and look(self, *arguments)

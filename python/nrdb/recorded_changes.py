@@ -210,18 +210,20 @@ class RecordedChanges:
 
     def take(self, piece: bytes) -> None:
         """Takes a piece of the output, which may end within a line."""
-        whole, feed, self._rest = (self._rest + piece).rpartition(b"\n")
-        if not feed:
+        text = self._rest + piece
+        end = text.rfind(b"\n") + 1
+        self._rest = text[end:]
+        if not end:
             return
         if self._is_whole:
             raise NoChanges("a line behind the last one")
-        before, _, last = whole.rpartition(b"\n")
-        is_end = b" = " not in last
-        if told := before if is_end else whole:
-            self._lines.take(told + b"\n")
+        last = text.rfind(b"\n", 0, end - 1) + 1
+        is_end = text.find(b" = ", last, end) < 0
+        if told := text[: last if is_end else end]:
+            self._lines.take(told)
         if is_end:
             try:
-                self._take_end(last.decode("ascii"))
+                self._take_end(text[last : end - 1].decode("ascii"))
             except (ValueError, IndexError):
                 raise NoChanges("a line that is no change") from None
 

@@ -21,11 +21,12 @@ class Lost(Exception):
 
 
 class Scout:
-    """Looks at any position. netrev is started when it is needed first, and anew when its journal is nearly full."""
+    """Looks at any position. netrev is started when it is needed first, and anew when its journal is nearly full. A session that nobody goes
+    about in may lend its own for the beginning, and ends that itself."""
 
-    def __init__(self, opened: Callable[[], Netrev]):
+    def __init__(self, opened: Callable[[], Netrev], lent: Optional[Netrev] = None):
         self._opened = opened
-        self._netrev: Optional[Netrev] = None
+        self._netrev = self._lent = lent
         self._placed = 0
         self._stands: Optional[int] = None  # where it is, as far as that is known
 
@@ -38,9 +39,9 @@ class Scout:
                 raise Lost(f"{error.filename}: {error.strerror}") from None
 
     def drop(self) -> None:
-        """Ends netrev, whatever it does."""
-        if self._netrev is not None:
-            dropped, self._netrev = self._netrev, None
+        """Ends netrev, whatever it does; one that was lent is given back."""
+        dropped, self._netrev = self._netrev, None
+        if dropped is not None and dropped is not self._lent:
             dropped.drop()
 
     def look(self, position: int, looks: Callable[[Netrev], Seen]) -> Seen:

@@ -8,7 +8,7 @@ from typing import Any, Optional
 from netrev_words.plain import plain
 
 from ..files import writing
-from ..long_passes import without_collections
+from ..long_passes import take_all_as_kept, without_collections
 from ..session import Misused, Session
 from .calls import Data
 from .picture import MOST, Shown, collected
@@ -46,9 +46,10 @@ def write_timeline(session: Session, path: str, first: Optional[int] = None, las
             raise Misused(f"a page has room for the values of {MOST} steps: timeline {path} FROM TO")
     with without_collections():
         data = collected(Shown.by(session, told_at_the_terminal), window)
-    told_at_the_terminal("")
-    with writing(path, session.path) as file:
-        file.write(page(data))
+        told_at_the_terminal("")
+        with writing(path, session.path) as file:
+            file.write(page(data))
+        take_all_as_kept()
     return f"{path}: positions {data['first']} to {data['last']}, {len(data['cells'])} cells; {data['calls']['count']} calls"
 
 

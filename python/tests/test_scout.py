@@ -1,0 +1,37 @@
+"""The scout, which looks at positions by a netrev of its own, or by one that it was lent."""
+
+import gc
+from pathlib import Path
+
+from nrdb.interrupts import Interrupts
+from nrdb.long_passes import take_all_as_kept
+from nrdb.scout import Scout
+
+from .modelled import Modelled, recording_at
+
+MODEL = recording_at(Path(__file__).resolve().parents[2] / "examples/leaked-reference.jsonl")
+
+
+def test_a_netrev_that_was_lent_looks_first_and_is_given_back() -> None:
+    opened: list[Modelled] = []
+
+    def opens() -> Modelled:
+        opened.append(Modelled(MODEL, Interrupts(), lambda _: None))
+        return opened[-1]
+
+    lent = opens()
+    scout, own = Scout(opens, lent), Scout(opens)
+    assert scout.values(7, ["lock 0"]) == own.values(7, ["lock 0"])
+    assert len(opened) == 2  # (of which the second looked for the scout that was lent none)
+    scout.drop()
+    own.drop()
+    assert [one.has_ended for one in opened] == [False, True]
+    assert scout.values(7, ["gor 0"]) and len(opened) == 3  # (it looks on by its own)
+    scout.drop()
+    assert [one.has_ended for one in opened] == [False, True, True]
+
+
+def test_what_is_kept_counts_as_old() -> None:
+    made: list[list[int]] = [[] for _ in range(1000)]
+    take_all_as_kept()
+    assert gc.get_count()[0] < len(made) and gc.get_freeze_count() == 0
