@@ -40,7 +40,7 @@ class Trace(unittest.TestCase):
 
     def test_nothing_is_written_where_netrev_answers_otherwise(self) -> None:
         path = EXAMPLES / "lost-wakeup.jsonl"
-        with patch.object(ArrivingChanges, "texts", lambda changes: iter([("1", "gor 0", "parking 0 r")])):
+        with patch.object(ArrivingChanges, "pieces", lambda changes: [b"1 gor 0 = parking 0 r\n"]):
             said = nrdb("--trace", self.path, path, status=3)
         self.assertIn("| netrev answers gor 0 = idle at 1, and said parking 0 r", said)
         self.assertFalse(self.path.exists())
