@@ -1,5 +1,6 @@
 -- What is looked at again behind a step is what it changed.
-use Rattle.std.proofs.Common.{◌≡◌, true, false, not, List, [], ◌∷◌, refl, ap}
+use Rattle.std.proofs.Common.{◌≡◌, ◌∙◌, true, false, cond, not, Bool, List, [], ◌∷◌, refl, ap, subst}
+use Rattle.std.specs.List.Retain.{RetainsInTurn}
 use Rattle.std.specs.Prelude.{filter, map}
 use Rattle.nr_rev.specs.Cell.{cell, same_value}
 use Rattle.nr_rev.specs.World.{World}
@@ -23,3 +24,26 @@ changes_among (c ∷ cells) w next =
       | true ↦ λ is. rw is (ap (λ xs. with_value next c ∷ xs) (changes_among cells w next))
       | false ↦ λ is. rw is (changes_among cells w next)
     ] refl
+
+-- those of a list, one after the other
+pub since_next : (next : World) (x : CellWithValue) (xs : List CellWithValue)
+    → cond (not (same_value (cell next x.cell) x.value)) (with_value next x.cell ∷ changes_since next xs) (changes_since next xs) ≡ changes_since next (x ∷ xs)
+since_next next x xs =
+    elim (not (same_value (cell next x.cell) x.value)) as (λ b.
+    not (same_value (cell next x.cell) x.value) ≡ b
+    → cond (not (same_value (cell next x.cell) x.value)) (with_value next x.cell ∷ changes_since next xs) (changes_since next xs) ≡ changes_since next (x ∷ xs)) [
+      | true ↦ λ is. rw is refl
+      | false ↦ λ is. rw is refl
+    ] refl
+
+-- what `retain` leaves, where each call takes the value of the next world and says whether it is another
+pub changes_since_from_retain : {F : Type 0} (R : F → CellWithValue → Bool → F → CellWithValue → Type 0) (next : World) (f : F)
+    → ((x : CellWithValue) (b : Bool) (f' : F) (y : CellWithValue) → R f x b f' y
+    → (b ≡ not (same_value (cell next x.cell) x.value)) × (f' ≡ f) × (y ≡ with_value next x.cell))
+    → (xs ys : List CellWithValue) → RetainsInTurn R f xs ys → ys ≡ changes_since next xs
+changes_since_from_retain R next f says [] ys h = h
+changes_since_from_retain R next f says (x ∷ xs) ys h =
+    let said = says x h.0 h.1 h.2 h.3 in
+    let later = subst (λ g. RetainsInTurn R g xs h.4) said.1 h.5 in
+    let rest = changes_since_from_retain R next f says xs h.4 later in
+    h.6 ∙ (λ i. cond (said.0 i) (said.2 i ∷ rest i) (rest i)) ∙ since_next next x xs

@@ -1,6 +1,6 @@
 //! What a step changed, with the values behind it.
 
-ghost use Rattle.std.specs.Prelude.{◌≡◌, ◌≤◌, Ok, Err, IfOk, IfErr, OnOk, OnErr, filter, length, map, not};
+ghost use Rattle.std.specs.Prelude.{◌≡◌, ◌≤◌, [], Ok, Err, IfOk, IfErr, OnOk, OnErr, filter, length, map, not};
 ghost use Rattle.nr_rev.specs.Cell.{cell, same_value};
 ghost use Rattle.nr_rev.specs.Step.{outcome};
 ghost use Rattle.nr_changes.specs.Changes.{changes_between, with_value};
@@ -32,45 +32,46 @@ impl Default for CellWithValue {
 /// Cells with values, as many as a step changes at most.
 pub type Changes = ArrayVec<CellWithValue, MOST_CELLS>;
 
-// The cells with the values that they have in the world.
-fn with_values<W: TouchesCells>(world: &W, cells: &[Cell]) -> Changes
+// The cells, with the values that they have in the world, in the place of what the list has.
+fn list_values<W: TouchesCells>(world: &W, cells: &[Cell], values: &mut Changes)
     requires world { W.is_well_formed world.now }
     requires few { length cells.now ≤ 22 }
-    ensures { result.items ≡ map (with_value (W.world world.now)) cells.now }
+    ensures { values.new.items ≡ map (with_value (W.world world.now)) cells.now }
 {
-    let mut values = ArrayVec::new();
+    values.clear();
     for cell in cells {
         values.push(CellWithValue {
             cell: *cell,
             value: world.cell(*cell),
         });
     }
-    values
 }
 
-// Those of the cells that have another value now, with that value.
-fn changes_since<W: TouchesCells>(world: &W, before: &[CellWithValue]) -> Changes
+// Keeps those of the cells that have another value now, with that value.
+fn keep_changed<W: TouchesCells>(world: &W, changes: &mut Changes)
     requires world { W.is_well_formed world.now }
-    requires few { length before.now ≤ 22 }
-    ensures { result.items ≡ map (λ old. with_value (W.world world.now) old.cell)
-        (filter (λ old. not (same_value (cell (W.world world.now) old.cell) old.value)) before.now) }
+    ensures { changes.new.items ≡ map (λ old. with_value (W.world world.now) old.cell)
+        (filter (λ old. not (same_value (cell (W.world world.now) old.cell) old.value)) changes.old.items) }
 {
-    let mut changes = ArrayVec::new();
-    for old in before {
-        let value = world.cell(old.cell);
-        if value != old.value {
-            changes.push(CellWithValue {
-                cell: old.cell,
-                value,
-            });
-        }
-    }
-    changes
+    changes.retain(
+        |listed|
+            requires { W.is_well_formed world.now }
+            ensures is_another { result
+                ≡ not (same_value (cell (W.world world.entry.now) listed.old.cell) listed.old.value) }
+            ensures value { listed.new
+                ≡ with_value (W.world world.entry.now) listed.old.cell }
+        {
+            let value = world.cell(listed.cell);
+            let is_another = value != listed.value;
+            listed.value = value;
+            is_another
+        },
+    );
 }
 
-/// Applies the step, keeps no way back, and puts the cells that it changed in the place of `changes`, in the order in which
-/// cells are listed, each once and with its value behind the step. Where the step doesn't apply, the world stays. It takes
-/// no memory.
+/// Applies the step, keeps no way back, and puts the cells that it changed in the place of what the list has, in the order in
+/// which cells are listed, each once and with its value behind the step. Where the step doesn't apply, the world stays, and the
+/// list is empty. It takes no memory.
 pub fn advance<W: TouchesCells>(
     world: &mut W,
     step: &Step,
@@ -84,10 +85,18 @@ pub fn advance<W: TouchesCells>(
     ensures well_formed { W.is_well_formed world.new }
     ensures refusal { IfErr result (λ reason. outcome (W.world world.old) step.now ≡ Err reason) }
     ensures unchanged { OnErr result (world.new ≡ world.old) }
+    ensures nothing { OnErr result (changes.new.items ≡ []) }
 {
     let cells = world.touched(step).cells(step.kind());
-    let before = with_values(world, cells.as_slice());
-    let answer = world.advance(step)?;
-    *changes = changes_since(world, before.as_slice());
-    Ok(answer)
+    list_values(world, cells.as_slice(), changes);
+    match world.advance(step) {
+        Ok(answer) => {
+            keep_changed(world, changes);
+            Ok(answer)
+        }
+        Err(reason) => {
+            changes.clear();
+            Err(reason)
+        }
+    }
 }

@@ -1,6 +1,5 @@
 -- What no caller is sent, and no run writes.
 use Rattle.std.proofs.Common.{◌≡◌, inl, inr, ◌∙◌, ℕ, codes, false, true, List, [], ◌∷◌, None, Ok, refl, sym, ap}
-use Rattle.std.specs.List.{All}
 use Rattle.std.proofs.lemmas.List.Elements.{All-head}
 use Rattle.nr_rev.specs.Run.{Recording}
 use Rattle.nr_text.specs.Auxiliary.Streams.{unread, unwritten}

@@ -81,9 +81,10 @@ fn print_changes<W: TouchesCells, O: Write>(
     requires start { W.world world.old ≡ empty_world recording.now.limits }
     ensures { WritesChanges (Ok recording.now) output.old output.new result }
 {
+    let mut changes = Changes::new();
     let mut lines = Lines::new();
     for n in 0..recording.len() {
-        match step_on(world, recording, n, &mut lines) {
+        match step_on(world, recording, n, &mut changes, &mut lines) {
             Ok(()) => {}
             Err(fault) => return end(lines.as_slice(), &fault, ExitStatus::Refused, output),
         }
@@ -98,11 +99,13 @@ fn print_changes<W: TouchesCells, O: Write>(
     end(lines.as_slice(), &accepted, ExitStatus::Done, output)
 }
 
-// Makes the step after position n, and puts the lines of what it changed behind the others. A fault is the step's.
+// Makes the step after position n, and puts the lines of what it changed behind the others. A fault is the step's. The list of
+// changes is for its own use.
 fn step_on<W: TouchesCells>(
     world: &mut W,
     recording: &Recording,
     n: usize,
+    changes: &mut Changes,
     lines: &mut Lines,
 ) -> Result<(), LoadFault>
     requires world { W.is_well_formed world.old }
@@ -119,8 +122,7 @@ fn step_on<W: TouchesCells>(
     let Some(step) = recording.step(n) else {
         unreachable!()
     };
-    let mut changes = Changes::new();
-    let given = match advance(world, step, &mut changes) {
+    let given = match advance(world, step, changes) {
         Ok(given) => given,
         Err(reason) => {
             return Err(LoadFault::Refused {

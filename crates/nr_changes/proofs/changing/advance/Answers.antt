@@ -9,13 +9,13 @@ use Rattle.nr_changes.proofs.AllCellsLemmas.{changed_differing}
 use Rattle.nr_changes.proofs.ChangingLemmas.{changes_among, changes_since}
 use Rattle.nr_changes.proofs.changing.advance.Goals as goal
 
-pub returns-clause-changes : goal.returns-clause-changes
-returns-clause-changes g c =
+pub returns-in-Ok-clause-changes : goal.returns-in-Ok-clause-changes
+returns-in-Ok-clause-changes g c =
     let w = g.W.Worlds.world c.args.world.now in
     let next = g.W.Worlds.world c.advance.new.self in
-    let before : c.as_slice-2.result.now ≡ map (with_value w) (touched_cells w c.args.step.now) = search rules in
-    let is : outcome w c.args.step.now ≡ Ok (c.in_ok-answer.answer, next) = search rules in
-    c.changes_since.ensures
+    let before : c.list_values.new.values.items ≡ map (with_value w) (touched_cells w c.args.step.now) = search rules in
+    let is : outcome w c.args.step.now ≡ Ok (c.in-Ok.answer, next) = search rules in
+    c.keep_changed.ensures
     ∙ ap (λ (xs : List CellWithValue). changes_since next xs) before
     ∙ changes_among (touched_cells w c.args.step.now) w next
-    ∙ ap (λ (cells : List Cell). map (with_value next) cells) (changed_differing w c.args.step.now c.in_ok-answer.answer next is)
+    ∙ ap (λ (cells : List Cell). map (with_value next) cells) (changed_differing w c.args.step.now c.in-Ok.answer next is)
