@@ -104,26 +104,25 @@ where
     requires program { IsInRange program }
     requires input { input.old.failed ≡ false }
     requires output { output.old.failed ≡ false }
-    ensures plays { IfOk file (λ bytes. (status : Status) × (result ≡ Ok status)
-        × Plays program.entry bytes.items input.old input.new ports.old ports.new output.old output.new status) }
+    ensures plays { IfOk file (λ text. (status : Status) × (result ≡ Ok status)
+        × Plays program.entry text.items input.old input.new ports.old ports.new output.old output.new status) }
     ensures no_file { IfErr file (λ error.
         (result ≡ Err (unstarted_by (error_kind error) reasons.File))
         × (input.new ≡ input.old) × (ports.new ≡ ports.old) × (output.new ≡ output.old)) }
 {
-    let bytes = match file {
-        Ok(bytes) => bytes,
+    let text = match file {
+        Ok(text) => text,
         Err(error) => return Err(Unstarted::of_kind(error.kind(), Unstarted::File)),
     };
-    let bytes = bytes.as_slice();
-    Ok(play::<W, R, P, I, O>(rt, alloc, program, bytes, input, output, ports))
+    Ok(play::<W, R, P, I, O>(rt, alloc, program, text, input, output, ports))
 }
 
-// Runs the program over the bytes of its file.
+// Runs the program over the text of its file.
 fn play<W, R, P, I, O>(
     rt: &R,
     alloc: Global,
     program: Program<'_>,
-    bytes: &[u8],
+    text: Vec<u8>,
     input: &mut Source<I>,
     output: &mut Sink<O>,
     ports: &mut LoggedPorts<P>,
@@ -139,15 +138,15 @@ where
     requires program { IsInRange program }
     requires input { input.old.failed ≡ false }
     requires output { output.old.failed ≡ false }
-    ensures { Plays program.entry bytes.now input.old input.new ports.old ports.new output.old output.new result }
+    ensures { Plays program.entry text.items input.old input.new ports.old ports.new output.old output.new result }
 {
     match program {
-        Program::Run { .. } => run_bytes::<W, R, I, O>(rt, alloc, bytes, input, output),
-        Program::Check { .. } => check_bytes::<W, O>(alloc, bytes, output),
-        Program::Upgrade { .. } => upgrade_bytes::<W, O>(alloc, bytes, output),
-        Program::Changes { .. } => changes_bytes::<W, O>(alloc, bytes, output),
+        Program::Run { .. } => run_bytes::<W, R, I, O>(rt, alloc, text, input, output),
+        Program::Check { .. } => check_bytes::<W, O>(alloc, text.as_slice(), output),
+        Program::Upgrade { .. } => upgrade_bytes::<W, O>(alloc, text.as_slice(), output),
+        Program::Changes { .. } => changes_bytes::<W, O>(alloc, text.as_slice(), output),
         Program::Serve { sharing, .. } => {
-            serve_bytes::<W, R, P, O>(rt, alloc, bytes, sharing, ports, output)
+            serve_bytes::<W, R, P, O>(rt, alloc, text, sharing, ports, output)
         }
     }
 }

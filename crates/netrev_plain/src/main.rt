@@ -15,20 +15,20 @@ use std::{env, fs, io};
 const USAGE: &str =
     "usage: netrev_plain run FILE\n       netrev_plain check FILE\n       netrev_plain upgrade FILE\n";
 
-// Plays one of the programs over the bytes of its file, on the process's streams.
+// Plays one of the programs over the text of its file, on the process's streams.
 fn play<H: Threads + Sync>(
     rt: &HostRuntime,
     handles: &H,
     program: &str,
-    bytes: &[u8],
+    text: Vec<u8>,
 ) -> ExitStatus {
     let alloc = rt.alloc();
     let mut input = Source::new(rt.stdin());
     let mut output = Sink::new(rt.stdout());
     match program {
-        "run" => run_bytes::<PlainWorld, _, _, _>(handles, alloc, bytes, &mut input, &mut output),
-        "check" => check_bytes::<PlainWorld, _>(alloc, bytes, &mut output),
-        "upgrade" => upgrade_bytes::<PlainWorld, _>(alloc, bytes, &mut output),
+        "run" => run_bytes::<PlainWorld, _, _, _>(handles, alloc, text, &mut input, &mut output),
+        "check" => check_bytes::<PlainWorld, _>(alloc, text.as_slice(), &mut output),
+        "upgrade" => upgrade_bytes::<PlainWorld, _>(alloc, text.as_slice(), &mut output),
         _ => ExitStatus::Usage,
     }
 }
@@ -39,8 +39,8 @@ fn play_asked<H: Threads + Sync>(rt: &HostRuntime, handles: &H) -> io::Result<Ex
     let [_, program, file] = words.as_slice() else {
         return Ok(ExitStatus::Usage);
     };
-    let bytes = fs::read(rt, file.as_str())?;
-    Ok(play(rt, handles, program.as_str(), bytes.as_slice()))
+    let text = fs::read(rt, file.as_str())?;
+    Ok(play(rt, handles, program.as_str(), text))
 }
 
 fn main(rt: HostRuntime) -> ExitCode {

@@ -36,14 +36,13 @@ pub(crate) struct Ended<I, O> {
 pub(crate) fn run_on<R: Threads + Sync, I: Read, O: Write>(
     rt: &R,
     alloc: Global,
-    recording: &str,
+    text: Vec<u8>,
     reader: I,
     writer: O,
 ) -> Ended<I, O> {
     let mut input = Source::new(reader);
     let mut output = Sink::new(writer);
-    let bytes = recording.as_bytes();
-    let status = run_bytes::<World, _, _, _>(rt, alloc, bytes, &mut input, &mut output);
+    let status = run_bytes::<World, _, _, _>(rt, alloc, text, &mut input, &mut output);
     Ended {
         status,
         read_failed: input.has_failed(),
@@ -63,7 +62,7 @@ pub(crate) fn run<R: Threads + Sync>(
 ) -> Result<Played, AllocError> {
     let recording = record(alloc, header, steps)?;
     let reader = script.as_bytes();
-    let ended = run_on(rt, alloc, recording.as_str(), reader, Vec::new(alloc));
+    let ended = run_on(rt, alloc, recording.into_bytes(), reader, Vec::new(alloc));
     Ok(Played {
         status: ended.status,
         text: ended.writer,
@@ -79,7 +78,7 @@ pub(crate) fn run_over<R: Threads + Sync>(
 ) -> Result<Ended<&'static [u8], Vec<u8>>, AllocError> {
     let recording = record(alloc, header, steps)?;
     let reader = SCRIPT.as_bytes();
-    Ok(run_on(rt, alloc, recording.as_str(), reader, Vec::new(alloc)))
+    Ok(run_on(rt, alloc, recording.into_bytes(), reader, Vec::new(alloc)))
 }
 
 /// A program that reads nothing but its recording.

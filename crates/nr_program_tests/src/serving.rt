@@ -189,8 +189,8 @@ fn serve<R: Threads + Sync>(
     };
     let mut ports = LoggedPorts::new(Switchboard { each, parts, seen });
     let mut output = Sink::new(Vec::new(alloc));
-    let bytes = recording.as_bytes();
-    let status = serve_bytes::<World, R, _, _>(rt, alloc, bytes, sharing, &mut ports, &mut output);
+    let text = recording.into_bytes();
+    let status = serve_bytes::<World, R, _, _>(rt, alloc, text, sharing, &mut ports, &mut output);
     Ok(Played {
         status,
         text: output.into_inner(),

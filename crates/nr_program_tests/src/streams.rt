@@ -46,7 +46,13 @@ fn filled(room: usize, text: &str) -> Cut<'_> {
 }
 
 /// Whether that comes of the script on a recording.
-fn is_so<R: Threads + Sync>(rt: &R, alloc: Global, recording: &str, cut: &Cut<'_>) -> bool {
+fn is_so<R: Threads + Sync>(
+    rt: &R,
+    alloc: Global,
+    recording: &str,
+    cut: &Cut<'_>,
+) -> Result<bool, AllocError> {
+    let text = Vec::from_slice(alloc, recording.as_bytes())?;
     let reader = Drip {
         bytes: SCRIPT.as_bytes(),
         left: cut.left,
@@ -56,11 +62,13 @@ fn is_so<R: Threads + Sync>(rt: &R, alloc: Global, recording: &str, cut: &Cut<'_
         room: cut.room,
         then: AtBrim::Fails,
     };
-    let ended = run_on(rt, alloc, recording, reader, writer);
-    ended.status == cut.status
-        && ended.writer.held.as_slice() == cut.text
-        && ended.read_failed == cut.read_failed
-        && ended.write_failed == cut.write_failed
+    let ended = run_on(rt, alloc, text, reader, writer);
+    Ok(
+        ended.status == cut.status
+            && ended.writer.held.as_slice() == cut.text
+            && ended.read_failed == cut.read_failed
+            && ended.write_failed == cut.write_failed,
+    )
 }
 
 #[test]
@@ -74,7 +82,7 @@ fn one_byte_a_call_makes_no_difference(rt: HostRuntime) -> Result<(), AllocError
         read_failed: false,
         write_failed: false,
     };
-    assert!(rt; is_so(&rt, rt.alloc(), recording.as_str(), &cut));
+    assert!(rt; is_so(&rt, rt.alloc(), recording.as_str(), &cut)?);
     Ok(())
 }
 
@@ -89,7 +97,7 @@ fn a_failed_read_leaves_whole_replies(rt: HostRuntime) -> Result<(), AllocError>
     ] {
         let cut = starved(left, replies);
         assert!(rt;
-            is_so(&rt, rt.alloc(), recording.as_str(), &cut),
+            is_so(&rt, rt.alloc(), recording.as_str(), &cut)?,
             "behind {left}"
         );
     }
@@ -106,7 +114,7 @@ fn a_failed_write_leaves_the_first_bytes(rt: HostRuntime) -> Result<(), AllocErr
         for room in 0..text.len() {
             let cut = filled(room, text);
             assert!(rt;
-                is_so(&rt, rt.alloc(), recording, &cut),
+                is_so(&rt, rt.alloc(), recording, &cut)?,
                 "behind {room} of {text}"
             );
         }

@@ -19,6 +19,17 @@ use Rattle.nr_programs.specs.declared.opening.OpenFault.TheVariants.{Read, Load}
 use Rattle.nr_programs.specs.declared.run.ExitStatus.{ExitStatus}
 use Rattle.nr_programs.specs.declared.run.ExitStatus.TheVariants.{Refused}
 
+-- a text of a recording that was replayed
+pub good_text : (bytes : List ℕ) (recorded : Recorded) (run : Recording) → IsTextOf bytes recorded → run_of recorded ≡ run → IsGood (run_of recorded)
+    → AnswersAgree recorded → IsGoodText bytes run
+good_text bytes recorded run text same good answers = record {
+  recorded = recorded;
+  text = text;
+  run = same;
+  good = subst IsGood same good;
+  answers = answers;
+}
+
 -- bytes are a text of one recording at most
 same_recorded : (bytes : List ℕ) (r s : Recorded) → IsTextOf bytes r → IsTextOf bytes s → r ≡ s
 same_recorded bytes r s one other =

@@ -74,3 +74,23 @@ where
     let film = Snaps::load(alloc, recording, every)?;
     Ok(film)
 }
+
+/// As `open`, of a text that is given away: once it is read it is let go, and what a session keeps may take its place.
+pub(crate) fn open_given<W: Worlds + Drop>(
+    alloc: Global,
+    text: Vec<u8>,
+    every: usize,
+) -> Result<Film<W>, OpenFault>
+where
+    W::Snapshot: Drop,
+    requires least { LEAST_EVERY ≤ every }
+    requires most { every ≤ MOST_EVERY }
+    ensures film { IfOk result (λ film. IsGoodText text.items film.recording) }
+    ensures every { IfOk result (λ film. film.every ≡ every) }
+    ensures fault { IfErr result (IsFirstFault text.items) }
+{
+    let recording = read(alloc, text.as_slice())?;
+    drop(text);
+    let film = Snaps::load(alloc, recording, every)?;
+    Ok(film)
+}

@@ -10,7 +10,7 @@ ghost use Rattle.nr_programs.specs.Auxiliary.Run.{Runs, Walks, Checks, status_co
 ghost use Rattle.nr_programs.specs.Transcript.{RunsTranscript};
 ghost use Rattle.nr_programs.specs.declared.run.ExitStatus.TheVariants as statuses;
 
-use crate::opening::{COPY_EVERY, open};
+use crate::opening::{COPY_EVERY, open, open_given};
 use nr_front::Front;
 use nr_journal::Journal;
 use nr_lines::answer;
@@ -65,7 +65,7 @@ impl From<ExitStatus> for ExitCode {
     }
 }
 
-/// Opens the recording, and answers the lines of the input on the output, one after the other, as
+/// Opens the recording, whose text it lets go, and answers the lines of the input on the output, one after the other, as
 /// a debugger does that begins at position 0. Each reply is about the world after so many of the
 /// recording's first steps as the position says. A look, and a command that searches for a hit, may
 /// run out of memory, which is reported; the command's reply can be asked for again.
@@ -76,7 +76,7 @@ impl From<ExitStatus> for ExitCode {
 pub fn run_bytes<W, R, I, O>(
     _rt: &R,
     alloc: Global,
-    bytes: &[u8],
+    text: Vec<u8>,
     input: &mut Source<I>,
     output: &mut Sink<O>,
 ) -> ExitStatus
@@ -90,18 +90,18 @@ where
     requires input { input.old.failed ≡ false }
     requires output { output.old.failed ≡ false }
 
-    // What was read and written, whatever the bytes are.
-    ensures runs { Runs bytes.now input.old input.new output.old output.new result }
+    // What was read and written, whatever the text is.
+    ensures runs { Runs text.items input.old input.new output.old output.new result }
 
     // A recording whose steps all apply, and answer as is recorded of them, is walked, unless memory runs out before the first line.
-    ensures good { (r : Recording) → IsGoodText bytes.now r
+    ensures good { (r : Recording) → IsGoodText text.items r
         → Walks input.old input.new output.old output.new r result
         ⊎ PrintsFault memory_line input.old input.new output.old output.new result }
 
     // What is written is the transcript of the recording and of what is read.
-    ensures transcript { RunsTranscript bytes.now input.old input.new output.old output.new result }
+    ensures transcript { RunsTranscript text.items input.old input.new output.old output.new result }
 {
-    match open::<W>(alloc, bytes, COPY_EVERY) {
+    match open_given::<W>(alloc, text, COPY_EVERY) {
         Ok(film) => walk::<W, R, I, O>(alloc, &film, input, output),
         Err(fault) => refuse(&fault, output),
     }

@@ -10,7 +10,7 @@ ghost use Rattle.nr_programs.specs.Auxiliary.Serving.{PrintsSession};
 ghost use Rattle.nr_programs.specs.Sharing.{is_in_range};
 ghost use Rattle.nr_programs.specs.declared.run.ExitStatus.TheVariants as statuses;
 
-use crate::opening::{COPY_EVERY, open};
+use crate::opening::{COPY_EVERY, open_given};
 use crate::run::{DELTAS_KEPT, ExitStatus, print, refuse};
 use crate::sharing::Sharing;
 use nr_recording::OutOfMemory;
@@ -23,7 +23,7 @@ use std::alloc::Global;
 use std::io::Write;
 use std::thread::Threads;
 
-/// Opens the recording, and serves the callers of each front in a thread of its own, all in one session. Prints `placed
+/// Opens the recording, whose text it lets go, and serves the callers of each front in a thread of its own, all in one session. Prints `placed
 /// K` when the last of them has ended, where K is how many commands they placed. What passed with the callers is in the log of the
 /// ports: where an error is printed in place of that, no port was opened.
 ///
@@ -33,7 +33,7 @@ use std::thread::Threads;
 pub fn serve_bytes<W, R, P, O>(
     rt: &R,
     alloc: Global,
-    bytes: &[u8],
+    text: Vec<u8>,
     sharing: Sharing,
     ports: &mut LoggedPorts<P>,
     output: &mut Sink<O>,
@@ -47,14 +47,14 @@ where
     O: Write,
     requires { is_in_range sharing ≡ true }
 
-    // What was served and written, whatever the bytes are.
-    ensures serves { ServesAll bytes.now sharing ports.old ports.new output.old output.new result }
+    // What was served and written, whatever the text is.
+    ensures serves { ServesAll text.items sharing ports.old ports.new output.old output.new result }
 
     // A recording whose steps all apply, and answer as is recorded of them, is shared, unless memory runs out.
-    ensures good { (r : Recording) → IsGoodText bytes.now r
+    ensures good { (r : Recording) → IsGoodText text.items r
         → Shares r sharing ports.old ports.new output.old output.new result }
 {
-    match open::<W>(alloc, bytes, COPY_EVERY) {
+    match open_given::<W>(alloc, text, COPY_EVERY) {
         Ok(film) => share_film(rt, alloc, &film, sharing, ports, output),
         Err(fault) => refuse(&fault, output),
     }

@@ -137,7 +137,7 @@ impl Call {
             Call::Changes => Some(texts::change_twice(rt)),
             Call::Fresh => Some(worlds::make_twice::<World>(rt)),
             Call::FreshPlain => Some(worlds::make_twice::<PlainWorld>(rt)),
-            Call::Serve => Some(serving::serve_twice(rt, handles)),
+            Call::Serve => serving::serve_twice(rt, handles),
             _ => self.make_of_world_twice(rt, handles),
         }
     }

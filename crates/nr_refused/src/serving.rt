@@ -30,10 +30,16 @@ const SHARING: Sharing = Sharing {
     connections: None,
 };
 
+// The text, to be given away.
+fn copied_text(alloc: Global) -> Option<Vec<u8>> {
+    Vec::from_slice(alloc, TEXT.as_bytes()).ok()
+}
+
 // Serves the callers, and says how many bytes are out.
 fn serve_into<H: Threads + Sync>(
     handles: &H,
     alloc: Global,
+    text: Vec<u8>,
     seen: &[Seen],
     room: &mut [u8],
 ) -> (ExitStatus, usize) {
@@ -43,10 +49,7 @@ fn serve_into<H: Threads + Sync>(
         parts: PARTS.as_slice(),
         seen,
     });
-    let bytes = TEXT.as_bytes();
-    let status = serve_bytes::<World, H, _, _>(
-        handles, alloc, bytes, SHARING, &mut ports, &mut out,
-    );
+    let status = serve_bytes::<World, H, _, _>(handles, alloc, text, SHARING, &mut ports, &mut out);
     let left = out.into_inner().len();
     (status, all.saturating_sub(left))
 }
@@ -64,18 +67,20 @@ fn came_of_serving(status: ExitStatus, out: Option<&[u8]>, seen: &[Seen; 2]) -> 
     }
 }
 
-/// Serves two callers twice.
-pub(crate) fn serve_twice<H: Threads + Sync>(rt: &HostRuntime, handles: &H) -> Twice {
+/// Serves two callers twice. `None` where there is no memory before any may be refused.
+pub(crate) fn serve_twice<H: Threads + Sync>(rt: &HostRuntime, handles: &H) -> Option<Twice> {
+    let alloc = rt.alloc();
     let mut room = [0u8; 64];
     let seen = [Seen::new(), Seen::new()];
+    let (text, same) = (copied_text(alloc)?, copied_text(alloc)?);
     refuse(rt);
-    let (status, count) = serve_into(handles, rt.alloc(), seen.as_slice(), room.as_mut_slice());
+    let (status, count) = serve_into(handles, alloc, text, seen.as_slice(), room.as_mut_slice());
     grant(rt);
     let first = came_of_serving(status, room.get(..count), &seen);
     let seen = [Seen::new(), Seen::new()];
-    let (status, count) = serve_into(handles, rt.alloc(), seen.as_slice(), room.as_mut_slice());
-    Twice {
+    let (status, count) = serve_into(handles, alloc, same, seen.as_slice(), room.as_mut_slice());
+    Some(Twice {
         first,
         again: came_of_serving(status, room.get(..count), &seen),
-    }
+    })
 }

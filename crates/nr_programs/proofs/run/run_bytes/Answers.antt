@@ -11,14 +11,14 @@ use Rattle.nr_programs.proofs.run.run_bytes.Goals as goal
 -- it is walked; or a refused allocation is a fault of loading
 pub returns-in-Ok-clause-runs : goal.returns-in-Ok-clause-runs
 returns-in-Ok-clause-runs g c =
-    elim c.walk.ensures as (λ _. Runs c.args.bytes.now c.args.input.now c.walk.new.input c.args.output.now c.walk.new.output c.walk.result) [
+    elim c.walk.ensures as (λ _. Runs c.args.text.items c.args.input.now c.walk.new.input c.args.output.now c.walk.new.output c.walk.result) [
       | inl walks ↦ inl (c.in-Ok.film.recording, c.in-Ok.ensures.film, walks)
       | inr prints_it ↦ inr (Load (Memory refused_memory), tt, prints_it)
     ]
 
 pub returns-in-Ok-clause-good : goal.returns-in-Ok-clause-good
 returns-in-Ok-clause-good g c = λ r is.
-    let same : c.in-Ok.film.recording ≡ r = one_recording c.args.bytes.now c.in-Ok.film.recording r c.in-Ok.ensures.film is in
+    let same : c.in-Ok.film.recording ≡ r = one_recording c.args.text.items c.in-Ok.film.recording r c.in-Ok.ensures.film is in
     rw (← same) c.walk.ensures
 
 pub returns-in-Err-clause-good : goal.returns-in-Err-clause-good
@@ -30,11 +30,11 @@ returns-in-Err-clause-good g c = λ r is.
 
 pub returns-in-Ok-clause-transcript : goal.returns-in-Ok-clause-transcript
 returns-in-Ok-clause-transcript g c =
-    elim c.walk.ensures as (λ _. RunsTranscript c.args.bytes.now c.args.input.now c.walk.new.input c.args.output.now c.walk.new.output c.walk.result) [
-      | inl walks ↦ inl (walks_transcribe c.args.bytes.now c.in-Ok.film.recording _ _ _ _ _ c.in-Ok.ensures.film walks)
+    elim c.walk.ensures as (λ _. RunsTranscript c.args.text.items c.args.input.now c.walk.new.input c.args.output.now c.walk.new.output c.walk.result) [
+      | inl walks ↦ inl (walks_transcribe c.args.text.items c.in-Ok.film.recording _ _ _ _ _ c.in-Ok.ensures.film walks)
       | inr prints_it ↦ inr prints_it
     ]
 
 pub returns-in-Err-clause-transcript : goal.returns-in-Err-clause-transcript
 returns-in-Err-clause-transcript g c =
-    refused_transcribes c.args.bytes.now _ _ _ _ _ _ c.in-Err.ensures.fault c.requires.output (record { unread = refl; printed = c.refuse.ensures })
+    refused_transcribes c.args.text.items _ _ _ _ _ _ c.in-Err.ensures.fault c.requires.output (record { unread = refl; printed = c.refuse.ensures })

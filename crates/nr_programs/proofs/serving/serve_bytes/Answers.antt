@@ -4,7 +4,7 @@ use Rattle.nr_programs.proofs.serving.serve_bytes.Goals as goal
 
 pub returns-in-Ok-clause-good : goal.returns-in-Ok-clause-good
 returns-in-Ok-clause-good g c = λ r is.
-    let same : c.in-Ok.film.recording ≡ r = one_recording c.args.bytes.now c.in-Ok.film.recording r c.in-Ok.ensures.film is in
+    let same : c.in-Ok.film.recording ≡ r = one_recording c.args.text.items c.in-Ok.film.recording r c.in-Ok.ensures.film is in
     rw (← same) c.share_film.ensures
 
 pub returns-in-Err-clause-good : goal.returns-in-Err-clause-good
