@@ -136,15 +136,18 @@ def opens(book: Book, notes: Notes, g: int, s: int) -> Look:
 
 
 def locks(book: Book, notes: Notes, g: int, s: int, side: str) -> Look:
-    goroutine, calls, name, locked = notes.goroutine(g), book.open[g], LOCKING[side], notes.locks
+    goroutine, calls, name, locked, begin = notes.goroutine(g), book.open[g], LOCKING[side], notes.locks, book.begin
 
     def look(step: int) -> None:
         top = calls[-1] if calls else None
-        if not (top and top.is_asking):
-            top = book.begin(step, g, name, s, calls)
+        if top is None or not top.is_asking:
+            top = begin(step, g, name, s, calls)
             top.side = side
-        top.is_asking = goroutine.status.is_acquiring
-        if not top.is_asking and locked.get(s, 0) & CLOSED:
+        if goroutine.status.is_acquiring:
+            top.is_asking = True
+            return
+        top.is_asking = False
+        if locked.get(s, 0) & CLOSED:
             top.is_ending = True
             fail(notes, top, Outcome.CLOSED)
             book.settle(step, goroutine, calls)
@@ -154,15 +157,16 @@ def locks(book: Book, notes: Notes, g: int, s: int, side: str) -> Look:
 
 def gives(book: Book, notes: Notes, g: int, s: int, side: str = "") -> Look:
     """A call gives up its reference, with the lock of a side or without."""
-    goroutine, calls, locked = notes.goroutine(g), book.open[g], notes.locks
+    goroutine, calls, locked, holds, settle = notes.goroutine(g), book.open[g], notes.locks, notes.holds[s], book.settle
 
     def look(step: int) -> None:
         for call in reversed(calls):
             if call.side == side and call.socket == s:
                 call.is_ending = True
-                call.destroys = bool(locked.get(s, 0) & CLOSED) and not notes.holds[s]
+                if locked.get(s, 0) & CLOSED:
+                    call.destroys = not holds
                 break
-        book.settle(step, goroutine, calls)
+        settle(step, goroutine, calls)
 
     return look
 

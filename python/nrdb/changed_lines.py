@@ -7,7 +7,16 @@ from typing import Iterator, Optional
 
 LINE = re.compile(rb"\d+ [a-z]+(?: \d+)? = [ -~]+")
 LINES = re.compile(r"^(\d+) ([a-z]+(?: \d+)?) = ([ -~]+)$", re.MULTILINE | re.ASCII)
-WINDOW = 2**16  # bytes of lines that are taken apart at once
+WINDOW = 2**14  # bytes of lines that are taken apart at once: few, so that a processor has all of that near
+
+
+def next_step(text: str, place: int) -> int:
+    """Where the lines of a step begin behind a place, with their line feed; -1 where the text ends within those of the one before."""
+    line = text.find("\n", place)
+    step = text[line + 1 : text.find(" ", line) + 1]
+    while step and text.startswith(step, line + 1):
+        line = text.index("\n", line + 1)
+    return line if line + 1 < len(text) else -1
 
 
 class NoChanges(ValueError):
@@ -52,20 +61,14 @@ class ChangedLines:
     def whole_steps(self, end: int) -> Iterator[tuple[int, str]]:
         """The lines in texts that have all lines of their steps, a line feed before the first; and behind which step each text ends. The last
         one ends before `end`."""
-        text, pieces = "\n", [b""]
+        text = "\n"
         for piece in self.pieces:
-            pieces.append(piece)
-            if sum(map(len, pieces)) < WINDOW:
-                continue
-            text += b"".join(pieces).decode("latin-1")
-            last = text[text.rindex("\n", 0, -1) + 1 :]
-            # (more lines of its step may come; `take` has looked at the last line of each piece)
-            step = last[: last.index(" ")]
-            begin = text.index(f"\n{step} ") + 1
-            if begin > 1:
-                yield int(step), text[:begin]
-            text, pieces = f"\n{text[begin:]}", []
-        yield end, text + b"".join(pieces).decode("latin-1")
+            text, begin = text + piece.decode("latin-1"), 0
+            while (next_one := next_step(text, begin + WINDOW)) >= 0:
+                yield int(text[next_one + 1 : text.index(" ", next_one)]), text[begin : next_one + 1]
+                begin = next_one
+            text = text[begin:]
+        yield end, text
 
     def at(self, step: int) -> list[tuple[str, str]]:
         """The cells that a step changed, each with its value behind it."""

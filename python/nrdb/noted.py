@@ -74,6 +74,7 @@ class By(NamedTuple):
 
 
 AT = {"r": 0, "w": 1}  # where what is kept of both sides has those of each
+SIDES = {"r": (0,), "w": (1,), "rw": (0, 1)}  # of a mode
 
 
 class Use:

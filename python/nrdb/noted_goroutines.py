@@ -7,7 +7,7 @@ MANY = 3  # pauses of a place that ended, from which on the longest of them says
 
 
 class Pauses:
-    """How many pauses of a place ended, as far as MANY, and the longest of them. One that is longer than `enough` has to be told."""
+    """How many pauses of a place ended, as far as they are told, and the longest of them. One that is longer than `enough` has to be told."""
 
     __slots__ = ("count", "longest", "enough")
 
@@ -34,31 +34,24 @@ class NoPauses(Pauses):
 
 class Status(str):
     """A status as netrev shows it, with what is asked of it at each step: the number of its socket or descriptor and its side, where it has
-    such, the pauses of who is there, and of who holds a reference besides, and what it is."""
+    such, the pauses of who is there, who sleeps there, the first one first, and what it is."""
 
-    __slots__ = (
-        *("number", "side", "pauses", "held_pauses"),
-        *("is_idle", "is_acquiring", "is_queued", "is_parked", "is_asleep"),
-    )
+    __slots__ = ("number", "side", "pauses", "sleepers", "is_idle", "is_acquiring", "is_asleep")
 
     number: int
     side: str
     pauses: Pauses
-    held_pauses: Pauses
+    sleepers: "dict[Goroutine, None]"
     is_idle: bool
     is_acquiring: bool
-    is_queued: bool
-    is_parked: bool
     is_asleep: bool
 
-    def __new__(cls, text: str, pauses: Pauses, held_pauses: Optional[Pauses] = None) -> "Status":
+    def __new__(cls, text: str, pauses: Pauses) -> "Status":
         made = super().__new__(cls, text)
         place, *rest = text.split(" ")
         made.number, made.side = int(rest[0]) if rest else -1, "".join(rest[1:])
-        made.pauses, made.held_pauses = pauses, held_pauses or pauses
-        made.is_idle, made.is_acquiring = place == IDLE, place == ACQUIRING
-        made.is_queued, made.is_parked = place == QUEUED, place == PARKED
-        made.is_asleep = made.is_queued or made.is_parked
+        made.pauses, made.sleepers = pauses, {}
+        made.is_idle, made.is_acquiring, made.is_asleep = place == IDLE, place == ACQUIRING, place in (QUEUED, PARKED)
         return made
 
 
@@ -67,9 +60,9 @@ class Statuses(dict[str, Status]):
 
     def __init__(self) -> None:
         super().__init__()
-        # who is idle pauses as long as it holds a reference
+        # who is idle pauses as long as it holds a reference, which is told at its steps and not as it leaves the place
         self.pauses: dict[str, Pauses] = {IDLE: Pauses()}
-        self[IDLE] = Status(IDLE, NoPauses(), self.pauses[IDLE])
+        self[IDLE] = Status(IDLE, NoPauses())
 
     def __missing__(self, text: str) -> Status:
         pauses = self.pauses.setdefault(text.partition(" ")[0], Pauses())
@@ -81,20 +74,15 @@ ABSENT = Status("absent", NoPauses())
 
 
 class Goroutine:
-    """A goroutine: its status, since when, the step from which on it could make its next one, its last step, `pollreset`, and read or write, how
-    many references it holds, and the pauses of its place."""
+    """A goroutine: its cell behind a step's number, its status, since when, its last step, `pollreset`, and read or write, and how many
+    references it holds. (As long as it makes one step after the other, the last one isn't kept.)"""
 
-    __slots__ = ("number", "status", "since", "stood", "last", "reset", "tried", "held", "pauses")
+    __slots__ = ("number", "cell", "status", "since", "last", "reset", "tried", "held")
 
     def __init__(self, number: int) -> None:
-        self.number, self.status, self.pauses = number, ABSENT, ABSENT.pauses
-        self.since = self.stood = self.last = self.reset = self.tried = self.held = 0
+        self.number, self.cell, self.status = number, f" gor {number}", ABSENT
+        self.since = self.last = self.reset = self.tried = self.held = 0
 
     def is_made(self, step: int, status: Status) -> None:
         self.status = status
-        self.since = self.stood = self.last = step
-
-    def holds(self, more: int) -> None:
-        """It holds a reference more, or one less."""
-        self.held += more
-        self.pauses = self.status.held_pauses if self.held else self.status.pauses
+        self.since = self.last = step

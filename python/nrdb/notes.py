@@ -6,14 +6,14 @@ already whom the step names, and which cells it asks for (`noting.py`)."""
 
 from collections import deque
 from types import MappingProxyType
-from typing import Any, Callable, Iterator, Mapping, Optional
+from typing import Any, Callable, Mapping, Optional
 
 from netrev_words.vocabulary import OF_A_GOROUTINE
 
 from .long_passes import without_collections
 from .modelled_changes import changes_of
 from .noted import AT, TIMED_OUT, By, Hold, Timeout, Use, code_of
-from .noted_goroutines import IDLE, Goroutine, Statuses
+from .noted_goroutines import IDLE, MANY, Goroutine, Statuses
 from .noting import NOTES, Note
 from .recorded_changes import RecordedChanges, Told
 from .recording import Recording
@@ -22,7 +22,7 @@ Look = Callable[[int], None]  # takes the step's number
 Looks = Mapping[str, Callable[..., Look]]  # of a kind what makes such, of the notes and a step's arguments
 Row = tuple[Goroutine, Optional[Note], Optional[Look]]
 CLOSED = 1  # in a lock word
-MOST_CHANGED = 32  # cells that a step changes, of which there are a dozen at most
+MOST_CHANGED = 1_024  # bytes of what a firing changes: a dozen lines at most
 
 
 class Now(dict[str, str]):
@@ -44,17 +44,16 @@ class Notes:
         self.recording, self.changes, self._looks = recording, changes_of(recording), looks
         self.step = self.moved = self.code = 0  # the step, the bytes that it moved, and the code that it found
         self.told: dict[str, str] = {}  # what the steps near this one changed: `12 lock 0`, with what that shows
-        self._cells: list[str] = []  # the cells of that in their order, and where in these the last firing was found
-        self._fired_at = 0
+        self._lines, self._fired_at = "", 0  # the lines of that, and where in these the last firing was found
         self.clock = 0
         self.statuses = Statuses()
         self.pauses = self.statuses.pauses
         self.goroutines: dict[int, Goroutine] = {}
         self.goroutine(0).is_made(0, self.statuses[IDLE])
         self.made = 1  # goroutines
+        self._turn = NOBODY  # who made the last step
         self.wakers: dict[int, Note] = {}  # of descriptors, what notes who is woken there
-        self.parked: dict[str, Goroutine] = {}  # who was at a status last that one alone can have: `parked 0 r`
-        self.queued: dict[str, dict[Goroutine, None]] = {}  # who sleeps for a lock, by the status, the first one first
+        self.comings: dict[tuple[int, str, int], Note] = {}  # and an event there, with its mode and error
         # of sockets: their lock words and what their buffers hold, who holds them, who closed them or their write sides, and when bytes
         # came, the peer closed, and an evict was
         self.locks: dict[int, int] = {}
@@ -66,14 +65,14 @@ class Notes:
         self.arrived: dict[int, int] = {}
         self.peer: dict[int, int] = {}
         self.evicted: dict[int, int] = {}
-        # of descriptors: their tags and what is told of them, all uses, which are open, which are ready for reading, and the last event that was
+        # of descriptors: their tags and what is told of them, all uses, the tags of those that are open, which are ready for reading, and the last event that was
         # dropped, with its tag
         self.tags: dict[int, int] = {}
         self.infos: dict[int, int] = {}
         self.uses: list[Use] = []
         self.use_of: dict[int, Use] = {}  # the last one of each
         self.socket_before: dict[Use, int] = {}  # the socket of the use before
-        self.open: set[int] = set()
+        self.open_tags: dict[int, int] = {}
         self.free: list[int] = []  # the one that was freed last at the end
         self.ready: set[int] = set()
         self.stale: dict[int, tuple[int, int]] = {}
@@ -92,29 +91,40 @@ class Notes:
                 for told in self.changes.told():
                     self._holds(told)
                     self._note_steps(range(told.first, told.end))
+            self._turn.last = self.step
         except (KeyError, IndexError, ValueError):
             deque(self.changes.texts(), maxlen=0)  # (if a line is no change, that tells it)
             raise
         self.told.clear()
-        self._cells = []
+        self._lines = ""
 
     def _note_steps(self, steps: range) -> None:
-        """Goes through these steps."""
+        """Goes through these steps. One step of a goroutine's right behind another is no pause that is told, once enough were."""
+        turn, is_enough = self._turn, self.pauses[IDLE].count >= MANY
         for step, number, (goroutine, note, look) in zip(steps, map(str, steps), self._rows):
-            if step - goroutine.stood > goroutine.pauses.enough:
-                goroutine.pauses.ends(step - goroutine.stood)
-            goroutine.last = goroutine.stood = step
-            if note:
+            if goroutine is not turn:
+                turn.last = step - 1
+                if goroutine.held and goroutine.status.is_idle:
+                    self._pauses(goroutine, step)
+                goroutine.last = step
+                turn = goroutine if is_enough else NOBODY
+            if note is not None:
                 note(step, number)
-            if look:
+            if look is not None:
                 look(step)
-        self.step = steps.stop - 1
+        self.step, self._turn = steps.stop - 1, turn
+
+    def _pauses(self, goroutine: Goroutine, step: int) -> None:
+        """A goroutine that is idle and holds a reference has made no step before this one."""
+        idle, pause = self.pauses[IDLE], step - max(goroutine.last, goroutine.since)
+        if pause > idle.enough:
+            idle.ends(pause)
 
     def _holds(self, told: Told) -> None:
         """Has what the next steps changed. It stays one table, which those know who ask it."""
         self.told.clear()
-        self.told.update(zip(told.cells, told.values))
-        self._cells, self._fired_at = told.cells, 0
+        self.told.update(told.cells())
+        self._lines, self._fired_at = told.text, 0
 
     def _row(self, values: list[Any]) -> Row:
         """What is made of a step's array: the goroutine that makes the step, if one does, who notes it and who looks at it."""
@@ -130,29 +140,31 @@ class Notes:
             found = self.goroutines[g] = Goroutine(g)
         return found
 
-    def fired(self, number: str) -> Iterator[tuple[str, str]]:
-        """The cells that a firing changed, each with what it shows: netrev says first that there is one less."""
-        at = self._fired_at = self._cells.index(f"{number} firings", self._fired_at)
-        for key in self._cells[at + 1 : at + MOST_CHANGED]:
-            step, _, cell = key.partition(" ")
-            if step != number:
-                break
-            yield cell, self.told[key]
+    def fired(self, number: str) -> list[str]:
+        """The lines of what a firing changed, without its number: netrev says first that there is one less."""
+        before = f"\n{number} "
+        at = self._fired_at = self._lines.index(f"{before}firings", self._fired_at)
+        _, _, *lines = self._lines[at : at + MOST_CHANGED].split(before)
+        if lines:
+            lines[-1] = lines[-1].partition("\n")[0]
+        return lines
 
     # what a step may do to a goroutine
 
     def moves(self, goroutine: Goroutine, step: int, shown: str) -> None:
-        """A goroutine has another status."""
-        before, status = goroutine.status, self.statuses[shown]
-        goroutine.status = status
-        goroutine.since = goroutine.stood = step
-        goroutine.pauses = status.held_pauses if goroutine.held else status.pauses
-        if status.is_parked:
-            self.parked[shown] = goroutine
-        elif status.is_queued:
-            self.queued.setdefault(shown, {})[goroutine] = None
-        elif before.is_queued:
-            del self.queued[str(before)][goroutine]
+        """A goroutine has another status by a step of its own, which ends its pause where it was. (Who isn't idle can make no other step.)"""
+        before = goroutine.status
+        status = goroutine.status = self.statuses[shown]
+        if step - goroutine.since > before.pauses.enough:
+            before.pauses.ends(step - goroutine.since)
+        goroutine.since = step
+        if status.is_asleep:
+            status.sleepers[goroutine] = None
+
+    def is_woken(self, goroutine: Goroutine, step: int, shown: str) -> None:
+        """A goroutine that sleeps has another status by a step of another."""
+        del goroutine.status.sleepers[goroutine]
+        goroutine.status, goroutine.since = self.statuses[shown], step
 
     def ends(self, step: int, g: int, d: int, side: str) -> bool:
         """Whether a call ends with the code that its side has."""

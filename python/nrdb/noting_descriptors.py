@@ -2,9 +2,10 @@
 
 from __future__ import annotations
 
+from functools import lru_cache
 from typing import TYPE_CHECKING
 
-from .noted import AT, CLOSING, ErrorEvent, Passing, Setting, Taking, Use, Wait, new
+from .noted import AT, CLOSING, SIDES, ErrorEvent, Passing, Setting, Taking, Use, Wait, new
 from .noting_goroutines import Note, stepped, waking
 
 if TYPE_CHECKING:
@@ -26,7 +27,7 @@ def opened(notes: Notes, g: int, s: int) -> Note:
             notes.socket_before[use] = notes.use_of[d].socket
         notes.uses.append(use)
         notes.use_of[d] = use
-        notes.open.add(d)
+        notes.open_tags[d] = use.tag
         notes.ready.discard(d)
 
     return note
@@ -36,7 +37,7 @@ def closed(notes: Notes, g: int, d: int) -> Note:
     told, cell = notes.told.get, f" fdseq {d}"
 
     def note(step: int, number: str) -> None:
-        notes.open.discard(d)
+        notes.open_tags.pop(d, None)
         notes.free.append(d)
         notes.use_of[d].closed = step
         if shown := told(number + cell):
@@ -108,7 +109,7 @@ def looked(notes: Notes, g: int) -> Note:
 
 
 def set_deadline(notes: Notes, g: int, d: int, mode: str, time: int) -> Note:
-    told, cells, wakes = notes.told.get, [(side, AT[side], f" {side}d {d}") for side in mode], waking(notes, d)
+    told, sides, wakes = notes.told.get, SIDES[mode], waking(notes, d)
     infos, use_of = notes.infos, notes.use_of
 
     def note(step: int, number: str) -> None:
@@ -116,13 +117,18 @@ def set_deadline(notes: Notes, g: int, d: int, mode: str, time: int) -> Note:
             return
         use = use_of[d]
         use.settings.append(new(Setting, (step, g, mode, time, use.late)))
-        for side, at, cell in cells:
+        for at in sides:
             use.last_settings[at] = step
+        if time < 0 or use.late:
+            passes(use, step, number)
+            wakes(step, number)
+
+    def passes(use: Use, step: int, number: str) -> None:
+        for side, at in zip(mode, sides):
             if time < 0:
                 use.passings[at].append(Passing(step, "setdeadline"))
-            if (shown := told(number + cell)) and (use.late or shown[0] == "-"):
+            if shown := told(f"{number} {side}d {d}"):
                 use.passes(side, shown[0] == "-")
-        wakes(step, number)
 
     return note
 
@@ -138,36 +144,63 @@ def evicted(notes: Notes, g: int, d: int) -> Note:
 
 
 def came(notes: Notes, d: int, tag: int, mode: str, error: int) -> Note:
-    """An event comes."""
-    wakes, told, cell, sides = waking(notes, d), notes.told.get, f" rg {d}", [AT[side] for side in mode]
+    """An event comes. (Each use of a descriptor has another tag, so little is made for that.)"""
+    comes, open_tags = coming(notes, d, mode, error), notes.open_tags
 
     def note(step: int, number: str) -> None:
-        if d not in notes.open or tag != (use := notes.use_of[d]).tag:
+        if open_tags.get(d) == tag:
+            comes(step, number)
+        else:
             notes.stale[d] = step, tag
-            return
+
+    return note
+
+
+def coming(notes: Notes, d: int, mode: str, error: int) -> Note:
+    """What notes an event that isn't dropped."""
+    made = notes.comings.get((d, mode, error))
+    if made is None:
+        made = notes.comings[d, mode, error] = _coming(notes, d, mode, error)
+    return made
+
+
+def _coming(notes: Notes, d: int, mode: str, error: int) -> Note:
+    wakes, told, cell, sides = waking(notes, d), notes.told.get, f" rg {d}", SIDES[mode]
+    use_of, ready = notes.use_of, notes.ready
+
+    def note(step: int, number: str) -> None:
+        use = use_of[d]
         if error:
             use.errors.append(ErrorEvent(step, mode))
         for at in sides:
             use.last_events[at] = step
         if told(number + cell) == "ready":
-            notes.ready.add(d)
+            ready.add(d)
         wakes(step, number)
 
     return note
+
+
+@lru_cache(maxsize=1_024)
+def cell_and_value(line: str) -> tuple[str, int, str]:
+    """The name of a cell, its number, and what it shows: `info 0 = 8`. (What firings change is much the same.)"""
+    cell, _, value = line.partition(" = ")
+    name, _, which = cell.partition(" ")
+    return name, int(which or -1), value
 
 
 def fired(notes: Notes, i: int) -> Note:
     """A deadline passes: whose that is tells the cell."""
 
     def note(step: int, number: str) -> None:
-        for cell, value in notes.fired(number):
-            name, _, which = cell.partition(" ")
+        for line in notes.fired(number):
+            name, which, value = cell_and_value(line)
             if name == "info":
-                notes.infos[int(which)] = int(value)
+                notes.infos[which] = int(value)
             elif name == "gor":
-                notes.moves(notes.goroutines[int(which)], step, value)
+                notes.is_woken(notes.goroutines[which], step, value)
             elif name in ("rd", "wd"):
-                use = notes.use_of[int(which)]
+                use = notes.use_of[which]
                 use.passings[AT[name[0]]].append(new(Passing, (step, "fire")))
                 use.passes(name[0], value[0] == "-")
 

@@ -2,9 +2,9 @@
 
 from __future__ import annotations
 
-from typing import TYPE_CHECKING, Callable, Optional
+from typing import TYPE_CHECKING, Callable
 
-from .noted_goroutines import IDLE, PARKED, QUEUED, Goroutine
+from .noted_goroutines import IDLE, PARKED, QUEUED, Status
 
 if TYPE_CHECKING:
     from .notes import Notes
@@ -45,16 +45,18 @@ def released(notes: Notes, g: int) -> Note:
     def note(step: int, number: str) -> None:
         s = goroutine.status.number
         own(step, number)
-        for status in (f"{QUEUED} {s} r", f"{QUEUED} {s} w"):
-            wake(notes, next(iter(notes.queued.get(status, ())), None), step, number)
+        for side in "rw":
+            wake(notes, notes.statuses[f"{QUEUED} {s} {side}"], step, number)
 
     return note
 
 
-def wake(notes: Notes, goroutine: Optional[Goroutine], step: int, number: str) -> None:
-    """A goroutine that sleeps may have been woken."""
-    if goroutine and (status := notes.told.get(f"{number} gor {goroutine.number}")):
-        notes.moves(goroutine, step, status)
+def wake(notes: Notes, status: Status, step: int, number: str) -> None:
+    """The first one of those that sleep in a status may have been woken."""
+    for goroutine in status.sleepers:
+        if shown := notes.told.get(number + goroutine.cell):
+            notes.is_woken(goroutine, step, shown)
+        break
 
 
 def waking(notes: Notes, d: int) -> Note:
@@ -65,13 +67,14 @@ def waking(notes: Notes, d: int) -> Note:
 
 
 def _waking(notes: Notes, d: int) -> Note:
-    at, told, cell = (f"{PARKED} {d} r", f"{PARKED} {d} w"), notes.told.get, f" info {d}"
-    parked, infos = notes.parked, notes.infos
+    reading, writing = (notes.statuses[f"{PARKED} {d} {side}"] for side in "rw")
+    told, cell, infos = notes.told.get, f" info {d}", notes.infos
 
     def note(step: int, number: str) -> None:
-        for status in at:
-            if status in parked and parked[status].status.is_parked:
-                wake(notes, parked[status], step, number)
+        if reading.sleepers:
+            wake(notes, reading, step, number)
+        if writing.sleepers:
+            wake(notes, writing, step, number)
         if shown := told(number + cell):
             infos[d] = int(shown)
 

@@ -10,7 +10,9 @@ from .noting_goroutines import Note
 if TYPE_CHECKING:
     from .notes import Notes
 
-REFERENCES = (2**20 - 1) << 3  # in a lock word
+# in a lock word, of whose lower bits two are the locks: who reads and writes waits in higher ones
+REFERENCES = (2**20 - 1) << 3
+WAITING = 1 << 23
 
 
 def arrived(notes: Notes, s: int, digits: str) -> Note:
@@ -85,11 +87,11 @@ def referred(kind: str) -> Callable[..., Note]:
 
         def note(step: int, number: str) -> None:
             if shown := told(number + cell):
-                before, word = locks.get(s, 0), int(shown)
-                locks[s] = word
+                before = locks.get(s, 0)
+                word = locks[s] = int(shown)
                 if word & REFERENCES > before & REFERENCES:
                     holds.append(new(Hold, (g, step, kind, side)))
-                    goroutine.holds(1)
+                    goroutine.held += 1
                     if kind == "increfclose":
                         notes.closer[s] = By(step, g)
             if may_move and (status := told(number + own)):
@@ -106,19 +108,21 @@ def given(notes: Notes, g: int, s: int, side: str = "") -> Note:
     goroutine, own, longest = notes.goroutine(g), f" gor {g}", notes.longest_holds
 
     def note(step: int, number: str) -> None:
+        before = locks[s]
         if shown := told(number + cell):
             locks[s] = int(shown)
         hold = holds[-1]
         if hold.goroutine == g and hold.side == side:
             holds.pop()
-            goroutine.holds(-1)
+            goroutine.held -= 1
         else:
             hold = fitting(holds, g, side)
             holds.remove(hold)
-            notes.goroutines[hold.goroutine].holds(-1)
-        if step - hold.step > longest.get(hold.kind, -1):
-            longest[hold.kind] = step - hold.step
-        if side and (status := told(number + own)):
+            notes.goroutines[hold.goroutine].held -= 1
+        _, since, kind, _ = hold
+        if step - since > longest.get(kind, -1):
+            longest[kind] = step - since
+        if side and before >= WAITING and (status := told(number + own)):
             notes.moves(goroutine, step, status)
 
     return note

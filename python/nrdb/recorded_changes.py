@@ -23,12 +23,16 @@ class Change(NamedTuple):
 
 
 class Told(NamedTuple):
-    """What the steps from one number to another changed: each step with a cell (`12 lock 0`), and what those show."""
+    """What the steps from one number to another changed: their lines in one text, a line feed before each."""
 
     first: int
     end: int
-    cells: list[str]
-    values: list[str]
+    text: str
+
+    def cells(self) -> Iterator[tuple[str, str]]:
+        """Each step with a cell (`12 lock 0`), and what that shows."""
+        cells_and_values = iter(self.text[1:].replace(" = ", "\n").split("\n"))
+        return zip(cells_and_values, cells_and_values)
 
 
 class Texts(dict[str, int]):
@@ -164,8 +168,7 @@ class RecordedChanges:
         self._wait(None)
         first = 1
         for end, text in self._lines.whole_steps(self._length + 1):
-            cells_and_values = text[1:-1].replace(" = ", "\n").split("\n")
-            yield Told(first, end, cells_and_values[::2], cells_and_values[1::2])
+            yield Told(first, end, text)
             first = end
 
     def _is_asked_little(self) -> bool:

@@ -1,12 +1,17 @@
-"""What the notes keep of cells is what the changes say: whoever asks only for the cells that a step may have changed has missed none."""
+"""What the notes keep of cells is what the changes say: whoever asks only for the cells that a step may have changed has missed none. And
+the pauses are those that are found where each step is looked at alone."""
 
 import random
 import unittest
-from typing import Iterator
+from collections import defaultdict
+from typing import Any, Callable, Iterator, Sequence
+from unittest.mock import patch
 
 from netrev_fuzz.randomsteps import Author
+from netrev_words.vocabulary import KINDS, OF_A_GOROUTINE
 from nrdb.calls import Book
 from nrdb.modelled_changes import PlayedSteps
+from nrdb.noted_goroutines import MANY
 from nrdb.notes import Notes
 
 SEEDS = range(200)
@@ -27,6 +32,54 @@ class Kept(unittest.TestCase):
                     self.assertEqual((cell, kept), (cell, notes.changes.value(cell, len(recording.steps))))
                     compared += 1
         self.assertGreater(compared, 2_500)
+
+
+class Paused(unittest.TestCase):
+    """Random recordings, gone through in pieces of many lengths."""
+
+    def test_each_place_has_the_pauses_of_all_steps(self) -> None:
+        many = few = 0
+        for seed in SEEDS:
+            recording, _ = Author(random.Random(f"pauses {seed}")).recording(STEPS)
+            behind = Behind()
+            with self.subTest(seed=seed), patch("nrdb.changed_lines.WINDOW", 2 ** (seed % 14)):
+                notes = Notes(PlayedSteps(recording.steps), {kind: behind.made for kind in KINDS})
+                pauses = behind.pauses(recording.steps)
+                found = {place: (known.count, known.longest) for place, known in notes.pauses.items() if known.count}
+                self.assertEqual(found.keys(), pauses.keys())
+                for place, each in pauses.items():
+                    count, longest = found[place]
+                    self.assertEqual((min(count, MANY), longest), (min(len(each), MANY), max(each)), place)
+                    many, few = many + (len(each) >= MANY), few + (len(each) < MANY)
+        self.assertGreater(many, 200)
+        self.assertGreater(few, 100)
+
+
+class Behind:
+    """Where each goroutine is behind each step, since when, and whether it holds a reference."""
+
+    def __init__(self) -> None:
+        self.steps: list[dict[int, tuple[str, int, bool]]] = [{}]
+
+    def made(self, notes: Notes, *_: Any) -> Callable[[int], None]:
+        def look(step: int) -> None:
+            self.steps.append({g: (one.status, one.since, one.held > 0) for g, one in notes.goroutines.items()})
+
+        return look
+
+    def pauses(self, steps: Sequence[tuple[Any, ...]]) -> dict[str, list[int]]:
+        """The pauses that ended at each place, in which a goroutine could have gone on."""
+        found: dict[str, list[int]] = defaultdict(list)
+        lasts: dict[int, int] = defaultdict(int)
+        for number, (kind, *arguments) in enumerate(steps, 1):
+            if kind not in OF_A_GOROUTINE:
+                continue
+            g = arguments[0]
+            status, since, holds = self.steps[number - 1].get(g, ("idle", 0, False))
+            if status != "idle" or holds:
+                found[status.partition(" ")[0]].append(number - max(since, lasts[g]))
+            lasts[g] = number
+        return found
 
 
 def kept_of(notes: Notes, goroutines: int) -> Iterator[tuple[str, str]]:

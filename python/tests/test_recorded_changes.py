@@ -96,8 +96,9 @@ def test_what_is_told_together_has_all_lines_of_its_steps(
     for told in changes.told():
         assert told.first == end
         end = told.end
-        assert all(told.first <= int(name.split()[0]) < told.end for name in told.cells)
-        found += zip(told.cells, told.values)
+        cells = list(told.cells())
+        assert all(told.first <= int(name.split()[0]) < told.end for name, _ in cells)
+        found += cells
     assert end == changes.length + 1
     assert found == [(f"{step} {cell}", value) for step, cell, value in changes]
 
