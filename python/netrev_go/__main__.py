@@ -1,7 +1,7 @@
 """python3 python netrev_go .."""
 
-import sys
+from netrev_words.leaving import ended_by
 
 from .cli import main
 
-sys.exit(main())
+ended_by(main)

@@ -21,6 +21,9 @@ from .toolchain import Go, Trouble, find_go
 from .trying import ready
 
 
+KNOWN: list[object] = []  # of the log that is converted; of the last one to the end, as to give it back takes long
+
+
 class Status(IntEnum):
     """How netrev-go ends where it isn't Go's own status with which it does."""
 
@@ -95,8 +98,9 @@ def convert_one(options: argparse.Namespace) -> int:
         go = None
     status: int = Status.DONE
     for index, log in enumerate(logs, 1):
+        KNOWN.clear()
         try:
-            outcome = convert(log, numbered(base, index), go, wish_of(options))
+            outcome = convert(log, numbered(base, index), go, wish_of(options), KNOWN)
         except OSError as fault:
             complain(unwritten(numbered(base, index), fault))
             status = Status.TROUBLE

@@ -19,7 +19,7 @@ from .orders import Made
 from .points import LOCKING, Kind, Point
 from .repeated import REPEATED, read_line, repeated_line
 from .sockets import AGAIN, BUFFER, FEW_BYTES, Socket
-from .zeros import Line, arrival, written
+from .zeros import Line, arrival, drained, put_line, written
 
 CURRENT_READ, STALE = 1, 4
 EVENT_ERROR, EVENT_STALE = 1, 2
@@ -81,8 +81,10 @@ class Converter:
                 stacks.append(0)
             if stack:  # (as `of` has it)
                 last_stacks[g] = stack
+            else:
+                stack = last_stacks[g]
             lines.append(line)
-            stacks.append(stack or last_stacks[g])
+            stacks.append(stack)
             step = last_steps[g] = len(lines)
             made.append((number, identity, step))
             ended.append(step)
@@ -116,9 +118,12 @@ class Converter:
         """A step of a goroutine's. Where its point was passed on another stack, it stands where it stood before."""
         if stack:
             self.last_stacks[g] = stack
-        self.lines.append(text)
-        self.stacks.append(stack or self.last_stacks[g])
-        step = self.last_steps[g] = len(self.lines)
+        else:
+            stack = self.last_stacks[g]
+        lines = self.lines
+        lines.append(text)
+        self.stacks.append(stack)
+        step = self.last_steps[g] = len(lines)
         self.made.append((self._number, self.names[g], step))
 
     def goroutine(self, identity: int) -> int:
@@ -136,7 +141,8 @@ class Converter:
     def go_on_to(self, time: int) -> None:
         if time > self.clock:
             self.clock = time
-            self.step(f'["tick",{time},"done"]')
+            self.lines.append(f'["tick",{time},"done"]')
+            self.stacks.append(0)
 
     def socket_opens(self, point: Point, socket: Socket) -> None:
         g = self.goroutine(point.goroutine)
@@ -161,23 +167,23 @@ class Converter:
         self.of(g, point.stack, read_line(g, socket.number, point.a, answer))
 
     def write(self, point: Point, socket: Socket) -> None:
-        g = self.goroutine(point.goroutine)
-        if not can_answer(socket, point):
-            return self.beside.failed(self.last_steps[g], point)
-        _, _, _, _, asked, put, error, _, stack = point
+        passed, _, identity, _, asked, put, error, _, stack = point
+        g, number = self.goroutine(identity), socket.number
         if put <= 0:
+            if not can_answer(socket, point):
+                return self.beside.failed(self.last_steps[g], point)
             answer = '"pipe"' if error == BROKEN_PIPE else '"again"'
-            self.of(g, stack, written(g, socket.number, min(max(asked, 1), BUFFER), answer))
+            self.of(g, stack, written(g, number, min(max(asked, 1), BUFFER), answer))
             return
         capacity = socket.capacity()
         for count in parts(put, min(capacity, BUFFER)):
             missing = socket.held + count - capacity
             if missing > 0:
-                self.step(f'["drain",{socket.number},{missing},"done"]')
+                self.step(drained(number, missing))
                 socket.held -= missing
             socket.held += count
-            self.of(g, stack, written(g, socket.number, count, f'["put",{count}]'))
-        if socket.last_put == point.number and socket in self.put_off:
+            self.of(g, stack, put_line(g, number, count))
+        if socket.last_put == passed and socket in self.put_off:
             self.shut(socket, *self.put_off.pop(socket))
 
     def close_write(self, point: Point, socket: Socket) -> None:
@@ -234,18 +240,20 @@ class Converter:
 
     def set_deadline(self, point: Point, socket: Socket) -> None:
         """The deadline is just Go's, also where another processor had read a later time before this one's point."""
-        g, mode, number = self.goroutine(point.goroutine), mode_of(point), socket.descriptor
-        time, now = point.b, point.time - self.begin
-        self.go_on_to(now)
+        _, _, identity, _, _, time, _, passed, stack = point
+        g, mode, number = self.goroutine(identity), mode_of(point), socket.descriptor
+        now = passed - self.begin
+        if now > self.clock:
+            self.go_on_to(now)
         first = ends = deadline_of(now, time)
         changes = self.deadlines.changing(number, mode, first)
         for side, _ in changes:
             self.pop_what_fires(socket, side)
-        if time > 0 and (self.clock != now or time + point.time > GREATEST):
-            time = max(1, time - (self.clock - now)) if time + point.time <= GREATEST else GREATEST
+        if time > 0 and (self.clock != now or time + passed > GREATEST):
+            time = max(1, time - (self.clock - now)) if time + passed <= GREATEST else GREATEST
             ends = min(self.clock + time, GREATEST)
         self.deadlines.set(number, mode, ends, changes=changes if ends == first else None)
-        self.of(g, point.stack, f'["setdeadline",{g},{number},"{mode}",{time},"done"]')
+        self.of(g, stack, f'["setdeadline",{g},{number},"{mode}",{time},"done"]')
 
     def pop_what_fires(self, socket: Socket, side: int) -> None:
         """A timer that is about to be stopped or armed anew goes off first, where the log has its firing: Go's timer had left

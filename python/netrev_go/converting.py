@@ -60,15 +60,25 @@ class ReadLog:
     tests: Tests
 
 
-def convert(log: pathlib.Path, name: pathlib.Path, go: Go | None, wish: Wish) -> Outcome:
-    """Makes the recording NAME of a log, and NAME.where beside it where Go is there to tell its lines."""
+def convert(
+    log: pathlib.Path, name: pathlib.Path, go: Go | None, wish: Wish, known: list[object] | None = None
+) -> Outcome:
+    """Makes the recording NAME of a log, and NAME.where beside it where Go is there to tell its lines. What is known of them then is kept
+    in `known`, for whom to give that back takes too long."""
     try:
-        return converted(ReadLog(log, read_log(log), of_log(log)), name, go, wish)
+        return converted(ReadLog(log, read_log(log), of_log(log)), name, go, wish, known=known)
     except NoLog as fault:
         return Outcome(False, [f"{plain(str(log))}: {fault}"])
 
 
-def converted(read: ReadLog, name: pathlib.Path, go: Go | None, wish: Wish, test: Ran | None = None) -> Outcome:
+def converted(
+    read: ReadLog,
+    name: pathlib.Path,
+    go: Go | None,
+    wish: Wish,
+    test: Ran | None = None,
+    known: list[object] | None = None,
+) -> Outcome:
     """Makes the recording NAME of a log that was read, or of one of its tests, where one is named."""
     log = read.log
     part: Part | None = None
@@ -78,6 +88,8 @@ def converted(read: ReadLog, name: pathlib.Path, go: Go | None, wish: Wish, test
         recording = make(log, wish.sockets, wish.megabytes, wish.all_bytes, part)
     except (Nothing, Unconvertible) as fault:
         return Outcome(False, [f"{plain(str(read.path))}: {fault}"], isinstance(fault, NoSocket))
+    if known is not None:
+        known += (read, recording)
     lines = name.with_suffix(LINES)
     forget_where(lines)
     write(recording, name)
@@ -103,11 +115,11 @@ def of_tests(recording: Recording, tests: Tests) -> list[dict[str, object]]:
     """What is said of the recording besides: as how many bytes a read or a write counts at most, and from which step to which each
     test ran."""
     more: list[dict[str, object]] = [] if recording.bytes is None else [{"bytes": recording.bytes}]
-    numbers = [number for number, _, _ in recording.made] if tests.ran else []
+    made = recording.made
     for test in tests.ran:
-        first = bisect_left(numbers, test.began)
-        last = bisect_left(numbers, test.ended) if test.ended is not None else len(numbers)
+        first = bisect_left(made, (test.began,))
+        last = bisect_left(made, (test.ended,)) if test.ended is not None else len(made)
         if first < last:
-            steps = [recording.made[first][2], recording.made[last - 1][2]]
+            steps = [made[first][2], made[last - 1][2]]
             more.append({"test": test.name, "package": test.package, "steps": steps})
     return more

@@ -15,7 +15,7 @@ from .beside import Beside
 from .converter import Converter
 from .orders import Made, orders_of
 from .points import AT_A_SOCKET, LOCKING, ORDERING, Log, Point
-from .sockets import FEW_BYTES, MOST_MEGABYTES, MOST_SOCKETS, MOST_STEPS, Owned, Socket, chosen, owned
+from .sockets import FEW_BYTES, MOST_MEGABYTES, MOST_SOCKETS, MOST_STEPS, POINT, Owned, Socket, chosen, owned
 from .times import times_of
 from .waits import CONCERNED, waits_of
 from .zeros import Line
@@ -100,7 +100,7 @@ def make(
         converter.header(), converter.lines, converter.stacks,
         len(converter.goroutines), converter.last_steps, converter.sockets, orders, notes,
         converter.beside, FEW_BYTES if found.cut else None, converter.made,
-        times_of([point for point, _ in converter.points], converter.ended, log.begin), converter.points, converter.ended,
+        times_of(map(POINT, converter.points), converter.ended, log.begin), converter.points, converter.ended,
     )  # fmt: skip
 
 

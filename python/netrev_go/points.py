@@ -79,7 +79,9 @@ class Point(NamedTuple):
     stack: int
 
 
-NUMBER, KIND, TIME = (itemgetter(Point._fields.index(name)) for name in ("number", "kind", "time"))
+NUMBER, KIND, GOROUTINE, TIME = (
+    itemgetter(Point._fields.index(name)) for name in ("number", "kind", "goroutine", "time")
+)
 
 
 class Stack(NamedTuple):

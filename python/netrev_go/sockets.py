@@ -9,7 +9,7 @@ from collections import Counter
 from dataclasses import dataclass, field
 from operator import itemgetter
 
-from .points import AT_A_SOCKET, AT_A_WORD, LOCKING, Kind, Point
+from .points import AT_A_SOCKET, AT_A_WORD, GOROUTINE, LOCKING, Kind, Point
 
 BUFFER = 65_536
 OUTPUT = 4_096
@@ -20,7 +20,7 @@ UNLIKE = {READ, WRITE, NAMED}  # these aren't just one more step of their socket
 INIT, OPEN, OPEN_FAILED, CLOSE = int(Kind.INIT), int(Kind.OPEN), int(Kind.OPEN_FAILED), int(Kind.CLOSE)
 EVENT, FIRE = int(Kind.EVENT), int(Kind.FIRE)
 AT_USE = AT_A_SOCKET - AT_A_WORD - {INIT, OPEN, OPEN_FAILED, CLOSE, EVENT, FIRE}  # at the descriptor's newest use
-SOCKET = itemgetter(1)
+POINT, SOCKET = itemgetter(0), itemgetter(1)  # of a pair
 MOST_SOCKETS, MOST_GOROUTINES, MOST_STEPS = 256, 4_096, 1_000_000
 MEGABYTE, MOST_MEGABYTES = 2**20, 1_024  # of a recording's text for the bytes that are moved
 FEW_BYTES = 64  # as which a read or a write counts that moved more, unless all are wanted
@@ -134,11 +134,6 @@ def of_few(point: Point) -> Point:
     return Point(number, kind, goroutine, at, asked, min(moved, FEW_BYTES), failed, time, stack)
 
 
-def has_few(point: Point) -> bool:
-    """Whether it is one of few bytes as it is."""
-    return point.b <= FEW_BYTES and (point.a <= FEW_BYTES or point.kind == READ)
-
-
 def count_bytes(socket: Socket, point: Point) -> None:
     """Counts a read or a write at its socket: the text that it is, how large the output is, and of a read the steps."""
     number, kind, _, _, asked, got, failed, _, _ = point
@@ -165,9 +160,9 @@ def count_parts(points: list[tuple[Point, Socket]]) -> None:
 
 def count_points(points: list[tuple[Point, Socket]]) -> None:
     """Counts the points of each socket as a step each, and the goroutines that passed them."""
-    for socket, steps in Counter(map(SOCKET, points)).items():
+    goroutines = map(GOROUTINE, map(POINT, points))
+    for (goroutine, socket), steps in Counter(zip(goroutines, map(SOCKET, points))).items():
         socket.steps += steps
-    for goroutine, socket in {(point[2], socket) for point, socket in points}:
         if goroutine:
             socket.goroutines.add(goroutine)
 
@@ -201,7 +196,7 @@ def owned(points: list[Point], all_bytes: bool = True) -> Owned:
             if kind == NAMED:
                 socket.steps -= 1
             else:
-                if not all_bytes and not has_few(point):
+                if not all_bytes and (point[5] > FEW_BYTES or point[4] > FEW_BYTES and kind == WRITE):
                     cut += point.b > FEW_BYTES
                     point = of_few(point)
                 count_bytes(socket, point)

@@ -4,7 +4,7 @@ was made for."""
 from __future__ import annotations
 
 from collections.abc import Iterable
-from itertools import accumulate, chain, repeat, starmap
+from itertools import chain
 from operator import sub
 
 from .points import TIME, Point
@@ -14,13 +14,17 @@ def times_of(points: Iterable[Point], ended: list[int], begin: int) -> list[int]
     """Of each step the nanoseconds since the log began, where so many steps are there behind each point. Points have their order by a
     counter, and read the clock just behind that, so a time that is a little before the one before is taken for that. None where a point
     has no time, as in logs of before."""
-    read = list(map(TIME, points))
-    if not all(read):
-        return None
-    latest = accumulate(read, max, initial=begin)
-    next(latest)
-    times = chain.from_iterable(starmap(repeat, zip(latest, deltas(ended))))
-    return list(map(sub, times, repeat(begin)))
+    times: list[int] = []
+    latest, step = begin, 0
+    for time, behind in zip(map(TIME, points), ended):
+        if time > latest:
+            latest = time
+        elif not time:
+            return None
+        while step < behind:
+            times.append(latest - begin)
+            step += 1
+    return times
 
 
 def deltas(numbers: list[int]) -> list[int]:

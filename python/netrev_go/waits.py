@@ -33,11 +33,10 @@ def waits_of(points: Iterable[Point], steps: list[Made], numbers: dict[int, int]
     begun: dict[int, Wait] = {}
     ready: dict[int, int] = {}
     found: list[Wait] = []
-    made = [number for number, _, _ in steps]
 
     def step_before(number: int) -> int:
         """The last step that was made before a point; 0 where none was."""
-        at = bisect_left(made, number)
+        at = bisect_left(steps, (number,))
         return steps[at - 1][2] if at else 0
 
     for number, kind, goroutine, _, a, b, _, _, stack in points:

@@ -14,6 +14,7 @@ from .orders import parts
 from .times import deltas
 
 STEPS_A_LINE = 1_000
+of_json = json.JSONEncoder(separators=(",", ":")).encode
 Order = tuple[int, int]
 
 
@@ -27,7 +28,7 @@ class Numbered:
         self.numbers: dict[int, int] = {}
 
     def add(self, value: object) -> None:
-        self.lines.append(json.dumps(value, separators=(",", ":")) + "\n")
+        self.lines.append(of_json(value) + "\n")
 
     def call(self, call: Call) -> int:
         if call not in self.calls:

@@ -34,6 +34,18 @@ def arrival(socket: int, count: int) -> Line:
 
 
 @lru_cache(LINES_KEPT)
+def drained(socket: int, count: int) -> str:
+    """The other end takes bytes."""
+    return f'["drain",{socket},{count},"done"]'
+
+
+@lru_cache(LINES_KEPT)
+def put_line(g: int, socket: int, count: int) -> Line:
+    """A write that put so many bytes."""
+    return written(g, socket, count, f'["put",{count}]')
+
+
+@lru_cache(LINES_KEPT)
 def written(g: int, socket: int, count: int, answer: str) -> Line:
     """A write of so many bytes, with its answer as JSON."""
     return line_with(f'["syswrite",{g},{socket},"', count, f'",{answer}]')

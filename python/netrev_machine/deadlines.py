@@ -4,6 +4,7 @@ other parts are no matter, or too many steps."""
 from __future__ import annotations
 
 import heapq
+from collections import defaultdict
 from dataclasses import dataclass, field
 from typing import Any
 
@@ -48,6 +49,7 @@ class Deadlines:
         self._room = FEWEST  # for so many it is swept
         self.firings: list[Timer] = []
         self._keys: list[tuple[int, int, int]] = []  # of each firing its descriptor, side and sequence
+        self._counts: dict[tuple[int, int, int], int] = defaultdict(int)  # of each of these, how many are in the list
         self.armings = 0
         self.most_firings = 0
 
@@ -140,21 +142,21 @@ class Deadlines:
         if timer:
             timer.armed = False
             self.firings.append(timer)
-            self._keys.append((timer.descriptor, timer.side, timer.sequence))
+            key = timer.descriptor, timer.side, timer.sequence
+            self._keys.append(key)
+            self._counts[key] += 1
             self.most_firings = max(self.most_firings, len(self.firings))
         return timer
 
     def place(self, number: int, side: int, sequence: int) -> int | None:
         """Where a firing stands in the list, if it does."""
-        try:
-            return self._keys.index((number, side, sequence))
-        except ValueError:
-            return None
+        key = number, side, sequence
+        return self._keys.index(key) if self._counts.get(key) else None  # (of hundreds it is mostly none)
 
     def fire(self, place: int, sides: str = "") -> tuple[Timer, bool]:
         """The function of a timer runs, for these sides or those that it covers; the timer, and whether it is stale."""
         firing = self.firings.pop(place)
-        del self._keys[place]
+        self._counts[self._keys.pop(place)] -= 1
         descriptor = self.descriptors[firing.descriptor]
         is_stale = descriptor.sequences[firing.side] != firing.sequence
         for side in (READING, WRITING):

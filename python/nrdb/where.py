@@ -163,7 +163,7 @@ class Lines:
             for one, other in line["peers"]:
                 self.peers[_typed(one, int)], self.peers[_typed(other, int)] = other, one
         elif "times" in line:
-            self.times.extend(accumulate(map(_later, line["times"]), initial=self.times[-1] if self.times else 0))
+            self.times.extend(accumulate(_later(line["times"]), initial=self.times[-1] if self.times else 0))
             del self.times[-len(line["times"]) - 1]  # (that from which it is counted)
         elif "waits" in line:
             for values in line["waits"]:
@@ -173,7 +173,9 @@ class Lines:
         elif "errors" in line:
             self.errors.update((_typed(step, int), _typed(name, str)) for step, name in line["errors"])
         elif line["step"] == len(self.steps) + 1:
-            self.steps.extend(number if number in self.stacks else 0 for number in line["stacks"])
+            numbers = line["stacks"]
+            are_known = self.stacks.keys() >= set(numbers)  # (mostly all of the thousand are)
+            self.steps.extend(numbers if are_known else (one if one in self.stacks else 0 for one in numbers))
 
     def __bool__(self) -> bool:
         return len(self.steps) > 0
@@ -204,11 +206,13 @@ def of_steps(first: Any, steps: int) -> None:
         raise Unusable(f"it is of a recording of {_typed(first['steps'], int)} steps, and this one has {steps}")
 
 
-def _later(value: Any) -> int:
-    """A time that has passed; a ValueError where it is none."""
-    if _typed(value, int) < 0:
+def _later(values: Any) -> Any:
+    """Times that have passed; a TypeError or a ValueError where one of them is none. (There may be a million.)"""
+    if set(map(type, values)) - {int}:
+        raise TypeError
+    if min(values, default=0) < 0:
         raise ValueError
-    return int(value)
+    return values
 
 
 def _typed(value: Any, sort: type) -> Any:

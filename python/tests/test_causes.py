@@ -8,7 +8,9 @@ import unittest
 from pathlib import Path
 from typing import Any, Iterator, NamedTuple
 
+from netrev_fuzz.injections import Traffic
 from nrdb.causes import first_words
+from nrdb.causes.index import index_of
 from nrdb.causes.source import behind
 from nrdb.causes.tables import hangs_table
 from nrdb.causes.words import duration
@@ -167,6 +169,17 @@ class Causes(unittest.TestCase):
 
     def test_the_source_is_shown_to_the_end_of_its_function(self) -> None:
         self.assertEqual(behind(["func f() {", "\tx()", "}", "", "y"], 2), [(2, "    x()")])
+
+    def test_under_a_deadline_are_the_calls_that_ended_since_it_was_set(self) -> None:
+        found = 0
+        for seed in range(5):
+            index = index_of(Recording(Traffic(seed, None, 800).run().text()))
+            for call in index.book.calls:
+                same_side = [one for one in index.by_socket[call.socket] if one.name == call.name]
+                under = [one for one in same_side if call.cause < one.last <= call.first]
+                self.assertEqual(index.under_its_deadline(call), under)
+                found += bool(call.cause and under)
+        self.assertGreater(found, 0)
 
     def test_times_are_in_the_largest_unit(self) -> None:
         self.assertEqual(

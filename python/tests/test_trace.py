@@ -20,6 +20,7 @@ from nrdb.recording import Recording
 from nrdb.scout import Scout
 from nrdb.suspects.ranking import all_suspects_of
 from nrdb.timeline.beside import beside
+from nrdb.timeline.searched import DEADLINES_AND_CLOCK, STATUSES, searched
 from nrdb.timeline.trace import Tracing
 
 from .modelled import changes_in
@@ -184,3 +185,15 @@ class Trace(unittest.TestCase):
                 names = {one["ts"]: one["name"] for one in told if one["args"]["says"] == suspect.sentence()}
                 self.assertEqual(sorted({suspect.step, *suspect.steps}), sorted(names))
             self.assertTrue(told, path.stem)
+
+
+class Searched(unittest.TestCase):
+    def test_the_first_line_of_each_piece_is_found_too(self) -> None:
+        pieces = [
+            b"1 gor 0 = idle\n1 lock 0 = 2\n",
+            b"2 gor 0 = parked 0 r\n3 rd 0 = -1\n",
+            b"4 clock = 7\nok 4 steps\n",
+        ]
+        changes = RecordedChanges.read(pieces)
+        self.assertEqual(list(searched(changes, STATUSES)), [("1", "gor 0", "idle"), ("2", "gor 0", "parked 0 r")])
+        self.assertEqual(list(searched(changes, DEADLINES_AND_CLOCK)), [("3", "rd 0", "-1"), ("4", "clock", "7")])

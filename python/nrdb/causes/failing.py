@@ -23,7 +23,12 @@ ENDED = {
 def causes_of(recording: Recording, position: int) -> list[Cause]:
     """The calls that had failed at a position, in the order in which they ended, each with its cause."""
     index = index_of(recording)
-    return [cause_of(index, call) for call in sorted(index.failed(position), key=lambda one: one.last)]
+    return [cause_of(index, call) for call in failed_at(index, position)]
+
+
+def failed_at(index: Index, position: int) -> list[Call]:
+    """The calls that had failed at a position, in the order in which they ended."""
+    return sorted(index.failed(position), key=lambda one: one.last)
 
 
 def cause_of(index: Index, call: Call, deep: int = 0) -> Cause:
@@ -47,9 +52,7 @@ def of_timeout(index: Index, call: Call, begins: str) -> Cause:
     side = "r" if call.name in READING else "w"
     at = place_of_step(recording, call.cause, step.argument("g"))
     time = step.argument("time")
-    before = [
-        one for one in index.by_socket[call.socket] if one.name == call.name and call.cause < one.last <= call.first
-    ]
+    before = index.under_its_deadline(call)
     well = [one for one in before if went_well(one)]
     late = [one for one in before if one.outcome is Outcome.TIMED_OUT]
     says = [f"{begins}."]

@@ -1,6 +1,8 @@
 """The calls of a recording by whose they are, and which socket is the other end of which."""
 
+from bisect import bisect_right
 from functools import lru_cache
+from operator import attrgetter
 from typing import Iterable, NamedTuple, Optional
 
 from ..calls import book_of
@@ -9,6 +11,7 @@ from ..recording import Recording
 
 READING, WRITING = ("Read", "WaitRead"), ("Write", "WaitWrite")
 MOVING = ("Read", "Write")
+FIRST, END = attrgetter("first"), attrgetter("last")
 ACCEPTS = ("internal/poll.(*FD).Accept",)
 
 
@@ -32,6 +35,9 @@ class Index:
         for call in self.book.calls:
             self.by_socket.setdefault(call.socket, []).append(call)
             self.by_goroutine.setdefault(call.goroutine, []).append(call)
+        self._ended: dict[
+            tuple[int, str], list[Call]
+        ] = {}  # of each side that was asked for, in the order of their ends
 
     def other_end(self, socket: int) -> Optional[int]:
         """The socket at the other end of a socket's connection, where that is known."""
@@ -76,6 +82,17 @@ class Index:
         """How many bytes the calls of that name, which ended up to a step, moved at a socket."""
         calls = self.by_socket.get(socket, ())
         return sum(one.moved or 0 for one in calls if one.name == name and 0 < one.last <= until)
+
+    def under_its_deadline(self, call: Call) -> list[Call]:
+        """The calls of the same side that ended between the step which set a call's deadline and the call, in the order of their first
+        steps. (A side may have as many timeouts as calls: so none of these looks at all calls.)"""
+        side = call.socket, call.name
+        if side not in self._ended:
+            calls = (one for one in self.by_socket[call.socket] if one.name == call.name and one.last)
+            self._ended[side] = sorted(calls, key=END)
+        ended = self._ended[side]
+        begin, end = (bisect_right(ended, step, key=END) for step in (call.cause, call.first))
+        return sorted(ended[begin:end], key=FIRST)
 
     def failed(self, position: int) -> list[Call]:
         """The calls that had failed at a position."""

@@ -53,6 +53,7 @@ class Telling:
         self._recording = recording
         self._names: dict[tuple[str, int], str] = {}  # of calls, by their stacks
         self._lines: dict[int, str] = {}  # of stacks
+        self._texts: dict[str, str] = {}  # of what a call is called with what came of it
 
     def of(self, call: Call) -> tuple[str, str]:
         """The name of a call, with what came of it, and its line."""
@@ -64,7 +65,9 @@ class Telling:
             self._lines[stack] = of_json(plain(self._recording.lines.words(call.first)))
         came = call.came()
         name = f"{self._names[named]} on socket {call.socket}{': ' if came else ''}{came}"
-        return of_json(name), self._lines[stack]
+        if name not in self._texts:
+            self._texts[name] = of_json(name)
+        return self._texts[name], self._lines[stack]
 
     def _stack(self, step: int) -> int:
         """The number of a step's stack; 0 where none is known."""

@@ -10,7 +10,8 @@ Lines = Iterator[tuple[str, str, str]]
 
 def spelled(cells: str) -> re.Pattern[str]:
     """A line that says what a cell of this spelling shows behind a step: a number or words, which need no escape wherever they are written."""
-    return re.compile(rf"^(\d+) ({cells}) = ([\w -]+)$", re.MULTILINE | re.ASCII)
+    # (what begins with a letter of its own, the line feed before, is searched nearly twice as fast as what begins with a line)
+    return re.compile(rf"\n(\d+) ({cells}) = ([\w -]+)$", re.MULTILINE | re.ASCII)
 
 
 STATUSES, STATUSES_AND_CLOCK, DEADLINES_AND_CLOCK = map(spelled, (r"gor \d+", r"gor \d+|clock", r"[rw]d \d+|clock"))
@@ -19,7 +20,7 @@ STATUSES, STATUSES_AND_CLOCK, DEADLINES_AND_CLOCK = map(spelled, (r"gor \d+", r"
 def searched(changes: RecordedChanges, lines: re.Pattern[str]) -> Lines:
     """The step, the cell and its value of each of these lines, as texts."""
     for piece in changes.pieces():
-        yield from lines.findall(piece.decode("latin-1"))
+        yield from lines.findall("\n" + piece.decode("latin-1"))
 
 
 def by_cell(lines: Lines) -> dict[str, list[tuple[int, str]]]:

@@ -1,11 +1,12 @@
 """How it went wrong, as the page tells it: the suspects, each with the steps that it is made of; where there is none, the calls that hang or
 failed, with their causes. That is what rules and causes say; the values beside them are netrev's."""
 
+from itertools import islice
 from typing import Iterator
 
-from ..causes.failing import causes_of
+from ..causes.failing import cause_of, failed_at
 from ..causes.hanging import hangs_at
-from ..causes.index import Cause
+from ..causes.index import Cause, index_of
 from ..causes.words import is_by_go, is_of_go
 from ..recording import Recording
 from ..scout import Scout
@@ -35,12 +36,14 @@ def suspects_data(scout: Scout, recording: Recording) -> Iterator[Data]:
 def causes_data(recording: Recording) -> Iterator[Data]:
     """The calls of the program that hang in the end, and those that failed, with what `info hangs` and `info errors` say of them."""
     hangs = [one for one in hangs_at(recording, recording.length) if not is_of_go(recording, one.call)]
-    failed = [one for one in causes_of(recording, recording.length) if not is_by_go(recording, one.call)]
+    index = index_of(recording)
+    failed = (call for call in failed_at(index, recording.length) if not is_by_go(recording, call))
     every = {step for cause in hangs for step in cause.steps}  # (those that hang are one story)
     for cause in hangs[:MOST_CAUSES]:
         yield cause_data(recording, HANGS, cause, every)
-    for cause in failed[:MOST_CAUSES]:
-        yield cause_data(recording, FAILED, cause, {*cause.steps, cause.call.last})
+    for call in islice(failed, MOST_CAUSES):
+        cause = cause_of(index, call)
+        yield cause_data(recording, FAILED, cause, {*cause.steps, call.last})
 
 
 def cause_data(recording: Recording, rule: str, cause: Cause, of: set[int]) -> Data:

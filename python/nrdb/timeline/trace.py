@@ -115,17 +115,19 @@ class Tracing:
         steps = zip(self.recording.rows(self._told), told_lines(self.recording.lines, self.recording.length))
         changed = self._changed()
         upcoming, statuses, ticked = next(changed)
-        before, clock = "0", "0"
+        before, clock = "0", ',"clock":0'
         for first in range(1, self.recording.length + 1, AT_ONCE):
             check()
             events: list[str] = []
-            for number, ((mine, where, what), line) in enumerate(islice(steps, AT_ONCE), first):
+            for number, ((mine, where, begin, what), line) in enumerate(islice(steps, AT_ONCE), first):
                 # (a million of these: so the text is put together here, and its parts are made once of lines that are alike)
                 step = str(number)
-                events.append(f'{{"ph":"X",{where},"ts":{before},"dur":1,{what}{step},"clock":{clock}{line}')
+                events.append(f"{begin}{before}{what}{step}{clock}{line}")
                 if number == upcoming:
-                    self._statuses_change(number, mine, where, statuses, events)
-                    clock = ticked or clock
+                    if statuses:
+                        self._statuses_change(number, mine, where, statuses, events)
+                    if ticked:
+                        clock = f',"clock":{ticked}'
                     upcoming, statuses, ticked = next(changed)
                 before = step
             yield events
@@ -133,8 +135,8 @@ class Tracing:
         if self._since:
             yield [self._status(g, self._statuses[g], self.recording.length + 1) for g in sorted(self._since)]
 
-    def _told(self, values: list[Any]) -> tuple[Optional[int], str, str]:
-        """Of a step's line the goroutine that makes it, where its slice lies, and what it is called."""
+    def _told(self, values: list[Any]) -> tuple[Optional[int], str, str, str]:
+        """Of a step's line the goroutine that makes it, where its slice lies, and how that is told: up to its time, and up to its number."""
         words = values[:-1] if self._has_answers else values
         kind = words[0]
         mine: Optional[int] = words[1] if kind in BY_A_GOROUTINE else None
@@ -142,7 +144,9 @@ class Tracing:
         text = " ".join(map(str, words))
         if len(text) > SHOWN:
             text = " ".join([kind, *(shortened(str(one)) for one in words[1:])])
-        return mine, f'"pid":{process},"tid":{thread}', f'"name":{of_json(text)},"cat":"step","args":{{"step":'
+        where = f'"pid":{process},"tid":{thread}'
+        what = f',"dur":1,"name":{of_json(text)},"cat":"step","args":{{"step":'
+        return mine, where, f'{{"ph":"X",{where},"ts":', what
 
     def _changed(self) -> Iterator[tuple[int, Statuses, str]]:
         """Each step that changed a status or the clock, with the statuses, and the clock where it did; in the end no step."""
@@ -165,24 +169,28 @@ class Tracing:
         self, number: int, mine: Optional[int], where: str, statuses: Statuses, events: list[str]
     ) -> None:
         """Adds the slices that end at a step, and the flows from it."""
-        before = {g: self._statuses.get(g) or value_at_start(f"gor {g}") for g in statuses}
-        # (whoever sleeps is woken by another, of two at a descriptor the reader first)
-        order = sorted(statuses, key=lambda g: (g == mine, before[g].split()[-1])) if len(statuses) > 1 else statuses
+        known, order = self._statuses, list(statuses)
         for g in order:
+            if g not in known:
+                known[g] = value_at_start(f"gor {g}")
+        if len(order) > 1:
+            # (whoever sleeps is woken by another, of two at a descriptor the reader first)
+            order.sort(key=lambda g: (g == mine, known[g].split()[-1]))
+        for g in order:
+            before, now = known[g], statuses[g]
             if g in self._since:
-                events.append(self._status(g, before[g], number))
-            if statuses[g] not in QUIET:
+                events.append(self._status(g, before, number))
+            if now not in QUIET:
                 self._since[g] = number
-            if g != mine and before[g] != "absent":
+            if g != mine and before != "absent":
                 self._flow(number, where, g, events)
-        self._statuses |= statuses
+            known[g] = now
 
     def _status(self, g: int, words: str, until: int) -> str:
         """The slice of a status that ends."""
         since = self._since.pop(g)
         self.slices += 1
-        where = f'"pid":{GOROUTINES},"tid":{g},"ts":{since},"dur":{until - since}'
-        return f'{{"ph":"X",{where},"name":"{words}","cat":"status"}}'
+        return f'{{"ph":"X","pid":{GOROUTINES},"tid":{g},"ts":{since},"dur":{until - since},"name":"{words}","cat":"status"}}'
 
     def _flow(self, number: int, where: str, woken: int, events: list[str]) -> None:
         """From the step that wakes to the status in which the woken one goes on."""

@@ -18,16 +18,10 @@ def rule(run: Run) -> Iterator[Suspect]:
     for call in index.book.calls:
         if call.name not in SIDES or call.outcome is not Outcome.TIMED_OUT or not 0 < call.cause < call.first:
             continue
-        step = recording.step(call.cause)
-        before = calls_under(index, call)
-        if before and step.argument("time") > 0 and recording.lines.of(call.cause).own():
+        if not recording.lines.of(call.cause).own() or recording.step(call.cause).argument("time") <= 0:
+            continue
+        if before := [one for one in index.under_its_deadline(call) if went_well(one)]:
             yield suspect_of(index, call, before)
-
-
-def calls_under(index: Index, call: Call) -> list[Call]:
-    """The calls of the same side that ended well between the step that set the deadline and this call."""
-    calls = index.by_socket[call.socket]
-    return [one for one in calls if one.name == call.name and call.cause < one.last <= call.first and went_well(one)]
 
 
 def suspect_of(index: Index, call: Call, before: list[Call]) -> Suspect:

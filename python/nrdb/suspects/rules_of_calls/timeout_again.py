@@ -18,7 +18,9 @@ def rule(run: Run) -> Iterator[Suspect]:
         for name in SIDES:
             row: list[Call] = []
             for call in (one for one in calls if one.name == name and one.last):
-                row = [*row, call] if row and is_next(row[-1], call) else [call]
+                if not row or not is_next(row[-1], call):
+                    row = []
+                row.append(call)
                 if len(row) == MANY and not is_of_go(index.recording, call):
                     yield suspect_of(index, row)
 

@@ -1,0 +1,24 @@
+"""How a program ends that knows millions of small things: at once, and not when Python has given them back piece by piece."""
+
+import atexit
+import os
+import sys
+from contextlib import suppress
+from typing import Callable
+
+
+def ended_by(main: Callable[[], int]) -> None:
+    """Runs a program, and ends the process with its status."""
+    statuses: list[int] = []
+    atexit.register(leave, statuses)  # (first, so that it comes behind all else that is to be done at the end)
+    statuses.append(main())
+    sys.exit(statuses[0])
+
+
+def leave(ended: list[int]) -> None:
+    """Ends the process where the program has ended with a status. To give back what is known of a million steps takes a second."""
+    with suppress(OSError, ValueError):  # (what can't be printed is told by Python, as always)
+        for status in ended:
+            for stream in filter(None, (sys.stdout, sys.stderr)):
+                stream.flush()
+            os._exit(status)
