@@ -6,14 +6,19 @@ const CALLS = decoded();
 const STORIES = [...D.suspects, ...D.causes];
 const BY_ROW = byRow();
 
-// The calls, each with its parts by name. A column that has one value alone has it once.
+// The numbers of a column of calls: one value that all have, or how many bytes each has and those of all in base64.
+function numbersOf(told) {
+  if (!Array.isArray(told)) return new Array(D.calls.count).fill(told);
+  const [wide, packed] = told, letters = atob(packed), bytes = new Uint8Array(letters.length);
+  for (let at = 0; at < letters.length; at++) bytes[at] = letters.charCodeAt(at);
+  return { 1: () => bytes, 2: () => new Uint16Array(bytes.buffer), 4: () => new Uint32Array(bytes.buffer), 8: () => new Float64Array(bytes.buffer) }[wide]();
+}
+
+// The calls, each with its parts by name.
 function decoded() {
   const { count, texts } = D.calls, calls = [];
-  const columns = Object.fromEntries(["g", "s", "first", "long", "name", "came", "line", "state", "waited", "slept"].map((name) => {
-    const column = D.calls[name] || [];
-    return [name, column.length === 1 && count > 1 ? new Array(count).fill(column[0]) : column];
-  }));
-  const { g, s, first, long, name, came, line, state, waited, slept } = columns;
+  const names = ["g", "s", "first", "long", "name", "came", "line", "state", "waited", "slept"];
+  const { g, s, first, long, name, came, line, state, waited, slept } = Object.fromEntries(names.map((name) => [name, count ? numbersOf(D.calls[name]) : []]));
   let step = 0;
   for (let at = 0; at < count; at++) {
     step += first[at];

@@ -2,6 +2,10 @@
 of the program. They are nrdb's reckoning, by the recording's steps and the file beside it."""
 
 import re
+import sys
+from array import array
+from base64 import b64encode
+from math import inf
 from operator import sub
 from typing import Any, Optional
 
@@ -41,12 +45,18 @@ def shown_calls(recording: Recording, window: Window) -> list[Call]:
     return [one for one in calls if one.first <= window.last and (not one.last or one.last >= window.first)]
 
 
+WIDTHS = (
+    ("B", 1, 2**8),
+    ("H", 2, 2**16),
+    ("I", 4, 2**32),
+    ("d", 8, inf),
+)  # kinds of arrays, the bytes of a number, and the first one too great
 COLUMNS = ("g", "s", "first", "long", "name", "came", "line", "state", "waited", "slept")
 
 
 def calls_data(recording: Recording, window: Window) -> Data:
-    """The calls of the window, in columns, of which one that has one value alone has that once. `first` counts from the call before; `long`
-    is a call's steps, 0 where it hasn't ended; `name`, `came` and `line` are places in `texts`."""
+    """The calls of the window, in packed columns. `first` counts from the call before; `long` is a call's steps, 0 where it hasn't ended;
+    `name`, `came` and `line` are places in `texts`."""
     telling, calls = Telling(recording), shown_calls(recording, window)
     firsts = [call.first for call in calls]
     columns = [
@@ -60,14 +70,22 @@ def calls_data(recording: Recording, window: Window) -> Data:
     ]
     return {
         "count": len(calls),
-        **({name: short_column(column) for name, column in zip(COLUMNS, columns)} if calls else {}),
+        **({name: packed(column) for name, column in zip(COLUMNS, columns)} if calls else {}),
         "texts": list(telling.texts),
     }
 
 
-def short_column(column: list[int]) -> list[int]:
-    """A column, or its one value."""
-    return column[:1] if len(set(column)) == 1 else column
+def packed(column: list[int]) -> Any:
+    """A column of natural numbers as the page takes it: its one value, or the bytes of all in base64, with how many each has. Beyond 32 bits
+    they are numbers as the page's script has them, of 64 bits with a fraction."""
+    most = max(column)
+    if most == min(column):
+        return most
+    kind, wide = next((kind, wide) for kind, wide, above in WIDTHS if most < above)
+    numbers = array(kind, column)
+    if sys.byteorder == "big":
+        numbers.byteswap()
+    return [wide, b64encode(numbers.tobytes()).decode()]
 
 
 class Telling:

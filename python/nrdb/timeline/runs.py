@@ -2,15 +2,15 @@
 statuses of the goroutines in them."""
 
 from dataclasses import dataclass
-from itertools import count, takewhile
-from typing import Iterator
+from typing import Iterable, Iterator
 
 from netrev_words.vocabulary import CELLS, Of
 
+from ..netrev import Netrev
 from ..recorded_changes import RecordedChanges
 from ..scout import Scout
 from ..session import Misused
-from ..world import COUNTED_BY
+from ..world import COUNTED_BY, made_at
 
 Runs = dict[str, list[tuple[int, str]]]  # of each cell the positions at which it has another value, with that value
 COMPARED = 16  # positions at which all cells are asked
@@ -34,39 +34,39 @@ class Window:
 
 def runs_of(scout: Scout, changes: RecordedChanges, window: Window) -> tuple[Runs, int]:
     """The runs of all cells and queues, and at how many positions netrev was asked for all of them."""
-    cells = list(cells_at(changes, window.last))
-    start = {cell: changes.value(cell, window.first) for cell in cells if not cell.startswith(QUEUES)}
-    queues = Queues(changes, start, window.first)
-    runs: Runs = {cell: [(window.first, start[cell] if cell in start else queues.shown(cell))] for cell in cells}
+    cells = scout.look(window.last, cells_made)
+    start = dict(zip(cells, shown_of(scout, cells, window.first)))
+    queues = Queues(start)
+    runs: Runs = {cell: [(window.first, value)] for cell, value in start.items()}
     for step, changed in changes.between(window.first, window.last):
         for cell, value in (*changed, *queues.follow(changed)):
             runs[cell].append((step, value))
-    compared = window.compared()
+    first, *compared = window.compared()
     for position in compared:
         _compare(scout, runs, position)
-    return runs, len(compared)
+    return runs, len((first, *compared))
 
 
-def cells_at(changes: RecordedChanges, position: int) -> Iterator[str]:
-    """All cells of what is made at the position, and the queues."""
-    yield from NAMES[Of.ALL]
-    for of, name in COUNTED_BY.items():
-        made = takewhile(lambda number: changes.value(f"{name} {number}", position) != "absent", count())
-        yield from (f"{name} {number}" for number in made for name in NAMES[of])
+def cells_made(netrev: Netrev) -> list[str]:
+    """All cells of what is made where netrev stands, and the queues."""
+    made = {of: made_at(netrev, of) for of in COUNTED_BY}
+    numbered = (f"{name} {number}" for of, count in made.items() for number in range(count) for name in NAMES[of])
+    return [*NAMES[Of.ALL], *numbered]
+
+
+def shown_of(scout: Scout, cells: Iterable[str], position: int) -> list[str]:
+    """What netrev shows of these cells and queues at a position."""
+    looks = [f"dump {cell}" if cell.startswith(QUEUES) else f"print {cell}" for cell in cells]
+    return scout.look(position, lambda netrev: netrev.looks(looks))
 
 
 class Queues:
-    """The queues, by the statuses of the goroutines in them: whoever comes stands last. They begin as they are at a position."""
+    """The queues, by the statuses of the goroutines in them: whoever comes stands last. They begin as netrev shows them."""
 
-    def __init__(self, changes: RecordedChanges, start: dict[str, str], position: int) -> None:
+    def __init__(self, start: dict[str, str]) -> None:
         self._statuses = {cell: value for cell, value in start.items() if cell.startswith("gor ")}
-        self._standing: dict[str, list[str]] = {}
-        for cell, value in start.items():
-            if cell.startswith("lock ") and value != "absent":
-                self._standing |= {f"{queue} {cell[5:]}": [] for queue in QUEUES}
-        asleep = [cell for cell, status in self._statuses.items() if status.startswith("queued ")]
-        for cell in sorted(asleep, key=lambda cell: changes.steps_of(cell, position)[-1]):
-            self._standing[_queue(self._statuses[cell])].append(cell[4:])
+        queues = {cell: value for cell, value in start.items() if cell.startswith(QUEUES) and value != "absent"}
+        self._standing = {queue: value.split() if value != "-" else [] for queue, value in queues.items()}
 
     def shown(self, queue: str) -> str:
         """A queue as netrev shows it."""
@@ -104,8 +104,7 @@ def _queue(status: str) -> str:
 
 def _compare(scout: Scout, runs: Runs, position: int) -> None:
     """Holds all cells and queues against what netrev shows at the position; Misused where something else is there."""
-    looks = [f"dump {cell}" if cell.startswith(QUEUES) else f"print {cell}" for cell in runs]
-    for (cell, run), shown in zip(runs.items(), scout.look(position, lambda netrev: netrev.looks(looks))):
+    for (cell, run), shown in zip(runs.items(), shown_of(scout, runs, position)):
         if shown != (told := value_at(run, position)):
             raise Misused(
                 f"netrev shows {cell} = {shown} at {position}, and nrdb reckons with {told}: an error of nrdb's"

@@ -20,15 +20,15 @@ WAKES = {"parked": ("swapping", "desc"), "queued": ("acquiring", "sock")}  # wha
 
 
 class Connections:
-    """Whose each descriptor and each goroutine is, in a window: each use of a descriptor up to its end, with its number, its socket, and
-    from which position to which (None: the end); and the socket that each goroutine has most to do with."""
+    """Whose each descriptor and each goroutine is, in a window: each use of a descriptor in it, with its number, its socket, and from which
+    position to which (None: the window's end, or behind it); and the socket that each goroutine has most to do with."""
 
     def __init__(self, recording: Recording, window: Window) -> None:
         self._window, notes = window, book_of(recording).notes
         self.uses: list[list[Any]] = [
             [use.descriptor, use.socket, use.opened, use.closed if 0 < use.closed <= window.last else None]
             for use in notes.uses
-            if use.opened <= window.last
+            if use.opened <= window.last and not 0 < use.closed <= window.first
         ]
         self._touched: dict[int, dict[int, int]] = {}
         for (g, s), many in sorted(Touched(notes, window.first, window.last).items()):
@@ -50,7 +50,8 @@ class Connections:
             return
         socket = int(status[1])
         if status[0] in INSIDE:
-            socket = next(use[1] for use in reversed(self.uses) if use[0] == socket and use[2] <= position)
+            uses = (use for use in reversed(self.uses) if use[0] == socket and use[2] <= position)
+            socket = next(uses)[1]
         counts = self._touched.setdefault(g, {})
         counts[socket] = counts.get(socket, 0) + steps
 

@@ -3,19 +3,21 @@ saved and read on a phone. Left out where there is no chromium (Debian: apt-get 
 
 import json
 import shutil
+import struct
 import tempfile
 import unittest
 import xml.etree.ElementTree as ET
+from base64 import b64decode
 from itertools import accumulate
 from pathlib import Path
-from typing import Any
+from typing import Any, Sequence
 from unittest.mock import patch
 
 from nrdb.calls import book_of
 from nrdb.causes.hanging import hangs_at
 from nrdb.recording import Recording
 from nrdb.suspects.ranking import all_suspects_of
-from nrdb.timeline.calls import COLUMNS
+from nrdb.timeline.calls import COLUMNS, packed
 
 from .browser import CHROMIUM, used
 from .devtools import Chromium
@@ -32,7 +34,7 @@ BUGS = {  # of each real recording: the rule that names it, the steps of its sto
     "lost": ("lost wake-up", [64, 67, 68], "Read · hangs · main.go:52"),
     "past": ("deadline taken back too soon", [70, 74], "Read · hangs · main.go:38"),
 }
-NAMES = "V, C, D, CALLS, STORIES, FOLDED, PINNED, ONLY, GROUPS, callWords, whoIs, xOf, positionAt, timeAt, sumsOf, svgOf, keyOf, labels"
+NAMES = "V, C, D, CALLS, STORIES, FOLDED, PINNED, ONLY, GROUPS, callWords, whoIs, xOf, positionAt, timeAt, sumsOf, svgOf, keyOf, labels, numbersOf"
 STATES = ["done", "failed", "hangs", "open", "listens"]
 
 
@@ -41,6 +43,16 @@ def opened(page: str) -> str:
     end = "})(JSON.parse("
     assert page.count(end) == 1
     return page.replace(end, f"window.inside = {{ {NAMES} }};\n{end}")
+
+
+def numbers_in(told: Any, count: int) -> Sequence[int]:
+    """The numbers of a column of calls: one value that all have, or how many bytes each has and those of all in base64."""
+    if not isinstance(told, list):
+        return [told] * count
+    wide, text = told
+    assert wide != 8
+    kind = {1: "B", 2: "H", 4: "I"}[wide]
+    return struct.unpack(f"<{count}{kind}", b64decode(text))
 
 
 def pages() -> dict[str, str]:
@@ -53,7 +65,7 @@ class Data(unittest.TestCase):
             recording = Recording.read(str(REAL / f"{name}.jsonl"))
             data = data_in(page_of(REAL / f"{name}.jsonl"))["calls"]
             texts, step, told = data["texts"], 0, []
-            data |= {part: data[part] * data["count"] for part in COLUMNS if len(data[part]) == 1}
+            data |= {part: numbers_in(data[part], data["count"]) for part in COLUMNS}
             for at, begins in enumerate(data["first"]):
                 step += begins
                 last = step + data["long"][at] - 1 if data["long"][at] else 0
@@ -294,6 +306,11 @@ class InChromium(unittest.TestCase):
 
 @unittest.skipUnless(CHROMIUM, "chromium isn't on this machine (Debian: apt-get install chromium)")
 class Parts(unittest.TestCase):
+    def test_numbers_beyond_32_bits_are_read(self) -> None:
+        wide, text = packed([2**32, 1])
+        told = used(pages()["hung"], f'told.numbers = [...inside.numbersOf([{wide}, "{text}"])];')
+        self.assertEqual(told["numbers"], [2**32, 1])
+
     def test_a_part_has_the_calls_of_the_whole_run(self) -> None:
         with tempfile.TemporaryDirectory() as folder:
             file = Path(folder) / "part.html"

@@ -8,7 +8,7 @@ import unittest
 from pathlib import Path
 from unittest.mock import patch
 
-from nrdb.recorded_changes import AT_START
+from nrdb.recorded_changes import RecordedChanges
 
 from .support import EXAMPLES, HUNTS, nrdb, recordings, shown
 
@@ -151,10 +151,16 @@ class Timeline(unittest.TestCase):
         )
 
     def test_nothing_is_written_where_netrev_shows_something_else(self):
-        with tempfile.TemporaryDirectory() as folder, patch.dict(AT_START, {"gor 0": "gone"}):
+        between = RecordedChanges.between
+
+        def wrong(changes, first, last):
+            for step, changed in between(changes, first, last):
+                yield step, [(cell, "gone" if cell == "lock 0" else value) for cell, value in changed]
+
+        with tempfile.TemporaryDirectory() as folder, patch.object(RecordedChanges, "between", wrong):
             file = Path(folder) / "page.html"
             said = nrdb("--batch", "-ex", f"timeline {file}", EXAMPLES / "leaked-reference.jsonl")
-            self.assertIn("netrev shows gor 0 = idle at 0, and nrdb reckons with gone: an error of nrdb's", said)
+            self.assertRegex(said, r"netrev shows lock 0 = \d+ at \d+, and nrdb reckons with gone: an error of nrdb's")
             self.assertFalse(file.exists())
 
 
