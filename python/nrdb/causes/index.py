@@ -1,6 +1,7 @@
 """The calls of a recording by whose they are, and which socket is the other end of which."""
 
 from bisect import bisect_right
+from collections import defaultdict
 from functools import lru_cache
 from operator import attrgetter
 from typing import Iterable, NamedTuple, Optional
@@ -30,11 +31,11 @@ class Index:
 
     def __init__(self, recording: Recording) -> None:
         self.recording, self.book = recording, book_of(recording)
-        self.by_socket: dict[int, list[Call]] = {}
-        self.by_goroutine: dict[int, list[Call]] = {}
+        self.by_socket: dict[int, list[Call]] = defaultdict(list)
+        self.by_goroutine: dict[int, list[Call]] = defaultdict(list)
         for call in self.book.calls:
-            self.by_socket.setdefault(call.socket, []).append(call)
-            self.by_goroutine.setdefault(call.goroutine, []).append(call)
+            self.by_socket[call.socket].append(call)
+            self.by_goroutine[call.goroutine].append(call)
         self._ended: dict[
             tuple[int, str], list[Call]
         ] = {}  # of each side that was asked for, in the order of their ends

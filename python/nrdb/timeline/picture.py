@@ -1,7 +1,7 @@
 """What a page shows: of the whole run the calls and what went wrong, and of a part of it each cell's values, as netrev has them."""
 
 from pathlib import Path
-from typing import Callable, NamedTuple, Optional
+from typing import Any, Callable, NamedTuple, Optional
 
 from netrev_words.vocabulary import CELLS
 
@@ -114,10 +114,12 @@ def part_of(shown: Shown, window: Window) -> Data:
 
 def steps_of(recording: Recording, window: Window) -> list[str]:
     """The steps that lead to each position, and the one behind the last; empty where there is none."""
-    texts = [] if window.first else [""]
-    for values in recording.arrays_of(max(window.first, 1), window.last + 1):
-        told = values[:-1] if recording.has_answers else values
-        texts.append(" ".join(shortened(str(one)) for one in told))
+    behind = -1 if recording.has_answers else None
+
+    def text_of(values: list[Any]) -> str:
+        return " ".join(shortened(str(one)) for one in values[:behind])
+
+    texts = [*([] if window.first else [""]), *recording.rows(text_of, max(window.first, 1), window.last + 1)]
     return texts + [""] * (window.last + 2 - window.first - len(texts))
 
 
@@ -135,10 +137,9 @@ def rows_of(runs: Runs) -> list[Data]:
 
 def words_of(runs: Runs) -> dict[str, dict[str, str]]:
     """The words of the values of cells that have such, by the cell's name."""
-    words: dict[str, dict[str, str]] = {}
+    shown: dict[str, dict[str, None]] = {}
     for cell, run in runs.items():
-        name = cell.split()[0]
-        for _, value in run:
-            if name in CELLS and value not in words.get(name, ()) and (said := in_words(name, value)):
-                words.setdefault(name, {})[value] = said
-    return words
+        if (name := cell.split()[0]) in CELLS:
+            shown.setdefault(name, {}).update((value, None) for _, value in run)
+    words = {name: {value: said for value in values if (said := in_words(name, value))} for name, values in shown.items()}
+    return {name: said for name, said in words.items() if said}
