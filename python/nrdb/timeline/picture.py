@@ -141,5 +141,7 @@ def words_of(runs: Runs) -> dict[str, dict[str, str]]:
     for cell, run in runs.items():
         if (name := cell.split()[0]) in CELLS:
             shown.setdefault(name, {}).update((value, None) for _, value in run)
-    words = {name: {value: said for value in values if (said := in_words(name, value))} for name, values in shown.items()}
+    words = {
+        name: {value: said for value in values if (said := in_words(name, value))} for name, values in shown.items()
+    }
     return {name: said for name, said in words.items() if said}
