@@ -44,6 +44,7 @@ reads_some old before remaining calls made moments passed buffer n is more withi
   record { received = ap bytes_of more ∙ more_bytes calls (buffer, Moved n) ∙ ap (λ s. s.received ++ take n buffer) is; consumed = subst (λ known. Consumes known remaining (take n buffer)) (ap (λ s. s.remaining) is) consumed },
   ap a_read_failed more ∙ any_more _ calls (buffer, Moved n) ∙ search rules ∙ ap (λ s. s.failed) is,
   λ none room. (ap finds_end more ∙ last_finds calls (buffer, Moved n) ∙ search rules, at_end none room),
+  λ some. ap finds_end more ∙ last_finds calls (buffer, Moved n) ∙ search rules,
 )
 
 -- a call that returned an error was interrupted or failed
@@ -68,6 +69,6 @@ reads_none old before remaining calls made moments passed buffer k is more kept 
     let received : (outcome : CallOutcome) → made ≡ calls ++ (buffer, outcome) ∷ [] → moved (buffer, outcome) ≡ [] → Receives old (seen remaining made passed) [] =
     λ outcome more none. record { received = ap bytes_of more ∙ more_bytes calls (buffer, outcome) ∙ ap (λ t. bytes_of calls ++ t) none ∙ ap (λ s. s.received ++ []) is; consumed = consumed } in
     ⊎_elim
-    (λ e. rw e ((received Interrupted (rw e at more) refl, ap a_read_failed (rw e at more) ∙ any_more _ calls (buffer, Interrupted) ∙ search rules ∙ ap (λ s. s.failed) is)))
+    (λ e. rw e ((received Interrupted (rw e at more) refl, ap a_read_failed (rw e at more) ∙ any_more _ calls (buffer, Interrupted) ∙ search rules ∙ ap (λ s. s.failed) is, ap finds_end (rw e at more) ∙ last_finds calls (buffer, Interrupted))))
     (λ e. rw e ((received Failed (rw e at more) refl, ap a_read_failed (rw e at more) ∙ any_more _ calls (buffer, Failed) ∙ search rules)))
     (no_bytes k)

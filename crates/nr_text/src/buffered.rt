@@ -36,7 +36,7 @@ impl<W: Write> Model for Buffered<W> {
 
     ghost Value = { Buffering };
 
-    ghost view = { λ b. record { taken = b.writer; held = b.held.items; out = b.out } };
+    ghost view = { λ b. record { taken = b.writer.taken; held = b.held.items; out = b.out } };
 }
 
 impl<W: Write> Buffered<W> {
@@ -140,8 +140,8 @@ fn put_out<W: Write>(
     writer: &mut LoggedWriter<W>,
     out: &mut u64,
 ) -> Result<(), WriteFailed>
-    ensures ok { OnOk result (PutsOut bytes.now writer.old writer.new out.old out.new) }
-    ensures err { OnErr result (PutsOutSome bytes.now writer.old writer.new out.old out.new) }
+    ensures ok { OnOk result (PutsOut bytes.now writer.old.taken writer.new.taken out.old out.new) }
+    ensures err { OnErr result (PutsOutSome bytes.now writer.old.taken writer.new.taken out.old out.new) }
 {
     let mut sent = 0;
     while sent < bytes.len() {
@@ -157,9 +157,10 @@ fn put_out<W: Write>(
     Ok(())
 }
 
-// Writes some of the bytes, and says how many. A write that is interrupted is tried again, up to `u64::MAX` times.
+// Writes some of the bytes, and says how many. A write that is interrupted is tried again, up to 2^64 - 1 times;
+// then it counts as failed.
 fn write_some<W: Write>(writer: &mut LoggedWriter<W>, bytes: &[u8]) -> Result<usize, WriteFailed>
-    ensures { TakesSome writer.old writer.new bytes.now result }
+    ensures { TakesSome writer.old.taken writer.new.taken bytes.now result }
 {
     for _ in 0..u64::MAX {
         match writer.write(bytes) {

@@ -4,7 +4,7 @@
 ghost use Rattle.std.specs.Prelude.{◌≡◌, ℕ, List, [], ◌∷◌, ◌++◌};
 ghost use Rattle.std.specs.Borrow.{ftrue};
 ghost use Rattle.std.specs.declared.io.ErrorKind.{ErrorKind as CallErrorKind};
-ghost use Rattle.nr_text.specs.Calls.{bytes_of, calls_code, outcome_of_kind};
+ghost use Rattle.nr_text.specs.Calls.{bytes_of, calls_code, finds_end, outcome_of_kind};
 ghost use Rattle.nr_text.specs.Moments.{Moment};
 ghost use Rattle.nr_text.specs.Auxiliary.Moments.{moments_code};
 ghost use Rattle.nr_text.specs.declared.calls.CallOutcome.{CallOutcome as Outcome};
@@ -69,7 +69,7 @@ impl Calls {
     }
 }
 
-/// When the reads were made: what had been received and sent by then, in their order.
+/// When the reads were made: what had been received and sent by then, and whether the read before found the end, in their order.
 #[derive(Drop)]
 pub(crate) struct Moments {
     ghost passed: { List Moment } by { moments_code },
@@ -91,7 +91,11 @@ impl Moments {
     #[inline(always)]
     pub(crate) fn and(&self, _reads: &Calls, _writes: &Calls) -> Moments
         ensures { result.passed ≡ self.now.passed
-            ++ record { received = bytes_of _reads.now.made; sent = bytes_of _writes.now.made } ∷ [] }
+            ++ record {
+              received = bytes_of _reads.now.made;
+              sent = bytes_of _writes.now.made;
+              ended = finds_end _reads.now.made;
+            } ∷ [] }
     {
         Moments {}
     }

@@ -1,6 +1,6 @@
 //! A reader and a writer that remember their calls, in proofs alone.
 
-ghost use Rattle.std.specs.Prelude.{◌≡◌, [], ◌∷◌, false, true};
+ghost use Rattle.std.specs.Prelude.{◌≡◌, ◌+◌, ◌-◌, ◌^◌, ◌≤◌, [], ◌∷◌, length, false, true};
 ghost use Rattle.nr_text.specs.Calls.{bytes_of};
 ghost use Rattle.nr_text.specs.Streams.{Passes};
 ghost use Rattle.nr_text.specs.Auxiliary.Streams.{Reads, Takes, unread, unwritten};
@@ -62,7 +62,7 @@ impl<R: Read> LoggedReader<R> {
     pub(crate) fn read(&mut self, writes: &Calls, buffer: &mut [u8]) -> CallOutcome
         ensures reads { Reads self.old self.new buffer.new result }
         ensures moment { Passes self.old self.new
-            (record { received = self.old.received; sent = bytes_of writes.now.made } ∷ []) }
+            (record { received = self.old.received; sent = bytes_of writes.now.made; ended = self.old.ended } ∷ []) }
     {
         self.moments = self.moments.and(&self.calls, writes);
         let outcome = match self.reader.read(buffer) {
@@ -74,8 +74,9 @@ impl<R: Read> LoggedReader<R> {
         outcome
     }
 
-    // Gives up: the last read counts as failed.
+    // Gives up, after 2^64 - 1 reads: the last one counts as failed.
     pub(crate) fn give_up(&mut self)
+        requires { 2 ^ 64 - 1 ≤ length self.old.moments }
         ensures reads { Reads self.old self.new [] CallOutcome.Failed }
         ensures moments { Passes self.old self.new [] }
     {
@@ -88,7 +89,7 @@ impl<R: Read> LoggedReader<R> {
 }
 
 /// A writer that remembers its writes. Contracts see the bytes that it has, where they are known, those that its writes took,
-/// and whether one failed, or took nothing of the bytes that there were.
+/// whether one failed, or took nothing of the bytes that there were, and how many writes there were.
 #[derive(Drop)]
 pub(crate) struct LoggedWriter<W: Write> {
     writer: W,
@@ -96,22 +97,26 @@ pub(crate) struct LoggedWriter<W: Write> {
 }
 
 impl<W: Write> Model for LoggedWriter<W> {
+    ghost use Rattle.std.specs.Prelude.{length};
     ghost use Rattle.nr_text.specs.Calls.{a_write_failed, bytes_of};
-    ghost use Rattle.nr_text.specs.Streams.{Outgoing};
+    ghost use Rattle.nr_text.specs.Auxiliary.Streams.{WriterLog};
 
-    ghost Value = { Outgoing };
+    ghost Value = { WriterLog };
 
     ghost view = { λ l. record {
-      contents = W.contents l.writer;
-      sent = bytes_of l.calls.made;
-      failed = a_write_failed l.calls.made;
+      taken = record {
+        contents = W.contents l.writer;
+        sent = bytes_of l.calls.made;
+        failed = a_write_failed l.calls.made;
+      };
+      writes = length l.calls.made;
     } };
 }
 
 impl<W: Write> LoggedWriter<W> {
     // The writer, of which no write was made.
     pub(crate) fn new(writer: W) -> LoggedWriter<W>
-        ensures { result ≡ unwritten (W.contents writer) }
+        ensures { result ≡ record { taken = unwritten (W.contents writer); writes = 0 } }
     {
         LoggedWriter {
             writer,
@@ -121,7 +126,7 @@ impl<W: Write> LoggedWriter<W> {
 
     // The writer.
     pub(crate) fn into_inner(self) -> W
-        ensures { W.contents result ≡ self.contents }
+        ensures { W.contents result ≡ self.taken.contents }
     {
         let LoggedWriter { writer, calls: _ } = self;
         writer
@@ -129,7 +134,7 @@ impl<W: Write> LoggedWriter<W> {
 
     // The writes that were made.
     pub(crate) fn calls(&self) -> &Calls
-        ensures { bytes_of result.now.made ≡ self.now.sent }
+        ensures { bytes_of result.now.made ≡ self.now.taken.sent }
     {
         &self.calls
     }
@@ -137,7 +142,8 @@ impl<W: Write> LoggedWriter<W> {
     // Writes once.
     #[inline(always)]
     pub(crate) fn write(&mut self, buffer: &[u8]) -> CallOutcome
-        ensures { Takes self.old self.new buffer.now result }
+        ensures takes { Takes self.old.taken self.new.taken buffer.now result }
+        ensures counted { self.new.writes ≡ self.old.writes + 1 }
     {
         let outcome = match self.writer.write(buffer) {
             Ok(count) => CallOutcome::Moved(count),
@@ -147,9 +153,10 @@ impl<W: Write> LoggedWriter<W> {
         outcome
     }
 
-    // Gives up: the last write counts as failed.
+    // Gives up, after 2^64 - 1 writes: the last one counts as failed.
     pub(crate) fn give_up(&mut self)
-        ensures { Takes self.old self.new [] CallOutcome.Failed }
+        requires { 2 ^ 64 - 1 ≤ self.old.writes }
+        ensures { Takes self.old.taken self.new.taken [] CallOutcome.Failed }
     {
         let call = Call {
             buffer: &[],

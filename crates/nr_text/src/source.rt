@@ -1,6 +1,6 @@
 //! A reader that remembers what it gave and whether a read failed.
 
-ghost use Rattle.std.specs.Prelude.{◌≡◌, []};
+ghost use Rattle.std.specs.Prelude.{◌≡◌, ◌-◌, ◌^◌, ◌≤◌, [], length};
 ghost use Rattle.nr_text.specs.Streams.{Passes};
 ghost use Rattle.nr_text.specs.Auxiliary.Streams.{Reads, ReadsNow, ReadsSome, unread};
 
@@ -61,7 +61,7 @@ impl<R: Read> Source<R> {
     }
 
     /// Reads some bytes, and none at the end, when these replies are out. A read that is interrupted is tried again, up to
-    /// `u64::MAX` times; then it counts as failed.
+    /// 2^64 - 1 times; then it counts as failed. It makes one read at least.
     pub fn read<W: Write>(&mut self, replies: &Sink<W>, buf: &mut [u8]) -> Result<usize, ReadFailed>
         ensures reads { ReadsSome self.old self.new buf.new result }
         ensures moments { ReadsNow self.old self.new replies.now }
@@ -80,8 +80,9 @@ impl<R: Read> Source<R> {
         Err(ReadFailed)
     }
 
-    /// Gives up: the last read counts as failed.
+    /// Gives up, after 2^64 - 1 reads: the last one counts as failed.
     pub fn give_up(&mut self)
+        requires { 2 ^ 64 - 1 ≤ length self.old.moments }
         ensures failed { Reads self.old self.new [] CallOutcome.Failed }
         ensures moments { Passes self.old self.new [] }
     {

@@ -1,20 +1,26 @@
 -- Beside `Moments`: what contracts and proofs cite, and no law of THEOREM.md rests on.
-use Rattle.std.specs.Prelude.{◌≡◌, ℕ, List, refl}
-use Rattle.std.specs.Coded.{Coded, code_by, coded×, coded_ℕ, coded_list}
+use Rattle.std.specs.Prelude.{◌≡◌, ℕ, Bool, List, refl}
+use Rattle.std.specs.Coded.{Coded, code_by, coded×, coded_ℕ, coded_bool, coded_list}
 use Rattle.nr_text.specs.Moments.{Moment}
 
 -- ---- how the prover stores these
 
-abbrev to_pair : Moment → List ℕ × List ℕ
-to_pair m = (m.received, m.sent)
+abbrev Parts : Type 0
+Parts = List ℕ × (List ℕ × Bool)
 
-abbrev from_pair : List ℕ × List ℕ → Moment
-from_pair p = record { received = p.0; sent = p.1 }
+abbrev to_parts : Moment → Parts
+to_parts m = (m.received, (m.sent, m.ended))
 
-pub from_pair-to_pair : (m : Moment) → from_pair (to_pair m) ≡ m
-from_pair-to_pair m = refl
+abbrev from_parts : Parts → Moment
+from_parts p = record { received = p.0; sent = p.1.0; ended = p.1.1 }
+
+pub from_parts-to_parts : (m : Moment) → from_parts (to_parts m) ≡ m
+from_parts-to_parts m = refl
+
+abbrev coded_bytes : Coded (List ℕ)
+coded_bytes = coded_list coded_ℕ
 
 abbrev pub moments_code : Coded (List Moment)
 moments_code =
-    coded_list (code_by (List ℕ × List ℕ) (coded× (coded_list coded_ℕ) (coded_list coded_ℕ)) to_pair
-    from_pair from_pair-to_pair)
+    coded_list (code_by Parts (coded× coded_bytes (coded× coded_bytes coded_bool)) to_parts
+    from_parts from_parts-to_parts)

@@ -20,8 +20,9 @@ unwritten known = record { contents = known; sent = []; failed = false }
 abbrev pub Reads : Incoming → Incoming → List ℕ → CallOutcome → Type 0
 Reads old new buffer (Moved n) =
     (n ≤ length buffer) × Receives old new (take n buffer) × (new.failed ≡ old.failed)
-    × (n ≡ 0 → 0 < length buffer → IsOver new)
-Reads old new buffer Interrupted = Receives old new [] × (new.failed ≡ old.failed)
+    × (n ≡ 0 → 0 < length buffer → IsOver new) × (0 < n → new.ended ≡ false)
+Reads old new buffer Interrupted =
+    Receives old new [] × (new.failed ≡ old.failed) × (new.ended ≡ false)
 Reads old new buffer Failed = Receives old new [] × (new.failed ≡ true)
 
 -- one call of a writer with this buffer, and how it came out
@@ -44,14 +45,27 @@ abbrev pub TakesSome : {E : Type 0} → Outgoing → Outgoing → List ℕ → R
 TakesSome old new bytes (Ok n) = Takes old new bytes (Moved n)
 TakesSome old new bytes (Err _) = Takes old new bytes Failed
 
--- The moment is that of a source and a sink as they are.
+-- The moment is that of a source and a sink as they are. Where the source wasn't at its end, no read
+-- before it found the end.
 abbrev pub IsNow : Incoming → Outgoing → Moment → Type 0
-IsNow input output m = (m.received ≡ input.received) × (m.sent ≡ output.sent)
+IsNow input output m =
+    (m.received ≡ input.received) × (m.sent ≡ output.sent) × (input.ended ≡ false → m.ended ≡ false)
 
--- All reads since then were made when the source was as then, and the sink as it is.
+-- Since then reads were made at these moments, each when the source was as then, and the sink as it
+-- is.
+abbrev pub ReadsAt : Incoming → Incoming → Outgoing → List Moment → Type 0
+ReadsAt old new output moments = Passes old new moments × All (IsNow old output) moments
+
+-- Since then at least one read was made, and each when the source was as then, and the sink as it
+-- is.
 abbrev pub ReadsNow : Incoming → Incoming → Outgoing → Type 0
 ReadsNow old new output =
-    (moments : List Moment) × Passes old new moments × All (IsNow old output) moments
+    (moments : List Moment) × ReadsAt old new output moments × (0 < length moments)
+
+-- What is seen of a writer that is logged: what its writes sent, and how many there were.
+pub record WriterLog : Type 0 where
+  pub taken : Outgoing
+  pub writes : ℕ
 
 -- The whole text was written; or a write failed, and how much is out is reported.
 abbrev pub Prints : Outgoing → Outgoing → List ℕ → Result (Unit {0}) Part → Type 0

@@ -6,8 +6,8 @@ use Rattle.nr_text.proofs.buffered.put_out.Given as goal
 abbrev pub invariant-loop-sent : goal.invariant-loop-sent
 invariant-loop-sent g l = record {
   within : l.sent ≤ length l.bytes;
-  so_far : Sends l.initial.writer l.writer (take l.sent l.bytes);
-  calm : l.writer.failed ≡ l.initial.writer.failed;
+  so_far : Sends l.initial.writer.taken l.writer.taken (take l.sent l.bytes);
+  calm : l.writer.taken.failed ≡ l.initial.writer.taken.failed;
   uncounted : l.out ≡ l.initial.out;
 }
 

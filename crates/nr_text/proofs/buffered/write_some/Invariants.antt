@@ -1,7 +1,9 @@
--- Each try so far was interrupted, and nothing went out.
-use Rattle.std.proofs.Common.{◌≡◌, []}
+-- Each try so far was interrupted, nothing went out, and each was a write.
+use Rattle.std.proofs.Common.{◌≡◌, ◌≤◌, []}
 use Rattle.nr_text.specs.Streams.{Sends}
 use Rattle.nr_text.proofs.buffered.write_some.Given as goal
 
 abbrev pub invariant-loop : goal.invariant-loop
-invariant-loop g l = Sends l.fn.writer l.writer [] × (l.writer.failed ≡ l.fn.writer.failed)
+invariant-loop g l =
+    Sends l.fn.writer.taken l.writer.taken [] × (l.writer.taken.failed ≡ l.fn.writer.taken.failed)
+    × (l.counter ≤ l.writer.writes)

@@ -9,8 +9,8 @@ returns-clause-out g c = record {
   behind = λ start sent has.
       let put = c.put_out-result in
       let inside = c.self.inside in
-      let old : Buffering = record { taken = inside.writer; held = inside.held.items; out = inside.out } in
-      let taken = put.new.writer in
+      let old : Buffering = record { taken = inside.writer.taken; held = inside.held.items; out = inside.out } in
+      let taken = put.new.writer.taken in
       let held = c.as_slice.ensures.value in
       let all = subst (λ bytes. OnOk put.result (PutsOut bytes old.taken taken old.out put.new.out)) held put.ensures.ok in
       let some = subst (λ bytes. OnErr put.result (PutsOutSome bytes old.taken taken old.out put.new.out)) held put.ensures.err in

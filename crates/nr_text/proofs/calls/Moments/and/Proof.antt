@@ -15,7 +15,7 @@ use denote.Signature.{plain, types_at}
 use denote.Steps.{nothing}
 use denote.Triple.Entry.{alive}
 use denote.Triple.Walked.{Stays, Goes-dropped, stay_dropped, walk_of, says, ends_at}
-use Rattle.nr_text.specs.Calls.{bytes_of}
+use Rattle.nr_text.specs.Calls.{bytes_of, finds_end}
 use Rattle.nr_text.specs.contracts.calls.Calls as Calls
 use Rattle.nr_text.specs.contracts.calls.Moments as Moments
 use Rattle.nr_text.specs.contracts.calls.Moments.and as f
@@ -34,7 +34,7 @@ and_spec 𝓤 𝓛 𝓜 𝓡 wired =
     proved 𝓛 f.ended stayed c 𝓜 𝓡 (self_is_dropped, (reads_are_dropped, (writes_are_dropped, tt))) f.Key.name code.function (code.unfolded 𝓤 𝓛.H 𝓜 𝓡 wired)
     (λ κs. (shr_vals, (shr_vals, (shr_vals, tt)))) (λ κs. ((λ r vs is. is.0), ((λ r vs is. is.0), ((λ r vs is. is.0), tt)))) (λ κs qs bounds a g are.
     let y : (walk_of 𝓛 f.ended stayed c).Ghost = ((κs, qs, bounds, a, (shr_vals a.0, (shr_vals a.1.0, (shr_vals a.1.1.0, tt)))), g) in
-    let longer : Moments.the_row.Denot = record { passed = a.0.now.passed ++ record { received = bytes_of a.1.0.now.made; sent = bytes_of a.1.1.0.now.made } ∷ [] } in
+    let longer : Moments.the_row.Denot = record { passed = a.0.now.passed ++ record { received = bytes_of a.1.0.now.made; sent = bytes_of a.1.1.0.now.made; ended = finds_end a.1.0.now.made } ∷ [] } in
     qed 𝓛 ((raw (alive 𝓛 f.signature κs qs) ⊛ ‵ (owns (types_at f.signature.params κs) a y.0.4)) ∷ raw ((c κs a).requires g) ∷ []) ∵
     keep ! (0 ∷ []) $ split ! $ move ! (1 ∷ []) $ drop ! $
     enter ! _ _ _ _ _ $ alloc_all ! (λ l. pass_all ! refl ((tt, tt), ((tt, tt), ((tt, tt), tt))) $
