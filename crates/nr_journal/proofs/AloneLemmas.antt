@@ -1,20 +1,17 @@
 -- A pass that is its journal's only one.
-use Rattle.std.proofs.Common.{◌≡◌, ◌≢◌, ℕ, zero, suc, ◌+◌, ◌<◌, List, [], ◌∷◌, ◌++◌, set, replicate, refl, sym, ap, ◌∙◌, subst, arith, add-one}
+use Rattle.std.proofs.Common.{◌≡◌, ◌≢◌, ℕ, ◌<◌, List, [], ◌∷◌, ◌++◌, sym, ◌∙◌, subst, arith}
 use Rattle.std.proofs.lemmas.List.{append-nil}
-use Rattle.std.proofs.lemmas.List.Elements.{All-head, All-nil}
-use Rattle.std.proofs.lemmas.Nat.Bits.{bit_at-pow_other}
+use Rattle.std.proofs.lemmas.List.Elements.{All-head}
 use Rattle.std.specs.List.{All}
-use mathlib.Core.Logic.{dite}
-use mathlib.Core.Option.{some, some-injective, some-ne-none}
+use mathlib.Core.Option.{some}
 use lib.ListN.{get_elem?}
-use native.Mathlib.Decide.{ℕ_discrete}
 use Rattle.nr_journal.specs.declared.view.PassState.{PassState}
 use Rattle.nr_journal.specs.declared.rule.Purpose.{Purpose}
 use Rattle.nr_journal.specs.declared.view.View.{View}
 use Rattle.nr_journal.specs.declared.view.View.TheVariants.{Within}
 use Rattle.nr_journal.specs.Laws.{AnOnlyPassSeesAll}
 use Rattle.nr_journal.specs.Rule.{tag_of, IsOthers}
-use Rattle.nr_journal.specs.Auxiliary.Rule.{AreDrawn, AreFew, AreTaken, IsEntry, Fits, AreApart, Kept, entering_alone}
+use Rattle.nr_journal.specs.Auxiliary.Rule.{IsEntry, Kept}
 use Rattle.nr_journal.proofs.RowLemmas.{All-right}
 
 module _ (purpose : Purpose) (words : List ℕ) (views : List View) (k : Kept purpose words views) (id : ℕ) (pass_state : PassState) where
@@ -42,41 +39,3 @@ only_sees_all purpose id pass_state words views k at alone = let c = (k.each_vie
     go : (rest : List ℕ) → k.log ≡ pass_state.seen ++ rest → All (IsOthers pass_state.tag) rest → k.log ≡ pass_state.seen
     go [] is others = is ∙ append-nil pass_state.seen
     go (v ∷ rest) is others = absurd (none_behind purpose words views k id pass_state v rest at is others alone)
-
--- the journal of an only pass at the start
-pub begins_alone : (purpose : Purpose) (words : List ℕ) → purpose.passes ≡ 1 → words ≡ set (replicate (purpose.words + 1) 0) 0 1 → Kept purpose words (Within entering_alone ∷ [])
-begins_alone purpose words only is = record {
-  tags = 1;
-  log = [];
-  free = purpose.words;
-  words_are = is ∙ ap (λ (n : ℕ). set (replicate n 0) 0 1) (add-one purpose.words);
-  room_is = omega arith;
-  entries = All-nil (IsEntry 1);
-  each_view = one;
-  apart = one_tag;
-  taken = own;
-  few = first_alone;
-}
-  where
-    drawn : AreDrawn 1 1
-    drawn zero below = refl
-    drawn (suc tag) below = absurd (omega arith)
-
-    one : (id : ℕ) (v : View) → get_elem? (Within entering_alone ∷ []) id ≡ some v → Fits purpose.passes 1 [] v
-    one zero v e = subst (Fits purpose.passes 1 []) (some-injective (Within entering_alone) v e) (sym only, drawn, ([], refl, All-nil (IsOthers 0)), ([], refl))
-    one (suc id) v e = absurd (some-ne-none v (sym e))
-
-    one_tag : AreApart (Within entering_alone ∷ [])
-    one_tag zero zero tag v w a b h i = refl
-    one_tag zero (suc j) tag v w a b h i = absurd (some-ne-none w (sym b))
-    one_tag (suc i) j tag v w a b h l = absurd (some-ne-none v (sym a))
-
-    own : AreTaken 1 (Within entering_alone ∷ [])
-    own tag is_drawn = dite (ℕ_discrete tag 0)
-        (λ (same : tag ≡ 0). (0, Within entering_alone, refl, sym same))
-        (λ (other : tag ≢ 0). let z : zero ≡ 1 = sym (bit_at-pow_other 0 tag other) ∙ is_drawn in absurd (omega arith))
-
-    first_alone : AreFew purpose.passes 1
-    first_alone tag is_drawn = dite (ℕ_discrete tag 0)
-        (λ (same : tag ≡ 0). omega (arith, same, only))
-        (λ (other : tag ≢ 0). let z : zero ≡ 1 = sym (bit_at-pow_other 0 tag other) ∙ is_drawn in absurd (omega arith))

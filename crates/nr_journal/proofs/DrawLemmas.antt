@@ -12,7 +12,7 @@ use Rattle.atomic_table.specs.Table.{step, Allows, Splits}
 use Rattle.atomic_table.proofs.Lists.{at_set, set_again}
 use Rattle.nr_journal.specs.declared.rule.Purpose.{Purpose}
 use Rattle.nr_journal.specs.declared.view.View.{View}
-use Rattle.nr_journal.specs.declared.view.View.TheVariants.{Outside, Within, Note, Spent}
+use Rattle.nr_journal.specs.declared.view.View.TheVariants.{Outside, Keeping, Within, Note, Spent}
 use Rattle.nr_journal.specs.Rule.{tag_of, IsOthers}
 use Rattle.nr_journal.specs.Auxiliary.Rule.{IsDrawn, AreDrawn, AreFew, AreTaken, IsEntry, Fits, HasTag, AreApart, Kept, entering}
 use Rattle.nr_journal.specs.Step.{Seat, Draws, DrawsFrom}
@@ -48,6 +48,7 @@ was_drawn tags t tag other drawn = let o = bit_at_or tags (2 ^ t) tag in let z =
 
 pub fits_drawn : (most tags more : ℕ) (log : List ℕ) (v : View) → ((j : ℕ) → IsDrawn tags j → IsDrawn more j) → Fits most tags log v → Fits most more log v
 fits_drawn most tags more log (Outside tried passes) up fits = (fits.0, λ tag below. up tag (fits.1 tag below))
+fits_drawn most tags more log (Keeping next passes) up fits = (fits.0, (λ tag below. up tag (fits.1 tag below)), fits.2)
 fits_drawn most tags more log (Within pass_state) up fits = (fits.0, (λ tag below. up tag (fits.1 tag below)), fits.2, fits.3)
 fits_drawn most tags more log (Note seen) up fits = fits
 fits_drawn most tags more log Spent up fits = tt

@@ -4,6 +4,7 @@ pub mod AloneLemmas
 pub mod LookLemmas
 pub mod OfferLemmas
 pub mod DrawLemmas
+pub mod GiveLemmas
 pub mod MeetLemmas
 pub mod PassLemmas
 pub mod LawLemmas

@@ -1,5 +1,5 @@
 -- A pass offers a word.
-use Rattle.std.proofs.Common.{◌≡◌, ℕ, suc, ◌+◌, ◌<◌, List, [], ◌∷◌, ◌++◌, length, get_or, set, replicate, eqb, ◌-◌, refl, sym, ap, ◌∙◌, subst, arith, append_assoc, length-append}
+use Rattle.std.proofs.Common.{◌≡◌, ℕ, suc, ◌+◌, ◌<◌, ◌≤◌, lt_of_not-le, List, [], ◌∷◌, ◌++◌, length, get_or, set, replicate, eqb, ◌-◌, refl, sym, ap, ◌∙◌, subst, arith, append_assoc, length-append}
 use Rattle.std.proofs.lemmas.List.{set-get_or, append-nil}
 use Rattle.std.specs.List.{All}
 use Rattle.std.proofs.lemmas.List.Elements.{All-head, All-nil, All-push}
@@ -11,9 +11,9 @@ use Rattle.atomic_table.proofs.Lists.{exchanged}
 use Rattle.nr_journal.specs.declared.view.PassState.{PassState}
 use Rattle.nr_journal.specs.declared.rule.Purpose.{Purpose}
 use Rattle.nr_journal.specs.declared.view.View.{View}
-use Rattle.nr_journal.specs.declared.view.View.TheVariants.{Outside, Within, Note, Spent}
+use Rattle.nr_journal.specs.declared.view.View.TheVariants.{Outside, Keeping, Within, Note, Spent}
 use Rattle.nr_journal.specs.Rule.{tag_of, IsOthers, StartsWith}
-use Rattle.nr_journal.specs.Auxiliary.Rule.{HasOpcode, IsDrawn, IsEntry, Fits, HasTag, Kept, having_seen}
+use Rattle.nr_journal.specs.Auxiliary.Rule.{HasOpcode, HasTagBelow, IsDrawn, IsEntry, Fits, HasTag, Kept, having_seen}
 use Rattle.nr_journal.specs.Step.{Seat, Offers, OffersFrom}
 use Rattle.nr_journal.proofs.AloneLemmas.{not_alone}
 use Rattle.nr_journal.proofs.RowLemmas.{placed}
@@ -23,16 +23,21 @@ pub begins_more : (log learned : List ℕ) (word : ℕ) → StartsWith log learn
 begins_more log learned word c = (c.0 ++ word ∷ [], ap (λ (l : List ℕ). l ++ word ∷ []) c.1 ∙ append_assoc learned c.0 (word ∷ []))
 
 -- the log grows by a word of another
-pub fits_more : (most tags : ℕ) (log : List ℕ) (word : ℕ) (v : View) → (HasTag v (tag_of word) → ⊥) → Fits most tags log v → Fits most tags (log ++ word ∷ []) v
-fits_more most tags log word (Outside tried passes) never fits = fits
-fits_more most tags log word (Within pass_state) never fits = let c = fits.2 in (
+pub fits_more : (most tags : ℕ) (log : List ℕ) (word : ℕ) (v : View) → tag_of word < most → (HasTag v (tag_of word) → ⊥) → Fits most tags log v → Fits most tags (log ++ word ∷ []) v
+fits_more most tags log word (Outside tried passes) below never fits = fits
+fits_more most tags log word (Keeping next passes) below never fits = (
+  fits.0,
+  fits.1,
+  All-push (HasTagBelow next) log word fits.2 (lt_of_not-le (λ (from : next ≤ tag_of word). never (from, subst (λ (n : ℕ). tag_of word < n) (sym fits.0) below))),
+)
+fits_more most tags log word (Within pass_state) below never fits = let c = fits.2 in (
   fits.0,
   fits.1,
   (c.0 ++ word ∷ [], ap (λ (l : List ℕ). l ++ word ∷ []) c.1 ∙ append_assoc pass_state.seen c.0 (word ∷ []), All-push (IsOthers pass_state.tag) c.0 word c.2 (λ e. never (sym e))),
   begins_more log pass_state.learned word fits.3,
 )
-fits_more most tags log word (Note seen) never fits = begins_more log seen word fits
-fits_more most tags log word Spent never fits = tt
+fits_more most tags log word (Note seen) below never fits = begins_more log seen word fits
+fits_more most tags log word Spent below never fits = tt
 
 module _ (purpose : Purpose) where
   -- a thread inside that has seen all words places one
@@ -44,6 +49,7 @@ module _ (purpose : Purpose) where
       let size : length k.log ≡ length pass_state.seen = ap (λ (l : List ℕ). length l) all in
       let sum : length k.log + k.free ≡ purpose.words = k.room_is in
       let free : ℕ = k.free - 1 in
+      let drawn : IsDrawn k.tags (tag_of word) = subst (IsDrawn k.tags) (sym tag) (c.1 pass_state.tag (omega arith)) in
       let one : k.free ≡ suc (k.free - 1) = omega arith in record {
         tags = k.tags;
         log = k.log ++ word ∷ [];
@@ -54,9 +60,9 @@ module _ (purpose : Purpose) where
             ∙ (ap (λ (n : ℕ). k.tags ∷ set ((k.log ++ []) ++ replicate n 0) (length k.log) word) one
             ∙ ap (λ (l : List ℕ). k.tags ∷ l) (placed k.log (k.free - 1) word))));
         room_is = omega (arith, length-append k.log (word ∷ []));
-        entries = All-push (IsEntry k.tags) k.log word k.entries (code, subst (IsDrawn k.tags) (sym tag) (c.1 pass_state.tag (omega arith)));
+        entries = All-push (IsEntry k.tags) k.log word k.entries (code, drawn);
         each_view = each_set (Fits purpose.passes k.tags (k.log ++ word ∷ [])) views id (Within (having_seen pass_state word))
-            (λ j v apart e. fits_more purpose.passes k.tags k.log word v (λ has. apart (k.apart j id (tag_of word) v (Within pass_state) e at has (sym tag))) (k.each_view j v e))
+            (λ j v apart e. fits_more purpose.passes k.tags k.log word v (k.few (tag_of word) drawn) (λ has. apart (k.apart j id (tag_of word) v (Within pass_state) e at has (sym tag))) (k.each_view j v e))
             (c.0, c.1, ([], ap (λ (l : List ℕ). l ++ word ∷ []) all ∙ sym (append-nil (pass_state.seen ++ word ∷ [])), All-nil (IsOthers pass_state.tag)), begins_more k.log pass_state.learned word c.3);
         apart = apart_set views id (Within pass_state) (Within (having_seen pass_state word)) at (λ t has. has) k.apart;
         taken = taken_set k.tags views id (Within pass_state) (Within (having_seen pass_state word)) at (λ t has. has) k.taken;

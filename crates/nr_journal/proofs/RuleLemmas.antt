@@ -13,7 +13,7 @@ use Rattle.atomic_table.proofs.Lists.{at_set, at_snoc, at_longer, set_again, set
 use Rattle.nr_journal.specs.declared.view.PassState.{PassState}
 use Rattle.nr_journal.specs.declared.rule.Purpose.{Purpose}
 use Rattle.nr_journal.specs.declared.view.View.{View}
-use Rattle.nr_journal.specs.declared.view.View.TheVariants.{Outside, Within, Note, Spent}
+use Rattle.nr_journal.specs.declared.view.View.TheVariants.{Outside, Keeping, Within, Note, Spent}
 use Rattle.nr_journal.specs.Rule.{IsOthers}
 use Rattle.nr_journal.specs.Auxiliary.Rule.{HasOpcode, IsDrawn, AreTaken, IsEntry, Fits, HasTag, AreApart, Kept, having_seen, newcomer}
 use Rattle.nr_journal.specs.Step.{Seat}
@@ -67,12 +67,13 @@ is_word v code z = let e : v % 256 ≡ 0 = ap (λ (n : ℕ). n % 256) z in let p
 -- who has a tag has drawn it
 pub drawn_by : (most tags : ℕ) (log : List ℕ) (v : View) (tag : ℕ) → HasTag v tag → Fits most tags log v → IsDrawn tags tag
 drawn_by most tags log (Outside tried passes) tag has fits = absurd has
+drawn_by most tags log (Keeping next passes) tag has fits = fits.1 tag has.1
 drawn_by most tags log (Within pass_state) tag has fits = subst (IsDrawn tags) has (fits.1 pass_state.tag (omega arith))
 drawn_by most tags log (Note seen) tag has fits = absurd has
 drawn_by most tags log Spent tag has fits = absurd has
 
 -- the journal at the start
-pub begins : (purpose : Purpose) (words : List ℕ) → words ≡ replicate (purpose.words + 1) 0 → Kept purpose words (newcomer purpose.passes ∷ [])
+begins : (purpose : Purpose) (words : List ℕ) → words ≡ replicate (purpose.words + 1) 0 → Kept purpose words (newcomer purpose.passes ∷ [])
 begins purpose words is = record {
   tags = 0;
   log = [];
@@ -102,8 +103,8 @@ begins purpose words is = record {
     none_drawn tag drawn = absurd (none_set tag drawn)
 
 -- the journal at the start, for so many passes
-pub begins_for : (words passes : ℕ) (row : List ℕ) → row ≡ replicate (words + 1) 0 → Kept (record { words = words; passes = passes; alone = false }) row (newcomer passes ∷ [])
-begins_for words passes row is = begins (record { words = words; passes = passes; alone = false }) row is
+pub begins_for : (words passes : ℕ) (row : List ℕ) → row ≡ replicate (words + 1) 0 → Kept (record { words = words; passes = passes; drawn = false }) row (newcomer passes ∷ [])
+begins_for words passes row is = begins (record { words = words; passes = passes; drawn = false }) row is
 
 -- a new view, with no tag
 pub snoc_view : (purpose : Purpose) (words : List ℕ) (views : List View) (w : View) → (k : Kept purpose words views) → Fits purpose.passes k.tags k.log w → ((tag : ℕ) → HasTag w tag → ⊥)

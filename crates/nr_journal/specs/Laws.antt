@@ -10,7 +10,7 @@ use Rattle.nr_journal.specs.declared.view.PassState.{PassState}
 use Rattle.nr_journal.specs.declared.view.View.{View}
 use Rattle.nr_journal.specs.declared.view.View.TheVariants.{Within}
 use Rattle.nr_journal.specs.Rule.{tag_of}
-use Rattle.nr_journal.specs.Auxiliary.Rule.{Kept, newcomer}
+use Rattle.nr_journal.specs.Auxiliary.Rule.{Kept, first_view}
 
 -- where the word behind all that a pass has seen is 0, the log is exactly what it has seen
 abbrev pub EmptyLookSeesAll : Type 0
@@ -45,7 +45,7 @@ pub record NothingIsHidden : Type 0 where
   pub journal : (one other : journal_parts.Inside)
       → one.table ≡ other.table → one.words ≡ other.words → one ≡ other
 
--- while nothing is known but what the first seat knows, no word is written
+-- while nothing is known but what is known at first, no word is written
 abbrev pub BeginsEmpty : Type 0
 BeginsEmpty = (purpose : Purpose) (words : List ℕ)
-    → (k : Kept purpose words (newcomer purpose.passes ∷ [])) → k.log ≡ []
+    → (k : Kept purpose words (first_view purpose ∷ [])) → k.log ≡ []

@@ -4,7 +4,7 @@ use Rattle.std.specs.List.{All}
 use Rattle.atomic_table.specs.Seated.{TableId}
 use Rattle.nr_journal.specs.declared.view.PassState.{PassState}
 use Rattle.nr_journal.specs.declared.view.View.{View}
-use Rattle.nr_journal.specs.declared.view.View.TheVariants.{Outside, Within, Note, Spent}
+use Rattle.nr_journal.specs.declared.view.View.TheVariants.{Outside, Keeping, Within, Note, Spent}
 use Rattle.nr_journal.specs.declared.pass.Offered.{Offered}
 use Rattle.nr_journal.specs.declared.pass.Offered.TheVariants.{Placed, Lost, Full}
 use Rattle.nr_journal.specs.Rule.{IsOthers, StartsWith}
@@ -18,6 +18,7 @@ pub record Entered : Type 0 where
 -- what a pass knows, by its view; no pass has another sort of view
 abbrev pub pass_state_of : View → PassState
 pass_state_of (Outside _ _) = entering 0 0
+pass_state_of (Keeping _ _) = entering 0 0
 pass_state_of (Within pass_state) = pass_state
 pass_state_of (Note _) = entering 0 0
 pass_state_of Spent = entering 0 0

@@ -1,6 +1,6 @@
 -- The rule of a journal. Word 0 of its table has the tag bits, and the words behind it are the
 -- journal.
-use Rattle.std.specs.Prelude.{◌≡◌, ◌≢◌, ℕ, ◌+◌, ◌-◌, ◌/◌, ◌%◌, List, ◌++◌}
+use Rattle.std.specs.Prelude.{◌≡◌, ◌≢◌, ℕ, ◌-◌, ◌/◌, ◌%◌, List, ◌++◌}
 use Rattle.std.specs.List.{All}
 use Rattle.atomic_table.specs.Seated.{TableId}
 use Rattle.nr_journal.specs.declared.rule.TheConstants.{BYTE_VALUES}

@@ -5,7 +5,7 @@ use Rattle.std.specs.Int.{bit_at}
 use Rattle.atomic_table.specs.Table.{Me, Step}
 use Rattle.nr_journal.specs.declared.view.PassState.{PassState}
 use Rattle.nr_journal.specs.declared.view.View.{View}
-use Rattle.nr_journal.specs.declared.view.View.TheVariants.{Outside, Within, Note, Spent}
+use Rattle.nr_journal.specs.declared.view.View.TheVariants.{Outside, Keeping, Within, Note, Spent}
 use Rattle.nr_journal.specs.Rule.{IsOthers, StartsWith}
 use Rattle.nr_journal.specs.Auxiliary.Rule.{HasOpcode, HasTagBelow, entering, informed, looked, having_seen}
 
@@ -76,9 +76,26 @@ ComparesFrom _ after = Unit {0}
 abbrev pub Compares : Step (Unit {0}) → Seat → ℕ → Seat → Type 0
 Compares step before found after = ComparesFrom before.0 after
 
+-- the passes that are left when the next was given; nobody else gives one
+abbrev pub left_of : View → View
+left_of (Outside tried passes) = Outside tried passes
+left_of (Keeping next passes) = Keeping (next + 1) passes
+left_of (Within pass_state) = Within pass_state
+left_of (Note seen) = Note seen
+left_of Spent = Spent
+
+-- the next of the passes that are left
+abbrev pub given_by : View → View
+given_by (Outside _ _) = Spent
+given_by (Keeping next passes) = Within (entering passes next)
+given_by (Within _) = Spent
+given_by (Note _) = Spent
+given_by Spent = Spent
+
 -- a note of what a pass has seen
 abbrev pub note_of : View → View
 note_of (Outside _ _) = Note []
+note_of (Keeping _ _) = Note []
 note_of (Within pass_state) = Note pass_state.seen
 note_of (Note _) = Note []
 note_of Spent = Note []
@@ -86,6 +103,7 @@ note_of Spent = Note []
 -- the words of a note
 abbrev pub note_words : View → List ℕ
 note_words (Outside _ _) = []
+note_words (Keeping _ _) = []
 note_words (Within _) = []
 note_words (Note seen) = seen
 note_words Spent = []
@@ -93,6 +111,7 @@ note_words Spent = []
 -- what a pass knows that takes in a note; anyone else learns nothing
 abbrev pub learned_from : View → View → View
 learned_from (Outside tried passes) note = Outside tried passes
+learned_from (Keeping next passes) note = Keeping next passes
 learned_from (Within pass_state) note = Within (informed pass_state (note_words note))
 learned_from (Note seen) note = Note seen
 learned_from Spent note = Spent

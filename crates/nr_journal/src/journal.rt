@@ -4,14 +4,15 @@ ghost use Rattle.std.specs.Prelude.{◌≡◌, ◌≢◌, ◌⊎◌, ℕ, ◌+�
 ghost use Rattle.std.specs.Ordering.{nat_cmp};
 ghost use Rattle.std.specs.List.{All};
 ghost use Rattle.nr_journal.specs.Rule.{journal_room, StartsWith, IsOthers, tag_of};
-ghost use Rattle.nr_journal.specs.Auxiliary.Rule.{entering, entering_alone, informed, looked, having_seen, HasOpcode, HasTagBelow};
+ghost use Rattle.nr_journal.specs.Auxiliary.Rule.{AreDrawn, AreFew, entering, entering_alone, informed, looked, having_seen, HasOpcode, HasTagBelow};
 ghost use Rattle.nr_journal.specs.Pass.{WasOffered, AreInLine, SeesOthers, CatchesUp};
 ghost use Rattle.nr_journal.specs.declared.rule.TheConstants.{MOST_PASSES, MOST_WORDS};
 
 use crate::pass::{Offered, Pass};
+use crate::passes::Passes;
 use crate::rule::{InOneOrder, MOST_PASSES, MOST_WORDS, Purpose};
 use crate::seat::{NoTag, Seat};
-use crate::step::{Compare, Draw, Learn, Look, Offer, Reread, Tell, Twin};
+use crate::step::{Compare, Draw, Give, Learn, Look, Offer, Reread, Tell, Twin};
 use crate::view::View;
 use atomic_table::Table;
 use nr_rev::Memory;
@@ -47,30 +48,17 @@ impl Journal {
     /// An empty journal with room for so many words, for up to `MOST_PASSES` passes, and its first seat.
     ///
     /// Memory is the only error; then nothing is left behind.
+    #[tactic(auto, using(crate::proofs::RuleLemmas::begins_for))]
     pub fn new(alloc: Global, words: usize) -> Result<(Journal, Seat), Memory>
         requires { (1 ≤ words) × (words ≤ MOST_WORDS) }
         ensures { IfOk result (λ r. (journal_room r.0 ≡ words) × (r.1.table ≡ r.0) × (r.1.tried ≡ 0)
             × (r.1.passes ≡ MOST_PASSES)) }
     {
-        Journal::for_passes(alloc, words, MOST_PASSES)
-    }
-
-    /// An empty journal with room for so many words, for at most so many passes, and its first seat. Their tags are the
-    /// numbers below.
-    ///
-    /// Memory is the only error; then nothing is left behind.
-    #[tactic(auto, using(crate::proofs::RuleLemmas::begins_for))]
-    pub fn for_passes(alloc: Global, words: usize, passes: u32) -> Result<(Journal, Seat), Memory>
-        requires words { (1 ≤ words) × (words ≤ MOST_WORDS) }
-        requires passes { passes ≤ MOST_PASSES }
-        ensures { IfOk result (λ r. (journal_room r.0 ≡ words) × (r.1.table ≡ r.0) × (r.1.tried ≡ 0)
-            × (r.1.passes ≡ passes)) }
-    {
         let zeros = Vec::from_elem(alloc, 0u64, words + 1)?;
         let shared = Purpose {
             words,
-            passes,
-            alone: false,
+            passes: MOST_PASSES,
+            drawn: false,
         };
         let (table, seat) = Table::of_words(alloc, zeros.as_slice(), &shared)?;
         let journal = Journal {
@@ -81,40 +69,71 @@ impl Journal {
         let first = Seat {
             seat,
             tried: 0,
-            passes,
+            passes: MOST_PASSES,
         };
         Ok((journal, first))
+    }
+
+    /// An empty journal with room for so many words, and all the passes that it ever has, so many. Their tags are the numbers
+    /// below.
+    ///
+    /// Memory is the only error; then nothing is left behind.
+    #[tactic(auto, using(crate::proofs::GiveLemmas::begins_drawn))]
+    pub fn of_passes(alloc: Global, words: usize, passes: u32) -> Result<(Journal, Passes), Memory>
+        requires words { (1 ≤ words) × (words ≤ MOST_WORDS) }
+        requires passes { passes ≤ MOST_PASSES }
+        ensures { IfOk result (λ r. (journal_room r.0 ≡ words) × (r.1.table ≡ r.0) × (r.1.next ≡ 0)
+            × (r.1.passes ≡ passes)) }
+    {
+        let mut row = Vec::from_elem(alloc, 0u64, words + 1)?;
+        row[0] = tag_bits(passes);
+        let shared = Purpose {
+            words,
+            passes,
+            drawn: true,
+        };
+        let (table, seat) = Table::of_words(alloc, row.as_slice(), &shared)?;
+        let journal = Journal {
+            alloc,
+            table,
+            words,
+        };
+        let left = Passes {
+            seat,
+            next: 0,
+            passes,
+        };
+        Ok((journal, left))
     }
 
     /// An empty journal with room for so many words, and the only pass that it ever has, whose tag is 0. So whatever the
     /// pass sees it has placed.
     ///
     /// Memory is the only error; then nothing is left behind.
-    #[tactic(auto, using(crate::proofs::AloneLemmas::begins_alone))]
     pub fn alone(alloc: Global, words: usize) -> Result<(Journal, Pass), Memory>
         requires { (1 ≤ words) × (words ≤ MOST_WORDS) }
         ensures { IfOk result (λ r. (journal_room r.0 ≡ words) × (r.1.table ≡ r.0)
             × (r.1.pass_state ≡ entering_alone)) }
     {
-        let mut zeros = Vec::from_elem(alloc, 0u64, words + 1)?;
-        zeros[0] = 1;
-        let only = Purpose {
-            words,
-            passes: 1,
-            alone: true,
-        };
-        let (table, seat) = Table::of_words(alloc, zeros.as_slice(), &only)?;
-        let pass = Pass {
-            seat,
-            place: 0,
-            tag: 0,
-        };
-        let journal = Journal {
-            alloc,
-            table,
-            words,
-        };
+        let (journal, mut passes) = Journal::of_passes(alloc, words, 1)?;
+        let pass = journal.take(&mut passes);
         Ok((journal, pass))
+    }
+
+    /// Takes the next of the passes that are left. It has seen nothing yet.
+    pub fn take(&self, passes: &mut Passes) -> Pass
+        requires table { passes.old.table ≡ self.now }
+        requires next { passes.old.next < passes.old.passes }
+        ensures pass { (result.table ≡ self.now) × (result.pass_state ≡ entering passes.old.passes passes.old.next) }
+        ensures left { passes.new ≡ record passes.old { next = passes.old.next + 1 } }
+    {
+        let pass = Pass {
+            seat: self.table.shared.split_seat::<Give>(&mut passes.seat),
+            place: 0,
+            tag: passes.next as u8,
+        };
+        passes.next += 1;
+        pass
     }
 
     /// A second seat of this journal, which knows as much as the first.
@@ -315,4 +334,17 @@ impl Journal {
     {
         self.table.shared.load::<Compare>(&mut pass.seat, 0);
     }
+}
+
+// The bits of so many tags, from tag 0 on.
+fn tag_bits(passes: u32) -> u64
+    requires { passes ≤ MOST_PASSES }
+    ensures drawn { AreDrawn result passes }
+    ensures few { AreFew passes result }
+{
+    let mut tags = 0u64;
+    for tag in 0..passes {
+        tags |= 1u64 << tag;
+    }
+    tags
 }

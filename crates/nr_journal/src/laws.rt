@@ -4,7 +4,7 @@ ghost use Rattle.std.specs.Prelude.{◌≡◌};
 ghost use Rattle.nr_journal.specs.Laws.{AnOnlyPassSeesAll, BeginsEmpty, EachWordHasItsPass, EmptyLookSeesAll, NothingIsHidden};
 ghost use Rattle.nr_journal.specs.declared.rule.TheConstants.{GREATEST_OPCODE, MOST_PASSES, MOST_WORDS};
 
-/// A journal begins with no word, as long as there is only its first seat, which has tried no tag.
+/// A journal begins with no word, as long as there is only its first seat, which has tried no tag, or no pass was taken.
 pub fn begins_empty()
     ensures { BeginsEmpty }
 {}

@@ -22,8 +22,8 @@ pub struct Purpose {
     pub words: usize,
     /// How many passes it has at most. Their tags are the numbers below.
     pub passes: u32,
-    /// Whether its first seat is a pass from the start.
-    pub alone: bool,
+    /// Whether all tags are drawn from the start, and left to give.
+    pub drawn: bool,
 }
 
 /// What holds of a journal's words and of all that is known of them, whichever threads take which steps.

@@ -57,6 +57,17 @@ impl Split<View> for Twin {
     ghost right = { λ v. v };
 }
 
+/// The next of the passes that are left is given.
+pub(crate) struct Give;
+
+impl Split<View> for Give {
+    ghost use Rattle.nr_journal.specs.Step.{given_by, left_of};
+
+    ghost left = { left_of };
+
+    ghost right = { given_by };
+}
+
 /// A note is written of what a pass has seen.
 pub(crate) struct Tell;
 

@@ -25,6 +25,13 @@ pub enum View {
         /// At most so many passes the journal ever has.
         passes: u64,
     },
+    /// That of the passes that are left of a journal which draws all tags at once.
+    Keeping {
+        /// The tags from this one on are left to give.
+        next: u64,
+        /// So many passes the journal has.
+        passes: u64,
+    },
     /// A pass's.
     Within(PassState),
     /// For the way from one pass to another: words that were seen.

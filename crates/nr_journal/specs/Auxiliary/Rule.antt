@@ -8,7 +8,7 @@ use Rattle.nr_journal.specs.declared.rule.Purpose.{Purpose}
 use Rattle.nr_journal.specs.declared.rule.TheConstants.{BYTE_VALUES, GREATEST_OPCODE}
 use Rattle.nr_journal.specs.declared.view.PassState.{PassState}
 use Rattle.nr_journal.specs.declared.view.View.{View}
-use Rattle.nr_journal.specs.declared.view.View.TheVariants.{Outside, Within, Note, Spent}
+use Rattle.nr_journal.specs.declared.view.View.TheVariants.{Outside, Keeping, Within, Note, Spent}
 use Rattle.nr_journal.specs.Rule.{Covers, StartsWith, tag_of}
 
 -- the lowest byte of a word is an opcode
@@ -36,19 +36,23 @@ abbrev pub IsEntry : ℕ → ℕ → Type 0
 IsEntry tags word = HasOpcode word × IsDrawn tags (tag_of word)
 
 -- What is known is true. Of a seat: how many passes the journal has at most, and the bits of the
--- tags that it tried are set. Of a pass: that too; its own bit and all below it are set. It has
+-- tags that it tried are set. Of the passes that are left: that too; the bits of all tags are set,
+-- and no word has a tag that is left. Of a pass: how many passes there are at most; its own bit and all below it are set. It has
 -- seen a prefix of the log with all of its own words, and what it learnt of is a prefix.
 abbrev pub Fits : ℕ → ℕ → List ℕ → View → Type 0
 Fits most tags log (Outside tried passes) = (passes ≡ most) × AreDrawn tags tried
+Fits most tags log (Keeping next passes) =
+    (passes ≡ most) × AreDrawn tags passes × All (HasTagBelow next) log
 Fits most tags log (Within pass_state) =
     (pass_state.passes ≡ most) × AreDrawn tags (pass_state.tag + 1)
     × Covers log pass_state.tag pass_state.seen × StartsWith log pass_state.learned
 Fits most tags log (Note seen) = StartsWith log seen
 Fits most tags log Spent = Unit {0}
 
--- it is the view of a pass with this tag
+-- it is the view of a pass with this tag, or of passes that are left and one of which has it
 abbrev pub HasTag : View → ℕ → Type 0
 HasTag (Outside _ _) tag = ⊥
+HasTag (Keeping next passes) tag = (next ≤ tag) × (tag < passes)
 HasTag (Within pass_state) tag = pass_state.tag ≡ tag
 HasTag (Note _) tag = ⊥
 HasTag Spent tag = ⊥
@@ -59,7 +63,7 @@ AreApart views =
     (i j tag : ℕ) (v w : View) → get_elem? views i ≡ some v → get_elem? views j ≡ some w
     → HasTag v tag → HasTag w tag → i ≡ j
 
--- each tag whose bit is set is a pass's
+-- each tag whose bit is set is a pass's, or that of a pass that is left
 abbrev pub AreTaken : ℕ → List View → Type 0
 AreTaken tags views = (tag : ℕ) → IsDrawn tags tag
     → (id : ℕ) × (v : View) × (get_elem? views id ≡ some v) × HasTag v tag
@@ -90,9 +94,10 @@ entering passes tag = record { tag = tag; seen = []; looks = 0; learned = []; pa
 abbrev pub entering_alone : PassState
 entering_alone = entering 1 0
 
--- what is known at first: by the only pass, or by the first seat
+-- what is known at first: by the passes that are left, which are all, or by the first seat
 abbrev pub first_view : Purpose → View
-first_view purpose = if purpose.alone then Within entering_alone else newcomer purpose.passes
+first_view purpose =
+    if purpose.drawn then Keeping 0 purpose.passes else newcomer purpose.passes
 
 -- one look more found no word
 abbrev pub looked : PassState → PassState
