@@ -6,7 +6,7 @@ use Rattle.std.specs.List.{All, concat}
 use Rattle.std.proofs.lemmas.List.Elements.{All-append, All-nil, All-weaker}
 use Rattle.nr_text.specs.Moments.{Moment}
 use Rattle.nr_text.specs.Streams.{Incoming, IsOver, Outgoing, Passes, Receives, Sends}
-use Rattle.nr_text.specs.Auxiliary.Streams.{IsNow, ReadsNow}
+use Rattle.nr_text.specs.Auxiliary.Streams.{IsNow, ReadsAt}
 use Rattle.nr_command.specs.Command.{meaning_of}
 use Rattle.nr_front.specs.FrontState.{FrontState}
 use Rattle.nr_text.proofs.StreamLemmas.{receives_none, receives_then, sends_none, sends_then}
@@ -46,12 +46,17 @@ prompt_more from old moments lines texts line text all =
       one_each = p.one_each;
       of_lines = ap (λ (l : List (List ℕ)). l ++ line ∷ []) p.of_lines ∙ append_assoc (whole_lines p.read) p.lines_behind (line ∷ []);
       of_texts = ap (λ (l : List (List ℕ)). l ++ text ∷ []) p.of_texts ∙ append_assoc p.answers p.texts_behind (text ∷ []);
+      unended = p.unended;
     }) moments all
 
+-- the end isn't found now, where it wasn't found then
+abbrev pub StaysOpen : Incoming → Incoming → Type 0
+StaysOpen r r' = r.ended ≡ false → r'.ended ≡ false
+
 -- a read now is prompt: all whole lines are answered
-prompt_now : (r r' : Incoming) (w w' : Outgoing) (p p' : FrontState) (read line : List ℕ) (whole : ℕ) (st : LoopInvariant r r' w w' p p' read read line whole) (m : Moment) → IsNow r' w' m
-    → IsPrompt r w (whole_lines read) st.texts m
-prompt_now r r' w w' p p' read line whole st m now = record {
+prompt_now : (r r' : Incoming) (w w' : Outgoing) (p p' : FrontState) (read line : List ℕ) (whole : ℕ) (st : LoopInvariant r r' w w' p p' read read line whole) → StaysOpen r r' → (m : Moment)
+    → IsNow r' w' m → IsPrompt r w (whole_lines read) st.texts m
+prompt_now r r' w w' p p' read line whole st unended m now = record {
   read = read;
   answers = st.texts;
   lines_behind = [];
@@ -61,17 +66,18 @@ prompt_now r r' w w' p p' read line whole st m now = record {
   one_each = one_text_each p (whole_lines read) st.texts p' st.turns;
   of_lines = sym (append-nil (whole_lines read));
   of_texts = sym (append-nil st.texts);
+  unended = λ none. now.2 (unended none);
 }
 
 -- the reads so far, and those that are made now
 passes_more : (r r' r'' : Incoming) (before now : List Moment) → Passes r r' before → Passes r' r'' now → Passes r r'' (before ++ now)
 passes_more r r' r'' before now first then = then ∙ ap (λ (l : List Moment). l ++ now) first ∙ append_assoc r.moments before now
 
-prompt_still : (r r' : Incoming) (w w' : Outgoing) (p p' : FrontState) (read line : List ℕ) (whole : ℕ) (st : LoopInvariant r r' w w' p p' read read line whole) (now : List Moment) → All (IsNow r' w') now
-    → ArePrompt r w (st.moments ++ now) (whole_lines read) st.texts
-prompt_still r r' w w' p p' read line whole st now all =
+prompt_still : (r r' : Incoming) (w w' : Outgoing) (p p' : FrontState) (read line : List ℕ) (whole : ℕ) (st : LoopInvariant r r' w w' p p' read read line whole) → StaysOpen r r'
+    → (now : List Moment) → All (IsNow r' w') now → ArePrompt r w (st.moments ++ now) (whole_lines read) st.texts
+prompt_still r r' w w' p p' read line whole st unended now all =
     All-append (IsPrompt r w (whole_lines read) st.texts) st.moments now st.prompt
-    (All-weaker (IsNow r' w') (IsPrompt r w (whole_lines read) st.texts) (prompt_now r r' w w' p p' read line whole st) now all)
+    (All-weaker (IsNow r' w') (IsPrompt r w (whole_lines read) st.texts) (prompt_now r r' w w' p p' read line whole st unended) now all)
 
 -- a byte that is no line feed
 pub byte_more : (r r' : Incoming) (w w' : Outgoing) (p p' : FrontState) (came read line line' : List ℕ) (whole b : ℕ)
@@ -230,23 +236,23 @@ closed r r' w w' p p' read line whole st at_end none = record {
 }
 
 -- a read failed, or no more of them were tried
-pub stopped : (r r' r'' : Incoming) (w w' : Outgoing) (p p' : FrontState) (read line : List ℕ) (whole : ℕ) → LoopInvariant r r' w w' p p' read read line whole → Receives r' r'' [] → ReadsNow r' r'' w'
-    → AnswersLines r r'' w w' p p' (Err Read)
-stopped r r' r'' w w' p p' read line whole st none now = record {
+pub stopped : (r r' r'' : Incoming) (w w' : Outgoing) (p p' : FrontState) (read line : List ℕ) (whole : ℕ) → LoopInvariant r r' w w' p p' read read line whole → StaysOpen r r' → Receives r' r'' []
+    → (moments : List Moment) → ReadsAt r' r'' w' moments → AnswersLines r r'' w w' p p' (Err Read)
+stopped r r' r'' w w' p p' read line whole st unended none moments now = record {
   read = read;
   out = concat st.texts;
   ended = false;
-  moments = st.moments ++ now.0;
+  moments = st.moments ++ moments;
   reads = subst (Receives r r'') (append-nil read) (receives_then r r' r'' read [] st.reads none);
   writes = st.writes;
-  passes = passes_more r r' r'' st.moments now.0 st.passes now.1;
+  passes = passes_more r r' r'' st.moments moments st.passes now.0;
   at_end = λ (h : false ≡ true). cc;
-  ends = (refl, record { texts = st.texts; prompt = prompt_still r r' w w' p p' read line whole st now.0 now.2; turns = st.turns; no_quit = st.no_quit; written = refl });
+  ends = (refl, record { texts = st.texts; prompt = prompt_still r r' w w' p p' read line whole st unended moments now.1; turns = st.turns; no_quit = st.no_quit; written = refl });
 }
 
 -- no more reads are made
-pub none_now : (r r' : Incoming) (w : Outgoing) → Passes r r' [] → ReadsNow r r' w
-none_now r r' w passes = ([], passes, All-nil (IsNow r w))
+pub none_now : (r r' : Incoming) (w : Outgoing) → Passes r r' [] → ReadsAt r r' w []
+none_now r r' w passes = (passes, All-nil (IsNow r w))
 
 -- the reader is at its end, and the last line isn't quit
 pub closed_after : (r r' : Incoming) (w w' w'' : Outgoing) (p p' p'' : FrontState) (read line : List ℕ) (whole whole' : ℕ) → LoopInvariant r r' w w' p p' read read line whole → IsOver r' → 0 < length line
@@ -315,15 +321,15 @@ invariant_at_first r w p line e = record {
 }
 
 -- a read that gave some bytes
-pub came_more : (r r' r'' : Incoming) (w w' : Outgoing) (p p' : FrontState) (read line bytes : List ℕ) (whole : ℕ) → LoopInvariant r r' w w' p p' read read line whole → Receives r' r'' bytes → ReadsNow r' r'' w'
-    → LoopInvariant r r'' w w' p p' (read ++ bytes) read line whole
-came_more r r' r'' w w' p p' read line bytes whole st more now = record {
+pub came_more : (r r' r'' : Incoming) (w w' : Outgoing) (p p' : FrontState) (read line bytes : List ℕ) (whole : ℕ) → LoopInvariant r r' w w' p p' read read line whole → StaysOpen r r' → Receives r' r'' bytes
+    → (moments : List Moment) → ReadsAt r' r'' w' moments → LoopInvariant r r'' w w' p p' (read ++ bytes) read line whole
+came_more r r' r'' w w' p p' read line bytes whole st unended more moments now = record {
   texts = st.texts;
-  moments = st.moments ++ now.0;
+  moments = st.moments ++ moments;
   reads = receives_then r r' r'' read bytes st.reads more;
   writes = st.writes;
-  passes = passes_more r r' r'' st.moments now.0 st.passes now.1;
-  prompt = prompt_still r r' w w' p p' read line whole st now.0 now.2;
+  passes = passes_more r r' r'' st.moments moments st.passes now.0;
+  prompt = prompt_still r r' w w' p p' read line whole st unended moments now.1;
   turns = st.turns;
   no_quit = st.no_quit;
   kept = st.kept;
@@ -347,12 +353,12 @@ pub relined : (r r' : Incoming) (w w' : Outgoing) (p p' : FrontState) (came read
 relined r r' w w' p p' came read line slice whole st e = subst (λ l. LoopInvariant r r' w w' p p' came read l whole) (sym e) st
 
 -- a read that gave none
-pub last_invariant : (r r' r'' : Incoming) (w w' : Outgoing) (p p' : FrontState) (read line slice buf : List ℕ) (whole n : ℕ) → LoopInvariant r r' w w' p p' read read line whole
-    → Receives r' r'' (take n buf) → ReadsNow r' r'' w' → n ≡ 0 → slice ≡ line → LoopInvariant r r'' w w' p p' read read slice whole
-last_invariant r r' r'' w w' p p' read line slice buf whole n st more now none e =
+pub last_invariant : (r r' r'' : Incoming) (w w' : Outgoing) (p p' : FrontState) (read line slice buf : List ℕ) (whole n : ℕ) → LoopInvariant r r' w w' p p' read read line whole → StaysOpen r r'
+    → Receives r' r'' (take n buf) → (moments : List Moment) → ReadsAt r' r'' w' moments → n ≡ 0 → slice ≡ line → LoopInvariant r r'' w w' p p' read read slice whole
+last_invariant r r' r'' w w' p p' read line slice buf whole n st unended more moments now none e =
     relined r r'' w w' p p' read read line slice whole
     (subst (λ came. LoopInvariant r r'' w w' p p' came read line whole) (append-nil read)
-    (came_more r r' r'' w w' p p' read line [] whole st (subst (λ m. Receives r' r'' (take m buf)) none more) now)) e
+    (came_more r r' r'' w w' p p' read line [] whole st unended (subst (λ m. Receives r' r'' (take m buf)) none more) moments now)) e
 
 -- what came, at the byte at i
 pub came_at : (before bytes : List ℕ) (i : ℕ) → i < length bytes → before ++ bytes ≡ (before ++ take i bytes) ++ get_or bytes i 0 ∷ drop (suc i) bytes

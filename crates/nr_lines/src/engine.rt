@@ -29,8 +29,8 @@ const CHUNK: usize = 512;
 ///
 /// The source may be read past `quit`, or past the line whose reply was not written. Where a read failed, the whole
 /// lines before it are answered. Whatever the end, the front can be used again, and each line up to there was run, also
-/// one whose reply was not written. A failure is reported exactly where there was one. It returns: behind `u64::MAX` reads the
-/// last one counts as failed.
+/// one whose reply was not written. A failure is reported exactly where there was one. It gives up only after 2^64 - 1 reads, of
+/// which the last one then counts as failed.
 pub fn answer<R: Read, W: Write, S: Worlds + Drop + Sync, F: Finder>(
     r: &mut Source<R>,
     w: &mut Sink<W>,

@@ -36,7 +36,8 @@ abbrev pub some_count : List (List ℕ) → ℕ
 some_count texts = length (filter (λ text. nat_lt 0 (length text)) texts)
 
 -- When a read was made, each whole line that had been received was answered, one text each, and
--- nothing else had been sent: the first of these lines, and of their texts.
+-- nothing else had been sent: the first of these lines, and of their texts. The read before it had
+-- not found the end.
 pub record IsPrompt (from : Incoming) (old : Outgoing) (lines texts : List (List ℕ)) (m : Moment) :
     Type 0 where
   pub read : List ℕ
@@ -48,6 +49,7 @@ pub record IsPrompt (from : Incoming) (old : Outgoing) (lines texts : List (List
   pub one_each : length answers ≡ length (whole_lines read)
   pub of_lines : lines ≡ whole_lines read ++ lines_behind
   pub of_texts : texts ≡ answers ++ texts_behind
+  pub unended : from.ended ≡ false → m.ended ≡ false
 
 -- Each of the reads was prompt, where these lines had these texts.
 abbrev pub ArePrompt : Incoming → Outgoing → List Moment → List (List ℕ) → List (List ℕ) → Type 0

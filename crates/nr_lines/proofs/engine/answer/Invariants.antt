@@ -1,5 +1,7 @@
--- What came from the source is answered, up to the line that is kept, and neither a read nor a write failed.
-use Rattle.std.proofs.Common.{◌≡◌, ℕ, List, false}
+-- What came from the source is answered, up to the line that is kept, and neither a read nor a write failed. No read found the
+-- end, and each turn of the loop made one.
+use Rattle.std.proofs.Common.{◌≡◌, ◌≤◌, ℕ, List, length, false}
+use Rattle.nr_lines.proofs.EngineLemmas.{StaysOpen}
 use Rattle.nr_lines.specs.LoopInvariant.{LoopInvariant}
 use Rattle.nr_lines.proofs.engine.answer.Given as goal
 
@@ -8,6 +10,8 @@ invariant-loop g l = record {
   table : l.front.table ≡ l.journal;
   reader : l.r.failed ≡ false;
   writer : l.w.failed ≡ false;
+  unended : StaysOpen l.fn.r l.r;
+  reads : l.counter ≤ length l.r.moments;
   read : List ℕ;
   invariant_holds : LoopInvariant l.fn.r l.r l.fn.w l.w l.fn.front l.front
       read read l.line.items l.whole;
