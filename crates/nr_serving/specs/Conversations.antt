@@ -4,7 +4,6 @@ use Rattle.nr_text.specs.Streams.{Incoming, Outgoing}
 use Rattle.nr_lines.specs.declared.ending.End.{End}
 use Rattle.nr_lines.specs.declared.ending.LineEnd.{LineEnd}
 use Rattle.nr_serving.specs.declared.conversations.Arrival.{Arrival}
-use Rattle.nr_serving.specs.declared.conversations.Arrival.TheVariants as arrivals
 
 -- What passed between a front and a caller: what was received from the caller, what was sent, and
 -- how serving the caller ended.

@@ -1,8 +1,10 @@
 //! Callers of a front, one after the other.
 
-ghost use Rattle.std.specs.Prelude.{◌≤◌, ◌*◌, ℕ, List, length};
+ghost use Rattle.std.specs.Prelude.{◌≡◌, ◌≤◌, ◌*◌, ℕ, List, [], ◌∷◌, ◌++◌, length};
 ghost use Rattle.std.specs.Io.KnownBytes.{Consumes};
+ghost use Rattle.nr_serving.specs.Auxiliary.Fronts.{arrival_of};
 ghost use Rattle.nr_serving.specs.declared.connection.TheConstants.{AT_ONCE, MOST_READS};
+ghost use Rattle.nr_serving.specs.declared.conversations.Arrival.{Arrival};
 
 use std::io;
 use std::io::{Read, Write};
@@ -31,8 +33,12 @@ pub trait Connections {
     /// Where the replies to a caller go.
     type Writer: Write + Drop + Send;
 
-    /// Waits for the next caller.
-    fn next(&mut self) -> Next<Self::Reader, Self::Writer>;
+    /// What came of waiting so far, in order. `Conversations` can note it.
+    ghost arrivals: { Self → List Arrival };
+
+    /// Waits for the next caller, once.
+    fn next(&mut self) -> Next<Self::Reader, Self::Writer>
+        ensures { arrivals self.new ≡ arrivals self.old ++ arrival_of result ∷ [] };
 
     /// Says that no reply comes any more: the caller reads an end behind the last one. From then on a read waits for a
     /// moment at most, and fails where nothing comes. Where this fails, nothing more is read.
@@ -45,8 +51,13 @@ pub trait Connections {
 pub trait Ports {
     type Callers: Connections + Drop + Send;
 
-    /// The callers of the front of this number, counted from 0. Where they can't be had, the first `next` says so.
-    fn open(&mut self, front: usize) -> Self::Callers;
+    /// The numbers of the fronts whose callers were handed out, in order. `Fronts` can note them.
+    ghost opened: { Self → List ℕ };
+
+    /// The callers of the front of this number, counted from 0, none of whom has come. If they can't be had, the first `next` says so.
+    fn open(&mut self, front: usize) -> Self::Callers
+        ensures opened { opened self.new ≡ opened self.old ++ front ∷ [] }
+        ensures none { Self.Callers.arrivals result ≡ [] };
 }
 
 /// Reads on, and drops what comes, until no more does or a read fails, but no more than 64 times 512 bytes.

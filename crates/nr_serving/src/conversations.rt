@@ -13,7 +13,7 @@ use std::marker::Model;
 
 /// What came of waiting for the next caller.
 #[derive(Clone, Copy, Debug, PartialEq, Eq)]
-pub(crate) enum Arrival {
+pub enum Arrival {
     /// A caller came.
     Came,
     /// No caller comes any more.
@@ -24,7 +24,7 @@ pub(crate) enum Arrival {
 
 /// What passed between a front and its callers: who came, and the conversation with each, in their order.
 #[derive(Drop)]
-pub(crate) struct Conversations {
+pub struct Conversations {
     pub ghost arrivals: { List DeclaredArrival } by { arrivals_code },
     pub ghost callers: { List Conversation } by { conversations_code },
 }
@@ -37,16 +37,16 @@ impl Model for Conversations {
 unsafe impl Send for Conversations {}
 
 impl Conversations {
-    // Nothing yet.
-    pub(crate) fn new() -> Conversations
+    /// Nothing yet.
+    pub fn new() -> Conversations
         ensures { (result.arrivals ≡ []) × (result.callers ≡ []) }
     {
         Conversations {}
     }
 
-    // This came of waiting once more.
+    /// This came of waiting once more.
     #[inline(always)]
-    pub(crate) fn arrived(&self, _arrival: &Arrival) -> Conversations
+    pub fn arrived(&self, _arrival: &Arrival) -> Conversations
         ensures { (result.arrivals ≡ self.now.arrivals ++ _arrival.now ∷ [])
             × (result.callers ≡ self.now.callers) }
     {
@@ -70,7 +70,7 @@ impl Conversations {
 
 /// The fronts of a session: the numbers of those that were opened, and what passed between each that has ended and its callers.
 #[derive(Drop)]
-pub(crate) struct Fronts {
+pub struct Fronts {
     pub ghost opened: { List ℕ } by { numbers_code },
     pub ghost ended: { List Passed } by { passed_code },
 }
@@ -83,16 +83,16 @@ impl Model for Fronts {
 unsafe impl Send for Fronts {}
 
 impl Fronts {
-    // None yet.
-    pub(crate) fn new() -> Fronts
+    /// None yet.
+    pub fn new() -> Fronts
         ensures { (result.opened ≡ []) × (result.ended ≡ []) }
     {
         Fronts {}
     }
 
-    // That of this number was opened.
+    /// That of this number was opened.
     #[inline(always)]
-    pub(crate) fn opened(&self, _number: &usize) -> Fronts
+    pub fn opened(&self, _number: &usize) -> Fronts
         ensures { (result.opened ≡ self.now.opened ++ _number.now ∷ []) × (result.ended ≡ self.now.ended) }
     {
         Fronts {}

@@ -8,5 +8,6 @@ mod logged;
 mod session;
 
 pub use connection::{Connections, Next, Ports, read_away};
+pub use conversations::{Arrival, Conversations, Fronts};
 pub use logged::LoggedPorts;
-pub use session::{Ended, Shape, Unshared, share};
+pub use session::{Ended, Shape, share};

@@ -1,7 +1,7 @@
 //! Ports and callers that are logged. This file alone gets at a caller: who comes has its reader and its writer wrapped at once,
 //! and what passed is noted when it is let go.
 
-ghost use Rattle.std.specs.Prelude.{◌≡◌, ◌∷◌, ◌++◌, []};
+ghost use Rattle.std.specs.Prelude.{◌≡◌, ◌-◌, ◌^◌, ◌≤◌, ◌∷◌, ◌++◌, [], length};
 ghost use Rattle.nr_serving.specs.Auxiliary.Fronts.{arrival_of, none_passed};
 ghost use Rattle.nr_serving.specs.Logged.{IsNewCaller, WaitsOnce, with_arrival, with_conversation};
 
@@ -26,7 +26,8 @@ pub(crate) enum Came {
     Failed,
 }
 
-/// The callers of a front, one after the other. Contracts see what came of waiting for each, and the conversation with each.
+/// The callers of a front, one after the other. Contracts see what came of waiting for each, and the conversation with each. It has
+/// waited for as many as its connections say.
 #[derive(Drop)]
 pub(crate) struct LoggedCallers<C: Connections> {
     /// None once no caller comes any more: a front that has ended holds no port while others go on.
@@ -35,16 +36,20 @@ pub(crate) struct LoggedCallers<C: Connections> {
 }
 
 impl<C: Connections> Model for LoggedCallers<C> {
+    ghost use Rattle.std.specs.Prelude.{◌≡◌, IfSome};
     ghost use Rattle.nr_serving.specs.Conversations.{Passed};
 
     ghost Value = { Passed };
 
     ghost view = { λ c. record { arrivals = c.conversations.arrivals; callers = c.conversations.callers } };
+
+    ghost invariant = { λ c. IfSome c.connections (λ k. C.arrivals k ≡ c.conversations.arrivals) };
 }
 
 impl<C: Connections + Drop> LoggedCallers<C> {
     // Nobody has come yet.
     fn new(connections: C) -> LoggedCallers<C>
+        requires { C.arrivals connections ≡ [] }
         ensures { result ≡ none_passed }
     {
         LoggedCallers {
@@ -124,8 +129,9 @@ impl<C: Connections + Drop> LoggedCallers<C> {
         }
     }
 
-    // Gives up: the callers can't be had any more.
+    // Gives up, after 2^64 - 1 callers: they can't be had any more.
     pub(crate) fn give_up(&mut self)
+        requires { 2 ^ 64 - 1 ≤ length self.old.arrivals }
         ensures { self.new ≡ with_arrival Arrival.Failed self.old }
     {
         self.connections = None;
@@ -134,7 +140,7 @@ impl<C: Connections + Drop> LoggedCallers<C> {
 }
 
 /// Ports whose callers are logged. Contracts see the numbers of the fronts whose callers were opened, and what passed with those of
-/// each front that has ended.
+/// each front that has ended. The ports say that just these were opened, since they were given here.
 #[derive(Drop)]
 pub struct LoggedPorts<P: Ports> {
     ports: P,
@@ -142,11 +148,14 @@ pub struct LoggedPorts<P: Ports> {
 }
 
 impl<P: Ports> Model for LoggedPorts<P> {
+    ghost use Rattle.std.specs.Prelude.{◌≡◌, ◌++◌, ℕ, List};
     ghost use Rattle.nr_serving.specs.Conversations.{FrontsLog};
 
     ghost Value = { FrontsLog };
 
     ghost view = { λ p. record { opened = p.fronts.opened; ended = p.fronts.ended } };
+
+    ghost invariant = { λ p. (before : List ℕ) × (P.opened p.ports ≡ before ++ p.fronts.opened) };
 }
 
 impl<P: Ports> LoggedPorts<P> {

@@ -1,13 +1,11 @@
 //! A session that several people share.
 
-ghost use Rattle.std.specs.Prelude.{◌≡◌, ◌≤◌, ◌+◌, ◌++◌, ◌∷◌, [], codes, map, vec_len, vec_capacity, IfOk, IfSome, IfNone, List, OnErr, OnOk};
+ghost use Rattle.std.specs.Prelude.{◌≡◌, ◌<◌, ◌≤◌, ◌+◌, ◌++◌, ◌∷◌, [], map, vec_len, vec_capacity, IfOk, IfSome, IfNone, List, OnErr, OnOk};
 ghost use Rattle.std.specs.List.{All};
-ghost use Rattle.nr_rev.specs.Refusing.{refused_memory};
 ghost use Rattle.nr_walker.specs.declared.walker.TheConstants.{LEAST_DEPTH, MOST_DEPTH};
-ghost use Rattle.nr_journal.specs.declared.rule.TheConstants.{MOST_WORDS};
-ghost use Rattle.nr_serving.specs.declared.session.Unshared.TheVariants as unshared;
+ghost use Rattle.nr_journal.specs.declared.rule.TheConstants.{MOST_PASSES, MOST_WORDS};
 ghost use Rattle.nr_journal.specs.Rule.{journal_room};
-ghost use Rattle.nr_journal.specs.Auxiliary.Rule.{entering, HasTagBelow};
+ghost use Rattle.nr_journal.specs.Auxiliary.Rule.{HasTagBelow};
 ghost use Rattle.nr_serving.specs.Conversations.{Passed};
 ghost use Rattle.nr_serving.specs.Auxiliary.Fronts.{none_passed};
 ghost use Rattle.nr_serving.specs.Session.{IsHistory, IsShared, Opens, numbers_below};
@@ -17,13 +15,11 @@ use crate::connection::Ports;
 use crate::fronts::{Done, serve_each};
 use crate::logged::{LoggedCallers, LoggedPorts};
 use nr_front::Front;
-use nr_journal::{Journal, MOST_PASSES, Pass, Seat};
+use nr_journal::{Journal, Pass, Passes};
 use nr_rev::{Memory, Worlds};
 use nr_search::Finder;
 use nr_snaps::Film;
-use nr_text::{Buffered, Text, WriteFailed};
-use std::alloc::{AllocError, Global};
-use std::io::Write;
+use std::alloc::Global;
 use std::thread::Threads;
 
 /// What a session leaves in the end.
@@ -46,80 +42,30 @@ pub struct Shape {
     pub depth: usize,
 }
 
-/// Why a session wasn't shared.
-#[derive(Clone, Copy, Debug, PartialEq, Eq)]
-pub enum Unshared {
-    /// There was no memory.
-    Memory(Memory),
-    /// There was no tag left for a front.
-    NoTag,
-}
-
-impl From<Memory> for Unshared {
-    ghost from_gives = { λ _ fault. fault ≡ unshared.Memory refused_memory };
-
-    fn from(refused: Memory) -> Unshared {
-        Unshared::Memory(refused)
-    }
-}
-
-impl From<AllocError> for Unshared {
-    ghost from_gives = { λ _ fault. fault ≡ unshared.Memory refused_memory };
-
-    fn from(refused: AllocError) -> Unshared {
-        Unshared::Memory(refused.into())
-    }
-}
-
-/// It is the line `fault 108 memory`. Of tags there are as many as fronts, so there is always one left.
-impl Text for Unshared {
-    ghost text = { λ _. codes "fault 108 memory\n" };
-
-    fn send<W: Write>(&self, w: &mut Buffered<W>) -> Result<(), WriteFailed> {
-        w.send(b"fault 108 memory\n")
-    }
-}
-
-// Enters as the pass of this number, where so many entered before.
-fn enter(journal: &Journal, seat: &mut Seat, number: usize) -> Result<Pass, Unshared>
-    requires { seat.old.table ≡ journal.now }
-    ensures seat { seat.new ≡ seat.old }
-    ensures entered { IfOk result (λ pass. (pass.table ≡ journal.now) × (pass.pass_state ≡ entering seat.old.passes number)) }
-{
-    let Ok(pass) = journal.enter(journal.split(seat)) else {
-        return Err(Unshared::NoTag);
-    };
-    // never so: nobody else enters, and the first tag that is left is drawn
-    if usize::from(pass.tag()) != number {
-        return Err(Unshared::NoTag);
-    }
-    Ok(pass)
-}
-
-// Opens the front of this number over the film, where so many were opened before.
+// Opens the next front over the film, with the next of the passes that are left.
 fn open_front<'f, W: Worlds + Drop + Sync, F: Finder + Drop>(
     alloc: Global,
     journal: &Journal,
-    seat: &mut Seat,
-    number: usize,
+    passes: &mut Passes,
     film: &'f Film<W>,
     finder: F,
     depth: usize,
-) -> Result<Front<'f, W, F>, Unshared>
+) -> Result<Front<'f, W, F>, Memory>
 where
     W::Delta: Drop,
     W::Snapshot: Drop + Sync,
-    requires table { seat.old.table ≡ journal.now }
+    requires table { passes.old.table ≡ journal.now }
+    requires next { passes.old.next < passes.old.passes }
     requires depth { (LEAST_DEPTH ≤ depth) × (depth ≤ MOST_DEPTH) }
-    ensures seat { seat.new ≡ seat.old }
-    ensures fresh { IfOk result (IsFresh journal.now film.now.recording seat.old.passes depth
+    ensures left { passes.new ≡ record passes.old { next = passes.old.next + 1 } }
+    ensures fresh { IfOk result (IsFresh journal.now film.now.recording passes.old.passes depth
         (F.count finder)) }
-    ensures tag { IfOk result (λ front. front.pass_state.tag ≡ number) }
+    ensures tag { IfOk result (λ front. front.pass_state.tag ≡ passes.old.next) }
 {
-    let pass = enter(journal, seat, number)?;
+    let pass = journal.take(passes);
     match Front::new(alloc, pass, film, finder, depth) {
         Ok(front) => Ok(front),
-        Err((_, refused)) => Err(refused.into()),
+        Err((_, refused)) => Err(refused),
     }
 }
 
@@ -127,16 +73,17 @@ where
 fn open_fronts<'f, W: Worlds + Drop + Sync, F: Finder + Copy + Drop>(
     alloc: Global,
     journal: &Journal,
-    mut seat: Seat,
+    mut passes: Passes,
     film: &'f Film<W>,
     finder: F,
     shape: Shape,
-) -> Result<Vec<Front<'f, W, F>>, Unshared>
+) -> Result<Vec<Front<'f, W, F>>, Memory>
 where
     W::Delta: Drop,
     W::Snapshot: Drop + Sync,
-    requires table { seat.table ≡ journal.now }
-    requires passes { seat.passes ≡ shape.fronts }
+    requires table { passes.table ≡ journal.now }
+    requires passes { passes.passes ≡ shape.fronts }
+    requires next { passes.next ≡ 0 }
     requires depth { (LEAST_DEPTH ≤ shape.depth) × (shape.depth ≤ MOST_DEPTH) }
     ensures fresh { IfOk result (λ fronts.
         All (IsFresh journal.now film.now.recording shape.fronts shape.depth (F.count finder)) fronts.items) }
@@ -145,8 +92,8 @@ where
         map (λ f. f.pass_state.tag) fronts.items ≡ numbers_below shape.fronts) }
 {
     let mut fronts = Vec::with_capacity(alloc, shape.fronts)?;
-    for number in 0..shape.fronts {
-        let front = open_front(alloc, journal, &mut seat, number, film, finder, shape.depth)?;
+    for _ in 0..shape.fronts {
+        let front = open_front(alloc, journal, &mut passes, film, finder, shape.depth)?;
         fronts.push_reserved(front);
     }
     Ok(fronts)
@@ -252,9 +199,8 @@ fn take_done(journal: &Journal, done: &mut Vec<Done>) -> Option<Done>
 /// end, and returns the history that they placed. What passed with the callers of the ports is theirs: the ports of as many fronts
 /// as were asked for were opened, of each once, by its number from 0, and all of them have ended.
 ///
-/// An error comes before any port is opened: no caller was sent a byte. `NoTag` means that these are more fronts than a journal has
-/// tags for, `MOST_PASSES`. The contract doesn't say when an error comes. Where the history runs out of memory, after the last
-/// caller, `Ended` says so in its place.
+/// Memory is the only error, and comes before any port is opened: no caller was sent a byte. The contract doesn't say when it
+/// comes. If memory runs out for the history, after the last caller, `Ended` says so in its place.
 pub fn share<W, F, R, P>(
     rt: &R,
     alloc: Global,
@@ -262,7 +208,7 @@ pub fn share<W, F, R, P>(
     finder: F,
     shape: Shape,
     ports: &mut LoggedPorts<P>,
-) -> Result<Ended, Unshared>
+) -> Result<Ended, Memory>
 where
     W: Worlds + Drop + Send + Sync,
     W::Delta: Drop + Send,
@@ -270,6 +216,7 @@ where
     F: Finder + Copy + Drop + Send,
     R: Threads + Sync,
     P: Ports,
+    requires fronts { shape.fronts ≤ MOST_PASSES }
     requires room { (1 ≤ shape.room) × (shape.room ≤ MOST_WORDS) }
     requires depth { (LEAST_DEPTH ≤ shape.depth) × (shape.depth ≤ MOST_DEPTH) }
     ensures shared { IfOk result (λ ended. (passed : List Passed) × Opens shape.fronts passed ports.old ports.new
@@ -277,11 +224,8 @@ where
         (words_of ended.history) ended.failed) }
     ensures untouched { OnErr result (ports.new ≡ ports.old) }
 {
-    if shape.fronts > MOST_PASSES as usize {
-        return Err(Unshared::NoTag);
-    }
-    let (journal, seat) = Journal::for_passes(alloc, shape.room, shape.fronts as u32)?;
-    let fronts = open_fronts(alloc, &journal, seat, film, finder, shape)?;
+    let (journal, passes) = Journal::of_passes(alloc, shape.room, shape.fronts as u32)?;
+    let fronts = open_fronts(alloc, &journal, passes, film, finder, shape)?;
     let callers = Vec::with_capacity(alloc, fronts.len())?;
     let served = Vec::with_capacity(alloc, fronts.len())?;
     let done = Vec::with_capacity(alloc, fronts.len())?;

@@ -1,5 +1,7 @@
 use Rattle.std.proofs.Common.{◌≡◌, ◌||◌, ◌∙◌, ◌∷◌, ◌++◌, [], false, true, sym, ap, subst, rules}
 use Rattle.std.specs.List.{list_any}
+use Rattle.std.proofs.Common.{List, length, length-append, arith}
+use Rattle.nr_serving.specs.declared.conversations.Arrival.{Arrival}
 use Rattle.std.specs.Prelude.{is_err}
 use Rattle.nr_front.specs.Auxiliary.FrontState.{pass_of}
 use Rattle.nr_serving.specs.Conversations.{Passed}
@@ -18,12 +20,15 @@ loop-preserved g c =
     let now = c.serve_next.new.self in
     let callers : now.callers ≡ c.loop.callers.callers ++ one ∷ [] = ap (λ (p : Passed). p.callers) w.1 in
     let arrived : now.arrivals ≡ c.loop.callers.arrivals ++ arrivals.Came ∷ [] = ap (λ (p : Passed). p.arrivals) w.1 in
-    let failed = c.is_err-failed.ensures.value ∙ ap is_err (sym w.2) in (
+    let failed = c.is_err-failed.ensures.value ∙ ap is_err (sym w.2) in
+    let more = length-append c.loop.callers.arrivals (arrivals.Came ∷ []) in
+    let same = ap (λ (l : List Arrival). length l) arrived in (
       c.in-Served.ensures.table ∙ i.0,
       came_more c.loop.callers.callers now.callers one c.loop.callers.arrivals now.arrivals callers i.1 arrived ∙ ap came (sym callers),
       subst (λ l. ServesCallers l c.args.front c.serve_next.new.front) (sym callers)
           (serving_more c.loop.callers.callers c.args.front c.loop.front c.serve_next.new.front one i.2 w.3),
       reported_more c.loop.callers.callers one c.loop.failed _ i.3 (ap (λ b. c.loop.failed || b) failed) ∙ ap (list_any is_failure) (sym callers),
+      (omega (arith, same, more, i.4)),
     )
 
 -- the callers have come to an end

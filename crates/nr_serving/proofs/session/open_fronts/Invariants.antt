@@ -5,14 +5,15 @@ use Rattle.nr_serving.specs.Auxiliary.Session.{IsFresh}
 use Rattle.nr_serving.proofs.session.open_fronts.Given as goal
 
 -- each front so far is fresh, and its tag is its number
-abbrev pub invariant-loop-number : goal.invariant-loop-number
-invariant-loop-number g l =
+abbrev pub invariant-loop : goal.invariant-loop
+invariant-loop g l =
     record {
-      table : l.seat.table ≡ l.journal;
+      table : l.passes.table ≡ l.journal;
       fresh : All (IsFresh l.journal l.film.recording l.shape.fronts l.shape.depth (g.F.Finder.count l.finder)) l.fronts.items;
-      same : l.seat.passes ≡ l.shape.fronts;
-      tags : map (λ f. f.pass_state.tag) l.fronts.items ≡ numbers_below l.number;
-      count : vec_len l.fronts ≡ l.number;
-      within : l.number ≤ l.shape.fronts;
+      same : l.passes.passes ≡ l.shape.fronts;
+      next : l.passes.next ≡ l.counter;
+      tags : map (λ f. f.pass_state.tag) l.fronts.items ≡ numbers_below l.counter;
+      count : vec_len l.fronts ≡ l.counter;
+      within : l.counter ≤ l.shape.fronts;
       room : l.shape.fronts ≤ vec_capacity l.fronts;
     }
