@@ -24,12 +24,21 @@ pub unread_refused : (r : Recording) (journal : JournalSize) (tag : ℕ) → ¬ 
 unread_refused r journal tag a = absurd (elim (a.complete refl) as (λ _. ⊥) [ inl over ↦ (let same : false ≡ true = over.0 in cc) | inr quit ↦ (let same : false ≡ true = quit in cc) ])
 
 pub late_refused : (r : Recording) (journal : JournalSize) (tag : ℕ) → ¬ (IsAnswered r journal tag (record {
-  input = record { remaining = None; received = codes "quit\n"; ended = false; failed = false; moments = record { received = codes "quit\n"; sent = [] } ∷ [] };
+  input = record { remaining = None; received = codes "quit\n"; ended = false; failed = false; moments = record { received = codes "quit\n"; sent = []; ended = false } ∷ [] };
   output = record { contents = None; sent = codes "bye\n"; failed = false };
   ending = Ok Quit;
 }) start)
 late_refused r journal tag a =
-    let heard : [] ≡ codes "bye\n" = All-head (HeardOut r start a.met) (record { received = codes "quit\n"; sent = [] }) [] a.prompt in
+    let heard : [] ≡ codes "bye\n" = (All-head (HeardOut r start a.met) (record { received = codes "quit\n"; sent = []; ended = false }) [] a.prompt).0 in
+    absurd cc
+
+pub asked_again_refused : (r : Recording) (journal : JournalSize) (tag : ℕ) → ¬ (IsAnswered r journal tag (record {
+  input = record { remaining = None; received = codes "quit"; ended = true; failed = false; moments = record { received = codes "quit"; sent = []; ended = true } ∷ [] };
+  output = record { contents = None; sent = codes "bye\n"; failed = false };
+  ending = Ok Quit;
+}) start)
+asked_again_refused r journal tag a =
+    let again : true ≡ false = (All-head (HeardOut r start a.met) (record { received = codes "quit"; sent = []; ended = true }) [] a.prompt).1 in
     absurd cc
 
 pub lie_no_run : (recording : List ℕ) (r : Recording) → opened recording ≡ Ok r → ¬ (Transcribes recording (unread None)

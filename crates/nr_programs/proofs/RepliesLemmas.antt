@@ -30,7 +30,7 @@ use Rattle.nr_snaps.specs.declared.fault.LoadFault.TheVariants as load
 use Rattle.nr_programs.specs.Opening.{IsFirstFault, IsGoodText, fault_line, opened}
 use Rattle.nr_programs.specs.Run.{PrintsFault}
 use Rattle.nr_programs.specs.Auxiliary.Run.{Walks, status_after}
-use Rattle.nr_programs.specs.Shared.{MeetsOthers, StartsList, words_seen, words_with}
+use Rattle.nr_programs.specs.Shared.{EndsWithin, MeetsOthers, StartsList, words_seen, words_with}
 use Rattle.nr_programs.specs.Among.{AllMayMeet, MayMeet, Met, answer_among, calm, next_met, replies_among, texts_among}
 use Rattle.nr_programs.specs.Transcript.{AllMayHave, JournalSize, RunsTranscript, UnlessQuit, SessionState, Supply, Transcribes, WasPrompt, enough, journal_of_one, line_answer, replies, replies_over, start, status_of, texts, transcript_by}
 use Rattle.nr_programs.specs.declared.opening.OpenFault.{OpenFault}
@@ -191,7 +191,7 @@ lines_behind ended text front line back split =
     (back ++ more.0, more.1 ∙ ap (λ (l : List (List ℕ)). l ++ more.0) split ∙ append_assoc front (line ∷ back) more.0)
 
 -- what was written, and the state of the front then; the reads were prompt
-pub record Replied (r : Recording) (s : SessionState) (d d' : FrontState) (from : Incoming) (old : Outgoing) (moments : List Moment) (lines : List (List ℕ)) (out : List ℕ) (says : List Met → Type 0) : Type 0 where
+pub record Replied (r : Recording) (s : SessionState) (d d' : FrontState) (from : Incoming) (old : Outgoing) (moments : List Moment) (lines : List (List ℕ)) (out : List ℕ) (says : List (List ℕ) → List Met → Type 0) : Type 0 where
   pub met : List Met
   pub ran : List (List ℕ)
   pub prompt : ArePrompt from old moments ran (texts_among r s ran met)
@@ -206,7 +206,7 @@ pub record Replied (r : Recording) (s : SessionState) (d d' : FrontState) (from 
   pub no_others : d.pass_state.passes ≡ 1 → All MeetsNoOther met
   pub after : SessionState
   pub there : IsInState r after d'
-  pub says_it : says met
+  pub says_it : says ran met
 
 -- the words that were seen with lines and with one more
 seen_with : (r : Recording) (s : SessionState) (d : FrontState) (front : List (List ℕ)) (line : List ℕ) (given : List (List ℕ)) (text : List ℕ) (mid d' : FrontState) (on : GoOn r s d front given mid)
@@ -269,7 +269,7 @@ may_with r s d front line given text mid d' on last later all is then =
 module _ (r : Recording) (s : SessionState) (d d' : FrontState) (here : IsInState r s d) (from : Incoming) (old : Outgoing) (moments : List Moment) (read out : List ℕ) where
   -- all lines were answered
   pub all_answered : (ended : Bool) → Answered (ArePrompt from old moments) d (lines_of ended read) out d'
-      → Replied r s d d' from old moments (lines_of ended read) out (λ met. out ≡ replies_among r s ended read met)
+      → Replied r s d d' from old moments (lines_of ended read) out (λ ran met. out ≡ replies_among r s ended read met)
   all_answered ended h =
       let lines = lines_of ended read in
       let on = go_on r s d lines h.texts d' here h.no_quit h.turns in
@@ -296,7 +296,7 @@ module _ (r : Recording) (s : SessionState) (d d' : FrontState) (here : IsInStat
 
   -- one was quit
   pub up_to_quit : (ended : Bool) → Quitted (ArePrompt from old moments) d (lines_of ended read) out d'
-      → Replied r s d d' from old moments (lines_of true read) out (λ met. out ≡ replies_among r s true read met)
+      → Replied r s d d' from old moments (lines_of true read) out (λ ran met. out ≡ replies_among r s true read met)
   up_to_quit ended h =
       let by = ends_by d h.front h.line h.texts d' h.turns in
       let on = go_on r s d h.front by.front by.mid here h.no_quit by.turns in
@@ -327,7 +327,7 @@ module _ (r : Recording) (s : SessionState) (d d' : FrontState) (here : IsInStat
 
   -- a write failed in the text of one
   pub up_to_failure : (ended : Bool) (whole part : ℕ) → WrittenInPart (ArePrompt from old moments) d (lines_of ended read) whole part out d'
-      → Replied r s d d' from old moments (lines_of true read) out (λ met. StartsWith (replies_among r s true read met) out)
+      → Replied r s d d' from old moments (lines_of true read) out (λ ran met. StartsWith (replies_among r s true read met) out × EndsWithin (texts_among r s ran met) out)
   up_to_failure ended whole part h =
       let on = go_on r s d h.front h.texts h.mid here h.no_quit h.turns in
       let last = goes r on.after h.mid h.line h.text d' on.there h.turn in
@@ -361,9 +361,19 @@ module _ (r : Recording) (s : SessionState) (d d' : FrontState) (here : IsInStat
         after = last.after;
         there = last.there;
         says_it = (
-          rest,
-          ap concat all ∙ concat-append h.texts (h.text ∷ beyond) ∙ ap (λ (t : List ℕ). concat h.texts ++ t) cut ∙ sym (append_assoc (concat h.texts) (take h.n h.text) rest)
-              ∙ ap (λ (t : List ℕ). t ++ rest) (sym h.written),
+          (
+            rest,
+            ap concat all ∙ concat-append h.texts (h.text ∷ beyond) ∙ ap (λ (t : List ℕ). concat h.texts ++ t) cut ∙ sym (append_assoc (concat h.texts) (take h.n h.text) rest)
+                ∙ ap (λ (t : List ℕ). t ++ rest) (sym h.written),
+          ),
+          record {
+            whole = h.texts;
+            last = h.text;
+            n = h.n;
+            split = texts_with r s d h.front h.line h.texts h.text h.mid d' on last;
+            within = h.within;
+            sent_is = h.written;
+          },
         );
       }
 
@@ -441,6 +451,7 @@ module _ (recording : List ℕ) (r : Recording) (opening : opened recording ≡ 
         commands = p.read;
         received = p.received;
         sent = prompt_replies r start ran met from old m p ∙ ap (λ (l : List ℕ). old.sent ++ l) (replies_alone r start false p.read met none ∙ sym (over false p.read (supplies_of met)));
+        unended = p.unended;
       }) moments all
 
   -- no write failed
@@ -502,7 +513,7 @@ module _ (recording : List ℕ) (r : Recording) (opening : opened recording ≡ 
         passes = h.passes;
         prompt = prompt_said h.moments part_of.ran part_of.met none part_of.prompt;
         may = may_have false h.read supplies read (all_may_alone r (size_of d) start (lines_of true h.read) part_of.met none part_of.may);
-        begins = subst (λ t. StartsWith t h.out) (sym all) part_of.says_it;
+        begins = subst (λ t. StartsWith t h.out) (sym all) part_of.says_it.0;
         whole = λ unfailed. absurd (true_is_false (sym write ∙ unfailed));
         complete = λ e. absurd (not_done (sym e));
         unread = never_refused h.read;

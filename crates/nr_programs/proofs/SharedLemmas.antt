@@ -24,7 +24,7 @@ use Rattle.nr_serving.specs.Conversations.{Conversation, Passed}
 use Rattle.nr_serving.specs.Session.{BeginsFresh, IsShared, last_pass_state}
 use Rattle.nr_serving.specs.Auxiliary.Session.{HasItsOwnWords}
 use Rattle.nr_serving.proofs.TagLemmas.{serving_keeps_tag}
-use Rattle.nr_programs.specs.Shared.{AreAnswered, HeardOut, IsAnswered, HasRun, StartsList, words_seen}
+use Rattle.nr_programs.specs.Shared.{AreAnswered, EndsWithin, HeardOut, IsAnswered, HasRun, StartsList, words_seen}
 use Rattle.nr_programs.specs.Auxiliary.Shared.{tag_at_end}
 use Rattle.nr_programs.specs.Among.{AllMayMeet, Met, replies_among, texts_among}
 use Rattle.nr_programs.specs.Transcript.{JournalSize, SessionState, start}
@@ -75,28 +75,31 @@ module _ (r : Recording) (c : Conversation) (s : SessionState) (d d' : FrontStat
   heard_out ran met all =
       subst (All (HeardOut r s met)) (sym passes)
       (All-weaker (IsPrompt (unread known) (unwritten held) ran (texts_among r s ran met)) (HeardOut r s met)
-      (λ m p. prompt_replies r s ran met (unread known) (unwritten held) m p ∙ ap (λ (bytes : List ℕ). replies_among r s false bytes met) (sym p.received)) moments all)
+      (λ m p. (prompt_replies r s ran met (unread known) (unwritten held) m p ∙ ap (λ (bytes : List ℕ). replies_among r s false bytes met) (sym p.received), p.unended refl)) moments all)
 
   -- what a caller sent ends, where neither a read nor a write failed
   abbrev Complete : Type 0
   Complete = is_err c.ending ≡ false → IsOver c.input ⊎ (has_quit (lines_of false c.input.received) ≡ true)
 
   -- what was replied goes on, where what was sent begins the replies, and is all of them if no write failed
-  goes_with : (failed : Bool) (says : List Met → Type 0) → c.input.failed ≡ failed → ((met : List Met) → says met → StartsWith (replies_among r s (not failed) read met) out)
-      → ((met : List Met) → says met → c.output.failed ≡ false → out ≡ replies_among r s (not failed) read met) → Complete → Replied r s d d' (unread known) (unwritten held) moments (lines_of (not failed) read) out says
+  goes_with : (failed : Bool) (says : List (List ℕ) → List Met → Type 0) → c.input.failed ≡ failed
+      → ((ran : List (List ℕ)) (met : List Met) → says ran met → StartsWith (replies_among r s (not failed) read met) out)
+      → ((ran : List (List ℕ)) (met : List Met) → says ran met → c.output.failed ≡ false → out ≡ replies_among r s (not failed) read met)
+      → ((ran : List (List ℕ)) (met : List Met) → says ran met → c.output.failed ≡ true → EndsWithin (texts_among r s ran met) out) → Complete → Replied r s d d' (unread known) (unwritten held) moments (lines_of (not failed) read) out says
       → Goes r c s d d'
-  goes_with failed says is begins whole complete all = record {
+  goes_with failed says is begins whole stops complete all = record {
     answered = record {
       met = all.met;
       may = subst (λ (l : List (List ℕ)). AllMayMeet r (size_of d) s l all.met) (lines failed is) all.may;
       begins = subst (λ (t : List ℕ). StartsWith t c.output.sent) (replies_are failed all.met is)
-          (subst (StartsWith (replies_among r s (not failed) read all.met)) (sym sent) (begins all.met all.says_it));
-      whole = λ calm. sent ∙ whole all.met all.says_it calm ∙ replies_are failed all.met is;
+          (subst (StartsWith (replies_among r s (not failed) read all.met)) (sym sent) (begins all.ran all.met all.says_it));
+      whole = λ calm. sent ∙ whole all.ran all.met all.says_it calm ∙ replies_are failed all.met is;
       prompt = heard_out all.ran all.met all.prompt;
       complete = complete;
       ran = all.ran;
       first = subst (λ (l : List (List ℕ)). StartsList l all.ran) (lines failed is) all.first;
       nothing_else = subst (StartsWith (concat (texts_among r s all.ran all.met))) (sym sent) all.nothing_else;
+      stops = λ cut. subst (EndsWithin (texts_among r s all.ran all.met)) (sym sent) (stops all.ran all.met all.says_it cut);
       others = all.theirs;
     };
     after = all.after;
@@ -108,14 +111,19 @@ module _ (r : Recording) (c : Conversation) (s : SessionState) (d d' : FrontStat
   }
 
   -- no write failed
-  whole_of : (failed : Bool) → c.input.failed ≡ failed → Complete → Replied r s d d' (unread known) (unwritten held) moments (lines_of (not failed) read) out (λ met. out ≡ replies_among r s (not failed) read met) → Goes r c s d d'
-  whole_of failed is complete all =
-      goes_with failed (λ met. out ≡ replies_among r s (not failed) read met) is (λ met says. all_of (replies_among r s (not failed) read met) out says) (λ met says calm. says) complete all
+  whole_of : (failed : Bool) → c.input.failed ≡ failed → c.output.failed ≡ false → Complete
+      → Replied r s d d' (unread known) (unwritten held) moments (lines_of (not failed) read) out (λ ran met. out ≡ replies_among r s (not failed) read met) → Goes r c s d d'
+  whole_of failed is unfailed complete all =
+      goes_with failed (λ ran met. out ≡ replies_among r s (not failed) read met) is (λ ran met says. all_of (replies_among r s (not failed) read met) out says) (λ ran met says calm. says)
+      (λ ran met says cut. absurd (true_is_false (sym cut ∙ unfailed))) complete all
 
   -- one failed
-  cut_of : c.input.failed ≡ false → c.output.failed ≡ true → Complete → Replied r s d d' (unread known) (unwritten held) moments (lines_of true read) out (λ met. StartsWith (replies_among r s true read met) out) → Goes r c s d d'
+  abbrev CutWithin : List (List ℕ) → List Met → Type 0
+  CutWithin ran met = StartsWith (replies_among r s true read met) out × EndsWithin (texts_among r s ran met) out
+
+  cut_of : c.input.failed ≡ false → c.output.failed ≡ true → Complete → Replied r s d d' (unread known) (unwritten held) moments (lines_of true read) out CutWithin → Goes r c s d d'
   cut_of is failed complete part =
-      goes_with false (λ met. StartsWith (replies_among r s true read met) out) is (λ met says. says) (λ met says calm. absurd (true_is_false (sym failed ∙ calm))) complete part
+      goes_with false CutWithin is (λ ran met says. says.0) (λ ran met says calm. absurd (true_is_false (sym failed ∙ calm))) (λ ran met says cut. says.1) complete part
 
   -- an end that is a failure is no good one
   never_complete : (stopped : LineEnd) → c.ending ≡ Err stopped → Complete
@@ -130,11 +138,11 @@ module _ (r : Recording) (c : Conversation) (s : SessionState) (d d' : FrontStat
   goes_by : (ending : Result End LineEnd) (ended : Bool) → c.ending ≡ ending → (ended ≡ true → IsOver c.input) → IsInState r s d → c.input.failed ≡ is_read_failure ending
       → c.output.failed ≡ is_write_failure ending → Ends (ArePrompt (unread known) (unwritten held) moments) ending ended d (lines_of ended read) out d' → Goes r c s d d'
   goes_by (Ok Closed) ended is at_end here reading writing e =
-      whole_of false reading (λ good. inl (at_end e.0))
+      whole_of false reading writing (λ good. inl (at_end e.0))
       (all_answered r s d d' here (unread known) (unwritten held) moments read out true (subst (λ t. Answered (ArePrompt (unread known) (unwritten held) moments) d (lines_of t read) out d') e.0 e.1))
-  goes_by (Ok Quit) ended is at_end here reading writing e = whole_of false reading (complete_quit ended at_end e) (up_to_quit r s d d' here (unread known) (unwritten held) moments read out ended e)
+  goes_by (Ok Quit) ended is at_end here reading writing e = whole_of false reading writing (complete_quit ended at_end e) (up_to_quit r s d d' here (unread known) (unwritten held) moments read out ended e)
   goes_by (Err Read) ended is at_end here reading writing e =
-      whole_of true reading (never_complete Read is)
+      whole_of true reading writing (never_complete Read is)
       (all_answered r s d d' here (unread known) (unwritten held) moments read out false (subst (λ t. Answered (ArePrompt (unread known) (unwritten held) moments) d (lines_of t read) out d') e.0 e.1))
   goes_by (Err (Write whole part)) ended is at_end here reading writing e =
       cut_of reading writing (never_complete (Write whole part) is) (up_to_failure r s d d' here (unread known) (unwritten held) moments read out ended whole part e)

@@ -1,5 +1,5 @@
 -- What the callers of a shared session are answered.
-use Rattle.std.specs.Prelude.{◌≡◌, ◌⊎◌, ℕ, false, true, not, is_err, List, [], ◌∷◌, ◌++◌, length, drop, Option, None, Result, Ok, if◌then◌else◌}
+use Rattle.std.specs.Prelude.{◌≡◌, ◌⊎◌, ℕ, ◌<◌, false, true, not, is_err, List, [], ◌∷◌, ◌++◌, length, take, drop, Option, None, Result, Ok, if◌then◌else◌}
 use Rattle.std.specs.List.{All, concat}
 use Rattle.nr_rev.specs.Run.{Recording}
 use Rattle.nr_journal.specs.Rule.{Covers, IsOthers, StartsWith}
@@ -47,16 +47,26 @@ abbrev pub MeetsOthers : ℕ → Met → Type 0
 MeetsOthers tag m = All (IsOthers tag) m.others
 
 -- When the caller was read, each whole line that had come from it was answered, and its reply was
--- out.
+-- out. No earlier read had found the caller's end.
 abbrev pub HeardOut : Recording → SessionState → List Met → Moment → Type 0
-HeardOut r s met m = m.sent ≡ replies_among r s false m.received met
+HeardOut r s met m = (m.sent ≡ replies_among r s false m.received met) × (m.ended ≡ false)
+
+-- The texts before the last were sent whole, and of the last its first n bytes, and not all of it.
+pub record EndsWithin (texts : List (List ℕ)) (sent : List ℕ) : Type 0 where
+  pub whole : List (List ℕ)
+  pub last : List ℕ
+  pub n : ℕ
+  pub split : texts ≡ whole ++ last ∷ []
+  pub within : n < length last
+  pub sent_is : sent ≡ concat whole ++ take n last
 
 -- One caller of a front: what was sent to it is a prefix of the replies to what was received from
 -- it, from where the front was; all of it unless a write failed. Where a read failed, an unfinished
 -- last line is no command. Before each read all whole lines were answered. Where neither failed,
 -- a read found the caller's end, or a line is `quit`. These lines were run: the first ones, up to
--- one that is `quit`, or whose reply wasn't written, or all; nothing was sent but their texts. They
--- met what lines may meet, where the journal is of this size.
+-- one that is `quit`, or whose reply wasn't written, or all; nothing was sent but their texts. Where
+-- a write failed, the last of them is the line whose text was cut. They met what lines may meet,
+-- where the journal is of this size.
 pub record IsAnswered (r : Recording) (journal : JournalSize) (tag : ℕ) (c : Conversation)
     (s : SessionState) : Type 0 where
   pub met : List Met
@@ -71,6 +81,7 @@ pub record IsAnswered (r : Recording) (journal : JournalSize) (tag : ℕ) (c : C
   pub ran : List (List ℕ)
   pub first : StartsList (lines_of (not c.input.failed) c.input.received) ran
   pub nothing_else : StartsWith (concat (texts_among r s ran met)) c.output.sent
+  pub stops : c.output.failed ≡ true → EndsWithin (texts_among r s ran met) c.output.sent
   pub others : All (MeetsOthers tag) met
 
 -- The front has run a prefix of the history: its debugger is that of these words, less the last

@@ -199,12 +199,13 @@ status_of (Ok r) read_failed write_failed =
 status_of (Err fault) read_failed write_failed = if write_failed then StreamFailed else Refused
 
 -- When a read was made, what had been sent was the transcript of what had been received: each whole
--- line was answered, and its reply was out.
+-- line was answered, and its reply was out. The read before it had not found the end.
 pub record WasPrompt (recording : List ℕ) (from : Incoming) (old : Outgoing)
     (supplies : List Supply) (m : Moment) : Type 0 where
   pub commands : List ℕ
   pub received : m.received ≡ from.received ++ commands
   pub sent : m.sent ≡ old.sent ++ transcript_by recording false commands supplies
+  pub unended : from.ended ≡ false → m.ended ≡ false
 
 -- Commands were read and replies written: a prefix of the transcript of the commands, by what there
 -- was for their lines, and all of it unless a write failed. Where a read failed, an unfinished last

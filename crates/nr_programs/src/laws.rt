@@ -77,7 +77,22 @@ pub fn a_late_reply_is_no_answer()
         received = codes "quit\n";
         ended = false;
         failed = false;
-        moments = record { received = codes "quit\n"; sent = [] } ∷ [];
+        moments = record { received = codes "quit\n"; sent = []; ended = false } ∷ [];
+      };
+      output = record { contents = None; sent = codes "bye\n"; failed = false };
+      ending = Ok Quit;
+    }) start) }
+{}
+
+/// A caller who was read once more after his end was found isn't answered, even if the reply to his last line comes in the end.
+pub fn an_end_read_twice_is_no_answer()
+    ensures { (r : Recording) (journal : JournalSize) (tag : ℕ) → ¬ (IsAnswered r journal tag (record {
+      input = record {
+        remaining = None;
+        received = codes "quit";
+        ended = true;
+        failed = false;
+        moments = record { received = codes "quit"; sent = []; ended = true } ∷ [];
       };
       output = record { contents = None; sent = codes "bye\n"; failed = false };
       ending = Ok Quit;

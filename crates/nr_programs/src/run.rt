@@ -184,9 +184,19 @@ where
         output.old output.new result }
 {
     match open::<W>(alloc, bytes, MOST_EVERY) {
-        Ok(film) => print(&Accepted(film.len()), ExitStatus::Done, output),
+        Ok(film) => accept(&film, output),
         Err(fault) => refuse(&fault, output),
     }
+}
+
+// Prints how many steps the film has, which keeps the fewest copies that a film may have.
+fn accept<W: Worlds + Drop, O: Write>(film: &Film<W>, output: &mut Sink<O>) -> ExitStatus
+where
+    W::Snapshot: Drop,
+    requires { film.now.every ≡ 65536 }
+    ensures { EndsPrinting (ok_line film.now.recording) statuses.Done output.old output.new result }
+{
+    print(&Accepted(film.len()), ExitStatus::Done, output)
 }
 
 /// A recording of so many steps is accepted.

@@ -16,7 +16,7 @@ use crate::sharing::Sharing;
 use nr_recording::OutOfMemory;
 use nr_rev::{Memory, Worlds};
 use nr_search::{ManyWorkers, OneWorker, Open};
-use nr_serving::{Ended, LoggedPorts, Ports, Shape, Unshared, share};
+use nr_serving::{Ended, LoggedPorts, Ports, Shape, share};
 use nr_snaps::Film;
 use nr_text::{Parts, Sink, Token};
 use std::alloc::Global;
@@ -76,7 +76,8 @@ where
     R: Threads + Sync,
     P: Ports,
     O: Write,
-    requires { is_in_range sharing ≡ true }
+    requires range { is_in_range sharing ≡ true }
+    requires every { film.now.every ≡ 1024 }
     ensures { Shares film.now.recording sharing ports.old ports.new output.old output.new result }
 {
     let shared = share_among(rt, alloc, film, sharing, ports);
@@ -90,7 +91,7 @@ fn share_among<W, R, P>(
     film: &Film<W>,
     sharing: Sharing,
     ports: &mut LoggedPorts<P>,
-) -> Result<Ended, Unshared>
+) -> Result<Ended, Memory>
 where
     W: Worlds + Drop + Send + Sync,
     W::Delta: Drop + Send,
@@ -117,12 +118,12 @@ where
 
 // Prints how many commands were placed, or that there was no memory: to share the recording, or for the
 // history.
-fn tell<O: Write>(shared: &Result<Ended, Unshared>, output: &mut Sink<O>) -> ExitStatus
+fn tell<O: Write>(shared: &Result<Ended, Memory>, output: &mut Sink<O>) -> ExitStatus
     ensures { PrintsSession shared.now output.old output.new result }
 {
     let ended = match shared {
         Ok(ended) => ended,
-        Err(unshared) => return refuse(unshared, output),
+        Err(refused) => return refuse(&OutOfMemory(*refused), output),
     };
     match &ended.history {
         Ok(history) => tell_placed(history.as_slice(), ended.failed, output),

@@ -1,6 +1,6 @@
 //! The program `upgrade`, over the bytes of the file and the output.
 
-ghost use Rattle.std.specs.Prelude.{◌⊎◌};
+ghost use Rattle.std.specs.Prelude.{◌≡◌, ◌⊎◌};
 ghost use Rattle.nr_rev.specs.Run.{Recording};
 ghost use Rattle.nr_recording.specs.Faults.{memory_line};
 ghost use Rattle.nr_programs.specs.Opening.{IsGoodText};
@@ -43,7 +43,7 @@ where
     }
 }
 
-// Writes the film's steps with the answers that they give.
+// Writes the film's steps with the answers that they give. The film keeps the fewest copies that a film may have.
 fn write_answered<W: Worlds + Drop, O: Write>(
     alloc: Global,
     film: &Film<W>,
@@ -51,6 +51,7 @@ fn write_answered<W: Worlds + Drop, O: Write>(
 ) -> ExitStatus
 where
     W::Snapshot: Drop,
+    requires { film.now.every ≡ 65536 }
     ensures { WritesAnswered film.now.recording output.old output.new result }
 {
     let recording = match film.with_answers() {

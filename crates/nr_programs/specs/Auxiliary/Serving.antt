@@ -1,17 +1,17 @@
 -- Beside `Serving`: what contracts and proofs cite, and no law of THEOREM.md rests on.
 use Rattle.std.specs.Prelude.{Result, Ok, Err}
+use Rattle.nr_rev.specs.declared.memory.Memory.{Memory}
 use Rattle.nr_text.specs.Streams.{Outgoing}
 use Rattle.nr_recording.specs.Faults.{memory_line}
 use Rattle.nr_serving.specs.Auxiliary.Session.{words_of}
 use Rattle.nr_serving.specs.declared.session.Ended.{Ended}
-use Rattle.nr_serving.specs.declared.session.Unshared.{Unshared}
 use Rattle.nr_programs.specs.Run.{EndsPrinting}
 use Rattle.nr_programs.specs.declared.run.ExitStatus.{ExitStatus}
 use Rattle.nr_programs.specs.declared.run.ExitStatus.TheVariants.{Refused}
 use Rattle.nr_programs.specs.Serving.{PrintsHistory}
 
 -- What is printed of a session, by what came of it: out of memory where it wasn't shared.
-abbrev pub PrintsSession : Result Ended Unshared → Outgoing → Outgoing → ExitStatus → Type 0
+abbrev pub PrintsSession : Result Ended Memory → Outgoing → Outgoing → ExitStatus → Type 0
 PrintsSession (Ok ended) old new status =
     PrintsHistory (words_of ended.history) ended.failed old new status
 PrintsSession (Err fault) old new status = EndsPrinting memory_line Refused old new status

@@ -1,5 +1,5 @@
 use Rattle.std.proofs.Common.{◌≡◌, inl, inr, subst, rules}
-use Rattle.nr_programs.specs.Run.{EndsPrinting, accepted_line, ok_line}
+use Rattle.nr_programs.specs.Run.{EndsPrinting, ok_line}
 use Rattle.nr_programs.specs.declared.run.ExitStatus.TheVariants as statuses
 use Rattle.nr_programs.proofs.OpeningLemmas.{one_recording, prints_memory}
 use Rattle.nr_programs.proofs.run.check_bytes.Goals as goal
@@ -7,8 +7,7 @@ use Rattle.nr_programs.proofs.run.check_bytes.Goals as goal
 pub returns-in-Ok-clause-good : goal.returns-in-Ok-clause-good
 returns-in-Ok-clause-good g c = λ r is.
     let same : c.in-Ok.film.recording ≡ r = one_recording c.args.bytes.now c.in-Ok.film.recording r c.in-Ok.ensures.film is in
-    let printed = subst (λ n. EndsPrinting (accepted_line n) statuses.Done c.args.output.now c.print.new.output c.print.result) c.len.ensures.is c.print.ensures in
-    inl (subst (λ x. EndsPrinting (ok_line x) statuses.Done c.args.output.now c.print.new.output c.print.result) same printed)
+    inl (subst (λ x. EndsPrinting (ok_line x) statuses.Done c.args.output.now c.accept.new.output c.accept.result) same c.accept.ensures)
 
 pub returns-in-Err-clause-good : goal.returns-in-Err-clause-good
 returns-in-Err-clause-good g c = λ r is.
