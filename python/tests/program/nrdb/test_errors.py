@@ -17,6 +17,7 @@ from nrdb.dap.adapter import Adapter
 from nrdb.dap.hearing import Reading
 from nrdb.dap.messages import Wire
 from nrdb.prompt.answers import ANSWERS
+from nrdb.web.running import Running
 from tests.program.sharing import NETREV, ROOT
 
 from .dap_client import Adapter as Editor
@@ -122,6 +123,13 @@ def test_an_error_behind_the_response_is_told_in_the_console() -> None:
     output = written.getvalue().decode()
     assert '"category": "console", "output": "| error in nrdb' in output
     assert '"command": "disconnect", "success": true' in output
+
+
+def test_an_unexpected_error_ends_no_page() -> None:
+    running = mock.Mock()
+    Running._guarded(running, boom)
+    (note,) = running.session.printer.note.call_args.args
+    assert note.startswith("error in nrdb, not in the recording: ValueError: boom and more (")
 
 
 def test_a_command_that_takes_a_file_has_the_rest_of_the_line() -> None:
