@@ -181,12 +181,12 @@ def test_one_without_the_token_is_ended_in_time(handshakes: tuple[Handshakes, tu
 
 def test_one_with_the_token_is_not_ended(handshakes: tuple[Handshakes, tuple[str, int]]) -> None:
     opened, address = handshakes
-    with patch.object(handshaking, "IN_TIME", 0.2), socket.create_connection(address) as editor:
+    with patch.object(handshaking, "Timer") as timer, socket.create_connection(address) as editor:
         editor.sendall(framed(asked(1, "initialize"), asked(2, "launch", token=TOKEN), asked(3, "threads")))
         connection = opened.next()
         assert connection.initialize and connection.launch
-        with socket.create_connection(address) as stranger:
-            assert is_ended(stranger)  # behind it the editor's time would be over too
+        timer.assert_called_once_with(handshaking.IN_TIME, connection.hang_up)
+        timer.return_value.cancel.assert_called_once_with()
         request = connection.wire.request()
         assert request and request.command == "threads"
         connection.close()
@@ -207,7 +207,11 @@ def test_silent_strangers_hold_up_no_editor(handshakes: tuple[Handshakes, tuple[
 
 def test_an_editor_that_is_served_holds_up_no_answer_to_another(handshakes: tuple[Handshakes, tuple[str, int]]) -> None:
     opened, address = handshakes
-    with socket.create_connection(address) as first, socket.create_connection(address) as second:
+    with (
+        patch.object(handshaking, "IN_TIME", 600),
+        socket.create_connection(address) as first,
+        socket.create_connection(address) as second,
+    ):
         first.sendall(framed(asked(1, "launch", token=TOKEN)))
         served = opened.next()
         client = Client(second.makefile("rb"), second.makefile("wb"))
