@@ -40,6 +40,7 @@ room=$(mktemp -d)
 trap 'rm -rf "$room"' EXIT
 top=$room/$name
 make --no-print-directory -s install-files PROGRAM="$program" DESTDIR= PREFIX="$top"
+sh scripts/proved.sh "$program" > "$top/lib/netrev/proved.txt"
 mkdir -p "$top/share/doc/netrev" "$top/examples"
 cp LICENSE LICENSE-MIT LICENSE-APACHE "$top"
 cp "$log" "$top/gate.log"

@@ -1,6 +1,7 @@
 """The commands, netrev's own and those that nrdb adds, each a row of one table; and how a word that is cut short, or
 that another debugger has, is read."""
 
+import re
 from dataclasses import dataclass
 from enum import Enum
 from typing import Collection, Mapping
@@ -20,10 +21,13 @@ OF_NRDB = {
     row.name: row
     for row in (
         command("help [COMMAND]", "lists the commands, or tells of one; of a kind, a cell and a reason's number too"),
+        command(
+            "apropos WORD", "lists the commands, topics, kinds of steps and cells that have a word in their description"
+        ),
         command("where", "the position, the last step and the next one"),
         command(
-            "list [N | FILE:LINE]",
-            "the steps round the position, or round step N; => is the next one; or the source round a line",
+            "list [N | FILE:LINE | FUNCTION]",
+            "the steps round the position, or round step N; => is the next one; or the source round a line or a function",
         ),
         command("frame [N]", "a call of the program's stack here, 0 is the innermost, and the source round it"),
         command("up", "the call that called this one"),
@@ -40,7 +44,11 @@ OF_NRDB = {
             "goes on past the next step of the last step's goroutine, or past the call that it begins",
             steps=True,
         ),
-        command("finish [G]", "goes on to the end of the call that the goroutine is in", steps=True),
+        command(
+            "finish [G]",
+            "goes on to the end of the call that the goroutine is in; between calls, until it has left the program's function",
+            steps=True,
+        ),
         command(
             "reverse-next [G]",
             "goes back before the goroutine's last step, or before the call that it ended",
@@ -55,6 +63,10 @@ OF_NRDB = {
         command(
             "commands [N]",
             "takes lines, up to `end`, that are run each time that mark N hits; without N, the last mark",
+        ),
+        command(
+            "condition N [CELL VALUE]",
+            "mark N stops only if the cell has this value, or these words; without a value it stops always again",
         ),
         command("display [CELL]", "shows the cell at each stop; alone, all that are shown"),
         command("undisplay [CELL]", "no longer; alone, none"),
@@ -109,6 +121,16 @@ TOPICS = {
         Topic(Origin.NRDB, "holders S", "who holds the references of socket S, and since which step"),
     )
 }
+# What nrdb takes beside netrev's own forms of its commands.
+FORMS = {
+    "break": command(
+        "break FILE:LINE | FUNCTION", "stops before the steps at which a goroutine comes to a line or a function"
+    ),
+    "tbreak": command("tbreak FILE:LINE | FUNCTION", "as break, and is gone after the first stop"),
+    "delete": command(
+        "delete [pN]", "takes the break pN at a line or a function away; alone, all marks, and says which they were"
+    ),
+}
 ALL_TOPICS = "; ".join(f"info {topic.usage}" for topic in TOPICS.values())
 
 # Words of other debuggers, and what they come to here.
@@ -138,6 +160,7 @@ SPELLINGS = {
 }
 TOPIC_SPELLINGS = {"threads": "goroutines", "fds": "descriptors", "b": "breakpoints"}
 
+FILE = re.compile(r"\b(FILE|OUT\.\w+)\b(?!:)")  # what stands for a file in a command's usage
 DIRECTIONS = ("reverse", "forward")
 PAGINATION = "pagination"  # that GDB sets too
 SETTINGS = ("exec-direction", PAGINATION)
@@ -186,6 +209,28 @@ def whole_words(words: list[str]) -> list[str]:
     elif first == "set" and len(rest) == 2:
         rest = [whole(rest[0], ("exec-direction",)), whole(rest[1], DIRECTIONS)]
     return [first, *rest]
+
+
+def parts_of(line: str) -> list[str]:
+    """The commands of a line. The name of a file may have a `;` in it, so a command that takes one has the rest of the line."""
+    parts = []
+    rest = line
+    while rest:
+        part, _, rest = rest.partition(";")
+        if takes_a_file(part):
+            part, rest = f"{part};{rest}" if rest else part, ""
+        parts.append(part.strip())
+    return [part for part in parts if part]
+
+
+def takes_a_file(part: str) -> bool:
+    """Whether a command takes the name of a file, by its usage."""
+    words = part.split()
+    try:
+        name = whole_command(words[0]) if words else ""
+    except Ambiguous:
+        return False
+    return name in COMMANDS and FILE.search(COMMANDS[name].usage) is not None
 
 
 def is_answered_here(words: list[str]) -> bool:

@@ -6,9 +6,9 @@ import unicodedata
 
 from typing import Callable, Optional
 
-from netrev_words.vocabulary import CELLS, DUMPS, KINDS, MOST_LINE, Cell, Of, cell_of, number_of
+from netrev_words.vocabulary import CELLS, DUMPS, KINDS, MOST, MOST_LINE, Cell, Of, cell_of, number_of
 
-from .commands import ALL_TOPICS, COMMANDS, SPELLINGS, TOPICS
+from .commands import ALL_TOPICS, COMMANDS, SPELLINGS, TOPIC_SPELLINGS, TOPICS
 
 FOREIGN = {
     "run": "the recording is replayed already: restart 0 goes to the start",
@@ -24,14 +24,10 @@ FOREIGN = {
     "define": "there are no macros: source FILE takes lines from a file",
     "x": "print CELL shows a value, dump in S the bytes in a buffer",
     "thread": "info goroutines tells what each does, print gor G of one",
-    "threads": "info goroutines tells what each does",
     "goroutine": "info goroutines tells what each does, print gor G of one",
-    "goroutines": "info goroutines tells what each does",
     "find": "history CELL lists a cell's changes, until CELL VALUE goes to one; dump in S shows the bytes in a buffer",
     "search": "until CELL VALUE goes on until a cell has a value, steps KIND lists the steps of a kind",
     "call": "nothing is run again: calls lists the program's calls, and print shows a cell",
-    "condition": "until CELL VALUE goes on until a cell has a value; in an editor a breakpoint has a condition",
-    "cond": "until CELL VALUE goes on until a cell has a value; in an editor a breakpoint has a condition",
     "ignore": "until CELL VALUE goes on until a cell has a value; in an editor a breakpoint has a hit count",
     "file": "nrdb FILE opens a recording, and one at a time",
     "load": "nrdb FILE opens a recording, and one at a time",
@@ -85,6 +81,8 @@ def unknown(words: list[str]) -> str:
         return "print CELL, without a format: lock words are told in words"
     if first in FOREIGN:
         return FOREIGN[first]
+    if (topic := TOPIC_SPELLINGS.get(plain, plain)) in TOPICS:
+        return f"did you mean info {topic}? It shows {TOPICS[topic].says}"
     if number_of(words[0]) is not None:
         return f"goto {words[0]} goes to position {words[0]}"
     if cell_of(words):
@@ -159,15 +157,15 @@ def of_steps(words: list[str], command: str) -> str:
 
 
 def spelled_number(word: str) -> Optional[int]:
-    """The number that a word spells in another language, or None."""
+    """The number that a word spells in another language, or None; also None for one that netrev takes nowhere."""
     try:
-        return int(word, 0)
+        number = int(word, 0)
     except ValueError:
-        pass
-    try:
-        return int(float(word))
-    except (ValueError, OverflowError):
-        return None
+        try:
+            number = int(float(word))
+        except (ValueError, OverflowError):
+            return None
+    return number if number <= MOST else None
 
 
 def of_break(words: list[str], command: str = "break") -> str:
@@ -199,12 +197,10 @@ def kind_hint(word: str) -> str:
 
 def of_delete(words: list[str]) -> str:
     """Of what should be deleted."""
-    if not words:
-        return "which mark? info breakpoints lists them"
-    if words[0] == "checkpoint":
+    if words[:1] == ["checkpoint"]:
         return "which checkpoint? info checkpoints lists them: delete checkpoint 1"
     numbers = [word for word in words if number_of(word) is not None]
-    return f"one mark at a time: delete {numbers[0] if numbers else 1}; info breakpoints lists them"
+    return f"one mark at a time: delete {numbers[0] if numbers else 1}; delete alone deletes all"
 
 
 def of_dump(words: list[str]) -> str:

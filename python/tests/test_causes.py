@@ -9,12 +9,11 @@ from pathlib import Path
 from typing import Any, Iterator, NamedTuple
 
 from netrev_fuzz.injections import Traffic
-from nrdb.causes import first_words
+from nrdb.causes import errors_table, first_words
 from nrdb.causes.index import index_of
 from nrdb.causes.source import behind
 from nrdb.causes.tables import hangs_table
 from nrdb.causes.words import duration
-from nrdb.following import errors_table
 from nrdb.recording import Recording
 from nrdb.suspects.rules_of_calls.left_open import SINCE
 from nrdb.suspects.loading import RULES_OF_CALLS
@@ -120,13 +119,13 @@ class Causes(unittest.TestCase):
     def test_what_is_said_of_a_timeout(self) -> None:
         told = first_words(Recording.read(str(CAUSED / "pool-bad.jsonl")), "pool.jsonl")
         self.assertRegex(
-            told[0], r"netrev: Read at main.go:\d+ in ask, called at main.go:\d+ \(goroutine 0\) ended with a timeout\."
+            told[0], r"cause:  Read at main.go:\d+ in ask, called at main.go:\d+ \(goroutine 0\) ended with a timeout\."
         )
         self.assertRegex(
             told[1],
             r" Its deadline was set at main.go:\d+ in pool.func1, called at main.go:\d+ \(goroutine 0, step \d+\), 80 ms ahead; 1 Read went",
         )
-        self.assertRegex(told[-1], r"look:   nrdb pool.jsonl -ex 'goto \d+' -ex 'history rd 1'")
+        self.assertRegex(told[-1], r"next:   \S*nrdb pool.jsonl -ex 'goto \d+' -ex 'history rd 1'")
 
     def test_calls_that_wait_for_one_another(self) -> None:
         recording = Recording.read(str(CAUSED / "both-bad.jsonl"))

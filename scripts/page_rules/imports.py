@@ -95,6 +95,11 @@ def imports(tree: Tree) -> Iterator[Finding]:
     for path in tree.matching("python/*/*.py"):
         if _row_of(rows, path.removeprefix(PYTHON)) is None:
             yield Finding(path, 1, f"the table of {PAGE} has no row for it")
+    for path in tree.matching("python/*/*/__init__.py"):
+        package, folder, *inner = path.removeprefix(PYTHON).split("/")[:-1]
+        row = _row_of(rows, f"{package}/{folder}")
+        if not inner and package != "tests" and row is not None and row.name == package:
+            yield Finding(path, 1, f"the table of {PAGE} has no row for {package}/{folder}")
     met: set[tuple[str, str]] = set()
     for path, line, own, other, row in uses(tree, rows):
         met.add((own.name, row.name))

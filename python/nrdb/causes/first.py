@@ -1,8 +1,9 @@
 """What is said first of a recording of a program that failed: each failed call of the program's with its cause, who hangs, and
 where there is neither, what may be the matter; with the line to type next."""
 
-import shlex
 from typing import Callable
+
+from netrev_words.command_lines import command_line, file_word
 
 from ..one_call import Outcome
 from ..recording import Recording
@@ -14,10 +15,10 @@ from .source import text_behind
 from .words import is_of_go
 
 MOST_FAILED, MOST_HANGS, MOST_PERHAPS = 4, 3, 2
-TITLE, INDENT, LOOK = "netrev: ", "        ", "look:   "
+CAUSE, INDENT, NEXT = "cause:  ", "        ", "next:   "
 
 
-def first_words(recording: Recording, name: str, program: str = "nrdb") -> list[str]:
+def first_words(recording: Recording, name: str) -> list[str]:
     """The lines, ready to be shown but for what `plain` does; none where there is nothing to say."""
     failed = once(recording, [one for one in causes_of(recording, recording.length) if is_telling(recording, one)])
     hangs = [one for one in hangs_at(recording, recording.length) if not is_of_go(recording, one.call)]
@@ -27,22 +28,22 @@ def first_words(recording: Recording, name: str, program: str = "nrdb") -> list[
     if rest:
         lines.append(f"{INDENT}({rest} more: info errors, info hangs)")
     lines += [
-        f"{TITLE}{wait_words(recording, wait)}" for wait in waits_elsewhere(recording, recording.length)[:MOST_HANGS]
+        f"{CAUSE}{wait_words(recording, wait)}" for wait in waits_elsewhere(recording, recording.length)[:MOST_HANGS]
     ]
     if not failed:
         perhaps = once(recording, leftovers_of(recording))[:MOST_PERHAPS]
         shown += perhaps
         lines += [line for cause in perhaps for line in paragraph(recording, cause)]
     if shown:
-        words = [program, name, *(word for look in shown[0].looks for word in ("-ex", look))]
-        lines.append(f"{LOOK}{shlex.join(words)}")
+        words = [file_word(name), *(word for look in shown[0].looks for word in ("-ex", look))]
+        lines.append(f"{NEXT}{command_line('nrdb', *words)}")
     return lines
 
 
 def paragraph(recording: Recording, cause: Cause) -> list[str]:
     """A cause in lines: a sentence each, and the source behind the line where somebody stopped, if it is there."""
     first, *rest = cause.says
-    return [f"{TITLE}{first}", *(f"{INDENT}{line}" for line in (*rest, *text_behind(recording, cause)))]
+    return [f"{CAUSE}{first}", *(f"{INDENT}{line}" for line in (*rest, *text_behind(recording, cause)))]
 
 
 def is_telling(recording: Recording, cause: Cause) -> bool:

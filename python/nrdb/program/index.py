@@ -2,7 +2,7 @@
 
 import re
 from functools import lru_cache
-from typing import Callable, Hashable, NamedTuple, Optional, TypeVar
+from typing import Callable, Hashable, Iterable, NamedTuple, Optional, Sequence, TypeVar
 
 from netrev_words.vocabulary import KINDS, cell_of
 
@@ -12,6 +12,7 @@ from ..where import Call, Stack
 
 OF_A_LINE = re.compile(r"(.+):(\d{1,9})\Z")
 Key = TypeVar("Key", bound=Hashable)
+POINTER = re.compile(r"\(\*([^()]*)\)")  # a pointer receiver
 MOST_NEAR = 5  # lines that are named where none is meant
 
 
@@ -46,9 +47,8 @@ class Places:
         found = OF_A_LINE.fullmatch(spelled)
         if not found:
             return []
-        spelled, wanted = found[1], int(found[2])
-        near = sorted(self.lines_of(lambda file: is_file(file, spelled)), key=lambda line: abs(line - wanted))
-        return [f"{spelled}:{line}" for line in sorted(near[:MOST_NEAR])]
+        file, line = found[1], int(found[2])
+        return near_lines(file, line, self.lines_of(lambda known: is_file(known, file)))
 
     def _of_line(self, file: str, line: int) -> list[int]:
         return self.lines_of(lambda known: is_file(known, file)).get(line, [])
@@ -73,6 +73,17 @@ class Places:
         return found
 
 
+def near_lines(file: str, wanted: int, lines: Iterable[int]) -> list[str]:
+    """Those of the lines of a file that are nearest to one."""
+    near = sorted(lines, key=lambda line: abs(line - wanted))[:MOST_NEAR]
+    return [f"{file}:{line}" for line in sorted(near)]
+
+
+def no_step_from(spelled: str, near: Sequence[str]) -> str:
+    """What is said of a line or function that no step comes from, with the lines near it that steps come from."""
+    return f"no step of the recording comes from {spelled}" + (f"; from {', '.join(near)}" if near else "")
+
+
 def is_place(recording: Optional[Recording], words: list[str]) -> bool:
     """Whether these words, behind a command, are a place of the program and nothing else: FILE:LINE, a function with its package or
     receiver, or any other that the recording comes from."""
@@ -89,8 +100,17 @@ def is_file(known: str, spelled: str) -> bool:
 
 
 def is_function(call: Call, name: str) -> bool:
-    """Whether a call is of the function that is spelled: the whole name, or without the package or its path."""
-    return call.function == name or call.function.endswith((f"/{name}", f".{name}"))
+    """Whether a call is of the function that is spelled: the whole name, or without the package or its path. `hub.broadcast` is
+    `(*hub).broadcast` too."""
+    return any(
+        function == spelled or function.endswith((f"/{spelled}", f".{spelled}"))
+        for function, spelled in ((call.function, name), (without_pointer(call.function), name))
+    )
+
+
+def without_pointer(function: str) -> str:
+    """A function's name with a pointer receiver as one without: `main.hub.broadcast` of `main.(*hub).broadcast`."""
+    return POINTER.sub(r"\1", function)
 
 
 @lru_cache(maxsize=2)

@@ -9,11 +9,13 @@ from concurrent.futures import Future
 from pathlib import Path
 from typing import Callable, Optional
 
+from ..errors import Mismatched, unexpected
+from ..interrupts import GivenUp, Interrupted
 from ..netrev import Ended, Netrev
 from ..output import Printer
 from ..prompt.completion import completions
 from ..recording import NoRecording
-from ..session import Mismatched, Session
+from ..session import Session
 from ..shapes import Refused, Strange
 from ..timeline.picture import MOST
 from ..timeline.runs import Window
@@ -28,7 +30,7 @@ DONE, FAILED = 0, 3
 MOST_WAITING = 32  # lines that wait for those before them
 EVERY = 1.0  # second, after which it is looked again what others did
 LATEST = 30.0  # seconds between two tries to find netrev again; the first are shorter
-UNNAMED = "for the timeline the recording has to be named: nrdb --web PORT --join HOST:PORT FILE"
+UNNAMED = "the timeline needs the recording: name its file after --join HOST:PORT"
 GONE = "netrev has ended"
 Opening = Callable[[Printer], Netrev]
 
@@ -160,6 +162,10 @@ class Running:
             self.session.printer.note(str(wrong))
         except (Ended, Strange) as why:
             self._lose(str(why) if isinstance(why, Strange) else GONE)
+        except (GivenUp, Interrupted, OSError):
+            raise
+        except Exception as error:
+            self.session.printer.note(unexpected(error))
 
     def _lose(self, why: str) -> None:
         """From now on netrev is gone."""
