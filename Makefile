@@ -33,15 +33,10 @@ help:
 		/^[a-z-]+:/ && text { sub(/:.*/, ""); sub(/[.:;]( .*)?$$/, "", text); printf "make %-11s %s\n", $$0, text } \
 		{ text = "" }' Makefile
 
-# A prompt on a recording without waiting for proofs: `make look FILE=my.jsonl`. With SCRIPT=my.script it plays those commands.
-# Nothing is proved by it.
+# Opens a recording with a netrev that is compiled in a minute or two and not proved, `make look FILE=my.jsonl`; with
+# SCRIPT=my.script it runs those commands. The compiled netrev is kept in out/look until its sources change.
 look:
-ifdef SCRIPT
-	@cd crates/netrev && rt try -- run "$(abspath $(FILE))" < "$(abspath $(SCRIPT))"
-	@echo "So it runs; nothing of this was proved. \`make run\` proves netrev first."
-else
-	@python3 scripts/look.py "$(FILE)"
-endif
+	@python3 scripts/look.py $(if $(SCRIPT),"$(FILE)" "$(SCRIPT)","$(FILE)")
 
 # Builds netrev with its proofs, and replays the first example with its commands.
 run: ready

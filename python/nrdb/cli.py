@@ -13,6 +13,8 @@ from contextlib import closing, nullcontext
 from functools import partial
 from typing import Callable, Optional, Sequence
 
+from netrev_words.built import how_to_get_netrev
+
 from .arriving_changes import ArrivingChanges
 from .prompt.answers import ANSWERS
 from .interrupts import GivenUp, Interrupted, Interrupts
@@ -72,7 +74,7 @@ def run(wanted: argparse.Namespace, printer: Printer) -> int:
     except OSError as error:
         printer.note(f"{error.filename or wanted.join or wanted.file}: {error.strerror or error}")
         if error.filename == wanted.netrev:
-            printer.note("`make netrev` builds netrev; NETREV or --netrev names another one; `make look` needs none")
+            printer.note(how_to_get_netrev())
         status = FAILED
     printer.end(status)
     return status

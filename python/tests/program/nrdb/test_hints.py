@@ -41,7 +41,7 @@ class BadRecordings(unittest.TestCase):
 
     def test_without_netrev(self):
         said = nrdb("--batch", "--netrev", f"{NETREV}.none", EXAMPLES / "first.jsonl", status=3)
-        self.assertIn("`make netrev` builds netrev", said)
+        self.assertIn("`make netrev` builds it with them; both need the toolchain", said)
 
 
 class Answers(unittest.TestCase):
