@@ -8,7 +8,17 @@ from pathlib import Path
 from .sharing import NETREV, ROOT
 
 UNCLONED = shutil.ignore_patterns(".git", "out", "__pycache__", "build", "*.egg-info", ".mypy_cache", ".pytest_cache")
-SETTINGS = ("NETREV", "NETREV_PLAIN", "NR_REFUSED", "MAKEFLAGS", "MAKELEVEL", "MFLAGS", "PYTHONPATH", "PYTHONHOME", "NO_COLOR")
+SETTINGS = (
+    "NETREV",
+    "NETREV_PLAIN",
+    "NR_REFUSED",
+    "MAKEFLAGS",
+    "MAKELEVEL",
+    "MFLAGS",
+    "PYTHONPATH",
+    "PYTHONHOME",
+    "NO_COLOR",
+)
 
 # A toolchain that has compiled already. As the real one does, `rt try` runs the program in a temporary folder, as a child, and
 # removes both when it is interrupted. It notes each of its calls.
@@ -68,5 +78,12 @@ def make(clone: Path, *words: str, lines: str = "", **settings: str) -> "subproc
     """Runs make in a clone, with these lines for its input."""
     command = ["make", "--no-print-directory", *words]
     return subprocess.run(
-        command, cwd=clone, env=environment(**settings), input=lines, capture_output=True, text=True, timeout=300, check=False
+        command,
+        cwd=clone,
+        env=environment(**settings),
+        input=lines,
+        capture_output=True,
+        text=True,
+        timeout=300,
+        check=False,
     )

@@ -48,7 +48,7 @@ def looked(clone: Path, toolchain: Toolchain, *commands: str) -> str:
 def with_built_netrev(clone: Path, *commands: str) -> str:
     """What nrdb prints with the built netrev."""
     lines = "".join(f"{command}\n" for command in commands)
-    command = [clone / "nrdb", "--netrev", NETREV, RECORDING]
+    command = [str(clone / "nrdb"), "--netrev", NETREV, RECORDING]
     return subprocess.run(command, cwd=clone, input=lines, capture_output=True, text=True, check=True).stdout
 
 
@@ -143,7 +143,10 @@ def test_without_the_toolchain_it_says_what_is_missing(clone: Path, tmp_path: Pa
         (tmp_path / name).symlink_to(found)
     ran = make(clone, "look", f"FILE={RECORDING}", PATH=str(tmp_path), SHELL="/bin/sh")
     assert ran.returncode != 0 and ran.stdout == ""
-    assert "look: make look needs the toolchain, and there is no `rt` on the PATH. The archive and the Debian package" in ran.stderr
+    assert (
+        "look: make look needs the toolchain, and there is no `rt` on the PATH. The archive and the Debian package"
+        in ran.stderr
+    )
 
 
 def test_what_the_toolchain_says_is_the_error_if_it_compiles_nothing(clone: Path, toolchain: Toolchain) -> None:
