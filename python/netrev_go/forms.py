@@ -81,7 +81,7 @@ def causes_in(lines: list[str]) -> list[Cause]:
     found: dict[tuple[str, int], Cause] = {}
     for line in lines:
         if at := LINE.search(line):
-            cause = Cause(at[1], int(at[2]), line.strip())
+            cause = Cause(at[1], int(at[2]), line.strip().removeprefix("cause:").strip())
             found.setdefault((cause.file, cause.line), cause)
     return list(found.values())
 

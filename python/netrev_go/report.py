@@ -89,7 +89,7 @@ def hang_lines(recording: Recording, calls: dict[int, Calls], waiting: dict[int,
 def next_line(name: pathlib.Path, told: list[str], nobody_waits: bool = False, failed: bool = False) -> str:
     """The line to type next: nrdb, with what the first suspect says to look at, or with a look at who waits. Where nobody waits, a
     look at the calls that failed, of a program that failed; else other schedules."""
-    looks = [line.strip().removeprefix("look:").split(";") for line in told if line.strip().startswith("look:")]
+    looks = [line.strip().removeprefix("next:").split(";") for line in told if line.strip().startswith("next:")]
     topic = "errors" if failed and nobody_waits else "goroutines"
     commands = [command.strip() for command in looks[0]] if looks else ["continue", f"info {topic}"]
     words = [nrdb(), str(name), *(word for command in commands for word in ("-ex", command))]
@@ -146,5 +146,7 @@ def report(
         told = []
         lines.append(plain(f"  {late}: `nrdb --suspects {name}` waits for them"))
     lines += ["  nrdb suspects:", *(f"    {plain(line)}" for line in told[:MOST_SUSPECTS])] if told else []
-    has_next = any(line.startswith("look:") for line in why) and not any("look:" in line for line in told)
-    return True, lines if has_next else [*lines, next_line(name, told, not waiting, failed)]
+    last = next_line(name, told, not waiting, failed)
+    is_of_a_suspect = any(line.strip().startswith("next:") for line in told)
+    already = [line.split() for line in why if line.startswith("next:")]
+    return True, lines if already and (not is_of_a_suspect or last.split() in already) else [*lines, last]

@@ -115,7 +115,7 @@ class Programs(Tool):
         self.assertRegex(
             said, rf"  main\.go:{READ_LINE}: net\.\(\*conn\)\.Read waits to read \(goroutine 0, since step \d+\)"
         )
-        self.assertRegex(said, r"look: .* recording\.jsonl -ex 'goto \d+' -ex 'calls sock 3'\n")
+        self.assertRegex(said, r"next: .* recording\.jsonl -ex 'goto \d+' -ex 'calls sock 3'\n")
 
     def test_a_test_that_hangs_ends_with_its_line(self) -> None:
         self.written(TEST, "p_test.go")

@@ -120,13 +120,13 @@ class Causes(unittest.TestCase):
     def test_what_is_said_of_a_timeout(self) -> None:
         told = first_words(Recording.read(str(CAUSED / "pool-bad.jsonl")), "pool.jsonl")
         self.assertRegex(
-            told[0], r"netrev: Read at main.go:\d+ in ask, called at main.go:\d+ \(goroutine 0\) ended with a timeout\."
+            told[0], r"cause:  Read at main.go:\d+ in ask, called at main.go:\d+ \(goroutine 0\) ended with a timeout\."
         )
         self.assertRegex(
             told[1],
             r" Its deadline was set at main.go:\d+ in pool.func1, called at main.go:\d+ \(goroutine 0, step \d+\), 80 ms ahead; 1 Read went",
         )
-        self.assertRegex(told[-1], r"look:   nrdb pool.jsonl -ex 'goto \d+' -ex 'history rd 1'")
+        self.assertRegex(told[-1], r"next:   nrdb pool.jsonl -ex 'goto \d+' -ex 'history rd 1'")
 
     def test_calls_that_wait_for_one_another(self) -> None:
         recording = Recording.read(str(CAUSED / "both-bad.jsonl"))

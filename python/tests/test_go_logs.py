@@ -271,12 +271,12 @@ class Told(unittest.TestCase):
         for told, words in (
             (none, "a.jsonl -ex continue -ex 'info goroutines'"),
             (
-                ["1. late", "   look:   goto 7; history wd 2", "   look: goto 9"],
+                ["1. late", "   next:   goto 7; history wd 2", "   next: goto 9"],
                 "a.jsonl -ex 'goto 7' -ex 'history wd 2'",
             ),
         ):
             self.assertTrue(next_line(pathlib.Path("a.jsonl"), told).endswith(f"nrdb {words}"))
-            is_named = any("look:" in line for line in told)
+            is_named = any("next:" in line for line in told)
             explores = next_line(pathlib.Path("a.jsonl"), told, True).endswith("nrdb --explore a.jsonl")
             self.assertEqual(explores, not is_named)
 

@@ -14,7 +14,7 @@ from .source import text_behind
 from .words import is_of_go
 
 MOST_FAILED, MOST_HANGS, MOST_PERHAPS = 4, 3, 2
-TITLE, INDENT, LOOK = "netrev: ", "        ", "look:   "
+CAUSE, INDENT, NEXT = "cause:  ", "        ", "next:   "
 
 
 def first_words(recording: Recording, name: str, program: str = "nrdb") -> list[str]:
@@ -27,7 +27,7 @@ def first_words(recording: Recording, name: str, program: str = "nrdb") -> list[
     if rest:
         lines.append(f"{INDENT}({rest} more: info errors, info hangs)")
     lines += [
-        f"{TITLE}{wait_words(recording, wait)}" for wait in waits_elsewhere(recording, recording.length)[:MOST_HANGS]
+        f"{CAUSE}{wait_words(recording, wait)}" for wait in waits_elsewhere(recording, recording.length)[:MOST_HANGS]
     ]
     if not failed:
         perhaps = once(recording, leftovers_of(recording))[:MOST_PERHAPS]
@@ -35,14 +35,14 @@ def first_words(recording: Recording, name: str, program: str = "nrdb") -> list[
         lines += [line for cause in perhaps for line in paragraph(recording, cause)]
     if shown:
         words = [program, name, *(word for look in shown[0].looks for word in ("-ex", look))]
-        lines.append(f"{LOOK}{shlex.join(words)}")
+        lines.append(f"{NEXT}{shlex.join(words)}")
     return lines
 
 
 def paragraph(recording: Recording, cause: Cause) -> list[str]:
     """A cause in lines: a sentence each, and the source behind the line where somebody stopped, if it is there."""
     first, *rest = cause.says
-    return [f"{TITLE}{first}", *(f"{INDENT}{line}" for line in (*rest, *text_behind(recording, cause)))]
+    return [f"{CAUSE}{first}", *(f"{INDENT}{line}" for line in (*rest, *text_behind(recording, cause)))]
 
 
 def is_telling(recording: Recording, cause: Cause) -> bool:

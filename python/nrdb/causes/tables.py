@@ -44,4 +44,4 @@ def rows_of(cause: Cause) -> list[Row]:
         "says": cause.says, "steps": cause.steps, "looks": cause.looks,
     }  # fmt: skip
     first, *rest = cause.says
-    return [Row(values, first), *(Row({}, f"     {says}") for says in (*rest, f"look: {'; '.join(cause.looks)}"))]
+    return [Row(values, first), *(Row({}, f"     {says}") for says in (*rest, f"next: {'; '.join(cause.looks)}"))]

@@ -120,7 +120,7 @@ class Keeping:
         write_recording(file, self.session.path, data, recording.lines, [made.number for made in played.steps])
         accepted = said.decode("utf-8", "replace").strip()
         *lines, unless = self.telling.finding(at, finding, times, file)
-        lines.append(f"   netrev: {file}: {accepted}, so it is a run of the machine")
+        lines.append(f"   netrev: {accepted}")
         lines.append(f"   short:  {self._shortened(file, finding)}")
         return [*lines, unless]
 

@@ -12,7 +12,7 @@ const MOST = 2000; // lines of the log
 const SLOW = 1000; // milliseconds after which a line without a reply is told of
 const AGAIN = 2000; // milliseconds until nrdb is asked again
 const LOST = "nrdb doesn't answer: what is typed isn't answered. Where it was ended, begin it anew, and open the address that it prints";
-const LOOK = /^(\|\s+look:\s+)(\S.*)$/;
+const NEXT = /^(\|\s+next:\s+)(\S.*)$/;
 const MOVES = { "<": "reverse-stepi", ">": "stepi", "(": "reverse-next", ")": "next", "{": "reverse-continue", "}": "continue" };
 const KEPT = 200; // lines that were typed, which a reload leaves
 const PART = 8000, SOON = 200; // steps that are asked for round what is seen, and milliseconds until they are
@@ -30,10 +30,10 @@ function asking(line) {
 // Adds a line to the log, which stays at its end where it was there.
 function say(text, kind) {
   const log = $("log"), isAtEnd = log.scrollTop + log.clientHeight >= log.scrollHeight - 30;
-  const made = document.createElement("div"), look = kind === "added" && LOOK.exec(text);
-  made.textContent = look ? look[1] : text;
+  const made = document.createElement("div"), next = kind === "added" && NEXT.exec(text);
+  made.textContent = next ? next[1] : text;
   made.className = kind;
-  if (look) made.append(asking(look[2]));
+  if (next) made.append(asking(next[2]));
   log.append(made);
   while (log.childElementCount > MOST) log.firstElementChild.remove();
   if (isAtEnd) log.scrollTop = log.scrollHeight;

@@ -37,8 +37,9 @@ def is_by_go(recording: Recording, timeout: Timeout) -> bool:
 
 
 def _rows(scout: Scout, recording: Recording, at: int, suspect: Suspect) -> list[Row]:
-    """A suspect's rows: what is said of it, what netrev answers, the program's lines, and what to type next."""
-    evidence = _evidence(scout, suspect)
+    """A suspect's rows: its sentence, netrev's answers, where they aren't what the rule expects, the program's lines, and the command
+    to type next. Only netrev's own answers follow `netrev:`."""
+    evidence, doubts = _evidence(scout, suspect)
     lines = _lines(recording, suspect)
     values: Values = {
         "rule": suspect.rule,
@@ -46,23 +47,25 @@ def _rows(scout: Scout, recording: Recording, at: int, suspect: Suspect) -> list
         "step": suspect.step,
         "says": suspect.sentence(),
         "netrev": evidence,
+        "doubts": doubts,
         "lines": lines,
         "looks": suspect.looks,
     }
-    further = [f"   netrev: {'; '.join(evidence)}", *(f"   Go:     {line}" for line in lines)]
-    further.append(f"   look:   {'; '.join(suspect.looks)}")
+    further = [f"   netrev: {'; '.join(evidence)}", *(f"   take care: {doubt}" for doubt in doubts)]
+    further += [*(f"   Go:     {line}" for line in lines), f"   next:   {'; '.join(suspect.looks)}"]
     first = Row(values, f"{at}. {suspect.rule}: {suspect.sentence()}")
     return [first, *(Row({}, line) for line in further)]
 
 
-def _evidence(scout: Scout, suspect: Suspect) -> list[str]:
-    """What netrev answers at the positions in question. What doesn't fit the rule's reckoning is marked."""
-    shown = []
-    for position, cell, value in suspect.evidence:
+def _evidence(scout: Scout, suspect: Suspect) -> tuple[list[str], list[str]]:
+    """netrev's answers at the positions in question; and for each answer that isn't what the rule expects, a sentence."""
+    answers, doubts = [], []
+    for position, cell, expected in suspect.evidence:
         answer = scout.values(position, [cell])[0]
-        doubt = "" if value in (None, answer) else f" (take care: the rule reckons with {value})"
-        shown.append(f"at {position} {cell} = {answer}{doubt}")
-    return shown
+        answers.append(f"at {position} {cell} = {answer}")
+        if expected not in (None, answer):
+            doubts.append(f"the rule expects {cell} = {expected} at {position}")
+    return answers, doubts
 
 
 def _lines(recording: Recording, suspect: Suspect) -> list[str]:

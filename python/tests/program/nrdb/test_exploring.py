@@ -37,7 +37,8 @@ class Exploring(unittest.TestCase):
 
     def test_what_is_kept_is_a_run_that_ends_with_the_suspect(self) -> None:
         said = nrdb("--explore", GOOD, status=SOME)
-        files = re.findall(r"netrev: (\S+\.jsonl): ok (\d+) steps, so it is a run of the machine", said)
+        found = re.findall(r"^\| \d\. .*?, in (\S+\.jsonl): ", said, re.MULTILINE)
+        files = list(zip(found, re.findall(r"netrev: ok (\d+) steps$", said, re.MULTILINE), strict=True))
         self.assertEqual(len(files), 2)
         for name, steps in files:
             self.assertEqual(checked(Path(name)), f"ok {steps} steps\n")

@@ -37,7 +37,7 @@ class Hunts(unittest.TestCase):
                 first, second = hunt.read_text().splitlines()
                 kept = hunt.with_suffix(".session").read_text().splitlines()
                 self.assertEqual(first, "info suspects")
-                self.assertEqual(next(line for line in kept if "look:" in line), f"|    look:   {second}")
+                self.assertEqual(next(line for line in kept if "next:" in line), f"|    next:   {second}")
 
     def test_the_long_ones_print_what_is_kept(self):
         with tempfile.TemporaryDirectory() as folder:

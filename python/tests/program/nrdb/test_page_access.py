@@ -162,7 +162,7 @@ class Access(InChromium):
             for name, page in self.shown(str(web.address)):
                 page.value("document.getElementById('line').focus()")
                 page.types("info suspects")
-                page.until("document.getElementById('log').innerText.includes('look:')")
+                page.until("document.getElementById('log').innerText.includes('next:')")
                 self.expect_texts(f"session, {name}", page)
                 self.expect_keyboard(f"session, {name}", page, 14)
 
