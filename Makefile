@@ -47,9 +47,9 @@ run: ready
 hunt: ready
 	@./nrdb $(FILE)
 
-# The gate: every proof, the edits that must fail, the tests, the program, the program refused memory,
-# sessions over the loopback, the program against the system, and the companion's tests.
+# Runs the gate: installs what it uses (scripts/setup.sh), checks every proof, tries the edits that must fail, and runs all tests.
 test:
+	@sh scripts/setup.sh
 	@sh scripts/gate.sh
 
 # Looks over what is written in Python: black and mypy, which are Debian packages (pyproject.toml says how).

@@ -1,0 +1,106 @@
+"""What README shows is what comes: in a fresh clone, with only the archive, and with only the Debian package."""
+
+import re
+import shutil
+import subprocess
+import tempfile
+import unittest
+from dataclasses import replace
+from pathlib import Path
+
+import pytest
+from netrev_words.version import VERSION
+
+from tests.folders import folder_of
+
+from .fresh import environment
+from .readme import README, Command, ReadmeError, Typed, sections
+from .readme_rooms import (
+    ARCHIVE,
+    CLONE,
+    DEBIAN,
+    DEBUG,
+    RECORD,
+    RELEASE,
+    Room,
+    archive_room,
+    clone_room,
+    commands_of_go,
+    deb_room,
+    played,
+)
+from .sharing import NETREV, ROOT
+
+TEXT = README.read_text(encoding="utf-8")
+LINK = re.compile(r"\]\((?!\w+:|#)([^)#]+)")
+UNDER_ANOTHER_NAME = {"LICENSE"}  # in the Debian package, which has /usr/share/doc/netrev/copyright
+HANDS = ("info suspects", "history wd 2", "calls gor 2", "until rg 1 ready", "info errors", "timeline hijacked.html")
+
+
+def play(room: Room, *names: str) -> list[str]:
+    """Plays these sections of README, and the one that records if Go is here; the commands."""
+    return list(played(room, *names, *([RECORD] if commands_of_go() else [])))
+
+
+def skip_without_go() -> None:
+    """Says that recording was left out."""
+    if not commands_of_go():
+        pytest.skip(f"Go {RELEASE} isn't here, so nothing was recorded: `python3 python netrev_go.fetching {RELEASE}`")
+
+
+def test_in_a_fresh_clone(tmp_path: Path) -> None:
+    room, toolchain = clone_room(tmp_path)
+    debug = sections(TEXT)[DEBUG]
+    look, path = sections(TEXT)[CLONE]
+    room.play(replace(look, prompts=debug[0].prompts))
+    assert toolchain.compiled() == 1
+    built = room.folder / "crates/netrev/out/netrev"
+    built.parent.mkdir()
+    shutil.copy(NETREV, built)  # (what `make run` leaves)
+    room.play(path)
+    assert debug[0].text in play(room, DEBUG)
+    skip_without_go()
+
+
+def test_six_kinds_of_questions_are_shown() -> None:
+    typed = {part.strip() for line in sections(TEXT)[DEBUG][0].prompts for part in line.text.split(";")}
+    assert set(HANDS) <= typed
+
+
+class Packages(unittest.TestCase):
+    """The archive and the Debian package, made of the tree as it is, without asking for a gate that passed."""
+
+    @classmethod
+    def setUpClass(cls) -> None:
+        made = tempfile.TemporaryDirectory()
+        cls.addClassCleanup(made.cleanup)
+        cls.made = Path(made.name)
+        (cls.made / "log").write_text("a test\n")
+        for command in (["archive.sh", VERSION, NETREV, cls.made / "log", cls.made], ["deb.sh", VERSION, cls.made]):
+            ran = subprocess.run(
+                ["sh", ROOT / "scripts" / str(command[0]), *command[1:]],
+                env=environment(COMPRESSION="gzip"),
+                capture_output=True,
+                text=True,
+                check=False,
+            )
+            assert ran.returncode == 0, ran.stdout + ran.stderr
+        cls.archive = cls.made / f"netrev-{VERSION}-linux-x86_64.tar.gz"
+        cls.deb = cls.made / f"netrev_{VERSION}_amd64.deb"
+
+    def assert_links_lead_somewhere(self, pages: Path, missing: set[str]) -> None:
+        text = (pages / "README.md").read_text(encoding="utf-8")
+        self.assertGreater(len(LINK.findall(text)), 20)
+        self.assertEqual({link for link in LINK.findall(text) if not (pages / link).exists()}, missing)
+
+    def test_with_only_the_archive(self) -> None:
+        folder = folder_of(self)
+        play(archive_room(folder, self.archive), ARCHIVE, DEBUG)
+        self.assert_links_lead_somewhere(folder / self.archive.name.removesuffix(".tar.gz"), set())
+        skip_without_go()
+
+    def test_with_only_the_debian_package(self) -> None:
+        folder = folder_of(self)
+        play(deb_room(folder, self.deb), DEBIAN, DEBUG)
+        self.assert_links_lead_somewhere(folder / "root/usr/share/doc/netrev", UNDER_ANOTHER_NAME)
+        skip_without_go()
