@@ -8,6 +8,8 @@ import re
 import subprocess
 import sys
 
+from netrev_words.command_lines import file_word
+
 PACKAGES = pathlib.Path(__file__).resolve().parents[1]
 ASKED = "info suspects"
 PATIENCE = 60  # seconds
@@ -21,14 +23,16 @@ class Late(Exception):
 
 def check(netrev: str, recording: pathlib.Path) -> tuple[bool, str]:
     """Whether netrev takes the recording, and its words."""
-    run = subprocess.run([netrev, "check", recording], capture_output=True, text=True, check=False)
+    run = subprocess.run([netrev, "check", file_word(recording)], capture_output=True, text=True, check=False)
     return run.returncode == 0, (run.stdout or run.stderr).strip()
 
 
 def at_the_end(netrev: str, recording: pathlib.Path, steps: int, cells: list[str]) -> dict[tuple[str, int], str]:
     """The values of these cells (gor G, lock S) at the end of the recording."""
     script = f"stepi {steps}\n" + "".join(f"print {cell}\n" for cell in cells)
-    run = subprocess.run([netrev, "run", recording], input=script, capture_output=True, text=True, check=False)
+    run = subprocess.run(
+        [netrev, "run", file_word(recording)], input=script, capture_output=True, text=True, check=False
+    )
     values = {}
     for line in run.stdout.splitlines():
         if found := PRINTED.fullmatch(line):
@@ -38,7 +42,7 @@ def at_the_end(netrev: str, recording: pathlib.Path, steps: int, cells: list[str
 
 def suspects(netrev: str, recording: pathlib.Path) -> list[str]:
     """What nrdb suspects at the end, line by line; nothing, where it has no such topic. Late where it takes too long."""
-    words = [sys.executable, str(PACKAGES), "nrdb", "--batch", "-ex", "continue", "-ex", ASKED, str(recording)]
+    words = [sys.executable, str(PACKAGES), "nrdb", "--batch", "-ex", "continue", "-ex", ASKED, file_word(recording)]
     try:
         run = subprocess.run(
             words, env=os.environ | {"NETREV": netrev}, capture_output=True, text=True, timeout=PATIENCE, check=False
@@ -51,10 +55,10 @@ def suspects(netrev: str, recording: pathlib.Path) -> list[str]:
     return [line.removeprefix("| ") for line in told] if told and told[0].startswith("| ") else []
 
 
-def causes(recording: pathlib.Path, program: str) -> list[str]:
+def causes(recording: pathlib.Path) -> list[str]:
     """Why calls failed and hang, by nrdb, for a program that failed; nothing where nothing is known of that. Late where it takes too
-    long. `program` is how nrdb is called."""
-    words = [sys.executable, str(PACKAGES), "nrdb.causes", str(recording), program]
+    long."""
+    words = [sys.executable, str(PACKAGES), "nrdb.causes", file_word(recording)]
     try:
         run = subprocess.run(words, capture_output=True, text=True, timeout=PATIENCE, check=False)
     except subprocess.TimeoutExpired:

@@ -10,6 +10,8 @@ import subprocess
 import sys
 from enum import IntEnum
 
+from netrev_words.command_lines import command
+
 from .converting import Wish, convert
 from .doctor import doctor
 from .keeping import Making, complain, say, unwritten
@@ -116,7 +118,8 @@ def build(options: argparse.Namespace, go: Go) -> int:
     if run.returncode == 0:
         say(
             [
-                "It records where NETREV_LOG=PATH is set: its log is PATH.PID, and `netrev-go convert PATH.PID` makes a recording"
+                "It records where NETREV_LOG=PATH is set: its log is PATH.PID, and "
+                f"`{command('netrev-go')} convert PATH.PID` makes a recording"
             ]
         )
     return as_a_shell_has_it(run.returncode)

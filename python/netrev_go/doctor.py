@@ -5,6 +5,7 @@ from __future__ import annotations
 import tempfile
 
 from netrev_words.built import netrev_program
+from netrev_words.command_lines import how_to_get_netrev
 
 from .calls_of_go import unknown_calls
 from .running import MOST_POINTS, logs_folder
@@ -23,7 +24,7 @@ def doctor() -> int:
         return 1
     room, writable = has_room(), can_write()
     netrev = netrev_program()
-    print(f"netrev: {netrev or 'not here: recordings are made and not checked (make netrev, or NETREV)'}")
+    print(f"checked by: {netrev or f'nothing, since netrev is missing: {how_to_get_netrev()}'}")
     return 0 if fits and room and writable and tries_well(go) else 1
 
 

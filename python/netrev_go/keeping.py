@@ -4,11 +4,13 @@ from __future__ import annotations
 
 import os
 import pathlib
+import shlex
 import shutil
 import sys
 from dataclasses import replace
 from typing import TextIO
 
+from netrev_words.command_lines import command
 from netrev_words.plain import plain
 
 from .converting import Wish, convert
@@ -35,6 +37,12 @@ def say(lines: list[str], stream: TextIO | None = None) -> None:
 def complain(text: str) -> None:
     """Tells what stands in the way."""
     print("netrev-go: " + "\n".join(plain(line) for line in text.split("\n")), file=sys.stderr)
+
+
+def convert_hint(folder: pathlib.Path, logs: list[pathlib.Path]) -> str:
+    """How recordings are made of logs that were kept."""
+    again = shlex.quote(str(logs[0])) if len(logs) == 1 else f"{shlex.quote(str(folder))}/{LOGS}"
+    return f"nothing is lost: `{command('netrev-go')} -o NAME convert {again}` makes recordings of the logs"
 
 
 def unwritten(name: pathlib.Path, fault: OSError) -> str:
@@ -80,8 +88,7 @@ class Making:
             return
         say([f"the logs are in {plain(str(self._folder))}"])
         if logs and not self._is_whole:
-            again = str(logs[0]) if len(logs) == 1 else f"{self._folder}/{LOGS}"
-            complain(f"nothing is lost: `netrev-go -o NAME convert {plain(again)}` makes recordings of the logs")
+            complain(convert_hint(self._folder, logs))
 
     def _make(self, base: pathlib.Path, wish: Wish) -> tuple[bool, int]:
         """A recording of each log in which sockets were opened: whether all are taken, and how many logs there are."""

@@ -4,10 +4,9 @@ type next. Text of the program's, as names of functions and files, is printed th
 from __future__ import annotations
 
 import pathlib
-import shlex
-import shutil
 
 from netrev_words.built import netrev_program
+from netrev_words.command_lines import command_line, file_word, how_to_get_netrev
 from netrev_words.plain import plain
 
 from .asking import Late, at_the_end, causes, check, hanging, never_closed, suspects
@@ -92,23 +91,18 @@ def next_line(name: pathlib.Path, told: list[str], nobody_waits: bool = False, f
     looks = [line.strip().removeprefix("next:").split(";") for line in told if line.strip().startswith("next:")]
     topic = "errors" if failed and nobody_waits else "goroutines"
     commands = [command.strip() for command in looks[0]] if looks else ["continue", f"info {topic}"]
-    words = [nrdb(), str(name), *(word for command in commands for word in ("-ex", command))]
+    words = [file_word(name), *(word for command in commands for word in ("-ex", command))]
     if nobody_waits and not failed and not looks:
-        words = [nrdb(), "--explore", str(name)]
-    return plain(f"next: {shlex.join(words)}")
-
-
-def nrdb() -> str:
-    """How nrdb is called."""
-    return "nrdb" if shutil.which("nrdb") else "./nrdb"
+        words = ["--explore", file_word(name)]
+    return plain(f"next: {command_line('nrdb', *words)}")
 
 
 def why_lines(name: pathlib.Path) -> list[str]:
     """Why a program failed that did: its failed calls and who hangs, each with its cause."""
     try:
-        return [plain(line) for line in causes(name, nrdb())]
+        return [plain(line) for line in causes(name)]
     except Late as late:
-        return [plain(f"  {late}: `nrdb -ex 'info errors' {name}` waits for them")]
+        return [plain(f"  {late}: `{command_line('nrdb', '-ex', 'info errors', file_word(name))}` waits for them")]
 
 
 def report(
@@ -121,7 +115,7 @@ def report(
     if netrev is None:
         return True, [
             f"{plain(str(name))}: {len(recording.lines)} steps; {counts}", *notes,
-            "  not checked: no netrev is here (NETREV names one)",
+            f"  not checked: netrev is missing: {how_to_get_netrev()}",
         ]  # fmt: skip
     try:
         taken, words = check(netrev, name)
@@ -144,7 +138,7 @@ def report(
         told = suspects(netrev, name)
     except Late as late:
         told = []
-        lines.append(plain(f"  {late}: `nrdb --suspects {name}` waits for them"))
+        lines.append(plain(f"  {late}: `{command_line('nrdb', '--suspects', file_word(name))}` waits for them"))
     lines += ["  nrdb suspects:", *(f"    {plain(line)}" for line in told[:MOST_SUSPECTS])] if told else []
     last = next_line(name, told, not waiting, failed)
     is_of_a_suspect = any(line.strip().startswith("next:") for line in told)

@@ -15,6 +15,8 @@ import time
 from collections.abc import Callable
 from dataclasses import dataclass
 
+from netrev_words.command_lines import command
+
 from .toolchain import Trouble
 
 MOST_POINTS = 2**20
@@ -178,6 +180,6 @@ def log_of_process(process: int) -> pathlib.Path:
         if path and re.search(rf"\.{process}(\.\d+)?\Z", path[0]):
             return pathlib.Path(path[0])
     raise Trouble(
-        f"process {process} has no log: it has to be built by `netrev-go build` and started with NETREV_LOG=PATH, "
-        "or run by `netrev-go run`"
+        f"process {process} has no log: it has to be built by `{command('netrev-go')} build` and started with "
+        f"NETREV_LOG=PATH, or run by `{command('netrev-go')} run`"
     )

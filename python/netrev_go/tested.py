@@ -13,6 +13,7 @@ from collections.abc import Iterable
 from dataclasses import replace
 
 from netrev_words.built import netrev_program
+from netrev_words.command_lines import file_word
 from netrev_words.plain import plain
 
 from .asking import PACKAGES
@@ -161,7 +162,7 @@ class Recordings:
 def page_of(name: pathlib.Path) -> str | None:
     """The timeline of a recording, as a page beside it; None where none can be made."""
     page = name.with_suffix(".html")
-    words = [sys.executable, str(PACKAGES), "nrdb", "--timeline", str(page), str(name)]
+    words = [sys.executable, str(PACKAGES), "nrdb", "--timeline", file_word(page), file_word(name)]
     run = subprocess.run(
         words, env=nrdb_environment(), capture_output=True, text=True, stdin=subprocess.DEVNULL, check=False
     )
@@ -179,7 +180,7 @@ def nrdb_environment() -> dict[str, str]:
 def findings(recording: str, seconds: float) -> list[str]:
     """What nrdb finds by other schedules in so many seconds, line by line. Where it couldn't look, or doesn't come to tell, that is
     said."""
-    words = [sys.executable, str(PACKAGES), "nrdb", "--explore", recording]
+    words = [sys.executable, str(PACKAGES), "nrdb", "--explore", file_word(recording)]
     with subprocess.Popen(
         words, env=nrdb_environment(), text=True, stdin=subprocess.DEVNULL, stdout=subprocess.PIPE,
         stderr=subprocess.DEVNULL,

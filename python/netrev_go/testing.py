@@ -17,10 +17,10 @@ from netrev_words.plain import plain
 
 from . import forms
 from .converting import Wish
-from .keeping import Making, complain, say
+from .keeping import Making, complain, convert_hint, say
 from .linking import kept
 from .outputs import base_name, look_folder
-from .running import LOGS, Runner, as_a_shell_has_it, limits_of, logs_folder, logs_in
+from .running import Runner, as_a_shell_has_it, limits_of, logs_folder, logs_in
 from .tested import Recordings
 from .toolchain import Go
 
@@ -159,7 +159,7 @@ class Run:
             return
         say([f"the logs are in {plain(str(folder))}"])
         if not is_whole:
-            complain(f"nothing is lost: `netrev-go -o NAME convert {folder}/{LOGS}` makes recordings of the logs")
+            complain(convert_hint(folder, logs_in(folder)))
 
 
 def tell(options: argparse.Namespace, recordings: Recordings, came: Came) -> None:

@@ -13,6 +13,8 @@ import subprocess
 import tempfile
 from dataclasses import dataclass
 
+from netrev_words.command_lines import command
+
 SOURCES = pathlib.Path(__file__).resolve().parent / "go"
 OVERLAY, NEW, LEFT_OUT = "overlay.json", "new.json", "without.txt"
 CHANGED = ("runtime", "internal/poll", "testing")  # of Go's packages
@@ -157,7 +159,7 @@ def make_overlay(go: Go, made: pathlib.Path) -> None:
     if run.returncode != 0:
         unfit = [line for line in lines if line.startswith("unfit ")]
         raise Trouble(
-            f"{unknown}These places of it are other than the rules say (`netrev-go doctor` has all):\n"
+            f"{unknown}These places of it are other than the rules say (`{command('netrev-go')} doctor` has all):\n"
             + "\n".join([*unfit, run.stderr]).strip()
         )
     compiled = quiet_go(go, made, "build", "-overlay", str(made / NEW), *CHANGED)

@@ -14,6 +14,7 @@ import tempfile
 from dataclasses import dataclass
 
 from netrev_words.built import netrev_program
+from netrev_words.command_lines import command
 from netrev_words.plain import plain
 
 from .asking import check
@@ -155,7 +156,8 @@ def ready(go: Go) -> pathlib.Path:
     before = kept(go)
     came = before or trial(go)
     if not came.good:
-        raise Trouble(f"{go.version} isn't recorded ({tried(go.version)}): {came.said}. `netrev-go doctor` has more")
+        more = f"`{command('netrev-go')} doctor` has more"
+        raise Trouble(f"{go.version} isn't recorded ({tried(go.version)}): {came.said}. {more}")
     without = left_out(go)
     if before is None and (without or not is_tried(go.version)):
         said = f"netrev-go: {go.version} ({tried(go.version)}) can be recorded: {came.said}"

@@ -35,12 +35,3 @@ def netrev_program() -> Optional[str]:
     beside = Path(sys.argv[0]).resolve().with_name("netrev")
     there = [str(path) for path in (BUILT, beside, INSTALLED) if path.is_file() and not is_launcher(path)]
     return os.environ.get("NETREV") or next(iter(there), None) or on_the_path()
-
-
-def how_to_get_netrev() -> str:
-    """Where a netrev comes from, for a user who has none: a clone can build it, an installation should contain it."""
-    if (HERE[2] / "Makefile").is_file():
-        source = "`make look FILE=..` compiles netrev without proofs, `make netrev` builds it with them; both need the toolchain"
-    else:
-        source = "netrev's Debian package and its archive contain the program"
-    return f"{source}. NETREV=FILE or --netrev FILE names a netrev that is elsewhere"

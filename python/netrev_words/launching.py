@@ -5,7 +5,7 @@ import sys
 
 from .built import netrev_program
 
-MISSING = "netrev: the proved program isn't here: NETREV names one, and its Debian package and archive have it"
+MISSING = "the proved program `netrev` is missing: NETREV names it; netrev's Debian package and archive contain it"
 FAILED = 3
 
 
@@ -18,5 +18,5 @@ def main() -> int:
     try:
         os.execv(program, [program, *sys.argv[1:]])
     except OSError as fault:
-        print(f"netrev: {program!r}: {fault.strerror}", file=sys.stderr)
+        print(f"the program {program!r} can't be started: {fault.strerror}", file=sys.stderr)
         return FAILED

@@ -7,13 +7,14 @@ import argparse
 import gc
 import io
 import os
+import shlex
 import shutil
 import sys
 from contextlib import closing, nullcontext
 from functools import partial
 from typing import Callable, Optional, Sequence
 
-from netrev_words.built import how_to_get_netrev
+from netrev_words.command_lines import how_to_get_netrev, make_command
 
 from .arriving_changes import ArrivingChanges
 from .prompt.answers import ANSWERS
@@ -74,10 +75,17 @@ def run(wanted: argparse.Namespace, printer: Printer) -> int:
     except OSError as error:
         printer.note(f"{error.filename or wanted.join or wanted.file}: {error.strerror or error}")
         if error.filename == wanted.netrev:
-            printer.note(how_to_get_netrev())
+            printer.note(without_netrev(wanted.file))
         status = FAILED
     printer.end(status)
     return status
+
+
+def without_netrev(file: Optional[str]) -> str:
+    """What to do if netrev's program can't be started."""
+    look = make_command(f"look FILE={shlex.quote(os.path.abspath(file))}") if file else None
+    unproved = f"; `{look}` opens the recording without proofs" if look else ""
+    return f"netrev's program is needed: {how_to_get_netrev('NETREV or --netrev')}{unproved}"
 
 
 def start(wanted: argparse.Namespace, printer: Printer) -> int:

@@ -126,7 +126,7 @@ class Causes(unittest.TestCase):
             told[1],
             r" Its deadline was set at main.go:\d+ in pool.func1, called at main.go:\d+ \(goroutine 0, step \d+\), 80 ms ahead; 1 Read went",
         )
-        self.assertRegex(told[-1], r"next:   nrdb pool.jsonl -ex 'goto \d+' -ex 'history rd 1'")
+        self.assertRegex(told[-1], r"next:   \S*nrdb pool.jsonl -ex 'goto \d+' -ex 'history rd 1'")
 
     def test_calls_that_wait_for_one_another(self) -> None:
         recording = Recording.read(str(CAUSED / "both-bad.jsonl"))

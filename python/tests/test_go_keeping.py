@@ -37,7 +37,7 @@ STANDS_IN = """#!/bin/sh
 exit {status}
 """
 KEPT = re.compile(r"the logs are in (\S+)")
-AGAIN = re.compile(r"`netrev-go -o NAME convert (\S+)`")
+AGAIN = re.compile(r"`\S*netrev-go -o NAME convert (\S+)`")
 
 
 class Run(unittest.TestCase):

@@ -1,6 +1,4 @@
-"""Prints what is said first of a recording of a program that failed:  python3 python nrdb.causes FILE [PROGRAM]
-
-PROGRAM is how nrdb is called, in the line to type next."""
+"""Prints what is said first of a recording of a program that failed:  python3 python nrdb.causes FILE"""
 
 import sys
 
@@ -12,7 +10,7 @@ from .first import first_words
 
 def main(words: list[str]) -> int:
     """Prints the lines; the exit status."""
-    if len(words) not in (1, 2):
+    if len(words) != 1:
         print(__doc__, file=sys.stderr)
         return 2
     try:
@@ -20,7 +18,7 @@ def main(words: list[str]) -> int:
     except (OSError, NoRecording) as fault:
         print(plain(f"{words[0]}: {fault}"), file=sys.stderr)
         return 3
-    for line in first_words(recording, *words):
+    for line in first_words(recording, words[0]):
         print(plain(line))
     return 0
 

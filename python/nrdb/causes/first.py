@@ -1,8 +1,9 @@
 """What is said first of a recording of a program that failed: each failed call of the program's with its cause, who hangs, and
 where there is neither, what may be the matter; with the line to type next."""
 
-import shlex
 from typing import Callable
+
+from netrev_words.command_lines import command_line, file_word
 
 from ..one_call import Outcome
 from ..recording import Recording
@@ -17,7 +18,7 @@ MOST_FAILED, MOST_HANGS, MOST_PERHAPS = 4, 3, 2
 CAUSE, INDENT, NEXT = "cause:  ", "        ", "next:   "
 
 
-def first_words(recording: Recording, name: str, program: str = "nrdb") -> list[str]:
+def first_words(recording: Recording, name: str) -> list[str]:
     """The lines, ready to be shown but for what `plain` does; none where there is nothing to say."""
     failed = once(recording, [one for one in causes_of(recording, recording.length) if is_telling(recording, one)])
     hangs = [one for one in hangs_at(recording, recording.length) if not is_of_go(recording, one.call)]
@@ -34,8 +35,8 @@ def first_words(recording: Recording, name: str, program: str = "nrdb") -> list[
         shown += perhaps
         lines += [line for cause in perhaps for line in paragraph(recording, cause)]
     if shown:
-        words = [program, name, *(word for look in shown[0].looks for word in ("-ex", look))]
-        lines.append(f"{NEXT}{shlex.join(words)}")
+        words = [file_word(name), *(word for look in shown[0].looks for word in ("-ex", look))]
+        lines.append(f"{NEXT}{command_line('nrdb', *words)}")
     return lines
 
 

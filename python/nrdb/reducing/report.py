@@ -1,10 +1,12 @@
 """A report in Markdown: what shows, what netrev answers, and the steps of the reduced recording side by side."""
 
 import re
+import shlex
 from pathlib import Path
 from typing import Optional
 from urllib.parse import quote
 
+from netrev_words.command_lines import file_word
 from netrev_words.plain import plain
 from netrev_words.vocabulary import OF_A_GOROUTINE
 
@@ -31,10 +33,22 @@ def shown(text: str) -> str:
     return MEANS.sub(r"\\\1", plain(text))
 
 
+def shell_words(*words: str) -> str:
+    """A command line as its reader can type it."""
+    return plain(shlex.join(words))
+
+
+def code(text: str) -> str:
+    """Text as a span of code, between more backticks than it has in a row."""
+    fence = "`" * (1 + max(map(len, re.findall("`+", text)), default=0))
+    return f"{fence}{plain(text)}{fence}" if len(fence) == 1 else f"{fence} {plain(text)} {fence}"
+
+
 def report_of(session: Session, wanted: Wanted, reduced: Reduced) -> tuple[str, str]:
     """The report of a reduced recording, and its picture."""
     recording = Recording.read(reduced.path)
-    name = shown(Path(reduced.path).name)
+    file = file_word(Path(reduced.path).name)
+    name = shown(file)
     scout = Scout(lambda: Own(session.program, reduced.path, session.interrupts))
     try:
         table = suspects_table(scout, recording)
@@ -47,13 +61,13 @@ def report_of(session: Session, wanted: Wanted, reduced: Reduced) -> tuple[str, 
         f"![The calls of {name}, with the steps of the story numbered]({quote(Path(reduced.path).with_suffix('.svg').name)})",
         "## The steps",
         f"{recording.length} of the {session.text().length} steps of {shown(Path(session.path).name)}, in {name}: each "
-        f"goroutine in its column, the network and the clock in the last. `netrev check {name}` prints "
-        f"`{checked.decode('utf-8', 'replace').strip()}`, so this is a run of the machine. What netrev answers is proved; that "
+        f"goroutine in its column, the network and the clock in the last. {code(shell_words('netrev', 'check', file))} prints "
+        f"{code(checked.decode('utf-8', 'replace').strip())}, so this is a run of the machine. What netrev answers is proved; that "
         "this is a bug, and the lines of the program, are not.",
         "\n".join(_steps(recording, reduced)),
         *_diagram(recording, story),
         "## To look",
-        f"    ./nrdb {name} -ex 'info suspects' -ex continue -ex 'info goroutines'",
+        f"    {shell_words('nrdb', file, '-ex', 'info suspects', '-ex', 'continue', '-ex', 'info goroutines')}",
     ]
     return "\n\n".join(parts) + "\n", drawing(recording, story)
 

@@ -74,11 +74,16 @@ class Room:
         for line, reply in zip(typed, replies(printed, command.prompts)):
             line.compare(reply)
         self.check_answers(command, printed)
-        for text in NEXT.findall(printed) if not command.prompts else ():
+        if not command.prompts:
+            self.check_next(command.text, printed)
+        return printed
+
+    def check_next(self, command: str, printed: str) -> None:
+        """Fails if a command that is printed to be typed next doesn't run."""
+        for text in NEXT.findall(printed):
             status, said = self.run(text)
             if status:
-                raise ReadmeError(f"`{command.text}` says to type `{text}`, which ends with status {status}:\n{said}")
-        return printed
+                raise ReadmeError(f"`{command}` says to type `{text}`, which ends with status {status}:\n{said}")
 
     def check_answers(self, command: Command, printed: str) -> None:
         """Fails if what follows netrev's name isn't netrev's answer."""

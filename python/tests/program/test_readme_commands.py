@@ -48,6 +48,16 @@ def skip_without_go() -> None:
         pytest.skip(f"Go {RELEASE} isn't here, so nothing was recorded: `python3 python netrev_go.fetching {RELEASE}`")
 
 
+def by_their_paths(room: Room) -> None:
+    """Records as README does, but calls netrev-go by its path: what it says to type next has to run there too."""
+    if commands_of_go():
+        command = "cd examples/toy && ../../tools/go/netrev-go test ./..."
+        status, printed = room.run(command)
+        assert status == 1 and "next:" in printed, printed
+        room.check_next(command, printed)
+        assert room.run("cd ../..") == (0, "")
+
+
 def test_in_a_fresh_clone(tmp_path: Path) -> None:
     room, toolchain = clone_room(tmp_path)
     debug = sections(TEXT)[DEBUG]
@@ -57,6 +67,7 @@ def test_in_a_fresh_clone(tmp_path: Path) -> None:
     built = room.folder / "crates/netrev/out/netrev"
     built.parent.mkdir()
     shutil.copy(NETREV, built)  # (what `make run` leaves)
+    by_their_paths(room)
     room.play(path)
     assert debug[0].text in play(room, DEBUG)
     skip_without_go()
