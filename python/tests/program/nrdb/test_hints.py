@@ -41,7 +41,8 @@ class BadRecordings(unittest.TestCase):
 
     def test_without_netrev(self):
         said = nrdb("--batch", "--netrev", f"{NETREV}.none", EXAMPLES / "first.jsonl", status=3)
-        self.assertIn("`make netrev` builds it with them; both need the toolchain", said)
+        self.assertRegex(said, r"netrev's program is needed: `make (-C \S+ )?netrev` builds it;")
+        self.assertRegex(said, r"`make (-C \S+ )?look FILE=\S+/first.jsonl` opens the recording without proofs")
 
 
 class Answers(unittest.TestCase):
