@@ -41,7 +41,8 @@ else
 	elif [ -n "$wanted" ]; then
 		install_all $wanted >> "$log" 2>&1
 		left=$(missing | tr '\n' ' ')
-		echo "setup: installed in $(($(date +%s) - began)) s: ${wanted% }${left:+; can\'t be had here: ${left% } ($log)}"
+		echo "setup: asked apt-get for these, $(($(date +%s) - began)) s: ${wanted% }"
+		[ -z "$left" ] || echo "setup: not available here: ${left% } ($log)"
 	fi
 fi
 for release in 1.19 1.27; do

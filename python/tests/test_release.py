@@ -1,0 +1,145 @@
+"""`make release` leaves all that is published in one folder, and nothing is packed that passed no gate."""
+
+import hashlib
+import os
+import shutil
+import subprocess
+import sys
+from pathlib import Path
+
+import pytest
+from netrev_words.version import VERSION
+
+ROOT = Path(__file__).resolve().parents[2]
+CHANGELOG = """# Changes
+
+Text.
+
+## Unreleased
+
+### Fixed
+
+- A new thing.
+
+## [1.1.0] - 2026-11-29
+
+- Of one.
+
+## What it has
+
+- More of one.
+
+## 1.0.0
+
+- Of none.
+"""
+ARCHIVE, DEB = f"netrev-{VERSION}-linux-x86_64.tar.gz", f"netrev_{VERSION}_amd64.deb"
+
+
+@pytest.fixture
+def tree(tmp_path: Path) -> Path:
+    """A tree whose packages are made."""
+    for name in ("scripts/release.sh", "scripts/notes.py", "scripts/package.sh", "CHANGELOG.md"):
+        (tmp_path / name).parent.mkdir(exist_ok=True)
+        shutil.copy(ROOT / name, tmp_path / name)
+    (tmp_path / "scripts/archive.sh").write_text('echo "packs $*"\n')
+    for folder in ("out", "crates/netrev/src", "crates/netrev/out"):
+        (tmp_path / folder).mkdir(parents=True)
+    (tmp_path / "crates.txt").touch()
+    (tmp_path / "crates/netrev/src/main.rt").touch()
+    (tmp_path / "out" / ARCHIVE).write_text("archive")
+    (tmp_path / "out" / DEB).write_text("package")
+    return tmp_path
+
+
+def run(tree: Path, *command: str) -> "subprocess.CompletedProcess[str]":
+    return subprocess.run(["sh", *command], cwd=tree, capture_output=True, text=True, check=False)
+
+
+def pass_gate(tree: Path, program: bytes) -> Path:
+    """A program, and what the gate leaves that it passed."""
+    built = tree / "crates/netrev/out/netrev"
+    built.write_bytes(program)
+    built.chmod(0o755)
+    (tree / "out/gate.log").write_text("1 passed, 0 failed\n")
+    (tree / "out/gate.sum").write_text(f"{hashlib.sha256(program).hexdigest()}  -\n")
+    return built
+
+
+def test_a_release_is_packages_sums_and_notes(tree: Path) -> None:
+    ran = run(tree, "scripts/release.sh", VERSION)
+    assert ran.returncode == 0, ran.stderr
+    folder = tree / "out/release"
+    assert sorted(path.name for path in folder.iterdir()) == sorted([ARCHIVE, DEB, "RELEASE-NOTES.md", "SHA256SUMS"])
+    sums = dict(reversed(line.split("  ")) for line in (folder / "SHA256SUMS").read_text().splitlines())
+    files = (ARCHIVE, DEB, "RELEASE-NOTES.md")
+    assert sums == {name: hashlib.sha256((folder / name).read_bytes()).hexdigest() for name in files}
+    assert (folder / "RELEASE-NOTES.md").read_text().startswith(f"# netrev {VERSION}\n")
+
+
+def test_a_later_release_takes_the_place_of_an_earlier_one(tree: Path) -> None:
+    run(tree, "scripts/release.sh", VERSION)
+    (tree / "out/release/old.deb").touch()
+    assert run(tree, "scripts/release.sh", VERSION).returncode == 0
+    assert not (tree / "out/release/old.deb").exists()
+    assert list((tree / "out").glob("release-*")) == []
+
+
+def test_without_a_package_there_is_no_release(tree: Path) -> None:
+    (tree / "out" / DEB).unlink()
+    assert run(tree, "scripts/release.sh", VERSION).returncode != 0
+    assert sorted(path.name for path in (tree / "out").iterdir()) == [ARCHIVE]
+
+
+def notes(folder: Path, version: str) -> "subprocess.CompletedProcess[str]":
+    """What scripts/notes.py makes of CHANGELOG."""
+    (folder / "changes").write_text(CHANGELOG)
+    command = [sys.executable, ROOT / "scripts/notes.py", version, folder / "changes"]
+    return subprocess.run(command, capture_output=True, text=True, check=False)
+
+
+def test_notes_are_those_of_the_version_and_of_what_is_unreleased(tmp_path: Path) -> None:
+    ran = notes(tmp_path, "1.1.0")
+    assert ran.returncode == 0, ran.stderr
+    assert (
+        ran.stdout == "# netrev 1.1.0\n\n### Fixed\n\n- A new thing.\n\n- Of one.\n\n## What it has\n\n- More of one.\n"
+    )
+
+
+def test_a_version_that_is_not_in_the_changelog_has_no_notes(tmp_path: Path) -> None:
+    ran = notes(tmp_path, "2.0.0")
+    assert (ran.returncode, ran.stdout, ran.stderr) == (1, "", "notes.py: CHANGELOG.md has no section 2.0.0\n")
+
+
+def test_what_passed_the_gate_is_packed(tree: Path) -> None:
+    built = pass_gate(tree, b"#!/bin/sh\n")
+    same = tree / "same"
+    shutil.copy2(built, same)
+    for words in ((), (str(same),)):
+        ran = run(tree, "scripts/package.sh", VERSION, *words)
+        assert (ran.returncode, ran.stdout.split()[:2]) == (0, ["packs", VERSION]), ran.stderr
+
+
+def test_what_passed_no_gate_is_not_packed(tree: Path) -> None:
+    ran = run(tree, "scripts/package.sh", VERSION, "/bin/true")
+    assert (ran.returncode, ran.stdout) == (1, "")
+    assert (
+        ran.stderr
+        == "package.sh: no gate has passed here (no out/gate.log or no out/gate.sum): run `make test` first.\n"
+    )
+    pass_gate(tree, b"#!/bin/sh\n")
+    ran = run(tree, "scripts/package.sh", VERSION, "/bin/true")
+    assert (ran.returncode, ran.stdout) == (1, "")
+    assert ran.stderr.startswith("package.sh: /bin/true isn't the program that passed the gate")
+
+
+def test_sources_that_changed_after_the_gate_are_not_packed(tree: Path) -> None:
+    pass_gate(tree, b"#!/bin/sh\n")
+    source = tree / "crates/netrev/src/main.rt"
+    later = (tree / "out/gate.log").stat().st_mtime + 10
+    source.touch()
+
+    os.utime(source, (later, later))
+    ran = run(tree, "scripts/package.sh", VERSION)
+    assert (ran.returncode, ran.stdout) == (1, "")
+    assert "crates/netrev/src/main.rt is newer than out/gate.log" in ran.stderr
