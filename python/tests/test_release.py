@@ -71,9 +71,9 @@ def test_a_release_is_packages_sums_and_notes(tree: Path) -> None:
     assert ran.returncode == 0, ran.stderr
     folder = tree / "out/release"
     assert sorted(path.name for path in folder.iterdir()) == sorted([ARCHIVE, DEB, "RELEASE-NOTES.md", "SHA256SUMS"])
-    sums = dict(reversed(line.split("  ")) for line in (folder / "SHA256SUMS").read_text().splitlines())
     files = (ARCHIVE, DEB, "RELEASE-NOTES.md")
-    assert sums == {name: hashlib.sha256((folder / name).read_bytes()).hexdigest() for name in files}
+    sums = [f"{hashlib.sha256((folder / name).read_bytes()).hexdigest()}  {name}\n" for name in files]
+    assert (folder / "SHA256SUMS").read_text() == "".join(sums)
     assert (folder / "RELEASE-NOTES.md").read_text().startswith(f"# netrev {VERSION}\n")
 
 
@@ -94,7 +94,7 @@ def test_without_a_package_there_is_no_release(tree: Path) -> None:
 def notes(folder: Path, version: str) -> "subprocess.CompletedProcess[str]":
     """What scripts/notes.py makes of CHANGELOG."""
     (folder / "changes").write_text(CHANGELOG)
-    command = [sys.executable, ROOT / "scripts/notes.py", version, folder / "changes"]
+    command = [sys.executable, str(ROOT / "scripts/notes.py"), version, str(folder / "changes")]
     return subprocess.run(command, capture_output=True, text=True, check=False)
 
 

@@ -36,14 +36,16 @@ class Typed:
         pattern = "".join(self.pattern(line) for line in self.shown)
         if self.shown and not re.fullmatch(pattern, f"{printed.rstrip()}\n"):
             shown = "\n".join(self.shown)
-            raise ReadmeError(f"README.md:{self.line}: {self.text}\n-- README shows:\n{shown}\n-- what came:\n{printed}")
+            raise ReadmeError(
+                f"README.md:{self.line}: {self.text}\n-- README shows:\n{shown}\n-- what came:\n{printed}"
+            )
 
     def pattern(self, shown: str) -> str:
         """A pattern of what a line of README stands for."""
         if shown == OMITTED:
             return r"(?:.*\n)*"
-        literal = map(re.escape, NUMBER.split(shown)) if self.is_varying else [re.escape(shown)]
-        return NUMBER.pattern.join(literal) + r"\n"
+        parts = NUMBER.split(shown) if self.is_varying else [shown]
+        return NUMBER.pattern.join(re.escape(part) for part in parts) + r"\n"
 
 
 @dataclass

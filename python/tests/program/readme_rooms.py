@@ -27,7 +27,8 @@ ANSWER = re.compile(r"netrev: (.*)")
 VALUE = re.compile(r" *at (\d+) ([a-z]+(?: \d+)*) = (.+)")
 RECORDING = re.compile(r"[\w./-]+\.jsonl")
 SYSTEM = "/usr/bin:/bin:/usr/sbin:/sbin"
-DEBIAN, ARCHIVE, CLONE, DEBUG, RECORD = "Debian on amd64", "Other Linux on x86-64", "A clone", "Debug a recording", "Record"
+DEBIAN, ARCHIVE, CLONE = "Debian on amd64", "Other Linux on x86-64", "A clone"  # parts of README's Install
+DEBUG, RECORD = "Debug a recording", "Record"  # further sections of README
 
 
 @dataclass
@@ -90,14 +91,17 @@ class Room:
         recording = RECORDING.search(command.text)
         for answer in ANSWER.findall(printed):
             values = [VALUE.fullmatch(part) for part in answer.split(";")]
-            if not all(values) or not recording:
-                raise ReadmeError(f"`{command.text}` gives this for netrev's answer: {answer}")
-            for value in filter(None, values) if self.netrev else ():
-                lines = f"restart 0\nstepi {value[1]}\nprint {value[2]}\n"
-                path = Path(self.current) / recording[0]
-                said = subprocess.run([self.netrev, "run", path], input=lines, capture_output=True, text=True, check=True)
-                if said.stdout.splitlines()[-1] != f"{value[2]} = {value[3]}":
-                    raise ReadmeError(f"`{command.text}` gives this for netrev's answer: {answer}; it is: {said.stdout}")
+            if not recording or not all(value and self.is_answered(recording[0], *value.groups()) for value in values):
+                raise ReadmeError(f"`{command.text}` gives this as netrev's answer, and it isn't: {answer}")
+
+    def is_answered(self, recording: str, position: str, cell: str, value: str) -> bool:
+        """Whether netrev says that a cell has this value at a position, if a netrev is at hand."""
+        if not self.netrev:
+            return True
+        command = [self.netrev, "run", str(Path(self.current) / recording)]
+        lines = f"restart 0\nstepi {position}\nprint {cell}\n"
+        ran = subprocess.run(command, input=lines, capture_output=True, text=True, check=True)
+        return ran.stdout.endswith(f"\n{cell} = {value}\n")
 
 
 def commands_of_go() -> Optional[Path]:
@@ -132,7 +136,11 @@ def deb_room(folder: Path, deb: Path) -> Room:
     """A folder with the Debian package, which is unpacked below it in place of the system's root."""
     shutil.copy(deb, folder)
     root = folder / "root"
-    installed = {"sudo apt install": "dpkg-deb -x", deb.name: f"{deb.name} {root}", "/usr/share/doc": f"{root}/usr/share/doc"}
+    installed = {
+        "sudo apt install": "dpkg-deb -x",
+        deb.name: f"{deb.name} {root}",
+        "/usr/share/doc": f"{root}/usr/share/doc",
+    }
     return Room(folder, settings_of(folder, root / "usr/bin"), renamed=installed)
 
 

@@ -14,7 +14,7 @@ from netrev_words.version import VERSION
 from tests.folders import folder_of
 
 from .fresh import environment
-from .readme import README, Command, ReadmeError, Typed, sections
+from .readme import README, sections
 from .readme_rooms import (
     ARCHIVE,
     CLONE,
@@ -81,23 +81,22 @@ def test_six_kinds_of_questions_are_shown() -> None:
 class Packages(unittest.TestCase):
     """The archive and the Debian package, made of the tree as it is, without asking for a gate that passed."""
 
+    archive: Path
+    deb: Path
+
     @classmethod
     def setUpClass(cls) -> None:
-        made = tempfile.TemporaryDirectory()
-        cls.addClassCleanup(made.cleanup)
-        cls.made = Path(made.name)
-        (cls.made / "log").write_text("a test\n")
-        for command in (["archive.sh", VERSION, NETREV, cls.made / "log", cls.made], ["deb.sh", VERSION, cls.made]):
-            ran = subprocess.run(
-                ["sh", ROOT / "scripts" / str(command[0]), *command[1:]],
-                env=environment(COMPRESSION="gzip"),
-                capture_output=True,
-                text=True,
-                check=False,
-            )
+        folder = tempfile.TemporaryDirectory()
+        cls.addClassCleanup(folder.cleanup)
+        log = Path(folder.name, "log")
+        log.write_text("no gate\n")
+        for words in (("archive.sh", VERSION, NETREV, str(log), folder.name), ("deb.sh", VERSION, folder.name)):
+            command = ["sh", str(ROOT / "scripts" / words[0]), *words[1:]]
+            settings = environment(COMPRESSION="gzip")
+            ran = subprocess.run(command, env=settings, capture_output=True, text=True, check=False)
             assert ran.returncode == 0, ran.stdout + ran.stderr
-        cls.archive = cls.made / f"netrev-{VERSION}-linux-x86_64.tar.gz"
-        cls.deb = cls.made / f"netrev_{VERSION}_amd64.deb"
+        cls.archive = Path(folder.name, f"netrev-{VERSION}-linux-x86_64.tar.gz")
+        cls.deb = Path(folder.name, f"netrev_{VERSION}_amd64.deb")
 
     def assert_links_lead_somewhere(self, pages: Path, missing: set[str]) -> None:
         text = (pages / "README.md").read_text(encoding="utf-8")
