@@ -7,15 +7,15 @@ import sys
 import unittest
 from pathlib import Path
 
-from netrev_go.options import COMMANDS
+from netrev_go.options import parser
 from netrev_go.sockets import MOST_GOROUTINES, MOST_SOCKETS, MOST_STEPS
+from nrdb.options import parser as nrdb_parser
 
 ROOT = Path(__file__).resolve().parents[2]
 README = (ROOT / "README.md").read_text(encoding="utf-8")
 MOST_WORDS = 1100  # of README, without its blocks and the targets of its links
 MOST_LINES = 300  # of a module
 OF_OTHERS = {"ready", "install-files"}  # targets that only other targets use
-MODULES = {"nrdb": "nrdb", "netrev-go": "netrev_go"}
 CODE = re.compile(r"`((?:make|nrdb|netrev-go) [^`]+)`")
 
 
@@ -48,17 +48,21 @@ def test_readme_has_the_limits() -> None:
     )
 
 
-def test_readme_names_targets_commands_and_options_that_exist() -> None:
-    """Of what is in code font; tests/program/test_readme_commands.py runs what is in blocks."""
-    options = {name: printed(sys.executable, "python", module, "--help") for name, module in MODULES.items()}
+def test_readme_names_targets_and_options_that_exist() -> None:
+    """Of what is in code font; tests/program/test_readme_commands.py runs what is in blocks. Options of netrev-go come before its command,
+    since all after it is Go's."""
     named = [code.split() for code in CODE.findall(README)]
-    assert len(named) >= 12
+    assert {words[0] for words in named} == {"make", "nrdb", "netrev-go"} and len(named) >= 12
     for program, *words in named:
         if program == "make":
             assert words[0] in targets(), words
-            continue
-        assert all(word in options[program] for word in words if re.fullmatch(r"--[a-z-]+", word)), words
-        assert program == "nrdb" or words[0] in COMMANDS or words[0].startswith("--"), words
+        elif words == ["--version"]:
+            assert "--version" in printed(sys.executable, "python", program.replace("-", "_"), "--help")
+        elif program == "netrev-go":
+            wanted = parser().parse_args([word.replace("PID", "4711") for word in words])
+            assert not [word for word in wanted.words_of_go if word.startswith("--")], words
+        else:
+            nrdb_parser().parse_args(words)
 
 
 def test_make_help_lists_each_target() -> None:
