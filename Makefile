@@ -174,8 +174,11 @@ package:
 deb: package
 	@sh scripts/deb.sh $(VERSION)
 
-# Leaves the Debian package, the archive, SHA256SUMS and the release notes (from CHANGELOG) in out/release. As `make package` otherwise.
-release: deb
+# Leaves the Debian package, the archive, SHA256SUMS and the release notes (from CHANGELOG) in out/release. `make test` must have passed here,
+# and no file of the repository may have changed since then.
+release:
+	@sh scripts/unchanged.sh
+	@$(MAKE) --no-print-directory deb
 	@sh scripts/release.sh $(VERSION)
 
 # Installs the Debian package in a throw-away root (debootstrap), and does there what README shows.

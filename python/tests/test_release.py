@@ -39,7 +39,13 @@ ARCHIVE, DEB = f"netrev-{VERSION}-linux-x86_64.tar.gz", f"netrev_{VERSION}_amd64
 @pytest.fixture
 def tree(tmp_path: Path) -> Path:
     """A tree whose packages are made."""
-    for name in ("scripts/release.sh", "scripts/notes.py", "scripts/package.sh", "CHANGELOG.md"):
+    for name in (
+        "scripts/release.sh",
+        "scripts/notes.py",
+        "scripts/package.sh",
+        "scripts/unchanged.sh",
+        "CHANGELOG.md",
+    ):
         (tmp_path / name).parent.mkdir(exist_ok=True)
         shutil.copy(ROOT / name, tmp_path / name)
     (tmp_path / "scripts/archive.sh").write_text('echo "packs $*"\n')
@@ -143,3 +149,28 @@ def test_sources_that_changed_after_the_gate_are_not_packed(tree: Path) -> None:
     ran = run(tree, "scripts/package.sh", VERSION)
     assert (ran.returncode, ran.stdout) == (1, "")
     assert "crates/netrev/src/main.rt is newer than out/gate.log" in ran.stderr
+
+
+def test_a_release_wants_a_gate_after_which_no_file_has_changed(tree: Path) -> None:
+    ran = run(tree, "scripts/unchanged.sh")
+    assert ran.returncode == 1 and ran.stderr.startswith("no gate has passed here")
+    pass_gate(tree, b"#!/bin/sh\n")
+    now = (tree / "out/gate.log").stat().st_mtime
+    for path in tree.rglob("*"):
+        os.utime(path, (now - 10, now - 10))
+    os.utime(tree / "out/gate.log", (now, now))
+    os.utime(tree / "crates/netrev/out/netrev", (now + 10, now + 10))
+    assert run(tree, "scripts/unchanged.sh").returncode == 0
+    os.utime(tree / "scripts/notes.py", (now + 10, now + 10))
+    ran = run(tree, "scripts/unchanged.sh")
+    assert (ran.returncode, ran.stderr) == (1, "scripts/notes.py has changed after the gate: run `make test` again.\n")
+
+
+def test_make_release_asks_before_it_packs() -> None:
+    rules = (ROOT / "Makefile").read_text()
+    recipe = rules[rules.index("\nrelease:") :].split("\n\n")[0].splitlines()
+    assert [line.strip("\t@") for line in recipe[2:]] == [
+        "sh scripts/unchanged.sh",
+        "$(MAKE) --no-print-directory deb",
+        "sh scripts/release.sh $(VERSION)",
+    ]
