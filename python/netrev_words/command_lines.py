@@ -44,8 +44,8 @@ def scripts_of(name: str) -> list[Path]:
 
 def schemes() -> list[str]:
     """Where pip puts scripts: those of this Python's own folder of packages, or the user's."""
-    every = {"prefix": sysconfig.get_default_scheme(), "user": sysconfig.get_preferred_scheme("user")}
-    return [scheme for scheme in every.values() if Path(sysconfig.get_path("purelib", scheme)).resolve() == PACKAGES]
+    every = sysconfig.get_default_scheme(), sysconfig.get_preferred_scheme("user")
+    return [scheme for scheme in every if Path(sysconfig.get_path("purelib", scheme)).resolve() == PACKAGES]
 
 
 def is_executable(path: Path) -> bool:

@@ -231,9 +231,10 @@ def cell_of(words: Sequence[str]) -> Optional[str]:
 
 def number_of(word: str) -> Optional[int]:
     """The number that a word spells, or None."""
-    if not (word.isascii() and word.isdigit()):
+    digits = word.lstrip("0") or word[:1]
+    if not (word.isascii() and word.isdigit()) or len(digits) > len(str(MOST)):  # int() rejects 4,301 digits
         return None
-    number = int(word)
+    number = int(digits)
     return number if number <= MOST else None
 
 

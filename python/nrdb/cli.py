@@ -17,6 +17,7 @@ from typing import Callable, Optional, Sequence
 from netrev_words.command_lines import how_to_get_netrev, make_command
 
 from .arriving_changes import ArrivingChanges
+from .errors import Mismatched, unexpected
 from .prompt.answers import ANSWERS
 from .interrupts import GivenUp, Interrupted, Interrupts
 from .netrev import Ended, Joined, Netrev, Own, Reply
@@ -25,7 +26,7 @@ from .output import JsonPrinter, Printer, TextPrinter, has_colours
 from .recording import NoRecording, Recording
 from .refusals import explained, fault_of
 from .scout import Lost, Scout
-from .session import Mismatched, Misused, Session
+from .session import Misused, Session
 from .shapes import POSITION, Refused, Strange
 
 DONE, REFUSED, USAGE, FAILED, SUSPECTS = range(5)
@@ -43,7 +44,7 @@ def main(words: Optional[Sequence[str]] = None) -> int:
 
         return serve_streams(wanted.netrev) if wanted.dap_port is None else serve_port(wanted.netrev, wanted.dap_port)
     if not wanted.file and not wanted.join:
-        parser().error("a recording has to be named, or a session to join")
+        parser().error("no recording given (or use --join HOST:PORT)")
     for stream in (sys.stdin, sys.stdout):
         if isinstance(stream, io.TextIOWrapper):
             stream.reconfigure(errors="surrogateescape")  # bytes that are no UTF-8 go as they come
@@ -77,6 +78,9 @@ def run(wanted: argparse.Namespace, printer: Printer) -> int:
         if error.filename == wanted.netrev:
             printer.note(without_netrev(wanted.file))
         status = FAILED
+    except Exception as error:
+        printer.note(unexpected(error))
+        status = FAILED
     printer.end(status)
     return status
 
@@ -94,7 +98,7 @@ def start(wanted: argparse.Namespace, printer: Printer) -> int:
     with closing(opened(wanted, interrupts, printer)) as netrev:
         try:
             return begun(wanted, netrev, interrupts, printer)
-        except (GivenUp, KeyboardInterrupt, Strange):
+        except (Exception, KeyboardInterrupt):
             netrev.drop()
             raise
 
@@ -116,6 +120,7 @@ def begun(wanted: argparse.Namespace, netrev: Netrev, interrupts: Interrupts, pr
             session.scout.drop()
             session.recorded.drop()
     ended = netrev.close()
+    status = status or (FAILED if session.errors else DONE)
     return status if wanted.web is not None else ended or status  # (the page may have gone on with another netrev)
 
 

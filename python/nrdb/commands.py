@@ -1,6 +1,7 @@
 """The commands, netrev's own and those that nrdb adds, each a row of one table; and how a word that is cut short, or
 that another debugger has, is read."""
 
+import re
 from dataclasses import dataclass
 from enum import Enum
 from typing import Collection, Mapping
@@ -40,7 +41,11 @@ OF_NRDB = {
             "goes on past the next step of the last step's goroutine, or past the call that it begins",
             steps=True,
         ),
-        command("finish [G]", "goes on to the end of the call that the goroutine is in", steps=True),
+        command(
+            "finish [G]",
+            "goes on to the end of the call that the goroutine is in; between calls, until it has left the program's function",
+            steps=True,
+        ),
         command(
             "reverse-next [G]",
             "goes back before the goroutine's last step, or before the call that it ended",
@@ -138,6 +143,7 @@ SPELLINGS = {
 }
 TOPIC_SPELLINGS = {"threads": "goroutines", "fds": "descriptors", "b": "breakpoints"}
 
+FILE = re.compile(r"\b(FILE|OUT\.\w+)\b(?!:)")  # what stands for a file in a command's usage
 DIRECTIONS = ("reverse", "forward")
 PAGINATION = "pagination"  # that GDB sets too
 SETTINGS = ("exec-direction", PAGINATION)
@@ -186,6 +192,28 @@ def whole_words(words: list[str]) -> list[str]:
     elif first == "set" and len(rest) == 2:
         rest = [whole(rest[0], ("exec-direction",)), whole(rest[1], DIRECTIONS)]
     return [first, *rest]
+
+
+def parts_of(line: str) -> list[str]:
+    """The commands of a line. The name of a file may have a `;` in it, so a command that takes one has the rest of the line."""
+    parts = []
+    rest = line
+    while rest:
+        part, _, rest = rest.partition(";")
+        if takes_a_file(part):
+            part, rest = f"{part};{rest}" if rest else part, ""
+        parts.append(part.strip())
+    return [part for part in parts if part]
+
+
+def takes_a_file(part: str) -> bool:
+    """Whether a command takes the name of a file, by its usage."""
+    words = part.split()
+    try:
+        name = whole_command(words[0]) if words else ""
+    except Ambiguous:
+        return False
+    return name in COMMANDS and FILE.search(COMMANDS[name].usage) is not None
 
 
 def is_answered_here(words: list[str]) -> bool:

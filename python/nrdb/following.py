@@ -12,6 +12,7 @@ from .causes import error_rows, is_by_go
 from .output import Row, Table
 from .recording import Recording, Step
 from .recorded_answers import answer_text
+from .returns import function_at, position_of_return
 from .timers import timer_of, timer_words
 
 MOST = 40
@@ -173,11 +174,24 @@ def previous_goal(recording: Recording, goroutine: int, position: int) -> Goal:
 
 
 def finish_goal(recording: Recording, goroutine: int, position: int) -> Goal:
-    """Behind the call that the goroutine is in."""
-    call = _call_at(book_of(recording), goroutine, position)
+    """Behind the call that the goroutine is in; between two calls, before its first step outside of the program's function."""
+    inside = calls_at(book_of(recording), goroutine, position)
+    if not inside:
+        return return_goal(recording, goroutine, position)
+    call = inside[-1]
     if not call.last:
         raise Stay(f"it doesn't end in this recording: goroutine {goroutine}'s {call.words()}")
     return Goal(call.last, call)
+
+
+def return_goal(recording: Recording, goroutine: int, position: int) -> Goal:
+    """Before the goroutine's first step outside of the function of the program in which it is."""
+    found = position_of_return(recording, goroutine, position)
+    if found is not None:
+        return Goal(found)
+    if function := function_at(recording, goroutine, position):
+        raise Stay(f"goroutine {goroutine} is in no call, and makes no step after {function} returns")
+    raise Stay(f"goroutine {goroutine} is in no call")
 
 
 def start_goal(recording: Recording, goroutine: int, position: int) -> Goal:

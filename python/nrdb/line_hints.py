@@ -6,7 +6,7 @@ import unicodedata
 
 from typing import Callable, Optional
 
-from netrev_words.vocabulary import CELLS, DUMPS, KINDS, MOST_LINE, Cell, Of, cell_of, number_of
+from netrev_words.vocabulary import CELLS, DUMPS, KINDS, MOST, MOST_LINE, Cell, Of, cell_of, number_of
 
 from .commands import ALL_TOPICS, COMMANDS, SPELLINGS, TOPICS
 
@@ -159,15 +159,15 @@ def of_steps(words: list[str], command: str) -> str:
 
 
 def spelled_number(word: str) -> Optional[int]:
-    """The number that a word spells in another language, or None."""
+    """The number that a word spells in another language, or None; also None for one that netrev takes nowhere."""
     try:
-        return int(word, 0)
+        number = int(word, 0)
     except ValueError:
-        pass
-    try:
-        return int(float(word))
-    except (ValueError, OverflowError):
-        return None
+        try:
+            number = int(float(word))
+        except (ValueError, OverflowError):
+            return None
+    return number if number <= MOST else None
 
 
 def of_break(words: list[str], command: str = "break") -> str:

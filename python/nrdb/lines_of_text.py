@@ -4,6 +4,8 @@ import os
 import textwrap
 from typing import TextIO
 
+from netrev_words.vocabulary import number_of
+
 LEAST = 20  # columns, below which nothing is broken
 INDENT = 4
 
@@ -12,8 +14,8 @@ def width_of(out: TextIO) -> int:
     """How many columns a terminal has, by COLUMNS or else by what it says; 0 where that isn't known, or there is none."""
     if not out.isatty():
         return 0
-    if (named := os.environ.get("COLUMNS", "")).isdecimal():
-        return int(named)
+    if (named := number_of(os.environ.get("COLUMNS", ""))) is not None:
+        return named
     try:
         return os.get_terminal_size(out.fileno()).columns
     except (OSError, ValueError):

@@ -60,6 +60,16 @@ def parsed(text: bytes) -> Any:
         raise NoRecording("the file isn't a recording: netrev check tells its first fault") from None
 
 
+def check_size(path: str, size: int) -> None:
+    """NoRecording for a file that has more bytes than this machine has memory."""
+    if size > os.sysconf("SC_PHYS_PAGES") * os.sysconf("SC_PAGE_SIZE"):
+        raise NoRecording(too_large(path))
+
+
+def too_large(path: str) -> str:
+    return f"{path} is too large: nrdb holds a recording in memory, and there isn't enough"
+
+
 def shortened(text: str) -> str:
     """The text, or its beginning where it is long."""
     return text if len(text) <= SHOWN else f"{text[: SHOWN - 2]}.."
@@ -94,9 +104,13 @@ class Recording:
         check_name(path)
         if not stat.S_ISREG(os.stat(path).st_mode) and not os.path.isdir(path):
             raise NoRecording(f"{path} isn't a file: nrdb reads a recording twice, so write it to one")
-        with open(path, "rb") as file:
-            recording = cls(file.read())
-        recording.lines = Lines.beside(path, recording.length)
+        try:
+            with open(path, "rb") as file:
+                check_size(path, os.fstat(file.fileno()).st_size)
+                recording = cls(file.read())
+            recording.lines = Lines.beside(path, recording.length)
+        except MemoryError:
+            raise NoRecording(too_large(path)) from None
         return recording
 
     @property

@@ -2,7 +2,7 @@
 
 from dataclasses import dataclass, field
 from pathlib import Path
-from typing import Callable, Mapping, Optional, Sequence
+from typing import Callable, Mapping, Optional, Sequence, TypeVar
 
 from netrev_words.files import check_name
 from netrev_words.vocabulary import cell_of
@@ -10,25 +10,27 @@ from netrev_words.vocabulary import cell_of
 from .attached import Attached
 from .changed import changed_table
 from .changes import marks_table
-from .commands import COMMANDS, Ambiguous, is_answered_here, whole_words
-from .interrupts import Interrupted, Interrupts
+from .commands import COMMANDS, Ambiguous, is_answered_here, parts_of, whole_words
+from .errors import Mismatched, unexpected
+from .interrupts import GivenUp, Interrupted, Interrupts
 from .line_hints import hint
 from .program.breaks import Breaks, names_a_place
-from .netrev import Joined, Netrev, Reply
+from .netrev import Ended, Joined, Netrev, Reply
 from .output import Place, Printer, Row, Table
 from .recorded_changes import RecordedChanges
-from .recording import Recording
+from .recording import NoRecording, Recording
 from .scout import Lost, Scout
-from .shapes import MOVED, OF_CELL, OF_DUMP, POSITION, VALUE, Listed, Position, Refused, move_of, position_of
+from .shapes import MOVED, OF_CELL, OF_DUMP, POSITION, VALUE, Listed, Position, Refused, Strange, move_of, position_of
 from .timers import timers_beside
 from .words import absent_words, dump_words, in_words
 from .world import World
 
 STOPPING = ("continue", "reverse-continue", "resume")
 NESTED = 8
-UNNAMED = "for this the recording has to be named: nrdb --join HOST:PORT FILE"
+UNNAMED = "this needs the recording: name its file after --join HOST:PORT"
 
 
+Part = TypeVar("Part")
 Answering = Callable[["Session", list[str]], Optional[bool]]  # False where the session has ended
 
 
@@ -36,15 +38,11 @@ class Misused(Exception):
     """A command of nrdb with words that it doesn't take: what is wrong with them."""
 
 
-class Mismatched(Exception):
-    """A session was joined that has another recording."""
-
-
-def parts_of(line: str) -> list[str]:
-    """The commands of a line; a file's name may have a `;` in it."""
-    if line.split()[0] in ("source", "timeline", "save"):
-        return [line]
-    return [part.strip() for part in line.split(";") if part.strip()]
+def needed(part: Optional[Part]) -> Part:
+    """A part of a session that is there if the recording is; Misused if a session was joined without it."""
+    if part is None:
+        raise Misused(UNNAMED)
+    return part
 
 
 @dataclass
@@ -68,6 +66,7 @@ class Session:
     frame: Optional[int] = None  # of the stack, from the innermost; None for the program's own line
     is_before: bool = False  # a place of the program: the stack is that of the next step
     recorded: Optional[RecordedChanges] = None  # where the recording is there
+    errors: int = 0  # of nrdb's own
 
     def begin(self, reply: str) -> None:
         """Tells where the session stands, with netrev's first reply, to `info position`. Mismatched where the recording
@@ -99,21 +98,15 @@ class Session:
 
     def text(self) -> Recording:
         """The recording; Misused where a session was joined without it."""
-        if self.recording is None:
-            raise Misused(UNNAMED)
-        return self.recording
+        return needed(self.recording)
 
     def looks(self) -> Scout:
         """The scout; Misused where a session was joined without the recording."""
-        if self.scout is None:
-            raise Misused(UNNAMED)
-        return self.scout
+        return needed(self.scout)
 
     def changes(self) -> RecordedChanges:
         """What each step changed; Misused where a session was joined without the recording."""
-        if self.recorded is None:
-            raise Misused(UNNAMED)
-        return self.recorded
+        return needed(self.recorded)
 
     def run(self, line: str) -> bool:
         """Answers a line. False where the session has ended."""
@@ -159,6 +152,11 @@ class Session:
             self.printer.note(str(wrong))
         except Refused as refused:
             self.printer.note(f"netrev answered: {refused}")
+        except (Ended, GivenUp, Interrupted, NoRecording, OSError, Strange):
+            raise
+        except Exception as error:
+            self.errors += 1
+            self.printer.note(f"{unexpected(error)}; the session goes on")
         return True
 
     def answer(self, line: str) -> bool:

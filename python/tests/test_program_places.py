@@ -154,8 +154,8 @@ class Editor(unittest.TestCase):
         self.lines = GoLines(debuggee, Roots(SOURCE.parent), self.logpoints)
 
     def test_breakpoints_at_a_line_and_at_a_function(self) -> None:
-        body, line = self.lines.set_line(str(SOURCE), 45, wish_of("", {}))
-        self.assertEqual((body["verified"], line), (True, 46))
+        body = self.lines.set_line(str(SOURCE), 46, wish_of("", {}))
+        self.assertTrue(body["verified"])
         positions = self.lines.lines(str(SOURCE))[46]
         self.assertEqual(self.lines.nearest(0, True), positions[0])
         self.assertEqual(self.lines.nearest(10_000, False), positions[-1])
@@ -168,9 +168,18 @@ class Editor(unittest.TestCase):
     def test_a_condition_holds_one_back(self) -> None:
         self.lines.set_line(str(SOURCE), 46, wish_of("", {"condition": "gor 2 nothing"}))
         self.assertIsNone(self.lines.nearest(0, True))
-        self.assertFalse(self.lines.set_line(str(SOURCE), 46, Unset("no"))[0]["verified"])
+        self.assertFalse(self.lines.set_line(str(SOURCE), 46, Unset("no"))["verified"])
 
     def test_another_file_has_no_lines(self) -> None:
         for path in (str(Path(__file__)), "\0", ""):
             self.assertEqual(self.lines.lines(path), {})
-        self.assertEqual(self.lines.set_line("main.go", 46, wish_of("", {}))[1], None)
+        self.assertFalse(self.lines.set_line("main.go", 46, wish_of("", {}))["verified"])
+
+    def test_a_line_without_a_step_is_refused_as_the_prompt_does(self) -> None:
+        for line in (45, 47, 9999):
+            said = io.StringIO()
+            session_of(said).run(f"break main.go:{line}")
+            refusal = said.getvalue().splitlines()[-1]
+            self.assertIn(f"no step of the recording comes from main.go:{line}; from main.go:", refusal)
+            body = self.lines.set_line(str(SOURCE), line, wish_of("", {}))
+            self.assertEqual((body["verified"], f"| {body['message']}"), (False, refusal))

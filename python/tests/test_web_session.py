@@ -345,5 +345,5 @@ class Pictures(Played):
                 self.running.timeline()
 
     def test_without_the_recording_there_is_none(self) -> None:
-        with self.assertRaisesRegex(Unavailable, "has to be named"):
+        with self.assertRaisesRegex(Unavailable, "name its file after --join"):
             self.running.timeline()

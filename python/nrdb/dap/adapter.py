@@ -5,6 +5,7 @@ from typing import Callable, NamedTuple, Optional
 
 from netrev_words.plain import plain
 
+from ..errors import unexpected
 from ..interrupts import GivenUp, Interrupted, Interrupts
 from ..line_hints import hint
 from ..netrev import Ended
@@ -18,7 +19,7 @@ from .capabilities import CAPABILITIES
 from .debuggee import debuggee
 from .hearing import CANCEL, Source
 from .looking import maker_of, thread_of
-from .messages import Body, Request, Unanswerable, Wire
+from .messages import Body, EditorGone, Request, Unanswerable, Wire
 from .moving import Stop
 from .numbering import Numbering
 from .target import Launch, Target
@@ -74,11 +75,20 @@ class Adapter:
         with closing(self._source), self._opened:
             try:
                 while (request := self._source.request()) is not None:
-                    self._answer(request)
+                    self._guarded(request)
                     if request.command == "disconnect":
                         return
             except Stranger:
                 return
+
+    def _guarded(self, request: Request) -> None:
+        """Answers a request; of an error that nothing expects the editor's console tells, and the session goes on."""
+        try:
+            self._answer(request)
+        except (EditorGone, Stranger):
+            raise
+        except Exception as error:
+            self._console(f"| {plain(unexpected(error))}\n")
 
     def _answer(self, request: Request) -> None:
         """Answers a request, and tells what comes of it; Stranger where nothing more is to be read."""
@@ -99,6 +109,10 @@ class Adapter:
             said = str(why) if isinstance(why, (Strange, Lost)) else "netrev has ended"
             work.refuses(plain(said))
             self._end(said)
+        except EditorGone:
+            raise
+        except Exception as error:
+            self._refused(work, plain(unexpected(error)))
         else:
             work.responds(outcome.body)
             if outcome.stop:

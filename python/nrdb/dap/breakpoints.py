@@ -47,8 +47,9 @@ def in_the_program(target: Target, numbering: Numbering, path: str, asked: list[
         )
         return [{"verified": False, "message": said} for _ in asked]
     target.go_lines.clear(path)
-    made = [target.go_lines.set_line(path, numbering.of(one), wish_of("", one)) for one in asked]
-    return [body | ({"line": numbering.to(line)} if line else {}) for body, line in made]
+    lines = [numbering.of(one) for one in asked]
+    made = [target.go_lines.set_line(path, line, wish_of("", one)) for line, one in zip(lines, asked)]
+    return [body | ({"line": numbering.to(line)} if body["verified"] else {}) for body, line in zip(made, lines)]
 
 
 def path_of(request: Request) -> str:
@@ -92,9 +93,7 @@ def data_info(target: Target, _: Numbering, request: Request) -> Body:
 def targets(target: Target, numbering: Numbering, request: Request) -> list[Body]:
     """The positions at which a goroutine comes to a line of the program."""
     line = numbering.asked(request, "line")
-    positions = target.go_lines.lines(path_of(request)).get(line, [])
-    if not positions:
-        raise Unanswerable("no step of the recording comes from that line")
+    positions = target.go_lines.positions(path_of(request), line)
     whose = [(position, target.debuggee.maker(position + 1)) for position in positions[:MOST_TARGETS]]
     return [
         {"id": position, "label": f"position {position}: goroutine {maker}", "line": numbering.to(line)}

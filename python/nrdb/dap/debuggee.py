@@ -14,7 +14,8 @@ from ..netrev import Joined, Netrev, Own
 from ..recording import NoRecording, Recording, Step
 from ..refusals import explained, fault_of
 from ..scout import Scout
-from ..session import Mismatched, Session
+from ..errors import Mismatched
+from ..session import Session
 from ..shapes import POSITION
 from ..collecting import Collecting
 from .messages import Unanswerable

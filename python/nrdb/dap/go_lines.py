@@ -6,11 +6,13 @@ from functools import cached_property
 from pathlib import Path
 from typing import Optional, Sequence
 
-from ..program.index import places_of
+from netrev_words.plain import plain
+
+from ..program.index import near_lines, no_step_from, places_of
 from ..session import Session
 from .debuggee import Debuggee
 from .logpoints import LogPoints
-from .messages import Body
+from .messages import Body, Unanswerable
 from .roots import Roots
 from .wishes import Unset, Wish, is_in, refused
 
@@ -52,13 +54,20 @@ class GoLines:
         self._of[path] = []
         self._logpoints.clear(path)
 
-    def set_line(self, path: str, line: int, wish: "Wish | Unset") -> tuple[Body, Optional[int]]:
-        """Sets one at a line, or the next one that steps come from; what the protocol says of it, and the line."""
+    def positions(self, path: str, line: int) -> list[int]:
+        """The positions at which a goroutine comes to a line of a file; Unanswerable if no step comes from it, as at the prompt."""
         lines = self.lines(path)
-        near = min((one for one in lines if one >= line), default=None)
-        if near is None:
-            return refused("no step of the recording comes from that line, or a later one"), None
-        return self._set(path, lines[near], wish), near
+        if line not in lines:
+            name = plain(Path(path).name) or "that file"
+            raise Unanswerable(no_step_from(f"{name}:{line}", near_lines(name, line, lines)))
+        return lines[line]
+
+    def set_line(self, path: str, line: int, wish: "Wish | Unset") -> Body:
+        """Sets one at a line that steps come from; what the protocol says of it."""
+        try:
+            return self._set(path, self.positions(path, line), wish)
+        except Unanswerable as why:
+            return refused(str(why))
 
     def set_function(self, name: str, wish: "Wish | Unset") -> Optional[Body]:
         """Sets one at a function; None where no step comes from one of that name."""

@@ -3,6 +3,8 @@
 import base64
 from typing import Optional
 
+from netrev_words.vocabulary import number_of
+
 from ..netrev import Netrev
 from .messages import Body, Request, Unanswerable
 
@@ -20,11 +22,12 @@ def read(netrev: Netrev, request: Request) -> Body:
     named = request.text("memoryReference")
     begin, count = _offset(request), request.whole_number("count")
     words = named.split()
-    if len(words) != 2 or words[0] not in BUFFERS or not words[1].isdecimal():
+    number = number_of(words[1]) if len(words) == 2 else None
+    if number is None or words[0] not in BUFFERS:
         raise Unanswerable(f"{named} is no buffer: one is named as in 0 or out 0")
     if count < 0:
         raise Unanswerable("count is a whole number from 0")
-    (shown,) = netrev.looks([f"dump {words[0]} {int(words[1])}"])
+    (shown,) = netrev.looks([f"dump {words[0]} {number}"])
     if shown == "absent":
         raise Unanswerable(f"{named} isn't there")
     held = b"" if shown == "-" else bytes.fromhex(shown)

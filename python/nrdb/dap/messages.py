@@ -16,6 +16,10 @@ class Malformed(Exception):
     """What came is no message: what is wrong with it. Where it ends isn't known, so nothing behind it can be read."""
 
 
+class EditorGone(OSError):
+    """Nothing can be written to the editor any more."""
+
+
 class Unanswerable(Exception):
     """A request that can't be done: why, as the editor shows it."""
 
@@ -107,8 +111,11 @@ class Wire:
         with self._lock:
             self._sent += 1
             data = json.dumps({"seq": self._sent, "type": sort, **message}).encode("ascii")
-            self._writer.write(b"Content-Length: %d\r\n\r\n%s" % (len(data), data))
-            self._writer.flush()
+            try:
+                self._writer.write(b"Content-Length: %d\r\n\r\n%s" % (len(data), data))
+                self._writer.flush()
+            except (OSError, ValueError) as gone:  # closed at the other end, or here
+                raise EditorGone(str(gone)) from gone
 
 
 def _object(data: bytes) -> Body:

@@ -70,7 +70,7 @@ class Moves:
         return self.run(True, self._debuggee.length if found is None else found - 1)
 
     def out_of(self, goroutine: int) -> Stop:
-        """Behind the step that ends a goroutine's call; Unanswerable where it is in none, or that doesn't end."""
+        """Behind the step that ends a goroutine's call, or out of the program's function between calls; Unanswerable if neither ends."""
         try:
             with self._interrupts.at_once():
                 goal = finish_goal(self._debuggee.recording, goroutine, self._debuggee.position)

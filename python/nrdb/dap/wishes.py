@@ -7,7 +7,7 @@ from dataclasses import dataclass
 from fnmatch import fnmatchcase
 from typing import NamedTuple, Optional, Sequence
 
-from netrev_words.vocabulary import KINDS, cell_of
+from netrev_words.vocabulary import KINDS, cell_of, number_of
 
 from ..session import Session
 from .messages import Body
@@ -59,9 +59,10 @@ class HitCount(NamedTuple):
     def of(cls, text: str) -> "HitCount":
         """The times that a text spells: 3 or == 3, >= 3, < 3, and % 3 for each third."""
         found = HIT_COUNT.fullmatch(text.strip())
-        if found is None or (found[1] == "%" and not int(found[2])):
+        number = number_of(found[2]) if found else None
+        if found is None or number is None or (found[1] == "%" and not number):
             raise Unset(f"{text} is no number of times: it is as 3, >= 3, < 3, or % 3 for each third")
-        return cls((found[1] or "=").replace("==", "="), int(found[2]))
+        return cls((found[1] or "=").replace("==", "="), number)
 
     def holds(self, count: int) -> bool:
         """Whether it stops the time of that number, from 1."""

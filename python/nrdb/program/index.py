@@ -2,7 +2,7 @@
 
 import re
 from functools import lru_cache
-from typing import Callable, Hashable, NamedTuple, Optional, TypeVar
+from typing import Callable, Hashable, Iterable, NamedTuple, Optional, Sequence, TypeVar
 
 from netrev_words.vocabulary import KINDS, cell_of
 
@@ -46,9 +46,8 @@ class Places:
         found = OF_A_LINE.fullmatch(spelled)
         if not found:
             return []
-        spelled, wanted = found[1], int(found[2])
-        near = sorted(self.lines_of(lambda file: is_file(file, spelled)), key=lambda line: abs(line - wanted))
-        return [f"{spelled}:{line}" for line in sorted(near[:MOST_NEAR])]
+        file, line = found[1], int(found[2])
+        return near_lines(file, line, self.lines_of(lambda known: is_file(known, file)))
 
     def _of_line(self, file: str, line: int) -> list[int]:
         return self.lines_of(lambda known: is_file(known, file)).get(line, [])
@@ -71,6 +70,17 @@ class Places:
                 found.setdefault(key, []).append(step - 1)
             before[maker] = here
         return found
+
+
+def near_lines(file: str, wanted: int, lines: Iterable[int]) -> list[str]:
+    """Those of the lines of a file that are nearest to one."""
+    near = sorted(lines, key=lambda line: abs(line - wanted))[:MOST_NEAR]
+    return [f"{file}:{line}" for line in sorted(near)]
+
+
+def no_step_from(spelled: str, near: Sequence[str]) -> str:
+    """What is said of a line or function that no step comes from, with the lines near it that steps come from."""
+    return f"no step of the recording comes from {spelled}" + (f"; from {', '.join(near)}" if near else "")
 
 
 def is_place(recording: Optional[Recording], words: list[str]) -> bool:

@@ -7,7 +7,7 @@ from ..output import Row, Table
 from ..recording import Recording
 from ..session import Answering, Misused, Session
 from ..where import OF_THE_PROGRAM, Call, Stack
-from ..program.index import OF_A_LINE, Place, is_file, is_place, places_of
+from ..program.index import OF_A_LINE, Place, is_file, is_place, no_step_from, places_of
 from ..program.source import source_of, text_round
 
 NO_LINES = "the lines of the program aren't known: NAME.where isn't beside the recording"
@@ -22,8 +22,7 @@ def place_of(session: Session, spelled: str) -> Place:
     places = places_of(recording)
     if place := places.place(spelled):
         return place
-    near = places.near(spelled)
-    raise Misused(f"no step of the recording comes from {spelled}" + (f"; from {', '.join(near)}" if near else ""))
+    raise Misused(no_step_from(spelled, places.near(spelled)))
 
 
 def of_place(name: str, otherwise: Answering) -> Answering:

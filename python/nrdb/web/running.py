@@ -13,7 +13,8 @@ from ..netrev import Ended, Netrev
 from ..output import Printer
 from ..prompt.completion import completions
 from ..recording import NoRecording
-from ..session import Mismatched, Session
+from ..errors import Mismatched
+from ..session import Session
 from ..shapes import Refused, Strange
 from ..timeline.picture import MOST
 from ..timeline.runs import Window
@@ -28,7 +29,7 @@ DONE, FAILED = 0, 3
 MOST_WAITING = 32  # lines that wait for those before them
 EVERY = 1.0  # second, after which it is looked again what others did
 LATEST = 30.0  # seconds between two tries to find netrev again; the first are shorter
-UNNAMED = "for the timeline the recording has to be named: nrdb --web PORT --join HOST:PORT FILE"
+UNNAMED = "the timeline needs the recording: name its file after --join HOST:PORT"
 GONE = "netrev has ended"
 Opening = Callable[[Printer], Netrev]
 

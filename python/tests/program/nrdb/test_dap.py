@@ -172,7 +172,7 @@ class Hunt(unittest.TestCase):
         for source in ({"path": __file__}, {"name": "main.go"}, {"path": "\0"}, {"path": 7}, "main.go", None):
             found = self.editor("breakpointLocations", source=source, line=1, endLine=3)["breakpoints"]
             self.assertEqual(found, [], source)
-            with self.assertRaisesRegex(Refusal, "no step of the recording comes from that line"):
+            with self.assertRaisesRegex(Refusal, "no step of the recording comes from "):
                 self.editor("gotoTargets", source=source, line=20)
             (made,) = self.editor("setBreakpoints", source=source, breakpoints=[{"line": 2}])["breakpoints"]
             self.assertFalse(made["verified"])
@@ -216,6 +216,12 @@ class GoLines(unittest.TestCase):
             self.assertEqual(editor.move("continue", threadId=1)["hitBreakpointIds"], [of_function["id"]])
             found = editor("breakpointLocations", source=main, line=40, endLine=50)["breakpoints"]
             self.assertIn({"line": 46}, found)
+
+    def test_step_out_between_calls_leaves_the_function(self):
+        with Adapter() as editor:
+            editor.begin(str(CAUSED.with_name("pool-bad.jsonl")), stopAt=67, source="go")
+            self.assertEqual(editor("stackTrace", threadId=1)["stackFrames"][0]["name"], "main.ask")
+            self.assertEqual(editor.move("stepOut", threadId=1)["description"], "at 97")
 
     def test_the_recording_comes_first_otherwise(self):
         with Adapter() as editor:

@@ -136,7 +136,8 @@ class Looks(unittest.TestCase):
             net.parent.mkdir(parents=True)
             net.write_text("package net\n" * 400)
             editor.begin(str(HIJACKED), stopAt="start", goRoot=folder, sourceRoot=str(SAMPLE))
-            (made,) = editor("setBreakpoints", source={"path": str(net)}, breakpoints=[{"line": 1}])["breakpoints"]
+            first = editor("breakpointLocations", source={"path": str(net)}, line=1, endLine=400)["breakpoints"][0]
+            (made,) = editor("setBreakpoints", source={"path": str(net)}, breakpoints=[first])["breakpoints"]
             self.assertTrue(made["verified"])
             stopped = editor.move("continue", threadId=1)
             self.assertEqual(stopped["hitBreakpointIds"], [made["id"]])

@@ -111,7 +111,7 @@ class Join(unittest.TestCase):
                 told = person.ask("stepi 6", "history lock 0", "info goroutines", "where")
                 self.assertEqual(replies(told), ["at 6"])
                 notes = [event["text"] for event in told if event["event"] == "note"]
-                self.assertEqual(notes[:2], ["for this the recording has to be named: nrdb --join HOST:PORT FILE"] * 2)
+                self.assertEqual(notes[:2], ["this needs the recording: name its file after --join HOST:PORT"] * 2)
                 self.assertEqual(notes[2], "at 6 of 10 forward")
                 self.assertEqual(person.ends()[1], 0)
             server.expect_end(0, "placed 1\n")

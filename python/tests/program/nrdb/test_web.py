@@ -81,7 +81,7 @@ class Shared(unittest.TestCase):
             self.assertEqual(one.said("stepi 3"), ["at 3", "| last step 3   next step 4"])
             answer = web.address.get("/timeline")
             self.assertEqual(answer.status, 503)
-            self.assertIn(b"the recording has to be named: nrdb --web PORT --join HOST:PORT FILE", answer.body)
+            self.assertIn(b"the timeline needs the recording: name its file after --join HOST:PORT", answer.body)
 
 
 class Web_of_a_front:

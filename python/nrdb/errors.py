@@ -1,0 +1,29 @@
+"""Errors that end a session, and those that nothing expects, which are nrdb's own: one line for the user, and the traceback if that is
+wanted."""
+
+import os
+import sys
+import traceback
+
+from netrev_words.plain import plain
+
+WANTED_BY = "NRDB_TRACEBACK"  # the environment variable that has tracebacks printed
+LONGEST = 200  # characters of an error's text
+
+
+class Mismatched(Exception):
+    """A session was joined that has another recording."""
+
+
+def unexpected(error: Exception) -> str:
+    """The line that tells of an error. If NRDB_TRACEBACK is set, its traceback goes to standard error."""
+    if isinstance(error, MemoryError):
+        return "out of memory"
+    if os.environ.get(WANTED_BY):
+        lines = "".join(traceback.format_exception(error)).splitlines()
+        print("\n".join(map(plain, lines)), file=sys.stderr)
+        how = "its traceback is on standard error"
+    else:
+        how = f"set {WANTED_BY}=1 to see its traceback"
+    text = " ".join(str(error).split())[:LONGEST]
+    return f"error in nrdb, not in the recording: {type(error).__name__}: {text} ({how})"

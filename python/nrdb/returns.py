@@ -1,0 +1,44 @@
+"""Where a goroutine has returned from the function of the program in which it is, by the stacks of NAME.where."""
+
+from typing import Optional
+
+from .calls import book_of
+from .recording import Recording
+from .where import Call, Stack
+
+
+def function_at(recording: Recording, goroutine: int, position: int) -> str:
+    """The function of the program in which a goroutine's last step up to a position was made; empty if that isn't known."""
+    frames = frames_from_own(stack_at(recording, goroutine, position))
+    return frames[0].function if frames else ""
+
+
+def position_of_return(recording: Recording, goroutine: int, position: int) -> Optional[int]:
+    """The position before the goroutine's first step that is made outside of the function in which it is; None if there is no such step,
+    or the function isn't known. A later call of the function from another line, or from another function, is outside.
+    """
+    frames = frames_from_own(stack_at(recording, goroutine, position))
+    whose = book_of(recording).whose.goroutines
+    later = (number for number in range(position + 1, recording.length + 1) if whose[number - 1] == goroutine)
+    if not frames:
+        return None
+    return next((number - 1 for number in later if not is_within(recording.lines.of(number), frames)), None)
+
+
+def stack_at(recording: Recording, goroutine: int, position: int) -> Stack:
+    """The stack of a goroutine's last step up to a position, without calls if it has made none."""
+    whose = book_of(recording).whose.goroutines
+    last = next((number for number in range(position, 0, -1) if whose[number - 1] == goroutine), 0)
+    return recording.lines.of(last) if last else Stack((), None)
+
+
+def frames_from_own(stack: Stack) -> tuple[Call, ...]:
+    """The calls of a stack from the program's innermost one outwards."""
+    found = stack.own()
+    return stack.calls[stack.calls.index(found[0]) :] if found else ()
+
+
+def is_within(stack: Stack, frames: tuple[Call, ...]) -> bool:
+    """Whether a stack is within the function of these frames, called as it is in them."""
+    outer = stack.calls[len(stack.calls) - len(frames) :] if len(stack.calls) >= len(frames) else ()
+    return bool(outer) and outer[0].function == frames[0].function and outer[1:] == frames[1:]

@@ -1,0 +1,164 @@
+"""Whatever is typed or sent, nrdb and its adapter answer it and go on: numbers of any length, files' names with `;`, files that are too
+large, and errors that nothing expects."""
+
+import io
+import os
+import resource
+import subprocess
+import sys
+from pathlib import Path
+from typing import Any
+from unittest import mock
+
+import pytest
+from nrdb.commands import COMMANDS, parts_of
+from nrdb.dap import looks
+from nrdb.dap.adapter import Adapter
+from nrdb.dap.admission import Admission
+from nrdb.dap.hearing import Reading
+from nrdb.dap.messages import Wire
+from nrdb.prompt.answers import ANSWERS
+from tests.program.sharing import NETREV, ROOT
+
+from .dap_client import Adapter as Editor
+from .dap_client import Refusal
+from .support import EXAMPLES, nrdb
+from .test_dap_port import asked, framed
+
+FIRST = EXAMPLES / "first.jsonl"
+LOST = EXAMPLES / "lost-wakeup.jsonl"
+LONG = "9" * 5_000  # digits, more than Python's int() takes
+LINES = """steps gor {}; goto {}; list {}; history rd {}; next {}; timeline x.html {} {}; calls gor {}; explore {}; break @{}; print rd {};
+    info goroutines {}; stepi {}; list a.go:{}; frame {}; finish {}; help {}; info errors {}; info holders {}; goto {}ms; until clock {};
+    display rd {}; stepi 0xf{}; delete {}; commands {}; reduce x.jsonl {}""".replace(
+    "\n", " "
+)
+
+
+def boom(*_: object) -> None:
+    raise ValueError("boom\nand more")
+
+
+def test_a_number_of_any_length_is_answered() -> None:
+    lines = [line.strip().replace("{}", LONG) for line in LINES.split(";")]
+    said = nrdb(FIRST, lines=[*lines, "goto 3"])
+    assert "error in nrdb" not in said
+    assert said.count("(netrev) ") == len(lines) + 1
+    assert "\nat 3\n" in said
+
+
+def test_the_adapter_answers_a_number_of_any_length() -> None:
+    requests: list[tuple[str, dict[str, Any]]] = [
+        ("readMemory", {"memoryReference": f"in {LONG}", "count": 1}),
+        ("evaluate", {"expression": f"steps gor {LONG}", "context": "repl"}),
+        ("evaluate", {"expression": f"lock {LONG}", "context": "hover"}),
+        ("dataBreakpointInfo", {"name": f"lock {LONG}"}),
+        ("setBreakpoints", {"source": {"path": str(FIRST)}, "breakpoints": [{"line": 3, "hitCondition": LONG}]}),
+        (
+            "setBreakpoints",
+            {"source": {"path": str(FIRST)}, "breakpoints": [{"line": 3, "logMessage": f"{{lock {LONG}}}"}]},
+        ),
+    ]
+    with Editor() as editor:
+        editor.begin(str(FIRST))
+        for command, arguments in requests:
+            try:
+                assert "error in nrdb" not in str(editor(command, **arguments))
+            except Refusal as why:
+                assert "error in nrdb" not in str(why)
+        assert editor("threads")["threads"]
+
+
+def test_an_unexpected_error_is_one_line_and_the_session_goes_on(
+    capsys: pytest.CaptureFixture[str], monkeypatch: pytest.MonkeyPatch
+) -> None:
+    monkeypatch.delenv("NRDB_TRACEBACK", raising=False)
+    with mock.patch.dict(ANSWERS, {"where": boom}):
+        said = nrdb(FIRST, lines=["where", "goto 3"], status=3)
+        assert capsys.readouterr().err == ""
+        monkeypatch.setenv("NRDB_TRACEBACK", "1")
+        nrdb(FIRST, lines=["where"], status=3)
+    told = (
+        "| error in nrdb, not in the recording: ValueError: boom and more (set NRDB_TRACEBACK=1 to see its traceback)"
+    )
+    assert f"(netrev) where\n{told}; the session goes on\n(netrev) goto 3\nat 3\n" in said
+    assert "Traceback (most recent call last):" in capsys.readouterr().err
+
+
+def test_an_unexpected_error_before_the_session_is_one_line(monkeypatch: pytest.MonkeyPatch) -> None:
+    monkeypatch.delenv("NRDB_TRACEBACK", raising=False)
+    with mock.patch("nrdb.cli.Recording.read", boom):
+        assert nrdb(FIRST, status=3).splitlines() == [
+            "| error in nrdb, not in the recording: ValueError: boom and more (set NRDB_TRACEBACK=1 to see its traceback)"
+        ]
+
+
+def test_an_unexpected_error_refuses_one_request() -> None:
+    requests = (
+        asked(1, "initialize"), asked(2, "launch", program=str(FIRST)), asked(3, "threads"), asked(4, "disconnect")
+    )  # fmt: skip
+    written = io.BytesIO()
+    wire = Wire(io.BytesIO(framed(*requests)), written)
+    with mock.patch.object(looks, "threads", boom):
+        Adapter(wire, Reading(wire), NETREV, Admission()).serve()
+    told = written.getvalue().decode()
+    assert (
+        '"command": "threads", "success": false, "message": "error in nrdb, not in the recording: ValueError: boom'
+        in told
+    )
+    assert '"command": "disconnect", "success": true' in told
+
+
+def test_an_error_behind_the_response_is_told_in_the_console() -> None:
+    requests = (
+        asked(1, "initialize"),
+        asked(2, "launch", program=str(FIRST)),
+        asked(3, "configurationDone"),
+        asked(4, "disconnect"),
+    )
+    written = io.BytesIO()
+    wire = Wire(io.BytesIO(framed(*requests)), written)
+    with mock.patch("nrdb.dap.adapter.thread_of", boom):
+        Adapter(wire, Reading(wire), NETREV, Admission()).serve()
+    told = written.getvalue().decode()
+    assert '"category": "console", "output": "| error in nrdb' in told
+    assert '"command": "disconnect", "success": true' in told
+
+
+def test_a_command_that_takes_a_file_has_the_rest_of_the_line() -> None:
+    taking = {name for name, command in COMMANDS.items() if "FILE" in command.usage.split() or "OUT." in command.usage}
+    assert taking >= {"timeline", "trace", "reduce", "report", "source", "save"}
+    for name in taking:
+        assert parts_of(f"goto 3; {name} a;b.json") == ["goto 3", f"{name} a;b.json"]
+    assert parts_of("goto 3;; list a.go:4 ;goto 5") == ["goto 3", "list a.go:4", "goto 5"]
+    assert parts_of("tr a;b; goto 5") == ["tr a;b; goto 5"]
+
+
+def test_a_file_whose_name_has_a_semicolon_is_written(tmp_path: Path) -> None:
+    name = tmp_path / "a;b.json"
+    nrdb("--batch", "-ex", f"trace {name}", "-ex", f"report {tmp_path / 'c;d.md'}", LOST)
+    assert sorted(os.listdir(tmp_path)) == ["a;b.json", "c;d.jsonl", "c;d.md", "c;d.svg"]
+
+
+def test_a_recording_larger_than_memory_is_one_line(tmp_path: Path) -> None:
+    large = tmp_path / "large.jsonl"
+    with large.open("wb") as file:
+        file.truncate(os.sysconf("SC_PHYS_PAGES") * os.sysconf("SC_PAGE_SIZE") + 1)
+    told = f"{large} is too large: nrdb holds a recording in memory, and there isn't enough"
+    assert nrdb(large, status=3) == f"| {told}\n"
+
+
+def test_a_recording_larger_than_what_is_allowed_is_one_line(tmp_path: Path) -> None:
+    large = tmp_path / "large.jsonl"
+    with large.open("wb") as file:
+        file.truncate(2**31)
+    script = "import sys; from nrdb.recording import Recording, NoRecording\n"
+    script += "try: Recording.read(sys.argv[1])\nexcept NoRecording as why: print(why)"
+    run = subprocess.run(
+        [sys.executable, "-c", script, str(large)], env=os.environ | {"PYTHONPATH": str(ROOT / "python")}, text=True,
+        capture_output=True, timeout=60, check=False, preexec_fn=lambda: resource.setrlimit(resource.RLIMIT_AS, (2**30, 2**30)),
+    )  # fmt: skip
+    assert (run.stdout, run.stderr) == (
+        f"{large} is too large: nrdb holds a recording in memory, and there isn't enough\n",
+        "",
+    )
