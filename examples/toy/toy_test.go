@@ -8,14 +8,14 @@ import (
 	"time"
 )
 
-// greet says hello to the server, which must take it within a second.
+// greet says hello to the server, which must take it within two seconds.
 func greet(c net.Conn) error {
-	c.SetDeadline(time.Now().Add(time.Second))
+	c.SetDeadline(time.Now().Add(2 * time.Second))
 	_, err := c.Write([]byte("hello\n"))
 	return err
 }
 
-// answer is a server's answer to one client, which takes it three seconds.
+// answer is a server's answer to one client, which takes it five seconds.
 func answer(l net.Listener) {
 	c, err := l.Accept()
 	if err != nil {
@@ -23,7 +23,7 @@ func answer(l net.Listener) {
 	}
 	defer c.Close()
 	bufio.NewReader(c).ReadString('\n')
-	time.Sleep(3 * time.Second)
+	time.Sleep(5 * time.Second)
 	c.Write([]byte("welcome\n"))
 }
 
