@@ -34,7 +34,7 @@ from .sharing import NETREV, ROOT
 TEXT = README.read_text(encoding="utf-8")
 LINK = re.compile(r"\]\((?!\w+:|#)([^)#]+)")
 UNDER_ANOTHER_NAME = {"LICENSE"}  # in the Debian package, which has /usr/share/doc/netrev/copyright
-HANDS = ("info suspects", "history wd 2", "calls gor 2", "until rg 1 ready", "info errors", "timeline hijacked.html")
+QUESTIONS = ("info suspects", "history wd 2", "calls gor 2", "until rg 1 ready", "info errors", "timeline hijacked.html")
 
 
 def play(room: Room, *names: str) -> list[str]:
@@ -73,9 +73,13 @@ def test_in_a_fresh_clone(tmp_path: Path) -> None:
     skip_without_go()
 
 
-def test_six_kinds_of_questions_are_shown() -> None:
+def test_each_section_that_has_commands_is_played() -> None:
+    assert set(sections(TEXT)) == {DEBIAN, ARCHIVE, CLONE, DEBUG, RECORD}
+
+
+def test_the_questions_that_a_look_has_to_answer_are_shown() -> None:
     typed = {part.strip() for line in sections(TEXT)[DEBUG][0].prompts for part in line.text.split(";")}
-    assert set(HANDS) <= typed
+    assert set(QUESTIONS) <= typed
 
 
 class Packages(unittest.TestCase):
