@@ -34,7 +34,14 @@ from .sharing import NETREV, ROOT
 TEXT = README.read_text(encoding="utf-8")
 LINK = re.compile(r"\]\((?!\w+:|#)([^)#]+)")
 UNDER_ANOTHER_NAME = {"LICENSE"}  # in the Debian package, which has /usr/share/doc/netrev/copyright
-QUESTIONS = ("info suspects", "history wd 2", "calls gor 2", "until rg 1 ready", "info errors", "timeline hijacked.html")
+QUESTIONS = (
+    "info suspects",
+    "history wd 2",
+    "calls gor 2",
+    "until rg 1 ready",
+    "info errors",
+    "timeline hijacked.html",
+)
 
 
 def play(room: Room, *names: str) -> list[str]:
