@@ -4,6 +4,7 @@
 With SCRIPT netrev runs the commands of that file instead, as `netrev run FILE < SCRIPT`."""
 
 import os
+import signal
 import subprocess
 import sys
 from pathlib import Path
@@ -38,6 +39,8 @@ def main() -> int:
         say(USAGE)
         return 2
     files = [Path(word).absolute() for word in sys.argv[1:]]
+    for number in (signal.SIGTERM, signal.SIGHUP):  # end the compiler too
+        signal.signal(number, lambda received, _: sys.exit(128 + received))
     try:
         for path in files:
             with open(path, "rb"):

@@ -1,8 +1,11 @@
 """`make look` in a fresh clone: every command answers as with the built netrev, and netrev is compiled once for all of it."""
 
 import os
+import signal
 import subprocess
 import threading
+import time
+from contextlib import suppress
 from pathlib import Path
 from typing import Iterator
 
@@ -11,6 +14,7 @@ import pytest
 from .fresh import Toolchain, environment, fresh_clone, make
 from .sharing import NETREV
 
+PATIENCE = 120  # seconds
 RECORDING = "examples/real/hijacked.jsonl"
 COMMANDS = ("goto 186", "info suspects", "history wd 2", "info errors", "calls gor 2", "until rg 1 ready")
 
@@ -154,6 +158,30 @@ def test_what_the_toolchain_says_is_the_error_if_it_compiles_nothing(clone: Path
     rt.write_text("#!/bin/sh\n[ $1 = version ] || { echo 'error: no such type' >&2; exit 2; }\n")
     ran = make(clone, "look", f"FILE={RECORDING}", PATH=toolchain.path())
     assert "look: error: no such type\n" in ran.stderr and ran.returncode != 0 and kept(clone) == []
+
+
+@pytest.mark.parametrize("number", [signal.SIGTERM, signal.SIGHUP, signal.SIGINT])
+def test_a_signal_ends_the_compiler_too(clone: Path, toolchain: Toolchain, number: signal.Signals) -> None:
+    process_file = toolchain.temporary / "compiler"
+    rt = toolchain.commands / "rt"
+    rt.write_text(
+        f"#!/bin/sh\n[ $1 = version ] && exit\necho $$ > {process_file}.new\nmv {process_file}.new {process_file}\nexec sleep 600\n"
+    )
+    command = ["python3", "scripts/look.py", RECORDING]
+    looking = subprocess.Popen(command, cwd=clone, env=environment(PATH=toolchain.path()), stderr=subprocess.DEVNULL)
+    until = time.monotonic() + PATIENCE
+    while not process_file.exists() and time.monotonic() < until:
+        time.sleep(0.05)
+    compiler = int(process_file.read_text())
+    looking.send_signal(number)
+    try:
+        assert looking.wait(PATIENCE) == 128 + number
+        with pytest.raises(ProcessLookupError):
+            os.kill(compiler, 0)
+    finally:
+        with suppress(ProcessLookupError):
+            os.kill(compiler, signal.SIGKILL)
+    assert kept(clone) == []
 
 
 def test_a_file_that_is_not_there_is_named_before_anything_is_compiled(clone: Path, toolchain: Toolchain) -> None:
