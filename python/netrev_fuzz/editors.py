@@ -9,7 +9,6 @@ from typing import Any, Optional
 
 from netrev_words.writing import write_plain
 from nrdb.dap.adapter import Adapter
-from nrdb.dap.admission import Admission
 from nrdb.dap.hearing import Reading
 from nrdb.dap.messages import Malformed, Wire
 
@@ -117,7 +116,7 @@ def wrong(seed: str, folder: Path, program: str) -> str:
     written = io.BytesIO()
     wire = Wire(io.BytesIO(b"".join(map(framed, asked)) + behind), written)
     try:
-        Adapter(wire, Reading(wire), program, Admission()).serve()
+        Adapter(wire, Reading(wire), program).serve()
     except Malformed:
         pass
     return answers_wrong(asked, told_in(written.getvalue()))

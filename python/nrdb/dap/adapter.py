@@ -1,7 +1,7 @@
 """The adapter: answers an editor's requests one by one, by a session of nrdb's."""
 
 from contextlib import ExitStack, closing
-from typing import Callable, NamedTuple, Optional
+from typing import Callable, NamedTuple, Optional, Sequence
 
 from netrev_words.plain import plain
 
@@ -14,7 +14,6 @@ from ..scout import Lost
 from ..session import Misused
 from ..shapes import Refused, Strange
 from . import breakpoints, looks
-from .admission import Admission, Stranger
 from .capabilities import CAPABILITIES
 from .debuggee import debuggee
 from .hearing import CANCEL, Source
@@ -45,8 +44,8 @@ class Outcome(NamedTuple):
 class Adapter:
     """Serves one editor, whose requests come from `source`. `program` is netrev's: no message names another."""
 
-    def __init__(self, wire: Wire, source: Source, program: str, admission: Admission):
-        self._wire, self._source, self._program, self._admission = wire, source, program, admission
+    def __init__(self, wire: Wire, source: Source, program: str):
+        self._wire, self._source, self._program = wire, source, program
         self._opened, self._interrupts, self._shows_progress = ExitStack(), Interrupts(), False
         self._target_or_none: Optional[Target] = None
         self._numbering = Numbering()
@@ -70,34 +69,30 @@ class Adapter:
             "setExpression": of_target(looks.refuse_change), "evaluate": self._evaluate, CANCEL: self._cancel,
         }  # fmt: skip
 
-    def serve(self) -> None:
-        """Answers until the editor has gone, says that it goes, or turns out to be a stranger."""
+    def serve(self, begun: Sequence[Request] = ()) -> None:
+        """Answers until the editor has gone, or says that it goes. These requests came already; `initialize` was answered then."""
         with closing(self._source), self._opened:
-            try:
-                while (request := self._source.request()) is not None:
-                    self._guarded(request)
-                    if request.command == "disconnect":
-                        return
-            except Stranger:
-                return
+            for request in begun:
+                self._initialize(request) if request.command == "initialize" else self._guarded(request)
+            while (request_or_none := self._source.request()) is not None:
+                self._guarded(request_or_none)
+                if request_or_none.command == "disconnect":
+                    return
 
     def _guarded(self, request: Request) -> None:
         """Answers a request; of an error that nothing expects the editor's console tells, and the session goes on."""
         try:
             self._answer(request)
-        except (EditorGone, Stranger):
+        except EditorGone:
             raise
         except Exception as error:
             self._console(f"| {plain(unexpected(error))}\n")
 
     def _answer(self, request: Request) -> None:
-        """Answers a request, and tells what comes of it; Stranger where nothing more is to be read."""
+        """Answers a request, and tells what comes of it."""
         work = Work(self._wire, request, self._shows_progress)
         try:
             outcome = self._worked(request, work)
-        except Stranger as why:
-            work.refuses(str(why))
-            raise
         except Unanswerable as why:
             self._refused(work, shown(str(why)))
         except Interrupted:
@@ -124,7 +119,6 @@ class Adapter:
 
     def _worked(self, request: Request, work: Work) -> Outcome:
         """What comes of a request, while the editor is heard."""
-        self._admission.check(request)
         if self._source.ends(request):
             raise Interrupted
         if request.command in ("launch", "attach"):

@@ -4,8 +4,6 @@ pages in a browser among it: there an editor has to name the token that nrdb pri
 import hmac
 import os
 import secrets
-from typing import Optional
-
 from .messages import Request, Unanswerable
 
 TOKEN = "token"  # the argument of a launch
@@ -33,24 +31,17 @@ def token_for_a_port() -> str:
     return own
 
 
-class Admission:
-    """Whether the editor of a connection is answered: from its launch on, where a token is asked for."""
-
-    def __init__(self, token: Optional[str] = None):
-        self._token = token
-        self.is_given = token is None
-
-    def check(self, request: Request) -> None:
-        """Unanswerable where the request isn't answered yet, Stranger where it is a launch with another token."""
-        if self.is_given or request.command in BEFORE:
-            return
-        if request.command not in OPENING:
-            raise Unanswerable("launch comes first, with the token that nrdb printed")
-        given = request.arguments.get(TOKEN)
-        assert self._token is not None
-        if not isinstance(given, str) or not hmac.compare_digest(_bytes(given), _bytes(self._token)):
-            raise Stranger("a launch at a port has the token that nrdb printed")
-        self.is_given = True
+def is_let_in(request: Request, token: str) -> bool:
+    """Whether a request is a launch with the token, and not one that anybody is answered. Unanswerable for any other request, Stranger for a
+    launch with another token."""
+    if request.command in BEFORE:
+        return False
+    if request.command not in OPENING:
+        raise Unanswerable("launch comes first, with the token that nrdb printed")
+    given = request.arguments.get(TOKEN)
+    if not isinstance(given, str) or not hmac.compare_digest(_bytes(given), _bytes(token)):
+        raise Stranger("a launch at a port has the token that nrdb printed")
+    return True
 
 
 def _bytes(text: str) -> bytes:

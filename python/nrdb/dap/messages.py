@@ -57,8 +57,10 @@ class Request:
 class Wire:
     """The two streams to the editor. Several threads may write messages, and one may read them."""
 
-    def __init__(self, reader: BinaryIO, writer: BinaryIO):
+    def __init__(self, reader: BinaryIO, writer: BinaryIO, most: Optional[int] = None):
         self._reader, self._writer = reader, writer
+        self.most = most  # bytes that may come in all, headers too
+        self._came = 0
         self._sent, self._lock = 0, Lock()
         self.received = 0  # bytes of all messages that came
 
@@ -83,6 +85,7 @@ class Wire:
         while (line := self._reader.readline(LONGEST_HEADER)) not in (b"\r\n", b"\n"):
             if not line:
                 return None
+            self._came += len(line)
             name, _, value = line.partition(b":")
             name = name.strip().lower()
             if name not in HEADERS or name in found:
@@ -91,6 +94,9 @@ class Wire:
         length = found.get(HEADERS[0], b"")
         if not length.isdigit() or int(length) > LONGEST:
             raise Malformed("a message has to begin with its Content-Length, of at most 16 MiB")
+        self._came += int(length)
+        if self.most is not None and self._came > self.most:
+            raise Malformed(f"more than {self.most} bytes came before the launch")
         return int(length)
 
     def respond(self, request: Request, body: Body) -> None:

@@ -1,29 +1,29 @@
-"""Editors are served over the standard streams, or one after the other at a port of the loopback."""
+"""Editors are served over the standard streams, or at a port of the loopback: one after the other, each from the launch on that names the
+token."""
 
 import os
 import socket
 import sys
-from contextlib import ExitStack, suppress
-from threading import Timer, current_thread, main_thread
-from typing import BinaryIO
+from contextlib import closing, suppress
+from threading import current_thread, main_thread
+from typing import Sequence
 
 from netrev_words.plain import plain
 
 from .adapter import Adapter
-from .admission import NAMED_BY, Admission, NoToken, token_for_a_port
+from .admission import NAMED_BY, NoToken, token_for_a_port
+from .handshakes import Connection, Handshakes
 from .hearing import Hearing, Reading, Source
-from .messages import Malformed, Wire
+from .messages import Malformed, Request, Wire
 
 LOOPBACK = "127.0.0.1"
 DONE, USAGE, FAILED = 0, 2, 3
-IN_TIME = 10.0  # seconds in which an editor at the port has to be launched: nobody holds up the next one
 
 
-def serve(reader: BinaryIO, writer: BinaryIO, program: str, admission: Admission) -> int:
-    """Serves one editor; the exit status."""
-    wire = Wire(reader, writer)
+def serve(wire: Wire, program: str, begun: Sequence[Request] = ()) -> int:
+    """Serves one editor, of which these requests came already; the exit status."""
     try:
-        Adapter(wire, source_of(wire), program, admission).serve()
+        Adapter(wire, source_of(wire), program).serve(begun)
     except Malformed as wrong:
         print(f"nrdb --dap: {plain(str(wrong))}", file=sys.stderr)
         return FAILED
@@ -44,7 +44,7 @@ def serve_streams(program: str) -> int:
     reader = open(
         os.dup(sys.stdin.fileno()), "rb"
     )  # (a thread may still read from it at the end, which sys.stdin's own doesn't bear)
-    return serve(reader, sys.stdout.buffer, program, Admission())
+    return serve(Wire(reader, sys.stdout.buffer), program)
 
 
 def serve_port(program: str, port: int) -> int:
@@ -65,34 +65,15 @@ def serve_port(program: str, port: int) -> int:
             return FAILED
         print(f"nrdb --dap: editors are served at {LOOPBACK}:{listening.getsockname()[1]}", flush=True)
         print(f'nrdb --dap: a launch has "token": "{token}" ({NAMED_BY} names another one)', flush=True)
+        handshakes = Handshakes(listening, token)
         with suppress(KeyboardInterrupt):
             while True:
-                serve_connection(listening.accept()[0], program, Admission(token))
+                serve_connection(handshakes.next(), program)
     return DONE
 
 
-def serve_connection(connection: socket.socket, program: str, admission: Admission) -> None:
-    """Serves the editor that has connected, for as long as it is there."""
-    with suppress(OSError), ExitStack() as opened:
-        opened.enter_context(connection)
-        connection.setsockopt(socket.IPPROTO_TCP, socket.TCP_NODELAY, 1)
-        late = Timer(IN_TIME, lambda: end_stranger(connection, admission))
-        late.daemon = True
-        late.start()
-        opened.callback(late.cancel)
-        reader = opened.enter_context(connection.makefile("rb"))
-        writer = opened.enter_context(connection.makefile("wb"))
-        opened.callback(hang_up, connection)  # so that nobody reads any more when the streams are closed
-        serve(reader, writer, program, admission)
-
-
-def end_stranger(connection: socket.socket, admission: Admission) -> None:
-    """Ends a connection whose editor hasn't been let in."""
-    if not admission.is_given:
-        hang_up(connection)
-
-
-def hang_up(connection: socket.socket) -> None:
-    """Ends a connection, whoever reads from it."""
-    with suppress(OSError):
-        connection.shutdown(socket.SHUT_RDWR)
+def serve_connection(connection: Connection, program: str) -> None:
+    """Serves the editor of a connection, for as long as it is there."""
+    begun = [request for request in (connection.initialize, connection.launch) if request]
+    with suppress(OSError), closing(connection):
+        serve(connection.wire, program, begun)

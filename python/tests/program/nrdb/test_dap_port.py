@@ -7,14 +7,14 @@ import struct
 import subprocess
 import tempfile
 import unittest
-from contextlib import closing
+from contextlib import ExitStack, closing, suppress
 from pathlib import Path
-from threading import Thread
-from typing import Any, Optional
+from typing import Any, Iterator
 from unittest.mock import patch
 
-from nrdb.dap import serving
-from nrdb.dap.admission import Admission
+import pytest
+from nrdb.dap import handshakes as handshaking
+from nrdb.dap.handshakes import Handshakes
 from tests.program.nrdb.dap_client import Client, Refusal
 from tests.program.nrdb.support import EXAMPLES, NRDB
 from tests.program.sharing import NETREV
@@ -22,6 +22,7 @@ from tests.program.sharing import NETREV
 LOST = str(EXAMPLES / "lost-wakeup.jsonl")
 LOOPBACK = "127.0.0.1"
 PATIENCE = 60  # seconds
+TOKEN = "a token of this test"
 
 
 def framed(*messages: dict[str, Any]) -> bytes:
@@ -152,23 +153,74 @@ class OfOnesOwn(Port):
         self.assertIn("at least 16 printable characters", ended.stderr)
 
 
-class Late(unittest.TestCase):
-    """Somebody who connects, and names no token."""
+@pytest.fixture
+def handshakes() -> Iterator[tuple[Handshakes, tuple[str, int]]]:
+    """The handshakes at a port of this process, and its address."""
+    with closing(socket.create_server((LOOPBACK, 0))) as listening:
+        yield Handshakes(listening, TOKEN), listening.getsockname()
 
-    def ends(self, token: Optional[str], waits: float) -> bool:
-        """Whether a connection is ended from the other side that says nothing for so long."""
-        with closing(socket.create_server((LOOPBACK, 0))) as listening, patch.object(serving, "IN_TIME", 0.2):
-            with socket.create_connection(listening.getsockname()) as connection:
-                served = Thread(target=serving.serve_connection, args=(listening.accept()[0], "", Admission(token)))
-                served.start()
-                connection.sendall(b"Content-Length: 100\r\n\r\n{")
-                served.join(waits)
-                ended = not served.is_alive()
-            served.join(PATIENCE)
-            return ended
 
-    def test_it_is_ended_in_time(self):
-        self.assertTrue(self.ends("a token", PATIENCE))
+def is_ended(connection: socket.socket) -> bool:
+    """Whether the other side ends a connection, which is waited for; what it says before is read."""
+    connection.settimeout(PATIENCE)
+    try:
+        while connection.recv(65_536):
+            pass
+    except ConnectionError:
+        pass
+    except TimeoutError:
+        return False
+    return True
 
-    def test_one_that_is_let_in_is_waited_for(self):
-        self.assertFalse(self.ends(None, 1.0))
+
+def test_one_without_the_token_is_ended_in_time(handshakes: tuple[Handshakes, tuple[str, int]]) -> None:
+    with patch.object(handshaking, "IN_TIME", 0.2), socket.create_connection(handshakes[1]) as stranger:
+        stranger.sendall(b"Content-Length: 100\r\n\r\n{")
+        assert is_ended(stranger)
+
+
+def test_one_with_the_token_is_not_ended(handshakes: tuple[Handshakes, tuple[str, int]]) -> None:
+    opened, address = handshakes
+    with patch.object(handshaking, "IN_TIME", 0.2), socket.create_connection(address) as editor:
+        editor.sendall(framed(asked(1, "initialize"), asked(2, "launch", token=TOKEN), asked(3, "threads")))
+        connection = opened.next()
+        assert connection.initialize and connection.launch
+        with socket.create_connection(address) as stranger:
+            assert is_ended(stranger)  # behind it the editor's time would be over too
+        request = connection.wire.request()
+        assert request and request.command == "threads"
+        connection.close()
+
+
+def test_silent_strangers_hold_up_no_editor(handshakes: tuple[Handshakes, tuple[str, int]]) -> None:
+    """Their time is never over, and there are more than may be at once: the oldest is ended for the editor."""
+    opened, address = handshakes
+    with patch.object(handshaking, "IN_TIME", 600), ExitStack() as connected:
+        strangers = [connected.enter_context(socket.create_connection(address)) for _ in range(handshaking.MOST + 6)]
+        editor = connected.enter_context(socket.create_connection(address))
+        editor.sendall(framed(asked(1, "launch", token=TOKEN)))
+        connection = opened.next()
+        assert connection.launch and connection.launch.arguments == {"token": TOKEN}
+        assert is_ended(strangers[0])
+        connection.close()
+
+
+def test_an_editor_that_is_served_holds_up_no_answer_to_another(handshakes: tuple[Handshakes, tuple[str, int]]) -> None:
+    opened, address = handshakes
+    with socket.create_connection(address) as first, socket.create_connection(address) as second:
+        first.sendall(framed(asked(1, "launch", token=TOKEN)))
+        served = opened.next()
+        client = Client(second.makefile("rb"), second.makefile("wb"))
+        assert client("initialize")["supportsStepBack"]
+        served.close()
+
+
+def test_many_requests_before_the_token_are_not_read(handshakes: tuple[Handshakes, tuple[str, int]]) -> None:
+    _, address = handshakes
+    empty: list[dict[str, Any]] = [{}] * 4_000
+    for flood in (framed(*[asked(number, "cancel") for number in range(2_000)]), framed(*empty)):
+        with patch.object(handshaking, "IN_TIME", 600), socket.create_connection(address) as stranger:
+            assert len(flood) > handshaking.MOST_BYTES
+            with suppress(ConnectionError):
+                stranger.sendall(flood)
+            assert is_ended(stranger)

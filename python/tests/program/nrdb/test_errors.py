@@ -14,7 +14,6 @@ import pytest
 from nrdb.commands import COMMANDS, parts_of
 from nrdb.dap import looks
 from nrdb.dap.adapter import Adapter
-from nrdb.dap.admission import Admission
 from nrdb.dap.hearing import Reading
 from nrdb.dap.messages import Wire
 from nrdb.prompt.answers import ANSWERS
@@ -100,7 +99,7 @@ def test_an_unexpected_error_refuses_one_request() -> None:
     written = io.BytesIO()
     wire = Wire(io.BytesIO(framed(*requests)), written)
     with mock.patch.object(looks, "threads", boom):
-        Adapter(wire, Reading(wire), NETREV, Admission()).serve()
+        Adapter(wire, Reading(wire), NETREV).serve()
     told = written.getvalue().decode()
     assert (
         '"command": "threads", "success": false, "message": "error in nrdb, not in the recording: ValueError: boom'
@@ -119,7 +118,7 @@ def test_an_error_behind_the_response_is_told_in_the_console() -> None:
     written = io.BytesIO()
     wire = Wire(io.BytesIO(framed(*requests)), written)
     with mock.patch("nrdb.dap.adapter.thread_of", boom):
-        Adapter(wire, Reading(wire), NETREV, Admission()).serve()
+        Adapter(wire, Reading(wire), NETREV).serve()
     told = written.getvalue().decode()
     assert '"category": "console", "output": "| error in nrdb' in told
     assert '"command": "disconnect", "success": true' in told

@@ -1,0 +1,116 @@
+"""The beginnings of connections at a port: several at once, each in its thread, until a launch names the token. So nobody without the token
+holds up an editor."""
+
+import socket
+from contextlib import ExitStack, suppress
+from queue import SimpleQueue
+from threading import Lock, Thread, Timer
+from typing import Optional
+
+from .admission import Stranger, is_let_in
+from .capabilities import CAPABILITIES
+from .messages import Malformed, Request, Unanswerable, Wire
+
+IN_TIME = 10.0  # seconds in which an editor at the port has to be launched
+MOST = 64  # connections that may be without the token at once: for one more the oldest is ended
+MOST_BYTES = 65_536  # that a connection may send before it has named the token
+
+
+class Connection:
+    """A connection, and what its editor has asked for so far."""
+
+    def __init__(self, connected: socket.socket, token: str):
+        self._connected, self._token, self._opened = connected, token, ExitStack()
+        self._opened.enter_context(connected)
+        connected.setsockopt(socket.IPPROTO_TCP, socket.TCP_NODELAY, 1)
+        reader = self._opened.enter_context(connected.makefile("rb"))
+        writer = self._opened.enter_context(connected.makefile("wb"))
+        self._opened.callback(self.hang_up)  # so that nobody reads any more when the streams are closed
+        self.wire = Wire(reader, writer, MOST_BYTES)
+        self.initialize: Optional[Request] = None
+        self.launch: Optional[Request] = None
+
+    def admitted(self) -> bool:
+        """Answers what anybody is answered, until the launch with the token came; False if the connection ends before."""
+        while (request := self.wire.request()) is not None:
+            try:
+                if is_let_in(request, self._token):
+                    self.launch, self.wire.most = request, None
+                    return True
+            except Unanswerable as why:
+                self.wire.refuse(request, str(why))
+                if isinstance(why, Stranger):
+                    return False
+                continue
+            is_beginning = request.command == "initialize"
+            self.wire.respond(request, CAPABILITIES if is_beginning else {})
+            if not is_beginning:
+                return False
+            self.initialize = request
+        return False
+
+    def hang_up(self) -> None:
+        """Ends the connection, whoever reads from it."""
+        with suppress(OSError):
+            self._connected.shutdown(socket.SHUT_RDWR)
+
+    def close(self) -> None:
+        with suppress(OSError, ValueError):
+            self._opened.close()
+
+
+class Handshakes:
+    """The connections at a port. Those with the token are queued, to be served one after the other."""
+
+    def __init__(self, listening: socket.socket, token: str):
+        self._listening, self._token = listening, token
+        self._begun: dict[Connection, Timer] = {}
+        self._lock = Lock()
+        self._admitted: "SimpleQueue[Connection]" = SimpleQueue()
+        Thread(target=self._accept, daemon=True).start()
+
+    def next(self) -> Connection:
+        """The next connection that has named the token."""
+        return self._admitted.get()
+
+    def _accept(self) -> None:
+        while True:
+            try:
+                connected, _ = self._listening.accept()
+            except OSError:  # it was reset, or nothing is listened for any more
+                if self._listening.fileno() < 0:
+                    return
+                continue
+            with suppress(OSError):
+                self._begin(Connection(connected, self._token))
+
+    def _begin(self, connection: Connection) -> None:
+        late = Timer(IN_TIME, connection.hang_up)
+        late.daemon = True
+        with self._lock:
+            oldest = next(iter(self._begun)) if len(self._begun) >= MOST else None
+            self._begun[connection] = late
+        if oldest:
+            self._ended(oldest)
+            oldest.hang_up()
+        late.start()
+        Thread(target=self._shake, args=(connection,), daemon=True).start()
+
+    def _shake(self, connection: Connection) -> None:
+        """Begins a connection, in a thread of its own."""
+        is_admitted = False
+        with suppress(Malformed, OSError, ValueError):  # (the other end has gone, or what it sent is no message)
+            is_admitted = connection.admitted()
+        is_admitted = self._ended(connection) and is_admitted
+        if is_admitted:
+            self._admitted.put(connection)
+        else:
+            connection.close()
+
+    def _ended(self, connection: Connection) -> bool:
+        """Whether a connection's beginning hadn't been ended before."""
+        with self._lock:
+            late = self._begun.pop(connection, None)
+        if late:
+            late.cancel()
+        return late is not None
