@@ -27,7 +27,7 @@ STOP_PATIENCE = 120  # seconds that `rt try` has to end its program and remove i
 ELF = b"\x7fELF"
 NO_TOOLCHAIN = (
     "make look needs the toolchain, and there is no `rt` on the PATH. "
-    "The archive and the Debian package work without the toolchain (README.md, Get it)."
+    "The archive and the Debian package work without the toolchain (README.md, Install)."
 )
 Say = Callable[[str], None]
 

@@ -2,6 +2,7 @@
 
 import hashlib
 import os
+import re
 import shutil
 import subprocess
 import sys
@@ -33,25 +34,21 @@ Text.
 
 - Of none.
 """
+SCRIPTS = ("scripts/release.sh", "scripts/notes.py", "scripts/package.sh", "scripts/unchanged.sh", "CHANGELOG.md")
+PARTS = re.findall(r'^parts="([^"]*)"$', (ROOT / "scripts/unchanged.sh").read_text(), re.MULTILINE)[0].split()
 ARCHIVE, DEB = f"netrev-{VERSION}-linux-x86_64.tar.gz", f"netrev_{VERSION}_amd64.deb"
 
 
 @pytest.fixture
 def tree(tmp_path: Path) -> Path:
-    """A tree whose packages are made."""
-    for name in (
-        "scripts/release.sh",
-        "scripts/notes.py",
-        "scripts/package.sh",
-        "scripts/unchanged.sh",
-        "CHANGELOG.md",
-    ):
-        (tmp_path / name).parent.mkdir(exist_ok=True)
+    """A tree whose packages are made, with every file and folder of a release."""
+    for name in PARTS:
+        (tmp_path / name).mkdir() if (ROOT / name).is_dir() else (tmp_path / name).touch()
+    for name in SCRIPTS:
         shutil.copy(ROOT / name, tmp_path / name)
     (tmp_path / "scripts/archive.sh").write_text('echo "packs $*"\n')
     for folder in ("out", "crates/netrev/src", "crates/netrev/out"):
         (tmp_path / folder).mkdir(parents=True)
-    (tmp_path / "crates.txt").touch()
     (tmp_path / "crates/netrev/src/main.rt").touch()
     (tmp_path / "out" / ARCHIVE).write_text("archive")
     (tmp_path / "out" / DEB).write_text("package")

@@ -7,7 +7,9 @@ from pathlib import Path
 
 from .sharing import NETREV, ROOT
 
-UNCLONED = shutil.ignore_patterns(".git", "out", "__pycache__", "build", "*.egg-info", ".mypy_cache", ".pytest_cache")
+UNCLONED = shutil.ignore_patterns(
+    ".git", "out", "target", "__pycache__", "build", "*.egg-info", ".mypy_cache", ".pytest_cache"
+)
 SETTINGS = (
     "NETREV",
     "NETREV_PLAIN",

@@ -58,11 +58,11 @@ def skip_without_go() -> None:
 def by_their_paths(room: Room) -> None:
     """Records as README does, but calls netrev-go by its path: what it says to type next has to run there too."""
     if commands_of_go():
-        command = "cd examples/toy && ../../tools/go/netrev-go test ./..."
+        command = "cp -r examples/toy other && cd other && ../tools/go/netrev-go test ./..."
         status, printed = room.run(command)
         assert status == 1 and "next:" in printed, printed
         room.check_next(command, printed)
-        assert room.run("cd ../..") == (0, "")
+        assert room.run("cd ..") == (0, "")
 
 
 def test_in_a_fresh_clone(tmp_path: Path) -> None:
