@@ -43,9 +43,10 @@ def unproved_netrev(say: Say) -> Path:
     KEPT.mkdir(parents=True, exist_ok=True)
     with exclusive(KEPT / "lock", say):
         if is_intact(program):
-            say(f"{program.relative_to(ROOT)} is of the same sources, so nothing is compiled.")
+            say("out/look/netrev is of the same sources, so nothing is compiled.")
         else:
             keep_copy(program, say)
+        link_to(program)
         descriptor = os.open(program, os.O_RDONLY)
         fcntl.flock(descriptor, fcntl.LOCK_SH)
         os.set_inheritable(descriptor, True)
@@ -97,6 +98,14 @@ def exclusive(path: Path, say: Say) -> Iterator[None]:
         yield
 
 
+def link_to(program: Path) -> None:
+    """Makes out/look/netrev lead to the program, for users who name it: NETREV=out/look/netrev."""
+    new = KEPT / "link"
+    new.unlink(missing_ok=True)
+    new.symlink_to(program.name)
+    new.replace(KEPT / "netrev")
+
+
 def remove_unused() -> None:
     """Removes the kept programs that no session has locked, and what an interrupted call left."""
     for path in KEPT.glob("netrev-*"):
@@ -113,7 +122,7 @@ def remove_unused() -> None:
 
 def keep_copy(program: Path, say: Say) -> None:
     """Compiles netrev, and keeps a copy of it that has accepted an example."""
-    say("Compiling netrev without its proofs: one to two minutes on an idle machine.")
+    say("Compiling netrev without its proofs, which takes a minute or two.")
     began = time.monotonic()
     with tempfile.TemporaryFile() as log, serving(log) as (process, port):
         running = await_program(process, port, log, say)
@@ -125,7 +134,7 @@ def keep_copy(program: Path, say: Say) -> None:
         raise UnprovedError(f"the copy of netrev does not run: {check.stdout}{check.stderr}".strip())
     sum_file(program).write_text(hashlib.sha256(copy.read_bytes()).hexdigest())
     copy.rename(program)
-    say(f"Compiled in {time.monotonic() - began:.0f} s, and kept as {program.relative_to(ROOT)} for the next time.")
+    say(f"Compiled in {time.monotonic() - began:.0f} s, and kept as out/look/netrev for the next time.")
 
 
 def free_port() -> int:

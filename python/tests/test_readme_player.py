@@ -125,4 +125,6 @@ def test_netrevs_answers_have_to_be_netrevs(tmp_path: Path) -> None:
 def test_a_shell_goes_on_where_the_last_command_left_off(room: Room) -> None:
     (room.folder / "below").mkdir()
     assert room.run('cd below && PATH="$PWD:$PATH"') == (0, "")
-    assert room.run("pwd; echo $PATH") == (0, f"{room.folder}/below\n{room.folder}/below:{os.defpath}\n")
+    assert room.run('export NETREV="$PWD/a b"') == (0, "")
+    printed = f"{room.folder}/below\n{room.folder}/below:{os.defpath}\n{room.folder}/below/a b\n"
+    assert room.run('pwd; echo "$PATH"; echo "$NETREV"') == (0, printed)

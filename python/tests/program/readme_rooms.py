@@ -44,17 +44,17 @@ class Room:
 
     def __post_init__(self) -> None:
         self.inside = self.inside or str(self.folder)
-        self.current, self.path = self.inside, self.settings.pop("PATH")
+        self.current = self.inside
 
     def run(self, command: str, lines: str = "") -> tuple[int, str]:
         """The status of a command, and what a terminal would show of it."""
         for name, other in self.renamed.items():
             command = command.replace(name, other)
-        state = quote(f"{self.inside}/.state")
-        script = f'cd {quote(self.current)} || exit\n{command}\nstatus=$?\n(pwd; echo "$PATH") > {state}\nexit $status'
+        before = f"[ ! -e {self.inside}/.exported ] || . {self.inside}/.exported\ncd {quote(self.current)} || exit"
+        after = f"status=$?\nexport -p > {self.inside}/.exported\npwd > {self.inside}/.current\nexit $status"
         settings = [f"{name}={value}" for name, value in self.settings.items()]
         ran = subprocess.run(
-            [*self.through, "env", "-i", *settings, f"PATH={self.path}", "sh", "-c", script],
+            [*self.through, "env", "-i", *settings, "sh", "-c", f"{before}\n{command}\n{after}"],
             input=lines,
             stdout=subprocess.PIPE,
             stderr=subprocess.STDOUT,
@@ -62,7 +62,7 @@ class Room:
             timeout=PATIENCE,
             check=False,
         )
-        self.current, self.path = (self.folder / ".state").read_text().splitlines()
+        self.current = (self.folder / ".current").read_text().rstrip("\n")
         return ran.returncode, ran.stdout
 
     def play(self, command: Command) -> str:

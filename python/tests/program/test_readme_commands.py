@@ -1,7 +1,6 @@
 """What README shows is what comes: in a fresh clone, with only the archive, and with only the Debian package."""
 
 import re
-import shutil
 import subprocess
 import tempfile
 import unittest
@@ -58,6 +57,7 @@ def skip_without_go() -> None:
 def by_their_paths(room: Room) -> None:
     """Records as README does, but calls netrev-go by its path: what it says to type next has to run there too."""
     if commands_of_go():
+        assert room.run('export NETREV="$PWD/out/look/netrev"') == (0, "")
         command = "cp -r examples/toy other && cd other && ../tools/go/netrev-go test ./..."
         status, printed = room.run(command)
         assert status == 1 and "next:" in printed, printed
@@ -71,9 +71,6 @@ def test_in_a_fresh_clone(tmp_path: Path) -> None:
     look, path = sections(TEXT)[CLONE]
     room.play(replace(look, prompts=debug[0].prompts))
     assert toolchain.compiled() == 1
-    built = room.folder / "crates/netrev/out/netrev"
-    built.parent.mkdir()
-    shutil.copy(NETREV, built)  # (what `make run` leaves)
     by_their_paths(room)
     room.play(path)
     assert debug[0].text in play(room, DEBUG)
