@@ -13,6 +13,7 @@ room=$(mktemp -d)
 trap 'rm -rf "$room"' EXIT
 top=$room/$name
 make --no-print-directory -s install-files PROGRAM="$program" DESTDIR= PREFIX="$top"
+sh scripts/proved.sh "$program" > "$top/lib/netrev/proved.txt"
 mkdir -p "$top/tools/go"
 cp README.md CHANGELOG.md CONTRIBUTING.md LICENSE LICENSE-MIT LICENSE-APACHE "$top"
 cp tools/go/README.md "$top/tools/go"

@@ -15,6 +15,6 @@ is_here() {
 	return 1
 }
 
-if is_here black; then black --quiet --check --diff python scripts conftest.py || status=1; fi
+if is_here black; then black --quiet --check --diff python scripts conftest.py test_by_pytest.py || status=1; fi
 if is_here mypy; then mypy || status=1; fi
 exit $status

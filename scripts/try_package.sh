@@ -27,5 +27,7 @@ for name in netrev nrdb netrev-go; do
 done
 [ -s editors/emacs/netrev-dap.el ]
 python3 -m zipfile -t editors/netrev.vsix > "$room/tested"
-[ "$(alone bin/netrev-go --version)" = "$(alone bin/nrdb --version | sed 's/^nrdb/netrev-go/')" ]
+alone bin/nrdb --version > "$room/version"
+[ "$(alone bin/netrev-go --version)" = "$(sed -n '1s/^nrdb/netrev-go/p' "$room/version")" ]
+grep -q "installed with this nrdb" "$room/version" && grep -q "^proofs:  rattle-kit" "$room/version"
 echo "The archive runs all examples and a hunt, without a toolchain."

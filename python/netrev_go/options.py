@@ -22,14 +22,18 @@ SUSPECTS, POSSIBLE = "suspects", "possible"
 COMMANDS = ("run", "test", "build", "convert", "env", "doctor")
 OF_TESTS = "all runs until_failure seconds explore json github junit html delays".split()
 HELP = """\
-netrev-go [options] run . ARGS            records a program, as `go run` runs it
-netrev-go [options] test ./...            records tests, and keeps NAME/PACKAGE.TEST.jsonl of those that fail
-netrev-go build -o prog .                 builds a program that records where NETREV_LOG=PATH is set: its log is PATH.PID
-netrev-go [options] convert LOG           makes a recording of a log; of a process that runs with --pid PID
-netrev-go env                             prints two variables by which any go run, go test or Makefile records
-netrev-go doctor                          says whether the installed Go fits, and what else is missing
+netrev-go [options] run . ARGS            record a program that `go run` runs
+netrev-go [options] test ./...            record tests, and keep NAME/PACKAGE.TEST.jsonl of those that fail
+netrev-go build -o prog .                 build a program that records where NETREV_LOG=PATH is set: its log is PATH.PID
+netrev-go [options] convert LOG           make a recording of a log, or of a running process's with --pid PID
+netrev-go env                             print two variables by which any go run, go test or Makefile records
+netrev-go doctor                          check whether the installed Go can be recorded, and what else is missing
 
-What stands behind run, test and build is Go's own. Nothing has to be changed in the program."""
+Arguments after run, test and build go to Go. The program needs no changes.
+
+example: record the tests of a module, and open a recording of one that failed
+  netrev-go test ./...
+  nrdb recordings/PACKAGE.TEST.jsonl"""
 
 
 def parser() -> argparse.ArgumentParser:
@@ -65,7 +69,7 @@ def failing_words(text: str) -> list[str]:
 
 def add_limits(made: argparse.ArgumentParser) -> None:
     """The options of how a program is run, and of what a recording has."""
-    made.add_argument("-n", metavar="SECONDS", type=float, help="a program that runs so long is ended by SIGQUIT")
+    made.add_argument("-n", metavar="SECONDS", type=float, help="send SIGQUIT to a program after SECONDS")
     made.add_argument("--procs", metavar="N", type=int, help="GOMAXPROCS")
     made.add_argument("--points", metavar="N", type=int, default=MOST_POINTS, help="how many points the log keeps")
     made.add_argument("--sockets", metavar="N", type=int, default=MOST_SOCKETS, help="the newest N sockets alone")
@@ -76,7 +80,7 @@ def add_limits(made: argparse.ArgumentParser) -> None:
     )
     made.add_argument(
         "--megabytes", metavar="N", type=int, default=MOST_MEGABYTES,
-        help="of text for the bytes that are moved, at most",
+        help="limit the recorded data to N MB of text",
     )  # fmt: skip
     made.add_argument("--pid", metavar="PID", type=int, help="convert: the process whose log it is")
     made.add_argument("--no-lines", action="store_true", help="records no lines of the source")

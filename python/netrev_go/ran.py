@@ -9,7 +9,6 @@ from enum import Enum
 ENDING = ".tests"
 MOST_BYTES = 2**26
 SECOND = 10**9
-RAN_ALONE = "the package"  # what is said of a package whose tests aren't known
 
 
 class Went(Enum):

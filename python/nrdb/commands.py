@@ -21,10 +21,13 @@ OF_NRDB = {
     row.name: row
     for row in (
         command("help [COMMAND]", "lists the commands, or tells of one; of a kind, a cell and a reason's number too"),
+        command(
+            "apropos WORD", "lists the commands, topics, kinds of steps and cells that have a word in their description"
+        ),
         command("where", "the position, the last step and the next one"),
         command(
-            "list [N | FILE:LINE]",
-            "the steps round the position, or round step N; => is the next one; or the source round a line",
+            "list [N | FILE:LINE | FUNCTION]",
+            "the steps round the position, or round step N; => is the next one; or the source round a line or a function",
         ),
         command("frame [N]", "a call of the program's stack here, 0 is the innermost, and the source round it"),
         command("up", "the call that called this one"),
@@ -113,6 +116,16 @@ TOPICS = {
         Topic(Origin.NRDB, "suspects", "what isn't as it should be in the whole recording, by rules, the worst first"),
         Topic(Origin.NRDB, "holders S", "who holds the references of socket S, and since which step"),
     )
+}
+# What nrdb takes beside netrev's own forms of its commands.
+FORMS = {
+    "break": command(
+        "break FILE:LINE | FUNCTION", "stops before the steps at which a goroutine comes to a line or a function"
+    ),
+    "tbreak": command("tbreak FILE:LINE | FUNCTION", "as break, and is gone after the first stop"),
+    "delete": command(
+        "delete [pN]", "takes the break pN at a line or a function away; alone, all marks, and says which they were"
+    ),
 }
 ALL_TOPICS = "; ".join(f"info {topic.usage}" for topic in TOPICS.values())
 

@@ -1,4 +1,4 @@
-"""Errors that end a session, and those that nothing expects, which are nrdb's own: one line for the user, and the traceback if that is
+"""Errors of commands, and those that nothing expects, which are nrdb's own: one line for the user, and the traceback if that is
 wanted."""
 
 import os
@@ -9,6 +9,10 @@ from netrev_words.plain import plain
 
 WANTED_BY = "NRDB_TRACEBACK"  # the environment variable that has tracebacks printed
 LONGEST = 200  # characters of an error's text
+
+
+class Misused(Exception):
+    """A command of nrdb with words that it doesn't take: what is wrong with them."""
 
 
 class Mismatched(Exception):

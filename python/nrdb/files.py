@@ -7,7 +7,7 @@ from typing import IO, Any, Iterator
 
 from netrev_words.files import whole
 
-from .session import Misused
+from .errors import Misused
 
 
 def spare(path: str, recording: str) -> None:

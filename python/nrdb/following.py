@@ -1,5 +1,5 @@
-"""`steps` and `calls`: what a goroutine did, what happened to a socket or a descriptor, all steps of a kind; and `info errors`,
-the calls that failed."""
+"""`steps` and `calls`: what a goroutine did, what happened to a socket or a descriptor, all steps of a kind; and where `next` and `finish`
+lead."""
 
 from itertools import chain
 from typing import Callable, Iterator, NamedTuple, Optional
@@ -8,7 +8,6 @@ from netrev_words.vocabulary import KINDS, number_of
 
 from .calls import Book, book_of
 from .one_call import Call
-from .causes import error_rows, is_by_go
 from .output import Row, Table
 from .recording import Recording, Step
 from .recorded_answers import answer_text
@@ -116,25 +115,6 @@ def call_row(recording: Recording, call: Call, position: int) -> Row:
     }
     told = f"gor {seen.goroutine:<4} {seen.words()}"
     return Row(values | ({"at": at} if recording.lines else {}), f"{told:<72} {at}".rstrip())
-
-
-def errors_table(recording: Recording, position: int, most: Optional[int]) -> Table:
-    """The calls up to the position that ended with a timeout, a close, a broken pipe or an event error."""
-    failed = [call for call in book_of(recording).calls if call.last and call.outcome.is_error]
-    past = [call for call in failed if call.last <= position]
-    found = [call for call in past if not is_by_go(recording, call)]
-    shown = found if most is None else found[-most:]
-    rest = []
-    if len(shown) < len(found):
-        rest.append(f"{len(found) - len(shown)} earlier ones: info errors all")
-    if not found:
-        rest.append(f"no call has failed up to position {position}")
-    if len(found) < len(past):
-        rest.append(f"{len(past) - len(found)} more are waits of Go's own code, which it ended itself")
-    if len(past) < len(failed):
-        rest.append(f"{len(failed) - len(past)} later")
-    rows = [row for call in shown for row in error_rows(recording, call, call_row(recording, call, position))]
-    return Table("errors", rows, "; ".join(rest))
 
 
 class Stay(Exception):

@@ -8,7 +8,7 @@ from typing import Callable, Optional
 
 from netrev_words.vocabulary import CELLS, DUMPS, KINDS, MOST, MOST_LINE, Cell, Of, cell_of, number_of
 
-from .commands import ALL_TOPICS, COMMANDS, SPELLINGS, TOPICS
+from .commands import ALL_TOPICS, COMMANDS, SPELLINGS, TOPIC_SPELLINGS, TOPICS
 
 FOREIGN = {
     "run": "the recording is replayed already: restart 0 goes to the start",
@@ -24,9 +24,7 @@ FOREIGN = {
     "define": "there are no macros: source FILE takes lines from a file",
     "x": "print CELL shows a value, dump in S the bytes in a buffer",
     "thread": "info goroutines tells what each does, print gor G of one",
-    "threads": "info goroutines tells what each does",
     "goroutine": "info goroutines tells what each does, print gor G of one",
-    "goroutines": "info goroutines tells what each does",
     "find": "history CELL lists a cell's changes, until CELL VALUE goes to one; dump in S shows the bytes in a buffer",
     "search": "until CELL VALUE goes on until a cell has a value, steps KIND lists the steps of a kind",
     "call": "nothing is run again: calls lists the program's calls, and print shows a cell",
@@ -85,6 +83,8 @@ def unknown(words: list[str]) -> str:
         return "print CELL, without a format: lock words are told in words"
     if first in FOREIGN:
         return FOREIGN[first]
+    if (topic := TOPIC_SPELLINGS.get(plain, plain)) in TOPICS:
+        return f"did you mean info {topic}? It shows {TOPICS[topic].says}"
     if number_of(words[0]) is not None:
         return f"goto {words[0]} goes to position {words[0]}"
     if cell_of(words):

@@ -5,8 +5,19 @@ from typing import Any, NoReturn, Optional, Sequence
 
 from netrev_words.built import BUILT, netrev_program
 from netrev_words.plain import plain
+from netrev_words.provenance import program_lines
 from netrev_words.version import VERSION
 from netrev_words.vocabulary import number_of
+
+
+DESCRIPTION = """\
+Debug a recorded run of a Go program's goroutines, sockets and deadlines, forwards and backwards. nrdb runs netrev, the proved
+debugger, and shows its answers; what nrdb adds is unproved, and begins with `|`."""
+EXAMPLE = """\
+example: what went wrong in a test that netrev-go recorded, and what led to it
+  nrdb recordings/toy.TestRed.jsonl -ex 'info suspects'
+
+At the prompt, `help` lists the commands."""
 
 
 class InOrder(argparse.Action):
@@ -23,54 +34,65 @@ class Words(argparse.ArgumentParser):
         super().error(plain(message))
 
 
+class Version(argparse.Action):
+    """Prints nrdb's version and which netrev it would run, and exits."""
+
+    def __call__(self, parser: argparse.ArgumentParser, space: argparse.Namespace, *_: object) -> NoReturn:
+        print("\n".join([f"nrdb {VERSION}", *program_lines(space.netrev)]))
+        parser.exit()
+
+
 def parser() -> Words:
-    """The words that nrdb takes."""
+    """The options of nrdb."""
     made = Words(
-        prog="nrdb",
-        description="The companion at netrev's prompt: what it adds to netrev's replies begins with | and is unproved.",
+        prog="nrdb", description=DESCRIPTION, epilog=EXAMPLE, formatter_class=argparse.RawDescriptionHelpFormatter
     )
-    made.add_argument("--version", action="version", version=f"nrdb {VERSION}", help="prints the version, and ends")
+    made.add_argument("--version", nargs=0, action=Version, help="show the version, and which netrev runs, and exit")
     made.add_argument("file", nargs="?", metavar="FILE", help="the recording")
     made.add_argument(
-        "-x", dest="lines", action=InOrder, const="source", metavar="FILE", help="takes lines from a file"
+        "-x", dest="lines", action=InOrder, const="source", metavar="FILE", help="run the commands in FILE"
     )
-    made.add_argument("-ex", dest="lines", action=InOrder, const="line", metavar="COMMAND", help="takes this line")
-    made.add_argument("--batch", "-batch", action="store_true", help="ends behind -x and -ex, in place of a prompt")
-    made.add_argument("--json", action="store_true", help="prints a line of JSON for each event")
+    made.add_argument("-ex", dest="lines", action=InOrder, const="line", metavar="COMMAND", help="run COMMAND")
+    made.add_argument("--batch", "-batch", action="store_true", help="exit after -x and -ex instead of prompting")
+    made.add_argument("--json", action="store_true", help="print a line of JSON for each event")
     made.add_argument(
-        "--suspects", action="store_true", help="prints the suspects, behind -x and -ex, and ends: with status 4 if any"
+        "--suspects",
+        action="store_true",
+        help="print the suspects after -x and -ex, and exit: with status 4 if there are any",
     )
     made.add_argument(
         "--timeline",
-        metavar="OUT.html",
-        help="writes the timeline, behind -x and -ex, and ends; with the values of a part where FROM TO stand behind the file",
+        metavar="OUT.html [FROM TO]",
+        help="write the timeline after -x and -ex, and exit; FROM TO limits the values to these positions",
     )
-    made.add_argument("--trace", metavar="OUT.json", help="writes all steps for Perfetto, behind -x and -ex, and ends")
+    made.add_argument("--trace", metavar="OUT.json", help="write all steps for Perfetto after -x and -ex, and exit")
     made.add_argument(
-        "--reduce", metavar="OUT.jsonl", help="writes the least recording with its first suspect, and ends"
+        "--reduce", metavar="OUT.jsonl", help="write the smallest recording that still has the first suspect, and exit"
     )
     made.add_argument(
         "--explore",
         action="store_true",
-        help="plays schedules near the recorded one, behind -x and -ex, prints which of them end with a suspect, and ends: with "
-        "status 4 if any",
+        help="run schedules near the recorded one after -x and -ex, print those that end with a suspect, and exit: with status 4 if "
+        "there are any",
     )
-    made.add_argument("--explore-failures", action="store_true", help="the same, of calls that fail and had gone well")
-    made.add_argument("--join", metavar="HOST:PORT", help="joins a session that `netrev serve` has")
     made.add_argument(
-        "--dap", action="store_true", help="serves an editor by the Debug Adapter Protocol, over the standard streams"
+        "--explore-failures", action="store_true", help="the same for schedules in which a call fails that succeeded"
+    )
+    made.add_argument("--join", metavar="HOST:PORT", help="join a session that `netrev serve` shares")
+    made.add_argument(
+        "--dap", action="store_true", help="serve an editor over standard input and output (Debug Adapter Protocol)"
     )
     made.add_argument(
         "--dap-port",
         metavar="PORT",
         type=int,
-        help="the same at a port of the loopback, one after the other; a launch names the token that is printed",
+        help="serve editors at a port of the loopback, one after the other; a launch names the token that is printed",
     )
     made.add_argument(
         "--web",
         metavar="PORT",
         type=int,
-        help="serves a page for browsers at a port of the loopback, in place of a prompt",
+        help="serve a page for browsers at a port of the loopback instead of prompting",
     )
     made.add_argument("--netrev", default=netrev_program() or str(BUILT), metavar="PROGRAM", help="netrev's program")
     return made

@@ -183,10 +183,6 @@ class Recording:
         """Each step's array as JSON has it, one after the other. Like lines may share one: nobody changes it."""
         return self.rows(lambda values: values)
 
-    def arrays_of(self, begin: int, end: int) -> Iterator[list[Any]]:
-        """The arrays of the steps from one number to another, as far as there are so many."""
-        return self.rows(lambda values: values, begin, end)
-
     def rows(self, made: Callable[[list[Any]], Row], begin: int = 1, end: Optional[int] = None) -> Iterator[Row]:
         """What is made of each step's array, one after the other: once of lines that are alike and near."""
         return chain.from_iterable(self._rows_together(made, begin, end))

@@ -11,7 +11,7 @@ from .attached import Attached
 from .changed import changed_table
 from .changes import marks_table
 from .commands import COMMANDS, Ambiguous, is_answered_here, parts_of, whole_words
-from .errors import Mismatched, unexpected
+from .errors import Mismatched, Misused, unexpected
 from .interrupts import GivenUp, Interrupted, Interrupts
 from .line_hints import hint
 from .program.breaks import Breaks, names_a_place
@@ -32,10 +32,6 @@ UNNAMED = "this needs the recording: name its file after --join HOST:PORT"
 
 Part = TypeVar("Part")
 Answering = Callable[["Session", list[str]], Optional[bool]]  # False where the session has ended
-
-
-class Misused(Exception):
-    """A command of nrdb with words that it doesn't take: what is wrong with them."""
 
 
 def needed(part: Optional[Part]) -> Part:

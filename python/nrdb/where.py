@@ -43,6 +43,11 @@ class Stack(NamedTuple):
                 inner = call.function
         return None
 
+    def place(self) -> str:
+        """The program's line; `in` and the innermost function if that is all that is known."""
+        found = self.own()
+        return found[0].place() if found else self.words()
+
     def words(self) -> str:
         """The program's line, and the function that is called there."""
         found = self.own()

@@ -9,7 +9,8 @@ from netrev_fuzz.injections import Bug, Traffic
 from netrev_fuzz.little_go import Turns
 from nrdb.calls import book_of
 from nrdb.one_call import Call, Outcome
-from nrdb.following import GOALS, Stay, Subject, calls_table, errors_table, goroutine_at, steps_table
+from nrdb.causes import errors_table
+from nrdb.following import GOALS, Stay, Subject, calls_table, goroutine_at, steps_table
 from nrdb.recording import Recording
 
 SEEDS = range(300, 312)

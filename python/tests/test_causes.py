@@ -9,12 +9,11 @@ from pathlib import Path
 from typing import Any, Iterator, NamedTuple
 
 from netrev_fuzz.injections import Traffic
-from nrdb.causes import first_words
+from nrdb.causes import errors_table, first_words
 from nrdb.causes.index import index_of
 from nrdb.causes.source import behind
 from nrdb.causes.tables import hangs_table
 from nrdb.causes.words import duration
-from nrdb.following import errors_table
 from nrdb.recording import Recording
 from nrdb.suspects.rules_of_calls.left_open import SINCE
 from nrdb.suspects.loading import RULES_OF_CALLS

@@ -74,6 +74,12 @@ class Drawings(unittest.TestCase):
         self.assertGreater(float(failed.get("width", 0)), 100)
         self.assertTrue(any((node.text or "").startswith("Read · closed") for node in elements(picture, "text")))
 
+    def test_a_call_of_gos_own_code_is_labelled_with_its_function(self) -> None:
+        recording = Recording.read(str(EXAMPLES / "races/http-watchdog.jsonl"))
+        labels = [node.text or "" for node in elements(drawing(recording, None), "text")]
+        self.assertEqual([label for label in labels if label.endswith("· in")], [])
+        self.assertIn("Write · closed · in internal/poll.(*fdMutex).rwlock", labels)
+
     def test_texts_of_others_stay_texts(self) -> None:
         recording = with_lines_of(HOSTILE)
         picture = drawing(recording, None)

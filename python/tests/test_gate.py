@@ -3,6 +3,7 @@
 import os
 import shutil
 import subprocess
+import sys
 import tempfile
 import unittest
 from pathlib import Path
@@ -41,6 +42,20 @@ def test_alone_fails():
     raise AssertionError("no such step")
 """
 LEFT_OUT = "python/tests/test_few.py::Class::test_left_out: no such tool\n"
+
+
+def test_unittest_at_the_root_says_how_the_tests_are_run() -> None:
+    for words in ((), ("discover",)):
+        run = subprocess.run(
+            [sys.executable, "-m", "unittest", *words],
+            cwd=ROOT,
+            capture_output=True,
+            text=True,
+            timeout=60,
+            check=False,
+        )
+        assert (run.returncode, run.stdout) == (1, "")
+        assert run.stderr == "unittest runs none of these tests; pytest does: sh scripts/pytest.sh [FILE ..]\n"
 
 
 class Tests(unittest.TestCase):

@@ -176,6 +176,13 @@ class Pages(SmallTree):
         status, printed = self.run_over()
         self.assertEqual((status, printed.split("\n")[0]), (1, "there is no docs/believe/THEOREM.md"))
 
+    def test_a_package_within_another_has_a_row_of_its_own(self) -> None:
+        self.write("python/nrdb/views/__init__.py", '"""Views."""\n')
+        self.assertIn("the table of CONTRIBUTING.md has no row for nrdb/views", self.run_over("imports")[1])
+        row = "| `nrdb` | counts | `words` |\n"
+        self.write("CONTRIBUTING.md", TREE["CONTRIBUTING.md"].replace(row, f"{row}| `nrdb/views` | views | |\n"))
+        self.assertEqual(self.run_over("imports")[0], 0)
+
     def test_an_unknown_rule_is_refused(self) -> None:
         self.assertIn("there is no rule sums", self.run_over("sums")[1])
 

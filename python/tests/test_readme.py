@@ -78,6 +78,14 @@ def test_modules_of_nrdb_are_short() -> None:
     assert [str(path) for path, length in lengths.items() if length > MOST_LINES] == []
 
 
+def test_a_term_of_the_glossary_has_one_row() -> None:
+    lines = (ROOT / "docs/GLOSSARY.md").read_text(encoding="utf-8").splitlines()
+    rows = [line.strip("|").split("|") for line in lines if line.startswith("|")]
+    terms = [row[0].strip() for row in rows if len(row) == 5 and row[0].strip("- ") not in ("", "Here")]
+    assert len(terms) > 100
+    assert sorted(term for term in set(terms) if terms.count(term) > 1) == []
+
+
 def kept_calls() -> dict[str, set[str]]:
     """The types and functions of each crate whose calls stay, as scripts/surface.txt has them."""
     found: dict[str, set[str]] = {}

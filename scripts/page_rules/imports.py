@@ -95,6 +95,11 @@ def imports(tree: Tree) -> Iterator[Finding]:
     for path in tree.matching("python/*/*.py"):
         if _row_of(rows, path.removeprefix(PYTHON)) is None:
             yield Finding(path, 1, f"the table of {PAGE} has no row for it")
+    for path in tree.matching("python/*/*/__init__.py"):
+        folder = path.removeprefix(PYTHON).removesuffix("/__init__.py")
+        row = _row_of(rows, folder)
+        if folder.count("/") == 1 and not folder.startswith("tests/") and row is not None and row.name == folder.split("/")[0]:
+            yield Finding(path, 1, f"the table of {PAGE} has no row for {folder}")
     met: set[tuple[str, str]] = set()
     for path, line, own, other, row in uses(tree, rows):
         met.add((own.name, row.name))

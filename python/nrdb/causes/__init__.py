@@ -4,7 +4,6 @@ reckoned from the recording's steps and from NAME.where, and is nrdb's own, unpr
 from .failing import causes_of
 from .first import first_words
 from .hanging import hangs_at
-from .tables import error_rows, hangs_table
-from .words import is_by_go
+from .tables import errors_table, hangs_table
 
-__all__ = ["causes_of", "error_rows", "first_words", "hangs_at", "hangs_table", "is_by_go"]
+__all__ = ["causes_of", "errors_table", "first_words", "hangs_at", "hangs_table"]

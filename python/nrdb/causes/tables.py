@@ -1,5 +1,9 @@
-"""The rows of `info errors` and the table of `info hangs`."""
+"""The tables of `info errors` and `info hangs`."""
 
+from typing import Optional
+
+from ..calls import book_of
+from ..following import call_row
 from ..one_call import Call
 from ..output import Row, Table
 from ..recording import Recording
@@ -7,7 +11,26 @@ from .failing import cause_of
 from ..where import Wait
 from .hanging import hangs_at, wait_words, waits_elsewhere
 from .index import Cause, index_of
-from .words import is_of_go
+from .words import is_by_go, is_of_go
+
+
+def errors_table(recording: Recording, position: int, most: Optional[int]) -> Table:
+    """The calls up to the position that ended with a timeout, a close, a broken pipe or an event error."""
+    failed = [call for call in book_of(recording).calls if call.last and call.outcome.is_error]
+    past = [call for call in failed if call.last <= position]
+    found = [call for call in past if not is_by_go(recording, call)]
+    shown = found if most is None else found[-most:]
+    rest = []
+    if len(shown) < len(found):
+        rest.append(f"{len(found) - len(shown)} earlier ones: info errors all")
+    if not found:
+        rest.append(f"no call has failed up to position {position}")
+    if len(found) < len(past):
+        rest.append(f"{len(past) - len(found)} more are waits of Go's own code, which it ended itself")
+    if len(past) < len(failed):
+        rest.append(f"{len(failed) - len(past)} later")
+    rows = [row for call in shown for row in error_rows(recording, call, call_row(recording, call, position))]
+    return Table("errors", rows, "; ".join(rest))
 
 
 def error_rows(recording: Recording, call: Call, row: Row) -> list[Row]:

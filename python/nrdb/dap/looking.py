@@ -216,7 +216,7 @@ class Looks:
             return self.cells(thing.names())
         if isinstance(thing, Every):
             return self._every(thing.of)
-        raise Unanswerable("that has no variables")
+        raise Unanswerable(f"no scope or variable has the reference {reference} at this stop")
 
     def _every(self, of: Of) -> list[Body]:
         """All things of a sort, each with its cells below it, but for goroutines, which have one cell."""

@@ -29,6 +29,8 @@ class Marks:
 
     def replace(self, sort: Sort, wishes: Sequence["Wish | Unset"]) -> list[Body]:
         """Sets these breakpoints in place of those of the same sort; what the protocol says of each, in their order."""
+        standing = {mark.number for mark in self._session.netrev.marks()}  # some may have been deleted in the console
+        self._numbers = {mark: number for mark, number in self._numbers.items() if number in standing}
         wanted = {wish.what for wish in wishes if isinstance(wish, Wish)}
         for mark in [mark for mark in self._numbers if mark[0] is sort and mark[1] not in wanted]:
             self._session.ask(f"delete {self._numbers.pop(mark)}")

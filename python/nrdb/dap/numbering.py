@@ -22,5 +22,5 @@ class Numbering(NamedTuple):
         """The line of a breakpoint."""
         line = breakpoint_.get("line")
         if not isinstance(line, int):
-            raise Unanswerable("a breakpoint has a line")
+            raise Unanswerable("a breakpoint needs a line, which is a whole number")
         return line + 1 - self.first

@@ -83,7 +83,8 @@ const storyNow = () => STORIES[V.story];
 // A call in words: what came of it, and at which line it stands.
 function callWords(call) {
   const came = [ENDS[call.state] && call.state !== FAILED ? ENDS[call.state] : "", call.came].filter(Boolean).join(", ");
-  return [call.name, came, call.line.split(" ")[0]].filter(Boolean).join(" · ");
+  const place = call.line.startsWith("in ") ? call.line : call.line.split(" ")[0];
+  return [call.name, came, place].filter(Boolean).join(" · ");
 }
 
 function colourOf(call) {

@@ -85,7 +85,7 @@ function drawColumns(wide, high) {
   if (LIVE) drawStand(high);
 }
 
-// Where the middle is of the row of that name at a position: a descriptor has a row for each of its uses.
+// Where the middle is of the row of that name at a position: a descriptor has a row for each socket that uses it.
 function middleOf(middles, name, position) {
   const rows = middles[name] || [];
   return rows.find(({ row }) => row.begins === undefined || (row.begins <= position && position < row.ends))?.y;

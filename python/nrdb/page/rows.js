@@ -1,4 +1,4 @@
-// The rows: by connection, which is a socket with the calls on it, the uses of descriptors that are its own and the goroutines that have
+// The rows: by connection, which is a socket with the calls on it, the sides of descriptors in its uses and the goroutines that have
 // most to do with it. Those in which nothing happens in view are left out, and so are those that a filter or a fold leaves out.
 const RANK = { call: 0, sock: 1, desc: 2, due: 3, gor: 4 };
 const STILL = { gor: ["gone", ""], sock: ["closed", ""], desc: ["nil", ""] };
@@ -13,7 +13,7 @@ function ofStories() {
   return new Set(STORIES.map((one) => one.s).filter((socket) => socket !== null));
 }
 
-// A row's parts: name, kind, title, runs with a shade each, and for a use of a descriptor where it begins and ends.
+// A row's parts: name, kind, title, runs with a shade each, and of a descriptor's side where its uses begin and end.
 function grouped() {
   const groups = new Map();
   const add = (socket, row) => {
@@ -25,8 +25,8 @@ function grouped() {
   }
   const named = Object.fromEntries(D.rows.map((row) => [row.name, row]));
   for (const row of D.rows) addRow(add, row);
-  for (const [d, socket, begins, ends] of D.uses) {
-    for (const side of "rw") addUse(add, named[`desc ${d} ${side}`], socket, { begins, ends: ends ?? END + 1, of: d, side });
+  for (const { d, socket, uses } of usesBySocket()) {
+    for (const side of "rw") addSide(add, named[`desc ${d} ${side}`], socket, d, side, uses);
   }
   for (const rows of groups.values()) rows.sort((one, other) => RANK[one.kind] - RANK[other.kind]);
   const first = ofStories();
@@ -42,25 +42,45 @@ function addRow(add, row) {
   add(D.groups[number] ?? -1, { ...row, kind, runs, g, waits, title: `goroutine ${number}` });
 }
 
-// The rows of a side of a descriptor in one of its uses: its word, and its deadline where there ever is one.
-function addUse(add, row, socket, use) {
-  if (!row || use.begins > D.last || use.ends <= D.first) return;
-  const { cell, shades, name } = row;
-  add(socket, { ...use, name, cell, shades, kind: "desc", runs: D.cells[cell], title: `desc ${use.of} ${SIDES[use.side]}` });
-  const deadline = deadlineRow(use);
-  if (deadline) add(socket, deadline);
+// The uses of descriptors in the part, those of one descriptor by one socket together: from which position to which each is.
+function usesBySocket() {
+  const found = new Map();
+  for (const [d, socket, begins, ends] of D.uses) {
+    const until = ends ?? END + 1, key = `${socket} ${d}`;
+    if (begins > D.last || until <= D.first) continue;
+    if (!found.has(key)) found.set(key, { d, socket, uses: [] });
+    found.get(key).uses.push([begins, until]);
+  }
+  return found.values();
 }
 
-// The row of a side's deadline in a use of a descriptor; nothing where there is never one.
-function deadlineRow(use) {
-  const { of, side, begins, ends } = use, cell = `${side}d ${of}`, runs = D.cells[cell];
-  const shades = runs.map(([, value]) => (value === "0" || value === "absent" ? "" : value < 0 ? "passed" : "due"));
-  const isIn = (at) => runs[at][0] < ends && (at + 1 < runs.length ? runs[at + 1][0] : D.last + 1) > begins;
-  if (!shades.some((shade, at) => shade && isIn(at))) return null;
-  return { ...use, name: `due ${of} ${side}`, cell, kind: "due", runs, shades, title: `${SIDES[side]} deadline` };
+// The rows of a side of a descriptor in its uses by a socket: its word, and its deadline if there ever is one.
+function addSide(add, row, socket, d, side, uses) {
+  if (!row) return;
+  const due = ([, value]) => (value === "0" || value === "absent" ? "" : value < 0 ? "passed" : "due");
+  const word = inUses(D.cells[row.cell], row.shades, uses), cell = `${side}d ${d}`, values = D.cells[cell];
+  const deadline = inUses(values, values.map(due), uses), span = { begins: uses[0][0], ends: uses[uses.length - 1][1], of: d, side };
+  add(socket, { ...span, ...word, name: row.name, cell: row.cell, kind: "desc", title: `desc ${d} ${SIDES[side]}` });
+  if (deadline.shades.some(Boolean)) add(socket, { ...span, ...deadline, name: `due ${d} ${side}`, cell, kind: "due", title: `${SIDES[side]} deadline` });
 }
 
-// What tells a row from all others: a descriptor's number is used again, each use in a row of its own.
+// The runs of a cell that are in these uses, with their shades; between two uses nothing.
+function inUses(runs, shades, uses) {
+  const kept = { runs: [], shades: [] };
+  const put = (position, value, shade) => {
+    kept.runs.push([position, value]);
+    kept.shades.push(shade);
+  };
+  uses.forEach(([begins, ends], number) => {
+    for (let at = Math.max(place(runs, begins), 0); at < runs.length && runs[at][0] < ends; at++) {
+      put(Math.max(runs[at][0], begins), runs[at][1], shades[at]);
+    }
+    if (ends <= D.last && uses[number + 1]?.[0] !== ends) put(ends, "absent", "");
+  });
+  return kept;
+}
+
+// What tells a row from all others: a descriptor's number may be another socket's later, in a row of that.
 const keyOf = (row) => (row.begins === undefined ? row.name : `${row.name} ${row.begins}`);
 const rowNow = () => V.rows.find((row) => row.name && keyOf(row) === V.row);
 

@@ -78,15 +78,19 @@ function takeStory(at) {
   });
 }
 
-// How the page begins: at the first story, where nobody has gone elsewhere; a short run is shown all, and so is a part that was asked for.
+// How the page begins: at the first story, unless the session or the address is elsewhere; a short run is shown all, and so is a part that
+// was asked for. Without a story a page of a part begins in that part, at a position whose values are here.
 function begin() {
-  const isElsewhere = chosenByAddress() || D.position > BEGIN || LIVE;
+  const isElsewhere = chosenByAddress() || D.position > BEGIN || LIVE, hasAll = D.first <= BEGIN && D.last >= END;
   if (STORIES.length) takeStory(0);
-  if (D.isPart) show(D.first, D.last - D.first + 1);
+  const beginsInPart = D.isPart || (!STORIES.length && !hasAll && !LIVE);
+  if (beginsInPart && !isElsewhere) V.chosen = D.isPart ? D.first : D.last;
+  if (beginsInPart) show(D.first, D.last - D.first + 1);
   else show(BEGIN, COUNT);
   if (!STORIES.length || isElsewhere) return fillPanel();
   if (COUNT > WHOLE && !D.isPart) showStory(0);
-  else choose(STORIES[0].step);
+  else if (!D.isPart || isHere(STORIES[0].step)) choose(STORIES[0].step);
+  else fillPanel();
 }
 
 // Marks the steps that have this text, or are of the goroutine that is named.

@@ -55,11 +55,11 @@ class Breaks:
 
 
 def names_a_place(recording: Optional[Recording], words: list[str]) -> bool:
-    """Whether a command of netrev's names a place of the program, or a break at one: then nrdb answers."""
+    """Whether a command of netrev's names a place of the program, or a break at one, or all marks: then nrdb answers."""
     name, *rest = words
     if name in ("break", "tbreak"):
         return is_place(recording, rest)
-    return name == "delete" and len(rest) == 1 and NUMBER.fullmatch(rest[0]) is not None
+    return name == "delete" and (not rest or (len(rest) == 1 and NUMBER.fullmatch(rest[0]) is not None))
 
 
 def beyond(place: Place, position: int, forwards: bool) -> Optional[int]:

@@ -12,6 +12,7 @@ from ..where import Call, Stack
 
 OF_A_LINE = re.compile(r"(.+):(\d{1,9})\Z")
 Key = TypeVar("Key", bound=Hashable)
+POINTER = re.compile(r"\(\*([^()]*)\)")  # a pointer receiver
 MOST_NEAR = 5  # lines that are named where none is meant
 
 
@@ -99,8 +100,17 @@ def is_file(known: str, spelled: str) -> bool:
 
 
 def is_function(call: Call, name: str) -> bool:
-    """Whether a call is of the function that is spelled: the whole name, or without the package or its path."""
-    return call.function == name or call.function.endswith((f"/{name}", f".{name}"))
+    """Whether a call is of the function that is spelled: the whole name, or without the package or its path. `hub.broadcast` is
+    `(*hub).broadcast` too."""
+    return any(
+        function == spelled or function.endswith((f"/{spelled}", f".{spelled}"))
+        for function, spelled in ((call.function, name), (without_pointer(call.function), name))
+    )
+
+
+def without_pointer(function: str) -> str:
+    """A function's name with a pointer receiver as one without: `main.hub.broadcast` of `main.(*hub).broadcast`."""
+    return POINTER.sub(r"\1", function)
 
 
 @lru_cache(maxsize=2)

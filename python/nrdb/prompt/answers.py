@@ -10,7 +10,7 @@ from netrev_words.vocabulary import CELLS, KINDS, REASONS, Of, cell_of, number_o
 from .answers_of_calls import OF_CALLS, answer_errors, arrive, taken_most, usage
 from .answers_of_files import answer_explore, answer_reduce, answer_report, answer_timeline, answer_trace
 from ..changes import history_table
-from ..commands import ALL_TOPICS, COMMANDS, OF_NETREV, OF_NRDB, TOPICS, Origin, whole_command
+from ..commands import ALL_TOPICS, COMMANDS, FORMS, OF_NETREV, OF_NRDB, TOPICS, Origin, whole_command
 from ..holders import holders_table
 from ..output import Row, Table
 from ..places import descriptors_table, sockets_table, timers_table
@@ -64,6 +64,8 @@ def help_of(words: list[str]) -> Iterator[str]:
     if name in COMMANDS and (not is_other or word == name):
         short = f" (short: {', '.join(COMMANDS[name].short)})" if COMMANDS[name].short else ""
         yield usage(name) + short
+    if name in FORMS and not is_other:
+        yield f"{FORMS[name].usage}: {FORMS[name].says}"
     if name == "info" and not (is_other and word != name):
         yield from (f"info {topic.usage}: {topic.says}" for topic in TOPICS.values())
     if word in KINDS:
@@ -84,9 +86,28 @@ def all_help() -> list[str]:
     ):
         lines.append(title)
         lines += [f"  {command.usage:<34} {command.says}" for command in commands.values()]
+        if origin is Origin.NRDB:
+            lines += [f"  {form.usage:<34} {form.says}" for form in FORMS.values()]
         topics = [topic for topic in TOPICS.values() if topic.origin is origin]
         lines += [f"  info {topic.usage:<29} {topic.says}" for topic in topics]
     return [*lines, f"kinds: {' '.join(KINDS)}", f"cells: {' '.join(CELLS)}"]
+
+
+def answer_apropos(session: Session, words: list[str]) -> None:
+    if not words:
+        raise Misused(usage("apropos"))
+    wanted = " ".join(words).lower()
+    lines = [line for line in described() if wanted in line.lower()]
+    session.printer.note("\n".join(lines) or f"nothing has {wanted} in its description; help lists all")
+
+
+def described() -> Iterator[str]:
+    """Each command, topic, kind of step and cell with its description."""
+    for command in (*COMMANDS.values(), *FORMS.values()):
+        yield f"{command.usage}: {command.says}"
+    yield from (f"info {topic.usage}: {topic.says}" for topic in TOPICS.values())
+    yield from (f"step {kind.usage}: {kind.says}" for kind in KINDS.values())
+    yield from (f"cell {cell.name}: {cell.says}" for cell in CELLS.values())
 
 
 def answer_where(session: Session, words: list[str]) -> None:
@@ -252,6 +273,7 @@ TABLES = {"goroutines": goroutines_table, "sockets": sockets_table, "descriptors
 
 ANSWERS: dict[str, Answering] = {
     "help": answer_help,
+    "apropos": answer_apropos,
     "where": answer_where,
     "list": of_place("list", answer_list),
     "goto": of_place("goto", answer_goto),

@@ -12,7 +12,6 @@ from ..following import (
     Subject,
     call_row,
     calls_table,
-    errors_table,
     goroutine_at,
     steps_table,
 )
@@ -60,6 +59,8 @@ def answer_calls(session: Session, words: list[str]) -> None:
 
 
 def answer_errors(session: Session, words: list[str]) -> None:
+    from ..causes import errors_table
+
     most = taken_most("errors", words)
     session.printer.table(errors_table(session.text(), session.stands().position, most))
 

@@ -7,7 +7,7 @@ from ..output import Row, Table
 from ..recording import Recording
 from ..session import Answering, Misused, Session
 from ..where import OF_THE_PROGRAM, Call, Stack
-from ..program.index import OF_A_LINE, Place, is_file, is_place, no_step_from, places_of
+from ..program.index import OF_A_LINE, Place, is_file, is_function, is_place, no_step_from, places_of
 from ..program.source import source_of, text_round
 
 NO_LINES = "the lines of the program aren't known: NAME.where isn't beside the recording"
@@ -45,8 +45,22 @@ def break_at(is_temporary: bool) -> Answering:
 
 
 def answer_delete(session: Session, words: list[str]) -> None:
+    if not words:
+        return delete_all(session)
     if session.breaks.standing.pop(words[0], None) is None:
         raise Misused(f"no break has the number {words[0]}: info breakpoints")
+
+
+def delete_all(session: Session) -> None:
+    """Deletes netrev's marks and the breaks at places of the program, and says which they were."""
+    gone = []
+    for mark in session.netrev.marks():
+        if not session.ask(f"delete {mark.number}").startswith("fault"):
+            session.attached.lines.pop(mark.number, None)
+            gone.append(f"{mark.number} ({mark.sort} {mark.what})")
+    gone += [f"{one.number} (break {one.place.spelled})" for one in session.breaks.standing.values()]
+    session.breaks.standing.clear()
+    session.printer.note(f"deleted: {', '.join(gone)}" if gone else "no mark stands")
 
 
 def go_to_place(name: str, forwards: bool) -> Answering:
@@ -80,11 +94,12 @@ def row_of(recording: Recording, position: int) -> Row:
 
 
 def answer_list(session: Session, words: list[str]) -> None:
-    """The source round a line."""
-    found = OF_A_LINE.fullmatch(words[0])
-    if found is None:
-        raise Misused("list FILE:LINE shows the source round a line; list N the steps round one")
-    show_source(session, found[1], int(found[2]))
+    """The source round a line, or round the first line of a function that the recording has."""
+    if found := OF_A_LINE.fullmatch(words[0]):
+        return show_source(session, found[1], int(found[2]))
+    calls = [call for call in calls_of(session.text()) if is_function(call, words[0])]
+    first = min(calls, key=lambda call: (call.file, call.line))
+    show_source(session, first.file, first.line)
 
 
 def show_source(session: Session, file: str, line: int) -> None:

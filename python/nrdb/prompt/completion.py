@@ -1,15 +1,19 @@
 """What a word at the prompt can be completed to: commands, topics, kinds, cells, and the numbers that are in use."""
 
-from typing import Callable
+from typing import Callable, Optional
 
 from netrev_words.vocabulary import CELLS, DUMPS, KINDS, Of
 
 from ..commands import COMMANDS, DIRECTIONS, PAGINATION, TOPICS, Ambiguous, whole_words
+from ..recording import Recording
 from ..session import Session
+from ..where import OF_THE_PROGRAM
 from ..world import made_at
 
 NUMBERED_TOPICS = {"goroutines": Of.GOROUTINE, "sockets": Of.SOCKET, "descriptors": Of.DESCRIPTOR, "holders": Of.SOCKET}
 OF_CELL = ("print", "watch", "display", "undisplay", "history", "until", "reverse-until")
+OF_A_KIND = ("break", "tbreak")
+OF_A_PLACE = (*OF_A_KIND, "goto", "list", "until", "reverse-until", "history")
 BEHIND_A_FILE = ("reduce", "report")
 STATUSES = "idle gone acquiring queued relock owing entering armed parking parked swapping checking".split()
 FOLLOWED = {"gor": Of.GOROUTINE, "sock": Of.SOCKET, "desc": Of.DESCRIPTOR}
@@ -23,7 +27,9 @@ def completions(line: str, session: Session) -> list[str]:
     it can't be asked."""
     words = line.rpartition(";")[2].split(" ")
     *before, last = words
-    found = candidates([word for word in before if word], lambda of: numbers_in(session, of))
+    found = candidates(
+        [word for word in before if word], lambda of: numbers_in(session, of), lambda: places_in(session.recording)
+    )
     return [word for word in found if word.startswith(last)]
 
 
@@ -32,14 +38,27 @@ def numbers_in(session: Session, of: Of) -> list[str]:
     return [str(number) for number in range(min(made_at(session.netrev, of), MOST_NUMBERS))]
 
 
-def candidates(before: list[str], numbers: Callable[[Of], list[str]]) -> list[str]:
-    """What can stand behind these words; `numbers` gives those that are in use."""
+def places_in(recording: Optional[Recording]) -> list[str]:
+    """The functions of the program and the lines of its files that steps come from."""
+    lines = recording.lines if recording else None
+    calls = [call for number in set(lines.steps) for call in lines.stacks[number].calls] if lines else []
+    own = [call for call in calls if call.of == OF_THE_PROGRAM]
+    by_line = sorted({(call.file, call.line) for call in own})
+    return [*sorted({call.function for call in own}), *(f"{file}:{line}" for file, line in by_line)]
+
+
+def candidates(
+    before: list[str], numbers: Callable[[Of], list[str]], places: Callable[[], list[str]] = list
+) -> list[str]:
+    """What can stand behind these words; `numbers` gives those that are in use, and `places` the functions and lines of the program."""
     if not before:
         return list(COMMANDS)
     try:
         first, *rest = whole_words(list(before))
     except Ambiguous:
         return []
+    if first in OF_A_PLACE and not rest:
+        return [*places(), *(of_cell(rest, numbers) if first in OF_CELL else KINDS if first in OF_A_KIND else ())]
     if first in OF_CELL:
         return of_cell(rest, numbers)
     if first in OF_A_GOROUTINE and not rest:
@@ -52,8 +71,6 @@ def candidates(before: list[str], numbers: Callable[[Of], list[str]]) -> list[st
         return {
             "steps": [*FOLLOWED, *KINDS],
             "calls": list(FOLLOWED),
-            "break": list(KINDS),
-            "tbreak": list(KINDS),
             "dump": list(DUMPS),
             "info": list(TOPICS),
             "set": ["exec-direction"],

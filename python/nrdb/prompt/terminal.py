@@ -8,7 +8,7 @@ from typing import Optional, TextIO, cast
 from netrev_words.vocabulary import Of
 
 from ..commands import COMMANDS, Ambiguous, whole_words
-from .completion import candidates, numbers_in
+from .completion import candidates, numbers_in, places_in
 from .paging import Paged
 from ..interrupts import Interrupted
 from ..netrev import Ended
@@ -21,9 +21,7 @@ except ImportError:  # a Python without it has no line editing
     readline = None  # type: ignore[assignment]
 
 PROMPT, TAKING = "(netrev) ", "> "  # the second for the lines of `commands`
-FIRST = (
-    "what went wrong: info suspects; what hangs: continue, info goroutines; what failed: info errors; all else: help"
-)
+FIRST = "what went wrong: info suspects; what hangs: continue, info goroutines; what failed: info errors; all commands: help"
 KEPT = 1000
 
 
@@ -103,7 +101,7 @@ class Terminal:
         if at == 0:
             before = readline.get_line_buffer()[: readline.get_begidx()].split()
             with self.session.interrupts.held():
-                every = candidates(before, self._numbers)
+                every = candidates(before, self._numbers, lambda: places_in(self.session.recording))
             self._found = [f"{word} " for word in every if word.startswith(text)]
         return self._found[at] if at < len(self._found) else None
 

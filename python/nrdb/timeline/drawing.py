@@ -125,7 +125,7 @@ class Drawing:
         for begin, until in self._sleeps(call, end):
             self._bar(begin, until, self._y + HIGH - 5.5, 3, "on" if state == FAILED else "sleep")
         wide = self._x(end) - self._x(call.first - 1)
-        line = self._recording.lines.words(call.first).split(" ")[0]
+        line = self._recording.lines.of(call.first).place()
         came = ENDS.get(state) or call.came()
         words = " · ".join(filter(None, (name_of(self._recording, call), came, line)))
         if shown := fitted(words, wide - 8):

@@ -54,15 +54,23 @@ def collected(shown: Shown, window: Optional[Window] = None) -> Data:
     """What the page shows: of the whole run calls and stories, and of a part each cell's values. Where nobody names the part it is all, or
     of a long recording what is round its first story."""
     whole = whole_of(shown)
-    round_it = window or part_round(whole["suspects"] + whole["causes"], shown.recording.length)
+    round_it = window or part_round(whole["suspects"] + whole["causes"], shown.recording.length, shown.position)
     return {**whole, **part_of(shown, round_it), "isPart": window is not None}
 
 
-def part_round(stories: list[Data], length: int) -> Window:
-    """The positions of which values are shown: all, or of a long recording those round the end of its first story."""
+def part_round(stories: list[Data], length: int, position: int = 0) -> Window:
+    """The positions of which values are shown: all, or of a long recording those round the end of its first story; round the session's
+    position if that is elsewhere, and not the start."""
     if length <= MOST:
         return Window(0, length)
-    last = min(stories[0]["steps"][-1] + AT_ONCE // 4, length) if stories else length
+    part = part_about(stories[0]["steps"][-1] if stories else length, length)
+    is_shown = position == 0 or part.first <= position <= part.last
+    return part if is_shown else part_about(position, length)
+
+
+def part_about(position: int, length: int) -> Window:
+    """A part of a long recording that ends some steps after a position."""
+    last = min(position + AT_ONCE // 4, length)
     return Window(max(last - AT_ONCE, 0), max(last, AT_ONCE))
 
 

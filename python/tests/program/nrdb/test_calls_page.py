@@ -106,6 +106,12 @@ class InChromium(unittest.TestCase):
     def setUpClass(cls) -> None:
         cls.pages = pages()
 
+    def test_a_call_of_gos_own_code_is_labelled_with_its_function(self) -> None:
+        page = opened(page_of(EXAMPLES / "races/http-watchdog.jsonl"))
+        labels = used(page, "told.calls = inside.CALLS.map(inside.callWords);")["calls"]
+        self.assertEqual([label for label in labels if label.endswith(" · in")], [])
+        self.assertIn("Write · closed · in internal/poll.(*fdMutex).rwlock", labels)
+
     def test_each_bug_is_there_when_the_page_opens(self) -> None:
         for name, (rule, steps, words) in BUGS.items():
             told = used(

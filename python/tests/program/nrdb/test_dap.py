@@ -151,6 +151,13 @@ class Hunt(unittest.TestCase):
         self.editor("evaluate", expression="quit", context="repl")
         self.editor.event("terminated")
 
+    def test_a_breakpoint_that_was_deleted_in_the_console_can_be_set_again(self):
+        self.editor.begin(LOST, stopAt="start")
+        for _ in range(2):
+            (made,) = self.editor("setFunctionBreakpoints", breakpoints=[{"name": "pollreset"}])["breakpoints"]
+            said = self.editor("evaluate", expression="delete", context="repl")["result"]
+            self.assertIn(f"deleted: {made['id']} (break pollreset)", said)
+
     def test_lines_are_counted_as_the_editor_does(self):
         self.editor("initialize", adapterID="netrev", linesStartAt1=False)
         self.editor("launch", program=LOST, stopAt="start")

@@ -164,6 +164,15 @@ class Access(InChromium):
                 page.types("info suspects")
                 page.until("document.getElementById('log').innerText.includes('next:')")
                 self.expect_texts(f"session, {name}", page)
+                for wide in (1280, 400):
+                    page.does(
+                        "Emulation.setDeviceMetricsOverride", width=wide, height=800, deviceScaleFactor=1, mobile=False
+                    )
+                    hidden = page.value(
+                        "(() => { const bar = document.getElementById('moves'); return bar.scrollWidth - bar.clientWidth })()"
+                    )
+                    self.assertEqual(hidden, 0, (name, wide))
+                page.does("Emulation.clearDeviceMetricsOverride")
                 self.expect_keyboard(f"session, {name}", page, 14)
 
     def test_a_contrast_that_is_too_low_is_found(self) -> None:

@@ -1,0 +1,8 @@
+#!/bin/sh
+# Prints what `nrdb --version` says of a package's program:  scripts/proved.sh PROGRAM > lib/netrev/proved.txt
+#
+# Its SHA-256, and what `rt version` says; without the toolchain the version that README.md names.
+set -eu
+cd "$(dirname "$0")/.."
+sha256sum < "$1" | cut -d ' ' -f 1
+rt version 2> /dev/null || sed -n 's/^    \(rattle-kit-.*\)$/\1/p' README.md | head -n 1
