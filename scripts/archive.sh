@@ -1,19 +1,20 @@
 #!/bin/sh
-# Packs a program of netrev with all that belongs to it:  scripts/archive.sh VERSION PROGRAM LOG FOLDER
+# Packs a program of netrev with all that belongs to it:  scripts/archive.sh VERSION PROGRAM LOG FOLDER [PROVED]
 #
 # FOLDER gets netrev-VERSION-linux-x86_64.tar.gz, and its sum beside it. It contains PROGRAM, nrdb, netrev-go, their man pages and
 # completions, README and the pages, the editors' files, the examples, the licenses, LOG (the gate's), and SHA256SUMS of all that.
-# Whether PROGRAM passed a gate is for the caller to know (scripts/package.sh).
+# If PROGRAM is proved, PROVED is the file that says by which toolchain (scripts/proved.sh); that it passed a gate is for the caller to
+# know (scripts/package.sh).
 set -eu
 cd "$(dirname "$0")/.."
-version=$1 program=$2 log=$3 folder=$4
+version=$1 program=$2 log=$3 folder=$4 proved=${5:-}
 name=netrev-$version-linux-x86_64
 
 room=$(mktemp -d)
 trap 'rm -rf "$room"' EXIT
 top=$room/$name
 make --no-print-directory -s install-files PROGRAM="$program" DESTDIR= PREFIX="$top"
-sh scripts/proved.sh "$program" > "$top/lib/netrev/proved.txt"
+[ -z "$proved" ] || cp "$proved" "$top/lib/netrev/proved.txt"
 mkdir -p "$top/tools/go"
 cp README.md CHANGELOG.md CONTRIBUTING.md LICENSE LICENSE-MIT LICENSE-APACHE "$top"
 cp tools/go/README.md "$top/tools/go"

@@ -31,4 +31,5 @@ if [ "$(sha256sum < "$program")" != "$(cat "$sum")" ]; then
 	[ "$program" -ef "$built" ] && [ -z "$(newer_than "$built")" ] ||
 		fail "$program isn't the program that passed the gate: its sum isn't the one in $sum."
 fi
-exec sh scripts/archive.sh "$version" "$program" "$log" out
+sh scripts/proved.sh "$program" > out/proved.txt
+exec sh scripts/archive.sh "$version" "$program" "$log" out out/proved.txt

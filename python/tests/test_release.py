@@ -47,6 +47,7 @@ def tree(tmp_path: Path) -> Path:
     for name in SCRIPTS:
         shutil.copy(ROOT / name, tmp_path / name)
     (tmp_path / "scripts/archive.sh").write_text('echo "packs $*"\n')
+    (tmp_path / "scripts/proved.sh").write_text('echo "proved $*"\n')
     for folder in ("out", "crates/netrev/src", "crates/netrev/out"):
         (tmp_path / folder).mkdir(parents=True)
     (tmp_path / "crates/netrev/src/main.rt").touch()
@@ -120,7 +121,9 @@ def test_what_passed_the_gate_is_packed(tree: Path) -> None:
     shutil.copy2(built, same)
     for words in ((), (str(same),)):
         ran = run(tree, "scripts/package.sh", VERSION, *words)
-        assert (ran.returncode, ran.stdout.split()[:2]) == (0, ["packs", VERSION]), ran.stderr
+        program = words[0] if words else "crates/netrev/out/netrev"
+        assert ran.stdout == f"packs {VERSION} {program} out/gate.log out out/proved.txt\n", ran.stderr
+        assert (tree / "out/proved.txt").read_text() == f"proved {program}\n"
 
 
 def test_what_passed_no_gate_is_not_packed(tree: Path) -> None:
