@@ -65,6 +65,7 @@ def by_their_paths(room: Room) -> None:
         assert room.run("cd ..") == (0, "")
 
 
+@pytest.mark.long
 def test_in_a_fresh_clone(tmp_path: Path) -> None:
     room, toolchain = clone_room(tmp_path)
     debug = sections(TEXT)[DEBUG]
@@ -86,6 +87,7 @@ def test_the_questions_that_a_look_has_to_answer_are_shown() -> None:
     assert set(QUESTIONS) <= typed
 
 
+@pytest.mark.long
 class Packages(unittest.TestCase):
     """The archive and the Debian package, made of the tree as it is, without asking for a gate that passed."""
 
