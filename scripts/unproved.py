@@ -46,7 +46,7 @@ def unproved_netrev(say: Say) -> Path:
             say("out/look/netrev is of the same sources, so nothing is compiled.")
         else:
             keep_copy(program, say)
-        link_to(program)
+        name_it(program)
         descriptor = os.open(program, os.O_RDONLY)
         fcntl.flock(descriptor, fcntl.LOCK_SH)
         os.set_inheritable(descriptor, True)
@@ -98,12 +98,14 @@ def exclusive(path: Path, say: Say) -> Iterator[None]:
         yield
 
 
-def link_to(program: Path) -> None:
-    """Makes out/look/netrev lead to the program, for users who name it: NETREV=out/look/netrev."""
-    new = KEPT / "link"
+def name_it(program: Path) -> None:
+    """Gives the program the name out/look/netrev too, for users: NETREV=out/look/netrev. It is a hard link, because `rt ci` refuses a
+    tree with symbolic links."""
+    new = KEPT / "new"
     new.unlink(missing_ok=True)
-    new.symlink_to(program.name)
+    os.link(program, new)
     new.replace(KEPT / "netrev")
+    new.unlink(missing_ok=True)  # (nothing is renamed if both are links to one file already)
 
 
 def remove_unused() -> None:

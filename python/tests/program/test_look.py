@@ -74,7 +74,7 @@ def test_a_later_look_compiles_nothing_while_the_sources_are_the_same(clone: Pat
     assert toolchain.compiled() == 1
     assert "Nothing of this netrev is proved" in first.stderr and "Nothing of this netrev is proved" in again.stderr
     assert "out/look/netrev is of the same sources, so nothing is compiled." in again.stderr
-    assert (clone / "out/look/netrev").resolve().name == kept(clone)[0]
+    assert (clone / "out/look/netrev").samefile(clone / "out/look" / kept(clone)[0])
     assert again.stdout == first.stdout
 
 
@@ -90,7 +90,7 @@ def test_changed_sources_are_compiled_anew_and_the_old_program_goes(clone: Path,
         source.write_text(text)
     assert toolchain.compiled() == 2
     assert len(kept(clone)) == 1 and kept(clone) != before
-    assert (clone / "out/look/netrev").resolve().name == kept(clone)[0]
+    assert (clone / "out/look/netrev").samefile(clone / "out/look" / kept(clone)[0])
 
 
 def test_a_program_that_is_not_what_was_kept_is_compiled_anew(clone: Path, toolchain: Toolchain) -> None:
@@ -134,6 +134,15 @@ def test_two_at_once_compile_once(clone: Path, toolchain: Toolchain) -> None:
         look.join()
     assert len(printed) == 2 and printed[0] == printed[1] and "at 216 end" in printed[0]
     assert toolchain.compiled() == 1
+
+
+def test_it_leaves_only_plain_files_in_the_tree(clone: Path, toolchain: Toolchain) -> None:
+    """`rt ci` refuses a tree with links."""
+    looked(clone, toolchain)
+    looked(clone, toolchain)
+    files = list((clone / "out").rglob("*"))
+    assert {file.name for file in files} == {"look", "lock", "netrev", kept(clone)[0], f"{kept(clone)[0]}.sha256"}
+    assert not any(file.is_symlink() for file in files)
 
 
 def test_a_script_runs_with_the_same_program(clone: Path, toolchain: Toolchain) -> None:
