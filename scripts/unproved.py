@@ -152,6 +152,8 @@ def serving(log: IO[bytes]) -> Iterator[tuple[subprocess.Popen[bytes], int]]:
     """`rt try`, which compiles netrev and has it serve the example; and the port."""
     port = free_port()
     command = ["rt", "try", "--seconds", str(PATIENCE), "--", "serve", str(EXAMPLE), "--port", str(port)]
+    ending = (signal.SIGINT, signal.SIGTERM, signal.SIGHUP)
+    mask = signal.pthread_sigmask(signal.SIG_BLOCK, ending)  # until there is a process to stop
     process = subprocess.Popen(
         command,
         cwd=ROOT / "crates/netrev",
@@ -159,8 +161,10 @@ def serving(log: IO[bytes]) -> Iterator[tuple[subprocess.Popen[bytes], int]]:
         stdout=log,
         stderr=subprocess.STDOUT,
         start_new_session=True,
+        preexec_fn=lambda: signal.pthread_sigmask(signal.SIG_SETMASK, mask),
     )
     try:
+        signal.pthread_sigmask(signal.SIG_SETMASK, mask)
         yield process, port
     finally:
         stop(process)
