@@ -37,11 +37,11 @@ def prompt() -> Prompt:
 
 
 def test_apropos_lists_what_has_the_word_in_its_description(prompt: Prompt) -> None:
-    told = prompt("apropos DEADLINE").splitlines()
-    assert any(line.startswith("| step setdeadline") for line in told)
-    assert any(line.startswith("| cell rd:") for line in told)
-    assert any(line.startswith("| info timers:") for line in told)
-    assert all("deadline" in line.lower() for line in told)
+    output = prompt("apropos DEADLINE").splitlines()
+    assert any(line.startswith("| step setdeadline") for line in output)
+    assert any(line.startswith("| cell rd:") for line in output)
+    assert any(line.startswith("| info timers:") for line in output)
+    assert all("deadline" in line.lower() for line in output)
     assert prompt("apropos no such word") == "| nothing has no such word in its description; help lists all\n"
     assert prompt("apropos").startswith("| apropos WORD: ")
 

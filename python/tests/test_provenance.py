@@ -40,7 +40,7 @@ def version(capsys: pytest.CaptureFixture[str], *words: str) -> list[str]:
     return capsys.readouterr().out.splitlines()
 
 
-def test_the_program_of_a_package_is_told_with_its_proofs(package: Path, capsys: pytest.CaptureFixture[str]) -> None:
+def test_the_program_of_a_package_is_shown_with_its_proofs(package: Path, capsys: pytest.CaptureFixture[str]) -> None:
     assert version(capsys, "--netrev", str(package)) == [
         f"nrdb {VERSION}",
         f"program: {package} (installed with this nrdb)",
@@ -62,9 +62,9 @@ def test_another_program_is_not_said_to_be_proved(package: Path, monkeypatch: py
 
 
 def test_a_program_that_is_missing_is_said_to_be(package: Path) -> None:
-    (told,) = provenance.program_lines(str(package.with_name("none")))
-    assert told.startswith("netrev's program is missing: ")
-    assert provenance.program_lines(None) == [told]
+    (line,) = provenance.program_lines(str(package.with_name("none")))
+    assert line.startswith("netrev's program is missing: ")
+    assert provenance.program_lines(None) == [line]
 
 
 def test_a_damaged_file_of_proofs_says_nothing(package: Path) -> None:
@@ -88,11 +88,11 @@ def test_what_a_package_carries_is_the_sum_and_the_logic(package: Path) -> None:
 
 
 def test_help_has_an_example_that_nrdb_takes() -> None:
-    told = parser().format_help()
-    example = next(line.split() for line in told.splitlines() if line.startswith("  nrdb "))
+    text = parser().format_help()
+    example = next(line.split() for line in text.splitlines() if line.startswith("  nrdb "))
     assert parser().parse_args([word.strip("'") for word in (*example[1:3], "info suspects")]).file == example[1]
     for word in ("`help` lists the commands", "exit after -x and -ex instead of prompting", "OUT.html [FROM TO]"):
-        assert word in told
+        assert word in text
 
 
 def test_without_a_recording_the_message_says_what_to_do(capsys: pytest.CaptureFixture[str]) -> None:

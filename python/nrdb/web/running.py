@@ -9,11 +9,12 @@ from concurrent.futures import Future
 from pathlib import Path
 from typing import Callable, Optional
 
+from ..errors import Mismatched, unexpected
+from ..interrupts import GivenUp, Interrupted
 from ..netrev import Ended, Netrev
 from ..output import Printer
 from ..prompt.completion import completions
 from ..recording import NoRecording
-from ..errors import Mismatched
 from ..session import Session
 from ..shapes import Refused, Strange
 from ..timeline.picture import MOST
@@ -161,6 +162,10 @@ class Running:
             self.session.printer.note(str(wrong))
         except (Ended, Strange) as why:
             self._lose(str(why) if isinstance(why, Strange) else GONE)
+        except (GivenUp, Interrupted, OSError):
+            raise
+        except Exception as error:
+            self.session.printer.note(unexpected(error))
 
     def _lose(self, why: str) -> None:
         """From now on netrev is gone."""

@@ -86,8 +86,8 @@ def test_netrev_go_prints_commands_that_run(installations: list[Installation], l
     for number, installation in enumerate(installations):
         folder = tmp_path / f"project {number}"
         folder.mkdir()
-        said = installation.printed(folder, installation.netrev_go, "-o-mine", "convert", log)
-        (command,) = commands_after_next(said)
+        output = installation.printed(folder, installation.netrev_go, "-o-mine", "convert", log)
+        (command,) = commands_after_next(output)
         shown = installation.typed(folder, command)
         assert "(netrev) history info 1" in shown, (command, shown)
         assert command.startswith("nrdb ") == (number == 1), command
@@ -96,8 +96,8 @@ def test_netrev_go_prints_commands_that_run(installations: list[Installation], l
 def test_causes_end_with_a_command_that_runs(installations: list[Installation], tmp_path: Path) -> None:
     shutil.copy(FAILED, tmp_path / "a b.jsonl")
     for installation in installations:
-        said = installation.printed(tmp_path, sys.executable, installation.packages, "nrdb.causes", "a b.jsonl")
-        (command,) = commands_after_next(said)
+        output = installation.printed(tmp_path, sys.executable, installation.packages, "nrdb.causes", "a b.jsonl")
+        (command,) = commands_after_next(output)
         assert "(netrev) history rd 1" in installation.typed(tmp_path, command), command
 
 
@@ -106,8 +106,8 @@ def test_kept_logs_are_named_with_a_command_that_runs(installations: list[Instal
     script += "print(convert_hint(Path(sys.argv[1]).parent, list(map(Path, sys.argv[1:]))))"
     other = shutil.copy(log, log.with_name("log.18"))
     for number, (installation, logs) in enumerate(zip(installations[::2], ([log, other], [log]))):
-        said = installation.printed(log.parent, sys.executable, "-c", script, *logs)
-        command = said.partition("`")[2].rpartition("`")[0].replace(" NAME ", f" made-{number} ")
+        output = installation.printed(log.parent, sys.executable, "-c", script, *logs)
+        command = output.partition("`")[2].rpartition("`")[0].replace(" NAME ", f" made-{number} ")
         installation.typed(log.parent, command)
         assert len(list(log.parent.glob(f"made-{number}*.jsonl"))) == len(logs), command
 

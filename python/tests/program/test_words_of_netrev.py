@@ -61,12 +61,12 @@ def told_by_netrev_go(path: Path, is_failed: bool = True) -> list[str]:
     for step in steps:
         if (g := step.argument("g")) is not None:
             last[g] = step.number
-    made = mock.Mock(
+    recorded = mock.Mock(
         goroutines=recording.limits["gor"], sockets=recording.limits["sock"], notes=[], lines=steps, last_steps=last,
         stacks=[0] * len(steps),
     )  # fmt: skip
     with mock.patch.object(report, "netrev_program", lambda: str(NETREV)):
-        taken, lines = report.report(made, path, {}, is_failed)
+        taken, lines = report.report(recorded, path, {}, is_failed)
     assert taken, lines
     return lines
 
@@ -81,10 +81,10 @@ def outputs(reported: dict[Path, list[str]], folder: Path) -> Iterator[tuple[Pat
     """Every output in which something may carry netrev's name, with the recording that it is of."""
     for path, lines in reported.items():
         yield path, "\n".join(lines)
-        told = Told("example.org/toy", "TestRed", "failed", 1, 1)
-        told.say(lines)
-        yield path, "\n".join(forms.github_lines([told])).replace("%0A", "\n").replace("%25", "%")
-        yield path, forms.junit([told])
+        outcome = Told("example.org/toy", "TestRed", "failed", 1, 1)
+        outcome.say(lines)
+        yield path, "\n".join(forms.github_lines([outcome])).replace("%0A", "\n").replace("%25", "%")
+        yield path, forms.junit([outcome])
     yield SUSPECT, nrdb("--suspects", SUSPECT, status=4)
     yield HUNG, nrdb("--batch", "-ex", "continue", "-ex", "info suspects", "-ex", "info hangs", HUNG)
     yield FAILED, nrdb("--batch", "-ex", "continue", "-ex", "info errors", FAILED)
@@ -126,8 +126,8 @@ def test_causes_follow_cause_and_commands_next(reported: dict[Path, list[str]]) 
 
 def test_kept_schedules_carry_netrevs_answer_alone(tmp_path: Path, monkeypatch: pytest.MonkeyPatch) -> None:
     monkeypatch.chdir(tmp_path)
-    said = nrdb("--batch", "-ex", "explore 100", shutil.copy(EXAMPLES / "cancelled-read.jsonl", tmp_path))
-    answers = SAYS.findall(said)
+    output = nrdb("--batch", "-ex", "explore 100", shutil.copy(EXAMPLES / "cancelled-read.jsonl", tmp_path))
+    answers = SAYS.findall(output)
     assert len(answers) == 2
     for number, answer in enumerate(answers, 1):
         assert foreign_words(f"netrev: {answer}", Path(f"cancelled-read-other-{number}.jsonl")) == []

@@ -17,6 +17,7 @@ from nrdb.dap.adapter import Adapter
 from nrdb.dap.hearing import Reading
 from nrdb.dap.messages import Wire
 from nrdb.prompt.answers import ANSWERS
+from nrdb.web.running import Running
 from tests.program.sharing import NETREV, ROOT
 
 from .dap_client import Adapter as Editor
@@ -40,10 +41,10 @@ def boom(*_: object) -> None:
 
 def test_a_number_of_any_length_is_answered() -> None:
     lines = [line.strip().replace("{}", LONG) for line in LINES.split(";")]
-    said = nrdb(FIRST, lines=[*lines, "goto 3"])
-    assert "error in nrdb" not in said
-    assert said.count("(netrev) ") == len(lines) + 1
-    assert "\nat 3\n" in said
+    output = nrdb(FIRST, lines=[*lines, "goto 3"])
+    assert "error in nrdb" not in output
+    assert output.count("(netrev) ") == len(lines) + 1
+    assert "\nat 3\n" in output
 
 
 def test_the_adapter_answers_a_number_of_any_length() -> None:
@@ -73,14 +74,14 @@ def test_an_unexpected_error_is_one_line_and_the_session_goes_on(
 ) -> None:
     monkeypatch.delenv("NRDB_TRACEBACK", raising=False)
     with mock.patch.dict(ANSWERS, {"where": boom}):
-        said = nrdb(FIRST, lines=["where", "goto 3"], status=3)
+        output = nrdb(FIRST, lines=["where", "goto 3"], status=3)
         assert capsys.readouterr().err == ""
         monkeypatch.setenv("NRDB_TRACEBACK", "1")
         nrdb(FIRST, lines=["where"], status=3)
-    told = (
+    expected = (
         "| error in nrdb, not in the recording: ValueError: boom and more (set NRDB_TRACEBACK=1 to see its traceback)"
     )
-    assert f"(netrev) where\n{told}; the session goes on\n(netrev) goto 3\nat 3\n" in said
+    assert f"(netrev) where\n{expected}; the session goes on\n(netrev) goto 3\nat 3\n" in output
     assert "Traceback (most recent call last):" in capsys.readouterr().err
 
 
@@ -100,12 +101,12 @@ def test_an_unexpected_error_refuses_one_request() -> None:
     wire = Wire(io.BytesIO(framed(*requests)), written)
     with mock.patch.object(looks, "threads", boom):
         Adapter(wire, Reading(wire), NETREV).serve()
-    told = written.getvalue().decode()
+    output = written.getvalue().decode()
     assert (
         '"command": "threads", "success": false, "message": "error in nrdb, not in the recording: ValueError: boom'
-        in told
+        in output
     )
-    assert '"command": "disconnect", "success": true' in told
+    assert '"command": "disconnect", "success": true' in output
 
 
 def test_an_error_behind_the_response_is_told_in_the_console() -> None:
@@ -119,9 +120,16 @@ def test_an_error_behind_the_response_is_told_in_the_console() -> None:
     wire = Wire(io.BytesIO(framed(*requests)), written)
     with mock.patch("nrdb.dap.adapter.thread_of", boom):
         Adapter(wire, Reading(wire), NETREV).serve()
-    told = written.getvalue().decode()
-    assert '"category": "console", "output": "| error in nrdb' in told
-    assert '"command": "disconnect", "success": true' in told
+    output = written.getvalue().decode()
+    assert '"category": "console", "output": "| error in nrdb' in output
+    assert '"command": "disconnect", "success": true' in output
+
+
+def test_an_unexpected_error_ends_no_page() -> None:
+    running = mock.Mock()
+    Running._guarded(running, boom)
+    (note,) = running.session.printer.note.call_args.args
+    assert note.startswith("error in nrdb, not in the recording: ValueError: boom and more (")
 
 
 def test_a_command_that_takes_a_file_has_the_rest_of_the_line() -> None:
@@ -143,8 +151,8 @@ def test_a_recording_larger_than_memory_is_one_line(tmp_path: Path) -> None:
     large = tmp_path / "large.jsonl"
     with large.open("wb") as file:
         file.truncate(os.sysconf("SC_PHYS_PAGES") * os.sysconf("SC_PAGE_SIZE") + 1)
-    told = f"{large} is too large: nrdb holds a recording in memory, and there isn't enough"
-    assert nrdb(large, status=3) == f"| {told}\n"
+    expected = f"{large} is too large: nrdb holds a recording in memory, and there isn't enough"
+    assert nrdb(large, status=3) == f"| {expected}\n"
 
 
 def test_a_recording_larger_than_what_is_allowed_is_one_line(tmp_path: Path) -> None:

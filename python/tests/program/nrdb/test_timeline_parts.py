@@ -53,17 +53,17 @@ def seen(path: Path, *words: str, place: str = "") -> dict[str, Any]:
 
 
 def test_the_page_of_a_part_begins_where_its_values_are(mix: Path) -> None:
-    told = seen(mix)
-    assert (told["first"], told["last"]) == (STEPS - PART, STEPS)
-    assert told["here"] and told["position"] == STEPS
-    assert told["view"] == [STEPS - PART, STEPS]
-    assert "not here" not in told["panel"]
+    page = seen(mix)
+    assert (page["first"], page["last"]) == (STEPS - PART, STEPS)
+    assert page["here"] and page["position"] == STEPS
+    assert page["view"] == [STEPS - PART, STEPS]
+    assert "not here" not in page["panel"]
 
 
 def test_the_part_is_round_the_sessions_position(mix: Path) -> None:
-    told = seen(mix, "-ex", "goto 300")
-    assert told["position"] == 300 and told["first"] <= 300 <= told["last"]
-    assert "not here" not in told["panel"]
+    page = seen(mix, "-ex", "goto 300")
+    assert page["position"] == 300 and page["first"] <= 300 <= page["last"]
+    assert "not here" not in page["panel"]
 
 
 def test_an_address_outside_of_the_part_is_kept(mix: Path) -> None:
@@ -71,7 +71,7 @@ def test_an_address_outside_of_the_part_is_kept(mix: Path) -> None:
 
 
 def test_each_side_of_a_descriptor_is_one_row(mix: Path) -> None:
-    told = seen(mix)
-    assert told["uses"] > 3
-    assert len(told["rows"]) == len(set(told["rows"])), told["rows"]
-    assert told["compared"] > PART and told["unlike"] == []
+    page = seen(mix)
+    assert page["uses"] > 3
+    assert len(page["rows"]) == len(set(page["rows"])), page["rows"]
+    assert page["compared"] > PART and page["unlike"] == []
