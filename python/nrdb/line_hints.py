@@ -199,12 +199,10 @@ def kind_hint(word: str) -> str:
 
 def of_delete(words: list[str]) -> str:
     """Of what should be deleted."""
-    if not words:
-        return "which mark? info breakpoints lists them"
-    if words[0] == "checkpoint":
+    if words[:1] == ["checkpoint"]:
         return "which checkpoint? info checkpoints lists them: delete checkpoint 1"
     numbers = [word for word in words if number_of(word) is not None]
-    return f"one mark at a time: delete {numbers[0] if numbers else 1}; info breakpoints lists them"
+    return f"one mark at a time: delete {numbers[0] if numbers else 1}; delete alone deletes all"
 
 
 def of_dump(words: list[str]) -> str:
