@@ -1,7 +1,7 @@
 """A netrev that is compiled without its proofs, kept in out/look for as long as its sources stay the same.
 
-`rt try` compiles netrev in a minute or two, runs it in a temporary folder and keeps nothing. So netrev serves an example there,
-and is copied while it runs."""
+`rt try` compiles netrev in a minute or two, runs it in a temporary folder and keeps nothing. So netrev is copied while it runs: it is
+given a named pipe to check, and waits there for a writer that never comes."""
 
 from __future__ import annotations
 
@@ -10,7 +10,6 @@ import hashlib
 import os
 import shutil
 import signal
-import socket
 import subprocess
 import tempfile
 import time
@@ -25,6 +24,7 @@ PATIENCE = 3600  # seconds; on a machine that was busy otherwise, compiling took
 REMINDER = 30  # seconds between two lines that say how long it has been compiling
 STOP_PATIENCE = 120  # seconds that `rt try` has to end its program and remove it
 ELF = b"\x7fELF"
+CHECK = "check"
 NO_TOOLCHAIN = (
     "make look needs the toolchain, and there is no `rt` on the PATH. "
     "The archive and the Debian package work without the toolchain (README.md, Install)."
@@ -126,12 +126,12 @@ def keep_copy(program: Path, say: Say) -> None:
     """Compiles netrev, and keeps a copy of it that has accepted an example."""
     say("Compiling netrev without its proofs, which takes a minute or two.")
     began = time.monotonic()
-    with tempfile.TemporaryFile() as log, serving(log) as (process, port):
-        running = await_program(process, port, log, say)
+    with tempfile.TemporaryFile() as log, trying(log) as (process, pipe):
+        running = await_program(process, pipe, log, say)
         copy = program.with_name(f"{program.name}.new")
         shutil.copyfile(running, copy)
     copy.chmod(0o755)
-    check = subprocess.run([copy, "check", EXAMPLE], capture_output=True, text=True, check=False)
+    check = subprocess.run([copy, CHECK, EXAMPLE], capture_output=True, text=True, check=False)
     if check.returncode:
         raise UnprovedError(f"the copy of netrev does not run: {check.stdout}{check.stderr}".strip())
     sum_file(program).write_text(hashlib.sha256(copy.read_bytes()).hexdigest())
@@ -139,19 +139,19 @@ def keep_copy(program: Path, say: Say) -> None:
     say(f"Compiled in {time.monotonic() - began:.0f} s, and kept as out/look/netrev for the next time.")
 
 
-def free_port() -> int:
-    """A port that no process listens at."""
-    with socket.socket() as listener:
-        listener.bind(("127.0.0.1", 0))
-        port: int = listener.getsockname()[1]
-        return port
+@contextmanager
+def trying(log: IO[bytes]) -> Iterator[tuple[subprocess.Popen[bytes], str]]:
+    """`rt try`, which compiles netrev and has it check a pipe; and the pipe."""
+    with tempfile.TemporaryDirectory(prefix="netrev-look-") as folder:
+        pipe = f"{folder}/pipe"
+        os.mkfifo(pipe)
+        with started(["rt", "try", "--seconds", str(PATIENCE), "--", CHECK, pipe], log) as process:
+            yield process, pipe
 
 
 @contextmanager
-def serving(log: IO[bytes]) -> Iterator[tuple[subprocess.Popen[bytes], int]]:
-    """`rt try`, which compiles netrev and has it serve the example; and the port."""
-    port = free_port()
-    command = ["rt", "try", "--seconds", str(PATIENCE), "--", "serve", str(EXAMPLE), "--port", str(port)]
+def started(command: list[str], log: IO[bytes]) -> Iterator[subprocess.Popen[bytes]]:
+    """A process in netrev's crate, which is stopped at the end, whatever ends this one."""
     ending = (signal.SIGINT, signal.SIGTERM, signal.SIGHUP)
     mask = signal.pthread_sigmask(signal.SIG_BLOCK, ending)  # until there is a process to stop
     process = subprocess.Popen(
@@ -165,7 +165,7 @@ def serving(log: IO[bytes]) -> Iterator[tuple[subprocess.Popen[bytes], int]]:
     )
     try:
         signal.pthread_sigmask(signal.SIG_SETMASK, mask)
-        yield process, port
+        yield process
     finally:
         stop(process)
 
@@ -183,10 +183,10 @@ def stop(process: subprocess.Popen[bytes]) -> None:
             pass
 
 
-def await_program(process: subprocess.Popen[bytes], port: int, log: IO[bytes], say: Say) -> Path:
+def await_program(process: subprocess.Popen[bytes], pipe: str, log: IO[bytes], say: Say) -> Path:
     """Waits until the compiled program runs; its file. If `rt try` ends before, its output is the error."""
     began = reminded = time.monotonic()
-    while (program := running_program(process.pid, port)) is None:
+    while (program := running_program(process.pid, pipe)) is None:
         now = time.monotonic()
         if process.poll() is not None or now - began > PATIENCE:
             log.seek(0)
@@ -199,12 +199,12 @@ def await_program(process: subprocess.Popen[bytes], port: int, log: IO[bytes], s
     return program
 
 
-def running_program(ancestor: int, port: int) -> Optional[Path]:
-    """The file of the program that serves at the port, among the descendants of a process."""
+def running_program(ancestor: int, pipe: str) -> Optional[Path]:
+    """The file of the program that checks the pipe, among the descendants of a process."""
     parents = {int(path.name): parent_of(path) for path in Path("/proc").iterdir() if path.name.isdigit()}
     for process in parents:
         if is_below(process, ancestor, parents):
-            program = program_serving(Path("/proc") / str(process), port)
+            program = program_checking(Path("/proc") / str(process), pipe)
             if program:
                 return program
     return None
@@ -225,15 +225,15 @@ def is_below(process: int, ancestor: int, parents: dict[int, int]) -> bool:
     return process == ancestor
 
 
-def program_serving(folder: Path, port: int) -> Optional[Path]:
-    """The program of a process, if it serves at the port. The toolchain starts it through a loader of its own, so the program is
-    what its words name before `serve`."""
+def program_checking(folder: Path, pipe: str) -> Optional[Path]:
+    """The program of a process, if it checks the pipe. The toolchain starts it by a loader of its own, so the program is what the
+    process's words name before `check`."""
     try:
-        words = (folder / "cmdline").read_bytes().split(b"\0")[:-1]
-        if b"serve" not in words[1:] or words[-1] != str(port).encode():
+        *words, check, last = map(os.fsdecode, (folder / "cmdline").read_bytes().split(b"\0")[:-1])
+        if not words or (check, last) != (CHECK, pipe):
             return None
-        program = folder / "cwd" / os.fsdecode(words[words.index(b"serve") - 1])
+        program = folder / "cwd" / words[-1]
         with open(program, "rb") as file:
             return program.resolve() if file.read(4) == ELF else None
-    except OSError:
+    except (OSError, ValueError):  # it has ended, or has fewer words
         return None
