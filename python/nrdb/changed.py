@@ -1,15 +1,32 @@
 """What the last step changed: of goroutines, sockets and descriptors, of the clock and of the counts."""
 
-from typing import Collection, Optional
+from typing import Collection, Iterator, Optional, Sequence
 
 from netrev_words.vocabulary import CELLS, Of
 
+from .changes import marks_table
 from .output import Row, Table
 from .recorded_changes import RecordedChanges
+from .recording import Recording
+from .shapes import Listed
+from .timers import timers_beside
 
 ORDER = (Of.GOROUTINE, Of.SOCKET, Of.DESCRIPTOR, Of.ALL)
 NAMES = list(CELLS)
 NOTHING = "changed: nothing that a cell shows"
+
+
+def tables_beside(
+    changes: RecordedChanges, recording: Recording, position: int, hit: Sequence[Listed]
+) -> Iterator[Table]:
+    """The tables beside a move to a position: whose timers the steps there are about, which marks hit, and what the last step changed."""
+    if (timers := timers_beside(recording, position)).rows:
+        yield timers
+    if hit:
+        yield marks_table(changes, hit, position)
+    told = [mark.what for mark in hit if mark.sort == "watch"]
+    if (changed := changed_table(changes, position, told)) and changed.rows:
+        yield changed
 
 
 def changed_table(changes: RecordedChanges, position: int, told: Collection[str] = ()) -> Optional[Table]:

@@ -1,7 +1,7 @@
 """`history CELL`, and what the watches that hit at a stop saw change."""
 
 from itertools import islice
-from typing import Optional
+from typing import Optional, Sequence
 
 from .output import Row, Table, Values
 from .recorded_changes import RecordedChanges, value_at_start
@@ -37,7 +37,7 @@ def _row(recording: Recording, cell: str, number: int, old: str, new: str) -> Ro
     return Row({**values, "words": words or None}, "   ".join([told, *filter(None, behind)]))
 
 
-def marks_table(changes: RecordedChanges, marks: list[Listed], position: int) -> Table:
+def marks_table(changes: RecordedChanges, marks: Sequence[Listed], position: int) -> Table:
     """Of these marks what each is, and of a watch what changed behind the last step."""
     watched = [mark.what for mark in marks if mark.sort == "watch"]
     before = dict(zip(watched, changes.values(position - 1, watched))) if position else {}

@@ -64,6 +64,10 @@ OF_NRDB = {
             "commands [N]",
             "takes lines, up to `end`, that are run each time that mark N hits; without N, the last mark",
         ),
+        command(
+            "condition N [CELL VALUE]",
+            "mark N stops only if the cell has this value, or these words; without a value it stops always again",
+        ),
         command("display [CELL]", "shows the cell at each stop; alone, all that are shown"),
         command("undisplay [CELL]", "no longer; alone, none"),
         command("history CELL [N|all]", "the changes of a cell up to the position, the last 40 if no number is given"),

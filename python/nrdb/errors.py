@@ -4,6 +4,7 @@ wanted."""
 import os
 import sys
 import traceback
+from typing import Optional, TypeVar
 
 from netrev_words.plain import plain
 
@@ -13,6 +14,17 @@ LONGEST = 200  # characters of an error's text
 
 class Misused(Exception):
     """A command of nrdb with words that it doesn't take: what is wrong with them."""
+
+
+UNNAMED = "this needs the recording: name its file after --join HOST:PORT"
+Part = TypeVar("Part")
+
+
+def needed(part: Optional[Part]) -> Part:
+    """A part of a session that is there if the recording is; Misused if a session was joined without it."""
+    if part is None:
+        raise Misused(UNNAMED)
+    return part
 
 
 class Mismatched(Exception):

@@ -28,8 +28,6 @@ FOREIGN = {
     "find": "history CELL lists a cell's changes, until CELL VALUE goes to one; dump in S shows the bytes in a buffer",
     "search": "until CELL VALUE goes on until a cell has a value, steps KIND lists the steps of a kind",
     "call": "nothing is run again: calls lists the program's calls, and print shows a cell",
-    "condition": "until CELL VALUE goes on until a cell has a value; in an editor a breakpoint has a condition",
-    "cond": "until CELL VALUE goes on until a cell has a value; in an editor a breakpoint has a condition",
     "ignore": "until CELL VALUE goes on until a cell has a value; in an editor a breakpoint has a hit count",
     "file": "nrdb FILE opens a recording, and one at a time",
     "load": "nrdb FILE opens a recording, and one at a time",

@@ -7,7 +7,7 @@ import sys
 from abc import ABC, abstractmethod
 from dataclasses import dataclass
 from enum import Enum
-from typing import Any, Optional, TextIO
+from typing import Any, Callable, Optional, Sequence, TextIO
 
 from netrev_words.plain import plain
 
@@ -69,6 +69,16 @@ class Table:
     topic: str
     rows: list[Row]
     rest: str = ""
+
+
+def displays_table(cells: Sequence[str], values: Sequence[str], words_of: Callable[[str, str], str]) -> Table:
+    """The cells that are displayed, each with its value and what that says in words."""
+    rows = []
+    for cell, value in zip(cells, values):
+        words = words_of(cell, value)
+        shown = f"{cell} = {value}" + (f"   ({words})" if words else "")
+        rows.append(Row({"cell": cell, "value": value, "words": words or None}, shown))
+    return Table("display", rows)
 
 
 class Printer(ABC):

@@ -1,44 +1,46 @@
 """A session: lines go to netrev, or are answered here; after each move it is told where the session stands."""
 
 from dataclasses import dataclass, field
-from pathlib import Path
-from typing import Callable, Mapping, Optional, Sequence, TypeVar
+from typing import Callable, Mapping, Optional, Sequence
 
-from netrev_words.files import check_name
 from netrev_words.vocabulary import cell_of
 
 from .attached import Attached
-from .changed import changed_table
-from .changes import marks_table
+from .changed import tables_beside
+from .conditions import Condition
 from .commands import COMMANDS, Ambiguous, is_answered_here, parts_of, whole_words
-from .errors import Mismatched, Misused, unexpected
+from .errors import Mismatched, Misused, needed, unexpected
 from .interrupts import GivenUp, Interrupted, Interrupts
 from .line_hints import hint
 from .program.breaks import Breaks, names_a_place
 from .netrev import Ended, Joined, Netrev, Reply
-from .output import Place, Printer, Row, Table
+from .output import Place, Printer, displays_table
 from .recorded_changes import RecordedChanges
 from .recording import NoRecording, Recording
 from .scout import Lost, Scout
-from .shapes import MOVED, OF_CELL, OF_DUMP, POSITION, VALUE, Listed, Position, Refused, Strange, move_of, position_of
-from .timers import timers_beside
+from .shapes import (
+    MARK,
+    MOVED,
+    POSITION,
+    VALUE,
+    Listed,
+    Position,
+    Refused,
+    Strange,
+    go_to,
+    is_shaped,
+    move_of,
+    position_of,
+)
+from .text_files import lines_of_script
 from .words import absent_words, dump_words, in_words
 from .world import World
 
 STOPPING = ("continue", "reverse-continue", "resume")
 NESTED = 8
-UNNAMED = "this needs the recording: name its file after --join HOST:PORT"
 
 
-Part = TypeVar("Part")
 Answering = Callable[["Session", list[str]], Optional[bool]]  # False where the session has ended
-
-
-def needed(part: Optional[Part]) -> Part:
-    """A part of a session that is there if the recording is; Misused if a session was joined without it."""
-    if part is None:
-        raise Misused(UNNAMED)
-    return part
 
 
 @dataclass
@@ -63,6 +65,11 @@ class Session:
     is_before: bool = False  # a place of the program: the stack is that of the next step
     recorded: Optional[RecordedChanges] = None  # where the recording is there
     errors: int = 0  # of nrdb's own
+    conditions: dict[str, Condition] = field(default_factory=dict)  # of marks, by their numbers
+    latest: str = ""  # the number of the mark that was set last
+
+    def __post_init__(self) -> None:
+        self.breaks.is_met = lambda number, at: number not in self.conditions or self.holds(self.conditions[number], at)
 
     def begin(self, reply: str) -> None:
         """Tells where the session stands, with netrev's first reply, to `info position`. Mismatched where the recording
@@ -167,18 +174,49 @@ class Session:
         sent = " ".join(words) if words[0] in COMMANDS else line
         # (a stop takes away the temporary breaks that it names, so what stands before it is asked for too)
         stood = self.netrev.marks() if words[0] in STOPPING and self.recorded else []
-        reply = self.back_to_a_break(sent, self.netrev.ask(sent)) if words[0] in STOPPING else self.netrev.ask(sent)
+        reply = self.stop_of(sent) if words[0] in STOPPING else self.netrev.ask(sent)
         self.show(line, reply, words[0] == "dump")
         if MOVED.fullmatch(reply.first):
             move = move_of(sent, reply.first)
-            self.arrive(move.position, move.marks, stood)
+            self.arrive(move.position, self.holding(move.marks), stood)
             self.tell_breaks(words[0], move.position)
         elif reply.first.startswith("fault"):
             self.printer.note(hint(words, reply.first))
         elif words == ["info", "breakpoints"]:
-            for told in (*self.attached.listed(reply.entries), *(one.words() for one in self.breaks.standing.values())):
-                self.printer.note(told)
+            self.note_marks(reply.entries)
+        elif made := MARK.fullmatch(reply.first):
+            self.latest = made[1]
         return reply.first != "bye"
+
+    def note_marks(self, entries: Sequence[str]) -> None:
+        """Says what the marks of `info breakpoints` run, the breaks at places of the program, and the conditions."""
+        standing = [*(entry.split()[0] for entry in entries), *self.breaks.standing]
+        conditions = [one.says(number) for number, one in self.conditions.items() if number in standing]
+        breaks = [one.words() for one in self.breaks.standing.values()]
+        for line in (*self.attached.listed(entries), *breaks, *conditions):
+            self.printer.note(line)
+
+    def stop_of(self, sent: str) -> Reply:
+        """The reply to a move to a stop, which goes on past marks whose conditions don't hold."""
+        while True:
+            reply = self.back_to_a_break(sent, self.netrev.ask(sent))
+            move = move_of(sent, reply.first) if MOVED.fullmatch(reply.first) and sent != "resume" else None
+            if move is None or not move.marks or move.is_end:
+                return reply
+            if self.holding(move.marks) or self.breaks.at(move.position):
+                return reply
+            self.stood = move.position
+            self.interrupts.check()
+
+    def holding(self, marks: Sequence[str]) -> list[str]:
+        """Those of the marks that hit whose conditions hold where the session stands, or that have none."""
+        return [mark for mark in marks if mark not in self.conditions or self.holds(self.conditions[mark])]
+
+    def holds(self, condition: Condition, position: Optional[int] = None) -> bool:
+        """Whether a condition holds at a position, or where the session stands."""
+        cell = condition.cell
+        value = self.netrev.values([cell])[0] if position is None else self.changes().value(cell, position)
+        return condition.is_met(value, self.words_of(cell, value))
 
     def back_to_a_break(self, sent: str, reply: Reply) -> Reply:
         """The reply to a move; where it passed a break of the program, that of the move back to it."""
@@ -199,30 +237,24 @@ class Session:
     def show(self, line: str, reply: Reply, is_dump: bool = False) -> None:
         """Shows a reply, a value with its words."""
         value = None if reply.entries else VALUE.fullmatch(reply.first)
-        words = self.words_of_look(value[1], value[2], is_dump) if value else ""
+        is_in_words = value and is_shaped(value[1], value[2], is_dump)
+        words = self.words_of(value[1], value[2], is_dump) if value and is_in_words else ""
         self.printer.reply(line, reply, words)
 
-    def words_of_look(self, what: str, value: str, is_dump: bool) -> str:
-        """What a look shows in words; nothing where netrev doesn't show such a value."""
-        shape = (OF_DUMP if is_dump else OF_CELL).get(what.split()[0])
-        if shape is None or not shape.fullmatch(value):
-            return ""
-        return dump_words(what, value) if is_dump and value != "absent" else self.words_of(what, value)
-
-    def words_of(self, cell: str, value: str) -> str:
+    def words_of(self, cell: str, value: str, is_dump: bool = False) -> str:
         """What a value says in words."""
-        if value != "absent":
-            return in_words(cell, value) if cell_of(cell.split()) else ""
-        return absent_words(cell, self.recording.limits if self.recording else {})
+        if value == "absent":
+            return absent_words(cell, self.recording.limits if self.recording else {})
+        return dump_words(cell, value) if is_dump else in_words(cell, value) if cell_of(cell.split()) else ""
 
     def arrive(self, position: int, numbers: Sequence[str] = (), stood: Sequence[Listed] = ()) -> None:
-        """Tells where the session stands after a move, which marks hit there, what the last step changed, and what is
-        displayed. Before the move these marks stood, of which some may be gone."""
+        """Says where the session is after a move, which marks hit, of those that stood before it, and what the last step changed."""
         self.stood, self.frame, self.is_before = position, None, False
         self.attached.hits(numbers)
         self.printer.place(self.place(position))
         if self.recorded and self.recording:
-            self.tell_changes(self.recorded, self.recording, position, self.hit(numbers, stood))
+            for table in tables_beside(self.recorded, self.recording, position, self.hit(numbers, stood)):
+                self.printer.table(table)
         self.show_displays()
 
     def hit(self, numbers: Sequence[str], stood: Sequence[Listed]) -> list[Listed]:
@@ -230,25 +262,10 @@ class Session:
         listed = {mark.number: mark for mark in [*stood, *self.netrev.marks()]} if numbers else {}
         return [listed[number] for number in numbers if number in listed]
 
-    def tell_changes(self, changes: RecordedChanges, recording: Recording, position: int, hit: list[Listed]) -> None:
-        """Tells whose timers the steps beside the position are about, which marks hit, and what the last step changed."""
-        if (timers := timers_beside(recording, position)).rows:
-            self.printer.table(timers)
-        if hit:
-            self.printer.table(marks_table(changes, hit, position))
-        told = [mark.what for mark in hit if mark.sort == "watch"]
-        if (changed := changed_table(changes, position, told)) and changed.rows:
-            self.printer.table(changed)
-
     def show_displays(self) -> None:
         """Shows the cells that are displayed."""
-        rows = []
-        for cell, value in zip(self.displays, self.netrev.values(self.displays)):
-            words = self.words_of(cell, value)
-            told = f"{cell} = {value}" + (f"   ({words})" if words else "")
-            rows.append(Row({"cell": cell, "value": value, "words": words or None}, told))
-        if rows:
-            self.printer.table(Table("display", rows))
+        if self.displays:
+            self.printer.table(displays_table(self.displays, self.netrev.values(self.displays), self.words_of))
 
     def tell_of_others(self) -> None:
         """In a session that is shared, tells where it stands if somebody else has moved it."""
@@ -262,25 +279,14 @@ class Session:
 
     def go(self, position: int) -> str:
         """Goes to the position, whatever the direction; the reply to the last command."""
-        now, _, direction = self.stands()
-        if position == now:
-            return f"at {now}"
-        if position < now:
-            return self.ask(f"reverse-stepi {now - position}")
-        if direction == "forward":
-            return self.ask(f"stepi {position - now}")
-        self.ask("set exec-direction forward")
-        reply = self.ask(f"stepi {position - now}")
-        self.ask("set exec-direction reverse")
-        return reply
+        return go_to(position, self.ask)
 
     def source(self, path: str) -> bool:
         """Answers the lines of a file, each shown first; an OSError where it can't be read. False where the session has
         ended."""
         if self.depth == NESTED:
             raise Misused(f"files are {NESTED} deep in each other already")
-        check_name(path)
-        lines = Path(path).read_text(encoding="utf-8", errors="surrogateescape").splitlines()
+        lines = lines_of_script(path)
         self.depth += 1
         try:
             return all(self.echoed(line) for line in lines)

@@ -2,7 +2,7 @@
 is taken for the reply to another; what has no such shape wasn't said by netrev."""
 
 import re
-from typing import Match, NamedTuple
+from typing import Callable, Match, NamedTuple
 
 from netrev_words.vocabulary import CELLS, MOST_STANDING
 
@@ -112,3 +112,24 @@ def value_of(line: str, reply: str) -> str:
     if found[1] != what or not shape.fullmatch(found[2]):
         raise Strange(line, reply)
     return found[2]
+
+
+def is_shaped(what: str, value: str, is_dump: bool) -> bool:
+    """Whether netrev shows such a value of a cell, or of a dump."""
+    shape = (OF_DUMP if is_dump else OF_CELL).get(what.split()[0])
+    return shape is not None and shape.fullmatch(value) is not None
+
+
+def go_to(position: int, ask: Callable[[str], str]) -> str:
+    """Goes to a position, whatever the direction, by what netrev is asked; its reply to the last command."""
+    now, _, direction = position_of(ask("info position"))
+    if position == now:
+        return f"at {now}"
+    if position < now:
+        return ask(f"reverse-stepi {now - position}")
+    if direction == "forward":
+        return ask(f"stepi {position - now}")
+    ask("set exec-direction forward")
+    reply = ask(f"stepi {position - now}")
+    ask("set exec-direction reverse")
+    return reply

@@ -1,11 +1,19 @@
-"""Lines of a file of source."""
+"""Lines of files: of source, and of nrdb's commands."""
 
 import os
 import stat
 from pathlib import Path
 from typing import Optional
 
+from netrev_words.files import check_name
+
 MOST_BYTES = 2**20
+
+
+def lines_of_script(path: str) -> list[str]:
+    """The lines of a file of commands; an OSError if it can't be read. Bytes that are no UTF-8 go as they come."""
+    check_name(path)
+    return Path(path).read_text(encoding="utf-8", errors="surrogateescape").splitlines()
 
 
 def lines_of(path: Path) -> Optional[list[str]]:

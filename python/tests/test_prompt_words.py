@@ -207,7 +207,7 @@ class Words(unittest.TestCase):
         for word, advice in FOREIGN.items():
             self.assertNotIn(word, COMMANDS, word)
             self.assertEqual(hint([word], UNKNOWN), advice)
-        for word in ("find", "condition", "locals", "stack", "rewind"):
+        for word in ("find", "locals", "stack", "rewind"):
             self.assertNotIn("did you mean", hint([word], UNKNOWN))
 
     def test_each_advice_names_what_there_is(self) -> None:

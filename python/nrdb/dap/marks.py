@@ -62,7 +62,8 @@ class Marks:
     def holding(self, numbers: Sequence[str]) -> list[str]:
         """Those of the marks that hit here whose conditions hold, or which have none."""
         marks = {number: mark for mark, number in self._numbers.items()}
-        return [number for number in numbers if number not in marks or self._holds(marks[number])]
+        met = self._session.holding(numbers)  # by conditions that were typed in the console
+        return [number for number in met if number not in marks or self._holds(marks[number])]
 
     def _holds(self, mark: tuple[Sort, str]) -> bool:
         return any(self._stops(wish) for wish in self._wishes[mark])
@@ -70,7 +71,7 @@ class Marks:
     def _stops(self, wish: Wish) -> bool:
         """Whether a breakpoint that is reached stops here."""
         if wish.times is None:
-            return wish.condition is None or wish.condition.holds(self._session)
+            return wish.condition is None or self._session.holds(wish.condition)
         if wish not in self._counted:
             self._counted[wish] = wish.stops(self._session, positions_of(self._session, wish.what))
         return is_in(self._counted[wish], self._session.stands().position)

@@ -4,11 +4,11 @@ All of it goes by the position, so it is the same whichever way a move goes."""
 import re
 from bisect import bisect_left
 from dataclasses import dataclass
-from fnmatch import fnmatchcase
 from typing import NamedTuple, Optional, Sequence
 
 from netrev_words.vocabulary import KINDS, cell_of, number_of
 
+from ..conditions import Condition
 from ..session import Session
 from .messages import Body
 
@@ -21,32 +21,12 @@ class Unset(Exception):
     """A breakpoint that can't be set: why."""
 
 
-class Condition(NamedTuple):
-    """A cell, and what its value or the value's words have to be; `*` is any text."""
-
-    cell: str
-    value: str
-
-    @classmethod
-    def of(cls, text: str) -> "Condition":
-        """The condition that a text spells, as `until` has it: gor 3 parked*, rg 0 = ready."""
-        words = [word for word in text.split() if word not in ("=", "==")]
-        for length in (2, 1):
-            if (cell := cell_of(words[:length])) and words[length:]:
-                return cls(cell, " ".join(words[length:]))
+def condition_of(text: str) -> Condition:
+    """The condition that a text spells; Unset if it spells none."""
+    condition = Condition.of(text.split())
+    if condition is None:
         raise Unset(f"{text} is no condition: it is a cell with a value, as gor 3 parked* or rg 0 = ready")
-
-    def holds(self, session: Session) -> bool:
-        """Whether it holds where the session stands."""
-        return self.is_met(session, session.netrev.values([self.cell])[0])
-
-    def holds_at(self, session: Session, position: int) -> bool:
-        """Whether it holds at a position."""
-        return self.is_met(session, session.changes().value(self.cell, position))
-
-    def is_met(self, session: Session, value: str) -> bool:
-        """Whether the cell's value is what it has to be."""
-        return fnmatchcase(value, self.value) or fnmatchcase(session.words_of(self.cell, value), self.value)
+    return condition
 
 
 class HitCount(NamedTuple):
@@ -86,7 +66,7 @@ class Wish:
     def stops(self, session: Session, positions: Sequence[int]) -> list[int]:
         """Those of the positions at which it is reached, rising, at which it stops, or tells its message."""
         condition, times = self.condition, self.times
-        met = [one for one in positions if condition is None or condition.holds_at(session, one)]
+        met = [one for one in positions if condition is None or session.holds(condition, one)]
         return [one for count, one in enumerate(met, 1) if times is None or times.holds(count)]
 
 
@@ -113,7 +93,7 @@ def wish_of(what: str, asked: Body) -> "Wish | Unset":
             if named.strip() != HERE and cell_of(named.split()) is None:
                 raise Unset(f"{{{named}}} is no cell: a message has cells in braces, as {{rg 0}}, or {{{HERE}}}")
         return Wish(
-            what, Condition.of(condition) if condition else None, HitCount.of(times) if times else None, message
+            what, condition_of(condition) if condition else None, HitCount.of(times) if times else None, message
         )
     except Unset as why:
         return why

@@ -4,7 +4,7 @@ back to it."""
 import re
 from bisect import bisect_left, bisect_right
 from dataclasses import dataclass, field
-from typing import Optional
+from typing import Callable, Optional
 
 from ..recording import Recording
 from .index import Place, is_place
@@ -33,6 +33,9 @@ class Breaks:
 
     standing: dict[str, Break] = field(default_factory=dict)
     given: int = 0
+    is_met: Callable[
+        [str, int], bool
+    ] = lambda number, position: True  # whether a break's condition holds at a position
 
     def add(self, place: Place, is_temporary: bool) -> Break:
         self.given += 1
@@ -42,12 +45,24 @@ class Breaks:
 
     def nearest(self, position: int, forwards: bool) -> Optional[int]:
         """The nearest position that way at which one of them stops."""
-        near = [one for mark in self.standing.values() if (one := beyond(mark.place, position, forwards)) is not None]
+        near = [one for mark in self.standing.values() if (one := self._next(mark, position, forwards)) is not None]
         return (min if forwards else max)(near, default=None)
+
+    def _next(self, mark: Break, position: int, forwards: bool) -> Optional[int]:
+        """The next position that way at which a break stops."""
+        near = beyond(mark.place, position, forwards)
+        while near is not None and not self.is_met(mark.number, near):
+            near = beyond(mark.place, near, forwards)
+        return near
+
+    def at(self, position: int) -> list[Break]:
+        """The breaks that stop at a position."""
+        here = (one for one in self.standing.values() if position in one.place.positions)
+        return [one for one in here if self.is_met(one.number, position)]
 
     def hit(self, position: int) -> list[Break]:
         """The breaks that stop at a position, of which the temporary ones are gone then."""
-        found = [one for one in self.standing.values() if position in one.place.positions]
+        found = self.at(position)
         for one in found:
             if one.is_temporary:
                 del self.standing[one.number]

@@ -5,6 +5,7 @@ from typing import Optional
 from netrev_words.vocabulary import number_of
 
 from ..commands import COMMANDS, TOPICS
+from ..conditions import Condition
 from ..following import (
     GOALS,
     MOST,
@@ -94,9 +95,30 @@ def answer_commands(session: Session, words: list[str]) -> None:
     session.printer.note(f"the lines that come run when mark {number} hits; the last one is `end`")
 
 
+def answer_condition(session: Session, words: list[str]) -> None:
+    """Gives a mark a condition, or takes it away. Without a number it is the mark that was set last, as `save breakpoints` writes it."""
+    marks = {mark.number: mark.sort for mark in session.netrev.marks()}
+    standing = [*marks, *session.breaks.standing]
+    is_named = bool(words) and words[0] in standing
+    number, rest = (words[0], words[1:]) if is_named else (session.latest, words)
+    if number not in standing or not words or (not is_named and Condition.of(words) is None):
+        raise Misused(f"{usage('condition')}; the marks are {', '.join(standing) or 'none'}")
+    if marks.get(number) == "tbreak":
+        raise Misused(f"mark {number} is a tbreak, which is gone after its first stop: a break takes a condition")
+    if not rest:
+        session.conditions.pop(number, None)
+        return session.printer.note(f"mark {number} stops always")
+    condition = Condition.of(rest)
+    if condition is None:
+        raise Misused(f"{usage('condition')}: condition {number} gor 3 parked*")
+    session.conditions[number] = condition
+    session.printer.note(condition.says(number))
+
+
 OF_CALLS: dict[str, Answering] = {
     "steps": answer_steps,
     "calls": answer_calls,
     "commands": answer_commands,
+    "condition": answer_condition,
     **{name: moved_by_call(name) for name in GOALS},
 }

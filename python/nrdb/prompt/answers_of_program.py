@@ -39,6 +39,7 @@ def break_at(is_temporary: bool) -> Answering:
 
     def answer(session: Session, words: list[str]) -> None:
         made = session.breaks.add(place_of(session, words[0]), is_temporary)
+        session.latest = made.number
         session.printer.note(f"break {made.words()}")
 
     return answer
@@ -60,6 +61,7 @@ def delete_all(session: Session) -> None:
             gone.append(f"{mark.number} ({mark.sort} {mark.what})")
     gone += [f"{one.number} (break {one.place.spelled})" for one in session.breaks.standing.values()]
     session.breaks.standing.clear()
+    session.conditions.clear()
     session.printer.note(f"deleted: {', '.join(gone)}" if gone else "no mark stands")
 
 

@@ -61,6 +61,8 @@ def candidates(
         return [*places(), *(of_cell(rest, numbers) if first in OF_CELL else KINDS if first in OF_A_KIND else ())]
     if first in OF_CELL:
         return of_cell(rest, numbers)
+    if first == "condition" and rest:
+        return of_cell(rest[1:], numbers)
     if first in OF_A_GOROUTINE and not rest:
         return numbers(Of.GOROUTINE)
     if len(rest) == 1 and first in ("steps", "calls") and rest[0] in FOLLOWED:

@@ -24,7 +24,15 @@ def lines_of_marks(session: Session) -> Iterator[str]:
     """The lines that set them."""
     for mark in session.netrev.marks():
         yield f"{mark.sort} {mark.what}"
+        yield from condition_line(session, mark.number)
         if attached := session.attached.lines.get(mark.number):
             yield from ("commands", *(f"  {line}" for line in attached), END)
     for one in session.breaks.standing.values():
         yield f"{'tbreak' if one.is_temporary else 'break'} {one.place.spelled}"
+        yield from condition_line(session, one.number)
+
+
+def condition_line(session: Session, number: str) -> Iterator[str]:
+    """The line that sets a mark's condition, behind the one that sets the mark."""
+    if condition := session.conditions.get(number):
+        yield f"condition {condition.cell} {condition.value}"

@@ -16,6 +16,7 @@ OTHERS = "another front"
 WITH_FILES = ("source", "save", "timeline", "trace", "reduce", "report", "explore", "frame", "up", "down")
 NO_FILES = "the page reads and writes no files: that is for nrdb's prompt"
 NO_LINES = "the page takes one line at a time: `commands` is for nrdb's prompt"
+NO_CONDITIONS = "`condition` is for nrdb's prompt, where Ctrl-C stops a move that goes on past many marks"
 NO_END = "the session goes on when you close the page; where nrdb runs, Ctrl-C ends it"
 
 
@@ -40,6 +41,7 @@ OF_THE_PAGE = {
     **{name: refusing(NO_FILES) for name in WITH_FILES},
     "list": answer_list,  # of steps alone
     "commands": refusing(NO_LINES),
+    "condition": refusing(NO_CONDITIONS),
 }
 
 

@@ -52,8 +52,13 @@ def seen(path: Path, *words: str, place: str = "") -> dict[str, Any]:
     return used(page.replace(end, f"window.inside = {{ {NAMES} }};\n{end}"), SEEN, place=place)
 
 
-def test_the_page_of_a_part_begins_where_its_values_are(mix: Path) -> None:
-    page = seen(mix)
+@pytest.fixture(scope="module")
+def page(mix: Path) -> dict[str, Any]:
+    """What the page of the recording shows when it opens."""
+    return seen(mix)
+
+
+def test_the_page_of_a_part_begins_where_its_values_are(page: dict[str, Any]) -> None:
     assert (page["first"], page["last"]) == (STEPS - PART, STEPS)
     assert page["here"] and page["position"] == STEPS
     assert page["view"] == [STEPS - PART, STEPS]
@@ -61,17 +66,16 @@ def test_the_page_of_a_part_begins_where_its_values_are(mix: Path) -> None:
 
 
 def test_the_part_is_round_the_sessions_position(mix: Path) -> None:
-    page = seen(mix, "-ex", "goto 300")
-    assert page["position"] == 300 and page["first"] <= 300 <= page["last"]
-    assert "not here" not in page["panel"]
+    moved = seen(mix, "-ex", "goto 300")
+    assert moved["position"] == 300 and moved["first"] <= 300 <= moved["last"]
+    assert "not here" not in moved["panel"]
 
 
 def test_an_address_outside_of_the_part_is_kept(mix: Path) -> None:
     assert seen(mix, place="#7")["position"] == 7
 
 
-def test_each_side_of_a_descriptor_is_one_row(mix: Path) -> None:
-    page = seen(mix)
+def test_each_side_of_a_descriptor_is_one_row(page: dict[str, Any]) -> None:
     assert page["uses"] > 3
     assert len(page["rows"]) == len(set(page["rows"])), page["rows"]
     assert page["compared"] > PART and page["unlike"] == []
