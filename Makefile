@@ -1,5 +1,5 @@
-# netrev: see README.md. All that is needed is the toolchain (`rt`), make and the usual tools of a shell, and for the gate
-# a C compiler, Python (3.10 or later) and pytest. What is written in Python is run by `python3 python NAME`.
+# netrev: see README.md. It needs the toolchain (`rt`), make and the usual tools of a shell, and for the gate a C compiler, Python 3.10 or
+# later, and pytest. `python3 python NAME` runs a module that is written in Python.
 
 BUILT = crates/netrev/out/netrev
 VERSION = $(shell sed -n 's/^VERSION = "\(.*\)"/\1/p' python/netrev_words/version.py)
@@ -12,7 +12,7 @@ SHARE = $(DESTDIR)$(PREFIX)/share
 INSTALLED = $(shell sed -n 's/^include = \[\(.*\)\]/\1/p' pyproject.toml | tr -d '"*,')
 
 .PHONY: ready help look run hunt test lint refused loopback hostile upgrades system fuzz fuzz-around agree companion sizes netrev examples share bench pace real \
-	install install-files vsix package deb try-deb clean
+	install install-files vsix package deb release try-deb clean
 
 # The program that NETREV names is taken as it is; else the one that is built here, once it is proved.
 ifdef NETREV
@@ -27,105 +27,99 @@ endif
 export NETREV := $(abspath $(NETREV))
 export CPU
 
-# Tells what there is to make.
+# Lists the targets.
 help:
 	@awk '/^# / { text = text (text ? " " : "") substr($$0, 3); next } \
 		/^[a-z-]+:/ && text { sub(/:.*/, ""); sub(/[.:;]( .*)?$$/, "", text); printf "make %-11s %s\n", $$0, text } \
 		{ text = "" }' Makefile
 
-# A prompt on a recording without waiting for proofs: `make look FILE=my.jsonl`. With SCRIPT=my.script it plays those commands.
-# Nothing is proved by it.
+# Opens FILE=my.jsonl in nrdb, with an unproved netrev that takes a minute or two to compile. With SCRIPT=my.script it runs those commands
+# instead. The compiled netrev stays in out/look until a source file changes.
 look:
-ifdef SCRIPT
-	@cd crates/netrev && rt try -- run "$(abspath $(FILE))" < "$(abspath $(SCRIPT))"
-	@echo "So it runs; nothing of this was proved. \`make run\` proves netrev first."
-else
-	@python3 scripts/look.py "$(FILE)"
-endif
+	@python3 scripts/look.py $(if $(SCRIPT),"$(FILE)" "$(SCRIPT)","$(FILE)")
 
-# Builds netrev with its proofs, and replays the first example with its commands.
+# Proves and builds netrev, and runs the first example.
 run: ready
 	@echo
 	@sh examples/play.sh first
 
-# A session at a prompt with history, completion and further views: `make hunt FILE=my.jsonl` (docs/use/NRDB.md).
+# Opens FILE=my.jsonl in nrdb, with the proved netrev, which is built first (docs/use/NRDB.md).
 hunt: ready
 	@./nrdb $(FILE)
 
-# The gate: every proof, the edits that must fail, the tests, the program, the program refused memory,
-# sessions over the loopback, the program against the system, and the companion's tests.
+# Runs the gate, which proves and tests everything: installs what it uses (scripts/setup.sh), checks each proof, tries each edit that must fail, and runs all tests.
 test:
+	@sh scripts/setup.sh
 	@sh scripts/gate.sh
 
-# Looks over what is written in Python: black and mypy, which are Debian packages (pyproject.toml says how).
+# Runs black and mypy, which are Debian packages (pyproject.toml configures them).
 lint:
 	@sh scripts/lint.sh
 
-# The built program with each of its allocations refused in turn, a missing file and bad usage; each call of the libraries
-# that takes memory, alone; and a shared session too.
+# Tests running out of memory, and bad usage: refuses each allocation of the program and of each library call in turn, in shared
+# sessions too.
 refused: ready
 	cd crates/nr_refused && rt run -- all
 	@sh scripts/refused.sh
 	@sh scripts/pytest.sh --beside $(addprefix python/tests/program/,each_call.py refused_serving.py)
 
-# Sessions of the built program over the loopback: up to 64 fronts at a time, and callers who misbehave.
+# Tests shared sessions over the loopback: up to 64 fronts at a time, and callers that misbehave.
 loopback: ready
 	@sh scripts/pytest.sh python/tests/program/loopback.py
 
-# Bad recordings and bad command lines: each reason, faulty lines, headers and answers, every beginning of the short recordings.
+# Tests bad recordings and bad command lines: each reason, faulty lines, headers and answers, each beginning of a short recording.
 hostile: ready
 	@sh scripts/pytest.sh --beside python/tests/program/hostile.py
 
-# `netrev upgrade` and `netrev changes` over the recordings that are here, compared with what is stored, with the fuzzer's model, and
-# with what `print` says.
+# Tests `netrev upgrade` and `netrev changes`, compared with stored texts, with the model in Python, and with `print`.
 upgrades: ready
 	@sh scripts/pytest.sh --beside $(addprefix python/tests/program/,upgrades.py changes.py)
 
-# The built program against the system: streams that are closed or full, odd files, signals, and little memory.
+# Tests the program against the system: closed or full streams, odd files, signals, little memory.
 system: ready
 	@sh scripts/pytest.sh $(addprefix python/tests/program/,system.py lengths.py endurance.py)
 
-# The built program at the greatest sizes that a recording and a session may have: none may say that memory ran out.
+# Tests the largest recordings and sessions that are allowed.
 sizes: ready
 	@sh scripts/pytest.sh python/tests/program/sizes.py
 
-# The tests of nrdb, the companion, and of the fuzzer, with the built program; among them the hunts of examples/hunts.
+# Tests nrdb and the fuzzer with the built program, and runs the hunts of examples/hunts.
 companion: ready
 	@sh scripts/pytest.sh --beside python/tests/program/nrdb python/tests/program/test_*.py
 
-# Random recordings and command lines, held against a model of the machine in Python: `make fuzz MINUTES=30 SEED=7`. What
-# differs is kept in out/fuzz (CONTRIBUTING.md). Not in the gate.
+# Compares netrev and nrdb with a model in Python on random recordings and commands: `make fuzz MINUTES=30 SEED=7`. Differences
+# stay in out/fuzz (CONTRIBUTING.md). Not part of the gate.
 fuzz: ready
 	@python3 python netrev_fuzz --minutes $(MINUTES) --seed "$(SEED)"
 
-# Damaged logs, views over odd files of lines, editors' messages and browsers' lines: `make fuzz-around MINUTES=30 SEED=7`. The gate
-# plays a few of each.
+# Tries the recorder, nrdb, the adapter and the page on damaged or random input: `make fuzz-around MINUTES=30 SEED=7`. The gate tries a
+# few of each.
 fuzz-around: ready
 	@python3 python netrev_fuzz.around --minutes $(MINUTES) --seed "$(SEED)"
 
-# netrev beside the same programs over a world of lists, all that both print: with the recordings of examples/, bad ones, the greatest
-# sizes, and random cases: `make agree COUNT=20000 SEED=1`.
+# Compares netrev with the same programs over lists, on the examples, bad recordings, the largest sizes, and random cases:
+# `make agree COUNT=20000 SEED=1`.
 agree: ready
 	@cd crates/netrev_plain && rt run
 	@sh scripts/pytest.sh --beside python/tests/program/agree.py --random $(COUNT) --seed $(or $(SEED),1)
 
-# Leaves the proved program at crates/netrev/out/netrev. With no change since, nothing is proved again. `make netrev CPU=x86-64-v3` builds
-# it for processors that have AVX2, with the same proofs; `make bench CPU=x86-64-v3` measures that, and builds the baseline so too.
+# Proves netrev and leaves it at crates/netrev/out/netrev; what hasn't changed isn't proved again. `make netrev CPU=x86-64-v3` builds it for
+# processors that have AVX2, with the same proofs; `make bench CPU=x86-64-v3` measures that, and builds the baseline so too.
 netrev:
 	@sh scripts/prove.sh
 
-# All examples, compared with their replies, and last a session that two share.
+# Runs all examples, compared with their replies, and a session that two users share.
 examples: ready
 	@sh examples/play_all.sh
 
-# Shares a session on the first example between two people, until it is interrupted.
+# Shares a session on the first example between two users, until it is interrupted.
 share: ready
 	@echo "Join from two terminals:  nc 127.0.0.1 47200  and  nc 127.0.0.1 47201"
 	@$(NETREV) serve examples/first.jsonl --port 47200 --fronts 2
 
-# Loads, walks and searches recordings of up to 1,000,000 steps, beside plain Rust without proofs: `make bench
-# STEPS="10000 100000"` for fewer. `make bench NETREV_BEFORE=FILE` has an older netrev beside it in each table. Then records a C
-# program with GDB, shares sessions, searches with several workers, and asks nrdb.
+# Measures netrev on recordings of up to 1,000,000 steps, beside plain Rust without proofs: `make bench STEPS="10000 100000"` for fewer.
+# With NETREV_BEFORE=FILE each table also has an older netrev. Then it records a C program with GDB, shares sessions, searches with several
+# workers, and asks nrdb.
 bench: ready
 	@python3 python netrev_bench.run $(STEPS)
 	@echo
@@ -141,15 +135,15 @@ bench: ready
 	@echo
 	@$(MAKE) --no-print-directory pace
 
-# Measures the machine itself, replayed, undone and searched, beside the same in plain Rust without proofs:
-# `make pace STEPS=100000` for fewer steps than 1,000,000. It proves bench/pace/crate first, which is no part of the gate.
+# Measures the machine alone, beside plain Rust without proofs: replay, undo and search. `make pace STEPS=100000` for fewer than 1,000,000
+# steps. It proves bench/pace/crate first, which is not part of the gate.
 pace:
 	@sh bench/pace/prove.sh
 	@python3 python netrev_bench.pace $(lastword $(STEPS))
 
-# Installs netrev, nrdb and netrev-go with their man pages and completions below PREFIX: `make install PREFIX=~/.local`; with
-# NETREV=FILE that program, and nothing is proved. Python is compiled too, since who runs it may not write there; what is compiled counts
-# while it has the sum of its source, whatever their times. Another Python leaves it alone.
+# Installs netrev, nrdb and netrev-go with their man pages and completions below PREFIX: `make install PREFIX=~/.local`. With NETREV=FILE it
+# installs that program and proves nothing. Python is compiled too, as users may not be allowed to write there; compiled files go by a
+# sum of their source, whatever their times, and another Python ignores them.
 install: ready install-files
 
 install-files:
@@ -170,25 +164,30 @@ vsix:
 	@mkdir -p out
 	@python3 scripts/vsix.py out/netrev.vsix && echo out/netrev.vsix
 
-# Makes out/netrev-VERSION-linux-x86_64.tar.gz of the program that the gate left, or of NETREV=FILE, with nrdb and the examples,
-# for machines without the toolchain, and tries it: `make package`, or `make package VERSION=other`. The gate has to have passed with that program.
-# netrev is proved only where none is built here.
+# Packs the program that passed the gate as out/netrev-VERSION-linux-x86_64.tar.gz, and tries the archive. `make test` must have
+# passed here. NETREV=FILE is accepted only if FILE is that program, by its sum; VERSION=other names another version.
 package:
 	@sh scripts/package.sh $(VERSION) $(GIVEN)
 	@sh scripts/try_package.sh out/netrev-$(VERSION)-linux-x86_64.tar.gz
 
-# Makes out/netrev_VERSION_amd64.deb of that archive, and looks it over with lintian where that is here; `make deb` as `make package`.
+# Makes out/netrev_VERSION_amd64.deb of that archive, and checks it with lintian if that is installed. As `make package` otherwise.
 deb: package
 	@sh scripts/deb.sh $(VERSION)
 
-# Installs the Debian package in a throw-away root (debootstrap), and records and hunts there.
+# Leaves the Debian package, the archive, SHA256SUMS and the release notes (from CHANGELOG) in out/release. `make test` must have passed here,
+# and no file of the repository may have changed since then.
+release:
+	@sh scripts/unchanged.sh
+	@$(MAKE) --no-print-directory deb
+	@sh scripts/release.sh $(VERSION)
+
+# Installs the Debian package in a throw-away root (debootstrap), and does there what README shows.
 try-deb:
 	@sh scripts/try_deb.sh out/netrev_$(VERSION)_amd64.deb
 
 # Records Go's own tests, those of other projects and the samples, and compares all answers and lock words: `make real` with the
-# `go` on the PATH, `make real GO=1.27` or `make real GO=all` with releases of Debian's, fetched where they aren't here and not
-# installed. An hour or so a release; `make real ONLY=net/rpc` for some, `ONLY='^net$$' TESTS='^TestUnix'` for some
-# of a package. Not in the gate but for a small part.
+# `go` on the PATH, `make real GO=1.27` or `make real GO=all` with releases of Debian's, fetched and not installed. An hour or so a
+# release; `make real ONLY=net/rpc` for some, `ONLY='^net$$' TESTS='^TestUnix'` for some of a package. The gate does a small part.
 real: ready
 	@sh scripts/pytest.sh $(addprefix python/tests/,go_tool.py go_kept.py go_planted.py go_tests.py)
 	@python3 python netrev_go.real --only '$(ONLY)' --tests '$(TESTS)' --go "$(GO)"

@@ -1,17 +1,17 @@
 #!/bin/sh
-# Makes a Debian package of the archive that scripts/package.sh left in out/:  scripts/deb.sh VERSION
+# Makes a Debian package of the archive that scripts/archive.sh left in a folder:  scripts/deb.sh VERSION [FOLDER]
 #
-# netrev_VERSION_amd64.deb is left in out/. In it are netrev, the very file that the gate played, nrdb, netrev-go, their man pages and
-# completions, the editors' files, the examples, the pages, the licenses and the gate's log. Where lintian is here (Debian's
-# package), it has to find nothing.
+# FOLDER (out if left out) gets netrev_VERSION_amd64.deb. It contains netrev, the very file of the archive, nrdb, netrev-go, their
+# man pages and completions, the editors' files, the examples, the pages, the licenses and the gate's log. If lintian (a Debian
+# package) is installed, it must find nothing. COMPRESSION=gzip packs faster than xz, and larger.
 set -eu
 cd "$(dirname "$0")/.."
-version=$1
+version=$1 folder=${2:-out}
 name=netrev-$version-linux-x86_64
-archive=out/$name.tar.gz deb=out/netrev_${version}_amd64.deb
+archive=$folder/$name.tar.gz deb=$folder/netrev_${version}_amd64.deb
 
 [ -f "$archive" ] || {
-	echo "deb.sh: there is no $archive: \`make package\` first." >&2
+	echo "deb.sh: no $archive: run \`make package\` first." >&2
 	exit 1
 }
 room=$(mktemp -d)
@@ -22,7 +22,7 @@ doc=$root/usr/share/doc/netrev
 updates=$root/usr/share/python3/runtime.d
 mkdir -p "$root/DEBIAN" "$doc" "$root/usr/share/lintian/overrides" "$root/usr/share/netrev" "$updates"
 (cd "$top" && tar -cf - --exclude=__pycache__ bin lib share) | tar -xf - -C "$root/usr"
-mv "$top/examples" "$doc/examples"
+mv "$top/README.md" "$top/CHANGELOG.md" "$top/CONTRIBUTING.md" "$top/docs" "$top/examples" "$top/tools" "$doc"
 mv "$top/editors" "$root/usr/share/netrev/editors"
 author="the netrev authors <netrev@netrev.invalid>"
 cat > "$doc/changelog" <<END
@@ -32,8 +32,7 @@ netrev ($version) unstable; urgency=medium
 
  -- $author  $(date -u -R -r "$top/gate.log")
 END
-cp CHANGELOG.md "$doc"
-cp "$top/gate.log" "$doc/gate.log"
+mv "$top/gate.log" "$doc/gate.log"
 gzip -9n "$doc/changelog" "$doc/gate.log" "$root"/usr/share/man/man1/*.1
 
 cat > "$doc/copyright" <<END
@@ -98,7 +97,7 @@ find "$root" -type d -exec chmod 755 {} +
 find "$root" -type f -exec chmod u=rwX,go=rX {} +
 chmod 755 "$root/DEBIAN/postinst" "$root/DEBIAN/prerm" "$updates/netrev.rtupdate"
 (cd "$root" && find usr -type f -print0 | LC_ALL=C sort -z | xargs -0 md5sum > DEBIAN/md5sums)
-dpkg-deb --root-owner-group -Zxz --build "$root" "$deb" > /dev/null
+dpkg-deb --root-owner-group "-Z${COMPRESSION:-xz}" --build "$root" "$deb" > /dev/null
 if command -v lintian > /dev/null; then
 	lintian --fail-on error,warning "$deb"
 else

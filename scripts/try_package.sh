@@ -1,8 +1,8 @@
 #!/bin/sh
-# Tries an archive as somebody would who has nothing else of netrev:  scripts/try_package.sh ARCHIVE
+# Tries an archive as a user would who has nothing else of netrev:  scripts/try_package.sh ARCHIVE
 #
-# Unpacks it in an empty folder and, with no toolchain on the PATH and no variable that names anything of this checkout, looks
-# at the sums, plays all examples, and a hunt with nrdb.
+# Unpacks it in an empty folder. With no toolchain on the PATH, and no variable that names anything of this checkout, it checks
+# the sums, runs all examples, and a hunt in nrdb.
 set -eu
 archive=$(readlink -f -- "$1")
 room=$(mktemp -d)
@@ -11,7 +11,7 @@ cd "$room"
 tar -xzf "$archive"
 cd netrev-*
 if PATH=/usr/bin:/bin command -v rt > /dev/null; then
-	echo "try_package.sh: the toolchain is on /usr/bin or /bin, so this shows nothing." >&2
+	echo "try_package.sh: the toolchain is on /usr/bin or /bin, so this would show nothing." >&2
 	exit 1
 fi
 alone() {
@@ -30,4 +30,4 @@ python3 -m zipfile -t editors/netrev.vsix > "$room/tested"
 alone bin/nrdb --version > "$room/version"
 [ "$(alone bin/netrev-go --version)" = "$(sed -n '1s/^nrdb/netrev-go/p' "$room/version")" ]
 grep -q "installed with this nrdb" "$room/version" && grep -q "^proofs:  rattle-kit" "$room/version"
-echo "The package plays all examples and a hunt, without a toolchain."
+echo "The archive runs all examples and a hunt, without a toolchain."

@@ -182,7 +182,8 @@ class Causes(unittest.TestCase):
 
     def test_times_are_in_the_largest_unit(self) -> None:
         self.assertEqual(
-            [duration(time) for time in (0, 1500, 200_000_000, 90 * 10**9)], ["0 ns", "1.5 µs", "200 ms", "90 s"]
+            [duration(time) for time in (0, 999, 1500, 999_499_999, 999_999_900, 90 * 10**9)],
+            ["0 ns", "999 ns", "1.5 µs", "999 ms", "1 s", "90 s"],
         )
 
 

@@ -1,42 +1,81 @@
-"""README.md is short and leads to each page, `make help` tells each thing that there is to make, nrdb's modules are as short as
-CONTRIBUTING.md says, and each crate's README says what a stranger may touch."""
+"""README.md is short, leads to each page and names what exists; `make help` lists each target; modules of nrdb are as short as CONTRIBUTING.md
+says; and each crate's README says what a stranger may touch."""
 
 import re
 import subprocess
+import sys
 import unittest
 from pathlib import Path
 
+from netrev_go.options import parser
+from netrev_go.sockets import MOST_GOROUTINES, MOST_SOCKETS, MOST_STEPS
+from nrdb.options import parser as nrdb_parser
+
 ROOT = Path(__file__).resolve().parents[2]
-MOST_LINES = 300
-MOST_LINES_OF_README = 120
-OF_OTHERS = {"ready", "install-files"}  # what only other rules of the Makefile ask for
 README = (ROOT / "README.md").read_text(encoding="utf-8")
+MOST_WORDS = 1100  # of README, without its blocks and the targets of its links
+MOST_LINES = 300  # of a module
+OF_OTHERS = {"ready", "install-files"}  # targets that only other targets use
+CODE = re.compile(r"`((?:make|nrdb|netrev-go) [^`]+)`")
 
 
-class Readme(unittest.TestCase):
-    def test_each_page_is_linked(self) -> None:
-        pages = {str(page.relative_to(ROOT)) for page in (ROOT / "docs").rglob("*.md")}
-        self.assertGreaterEqual(len(pages), 15)
-        self.assertEqual(pages - set(re.findall(r"\]\(([\w/.-]+)", README)), set())
+def targets() -> set[str]:
+    """The Makefile's targets that are for people."""
+    phony = re.search(r"^\.PHONY: ((?:.*\\\n)*.*)$", (ROOT / "Makefile").read_text(encoding="utf-8"), re.MULTILINE)
+    assert phony
+    return set(phony[1].replace("\\\n", " ").split()) - OF_OTHERS
 
-    def test_it_is_short(self) -> None:
-        self.assertLessEqual(README.count("\n"), MOST_LINES_OF_README)
 
-    def test_each_thing_to_make_is_told_once(self) -> None:
-        said = subprocess.run(["make", "-s", "help"], cwd=ROOT, capture_output=True, text=True, check=True).stdout
-        told = dict(re.findall(r"^make ([\w-]+) +(.+)$", said, re.MULTILINE))
-        phony = re.search(r"^\.PHONY: ((?:.*\\\n)*.*)$", (ROOT / "Makefile").read_text(encoding="utf-8"), re.MULTILINE)
-        assert phony
-        made = set(phony[1].replace("\\\n", " ").split()) - OF_OTHERS
-        self.assertGreaterEqual(len(made), 25)
-        self.assertEqual(made - set(told), set())
-        self.assertEqual(re.findall(r"^\| `make \w+` \|", README, re.MULTILINE), [])
+def printed(*command: str) -> str:
+    """What a command prints, at the top of the repository."""
+    return subprocess.run(command, cwd=ROOT, capture_output=True, text=True, check=True).stdout
 
-    def test_modules_of_nrdb_are_short(self) -> None:
-        self.assertIn(f"at most {MOST_LINES} lines", (ROOT / "CONTRIBUTING.md").read_text(encoding="utf-8"))
-        lengths = {path: path.read_bytes().count(b"\n") for path in (ROOT / "python/nrdb").rglob("*.py")}
-        self.assertGreater(len(lengths), 40)
-        self.assertEqual([str(path) for path, length in lengths.items() if length > MOST_LINES], [])
+
+def test_readme_leads_to_each_page() -> None:
+    pages = {str(page.relative_to(ROOT)) for page in (ROOT / "docs").rglob("*.md")}
+    assert len(pages) >= 15
+    assert pages - set(re.findall(r"\]\(([\w/.-]+)", README)) == set()
+
+
+def test_readme_is_short() -> None:
+    prose = re.sub(r"^    .*\n|\]\([^)]*\)", " ", README, flags=re.MULTILINE)
+    assert len(re.findall(r"\S*\w\S*", prose)) <= MOST_WORDS
+
+
+def test_readme_has_the_limits() -> None:
+    assert f"{MOST_SOCKETS:,} sockets, {MOST_GOROUTINES:,} goroutines and {MOST_STEPS:,} steps" in README.replace(
+        "\n", " "
+    )
+
+
+def test_readme_names_targets_and_options_that_exist() -> None:
+    """Of what is in code font; tests/program/test_readme_commands.py runs what is in blocks. Options of netrev-go come before its command,
+    since all after it is Go's."""
+    named = [code.split() for code in CODE.findall(README)]
+    assert {words[0] for words in named} == {"make", "nrdb", "netrev-go"} and len(named) >= 12
+    for program, *words in named:
+        if program == "make":
+            assert words[0] in targets(), words
+        elif words == ["--version"]:
+            assert "--version" in printed(sys.executable, "python", program.replace("-", "_"), "--help")
+        elif program == "netrev-go":
+            wanted = parser().parse_args([word.replace("PID", "4711") for word in words])
+            assert not [word for word in wanted.words_of_go if word.startswith("--")], words
+        else:
+            nrdb_parser().parse_args(words)
+
+
+def test_make_help_lists_each_target() -> None:
+    listed = dict(re.findall(r"^make ([\w-]+) +(.+)$", printed("make", "-s", "help"), re.MULTILINE))
+    assert len(targets()) >= 25
+    assert targets() == set(listed)
+
+
+def test_modules_of_nrdb_are_short() -> None:
+    assert f"at most {MOST_LINES} lines" in (ROOT / "CONTRIBUTING.md").read_text(encoding="utf-8")
+    lengths = {path: path.read_bytes().count(b"\n") for path in (ROOT / "python/nrdb").rglob("*.py")}
+    assert len(lengths) > 40
+    assert [str(path) for path, length in lengths.items() if length > MOST_LINES] == []
 
 
 def test_a_term_of_the_glossary_has_one_row() -> None:

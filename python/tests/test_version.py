@@ -32,4 +32,4 @@ class Version(unittest.TestCase):
 
     def test_the_newest_changes_are_of_it(self) -> None:
         headings = [line for line in (ROOT / "CHANGELOG.md").read_text().splitlines() if line.startswith("## ")]
-        self.assertEqual(headings[0], f"## {VERSION}")
+        self.assertEqual(next(line for line in headings if line != "## Unreleased"), f"## {VERSION}")

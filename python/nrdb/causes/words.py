@@ -115,7 +115,7 @@ def place_of_step(recording: Recording, step: int, goroutine: Optional[int] = No
 
 
 def duration(nanoseconds: int) -> str:
-    """A time in the largest unit of which there is one: `200 ms`."""
-    size, unit = next((one for one in UNITS if nanoseconds >= one[0]), UNITS[-1])
+    """A time in the largest unit of which it has one, rounded to three digits: `200 ms`, and `1 s` for 999.9 ms."""
+    size, unit = next((each for each in UNITS if nanoseconds >= 0.9995 * each[0]), UNITS[-1])
     count = nanoseconds / size
     return f"{count:.3g} {unit}" if count < 100 else f"{count:.0f} {unit}"

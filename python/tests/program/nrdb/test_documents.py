@@ -1,4 +1,5 @@
-"""The sessions that docs/ and README.md show: each is what nrdb prints, and so is what it says of a recording that is refused."""
+"""The sessions that docs/ shows are what nrdb prints, and so is what it says of a recording that is refused. README.md is played by
+tests/program/test_readme_commands.py."""
 
 import os
 import re
@@ -44,7 +45,7 @@ class Documents(unittest.TestCase):
     def test_calls_with_options_print_what_is_shown(self):
         count, here = 0, os.getcwd()
         self.addCleanup(os.chdir, here)
-        for page in [ROOT / "README.md", *sorted((ROOT / "docs").rglob("*.md"))]:
+        for page in sorted((ROOT / "docs").rglob("*.md")):
             for words, lines in calls(page.read_text(encoding="utf-8")):
                 with self.subTest(page.name, words=words), tempfile.TemporaryDirectory() as folder:
                     os.chdir(folder)
@@ -57,7 +58,7 @@ class Documents(unittest.TestCase):
 
     def test_sessions_are_what_is_printed(self):
         count = 0
-        for page in [ROOT / "README.md", *sorted((ROOT / "docs").rglob("*.md"))]:
+        for page in sorted((ROOT / "docs").rglob("*.md")):
             for recording, lines in sessions(page.read_text(encoding="utf-8")):
                 asked = [line[len(PROMPT) :] for line in lines if line.startswith(PROMPT)]
                 words = [word for line in asked for word in ("-ex", line)]

@@ -44,6 +44,7 @@ class BadRecordings(unittest.TestCase):
         self.assertRegex(
             said, r"netrev.s program is needed: `make .*netrev` builds it; NETREV or --netrev names another one"
         )
+        self.assertRegex(said, r"; `make .*look FILE=\S+/first.jsonl` opens the recording without proofs\n")
 
 
 class Answers(unittest.TestCase):

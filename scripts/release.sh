@@ -1,0 +1,19 @@
+#!/bin/sh
+# Leaves a release in out/release, ready to be published:  scripts/release.sh VERSION
+#
+# It takes the archive and the Debian package of a gate that passed from out/ (`make deb`), and adds SHA256SUMS and
+# RELEASE-NOTES.md, which is what CHANGELOG.md says of VERSION and of what is unreleased.
+set -eu
+cd "$(dirname "$0")/.."
+version=$1
+archive=netrev-$version-linux-x86_64.tar.gz deb=netrev_${version}_amd64.deb
+room=out/release
+new=$(mktemp -d out/release-XXXXXX)
+trap 'rm -rf "$new"' EXIT
+cp "out/$archive" "out/$deb" "$new"
+python3 scripts/notes.py "$version" CHANGELOG.md > "$new/RELEASE-NOTES.md"
+(cd "$new" && sha256sum "$archive" "$deb" RELEASE-NOTES.md > SHA256SUMS)
+chmod 755 "$new"
+rm -rf "$room"
+mv "$new" "$room"
+(cd "$room" && sha256sum --quiet -c SHA256SUMS && ls -l)
