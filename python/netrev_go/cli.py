@@ -15,6 +15,7 @@ from .doctor import doctor
 from .keeping import Making, complain, say, unwritten
 from .options import POSSIBLE, SUSPECTS, check, parser
 from .outputs import base_name, look, numbered
+from .run_folders import claimed
 from .running import Runner, as_a_shell_has_it, limits_of, log_of_process, logs_folder
 from .testing import record_tests
 from .toolchain import Go, Trouble, find_go
@@ -61,7 +62,7 @@ def record(options: argparse.Namespace, go: Go) -> int:
         return status_of(came.status, bad, options.strict and not came.all_recorded)
     base = base_name(options.o)
     look(base)
-    folder = logs_folder(options.points)
+    folder = claimed(logs_folder(options.points))
     making = Making(folder, base, go, wish_of(options))
     try:
         status = as_a_shell_has_it(Runner(command, folder, limits_of(options)).wait(making.so_far))

@@ -22,6 +22,7 @@ from netrev_go.cli import Status
 from netrev_go.making import make
 from netrev_go.outputs import base_name, look
 from netrev_go.points import Kind, Log
+from netrev_go.running import SIGNALS, logs_in
 from netrev_go.toolchain import Go, Trouble
 from netrev_go.zeros import Zeros
 from netrev_words.files import whole
@@ -50,8 +51,9 @@ class Run(unittest.TestCase):
         before = os.getcwd()
         os.chdir(self.folder)
         self.addCleanup(os.chdir, before)
-        for number in (signal.SIGINT, signal.SIGTERM, signal.SIGUSR1):
+        for number in SIGNALS:
             self.addCleanup(signal.signal, number, signal.getsignal(number))
+        self.addCleanup(signal.pthread_sigmask, signal.SIG_SETMASK, signal.pthread_sigmask(signal.SIG_BLOCK, ()))
 
     def go(self, does: str, status: int, leaves: str) -> Go:
         """What stands in for Go."""
@@ -149,13 +151,18 @@ class Lost(Run):
 
     def test_whatever_fails_the_logs_stay(self) -> None:
         logs = self.folder / "logs"
-        logs.mkdir()
-        with mock.patch.object(cli, "logs_folder", lambda _: logs):
+
+        def folder(_: int) -> pathlib.Path:
+            logs.mkdir()
+            return logs
+
+        with mock.patch.object(cli, "logs_folder", folder):
             with mock.patch.object(keeping, "convert", side_effect=MemoryError), self.assertRaises(MemoryError):
                 self.called("run", "main.go")
-        self.assertEqual([log.read_bytes() for log in logs.iterdir()], [self.log.read_bytes()])
-        with mock.patch.object(keeping, "convert", side_effect=KeyboardInterrupt):
-            returned, said = self.called("run", "main.go")
+            self.assertEqual([log.read_bytes() for log in logs_in(logs)], [self.log.read_bytes()])
+            shutil.rmtree(logs)
+            with mock.patch.object(keeping, "convert", side_effect=KeyboardInterrupt):
+                returned, said = self.called("run", "main.go")
         self.assertEqual(returned, 130, said)
         self.assertEqual(self.again(said), self.WHOLE)
 

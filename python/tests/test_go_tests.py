@@ -290,7 +290,7 @@ class Forms(unittest.TestCase):
         one = Told("p", "T\x1b[31m", "failed", 1, 1, says=["a\x07b"], causes=[Cause("x,y:z.go", 3, "")])
         self.assertEqual(
             forms.annotation(one),
-            "::error file=x%2Cy%3Az.go,line=3,title=p T\\x1b[31m::failed in 1 of 1 runs%0Aa\\x07b",
+            "::error file=x%2Cy%3Az.go,line=3,title=p T\\x1b[31m::failed%0Aa\\x07b",
         )
         case = ElementTree.fromstring(forms.junit([one]))[0][0]
         self.assertEqual(case.get("name"), "T\\x1b[31m")
@@ -300,7 +300,7 @@ class Forms(unittest.TestCase):
         one = Told("p", strange, "failed", 1, 1, file=strange, line=3, says=[strange, "b"], suspects=[strange])
         properties, message = as_github_reads(forms.annotation(one))
         self.assertEqual(properties, {"file": strange, "line": "3", "title": f"p {strange}"})
-        self.assertEqual(message, f"failed in 1 of 1 runs\n{strange}\nb")
+        self.assertEqual(message, f"failed\n{strange}\nb")
         (case,) = ElementTree.fromstring(forms.junit([one])).iter("testcase")
         self.assertEqual((case.get("name"), case[0].text), (strange, f"{strange}\nb"))
         (line,) = forms.json_lines([one]).splitlines()
