@@ -67,6 +67,14 @@ def pytest_terminal_summary(terminalreporter: Any) -> None:
         terminalreporter.write_line(f"left out: {name}: {why}")
 
 
+@pytest.fixture(scope="session", autouse=True)
+def logs_of_their_own() -> Iterator[None]:
+    """netrev-go puts logs into a folder of the tests', so that logs which others left aren't offered there."""
+    with tempfile.TemporaryDirectory(prefix="netrev-logs-") as name, pytest.MonkeyPatch.context() as patch:
+        patch.setenv("NETREV_LOGS", name)
+        yield
+
+
 @pytest.fixture
 def folder() -> Iterator[Path]:
     """A folder of the test's own, which is gone behind it."""

@@ -13,7 +13,6 @@ import shlex
 import shutil
 import stat
 import sys
-import tempfile
 import time
 from collections import defaultdict
 from collections.abc import Callable
@@ -21,7 +20,7 @@ from dataclasses import dataclass
 from itertools import islice
 from typing import TextIO
 
-from .running import IN_MEMORY, PREFIX, logs_in, still_written
+from .running import PREFIX, logs_in, places, still_written
 
 OWNER = (
     "owner"  # a file that the netrev-go which has the folder keeps locked; the kernel unlocks it, however that one ends
@@ -91,14 +90,13 @@ class LeftRun:
     command: str
     began: float  # seconds since 1970
 
-    def __str__(self) -> str:
-        return f"`{self.command}` of {time.strftime('%Y-%m-%d %H:%M', time.localtime(self.began))}"
+    def time(self) -> str:
+        return time.strftime("%Y-%m-%d %H:%M", time.localtime(self.began))
 
 
 def left_runs() -> list[LeftRun]:
     """The runs that are left, the oldest first: this user's, which no netrev-go has and no program writes any more."""
-    places = dict.fromkeys((IN_MEMORY, tempfile.gettempdir()))
-    folders = [folder for place in places for folder in pathlib.Path(place).glob(PREFIX + "*")]
+    folders = [folder for place in places() for folder in pathlib.Path(place).glob(PREFIX + "*")]
     return sorted(filter(None, map(left_run, folders)), key=lambda run: run.began)
 
 

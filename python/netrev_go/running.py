@@ -49,15 +49,22 @@ def as_a_shell_has_it(status: int) -> int:
     return status if status >= 0 else 128 - status
 
 
+def places() -> list[str]:
+    """Where logs may be: in the folder that NETREV_LOGS names; else in memory, and below TMPDIR."""
+    given = os.environ.get("NETREV_LOGS")
+    return [given] if given else [IN_MEMORY, tempfile.gettempdir()]
+
+
 def logs_folder(points: int) -> pathlib.Path:
     """A new folder with room for a log: in memory, where there is such a file system."""
     wanted = points * POINT_BYTES + STACK_BYTES + SPARE
-    for place in (IN_MEMORY, tempfile.gettempdir()):
+    for place in places():
         if os.access(place, os.W_OK) and shutil.disk_usage(place).free >= wanted:
             return pathlib.Path(tempfile.mkdtemp(prefix=PREFIX, dir=place))
+    where = " and ".join(places())
     raise Trouble(
-        f"neither {IN_MEMORY} nor {tempfile.gettempdir()} has {wanted // 2**20} MB free for a log: "
-        "TMPDIR names another folder, --points makes the log smaller"
+        f"no log can be made in {where}, without {wanted // 2**20} MB free: NETREV_LOGS names another folder, --points makes the log "
+        "smaller"
     )
 
 

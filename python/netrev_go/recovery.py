@@ -1,0 +1,68 @@
+"""`netrev-go recover`: recordings of the runs whose netrev-go was killed, and the line that offers it."""
+
+from __future__ import annotations
+
+import argparse
+import pathlib
+from enum import IntEnum
+
+from netrev_words.counting import counted
+from netrev_words.plain import plain
+
+from .converting import Wish
+from .keeping import Making, complain, say
+from .outputs import look
+from .run_folders import LeftRun, left_runs, taken_over
+from .toolchain import Go
+
+LONGEST_COMMAND = 60
+
+
+class Recovered(IntEnum):
+    """How `recover` ends."""
+
+    ALL = 0
+    REFUSED = 1  # a log gives no recording
+    UNWRITTEN = 4
+
+
+def named(run: LeftRun) -> str:
+    """A run in words, as short as a line needs."""
+    command = plain(run.command)
+    return f"`{command if len(command) <= LONGEST_COMMAND else command[:LONGEST_COMMAND] + '..'}` of {run.time()}"
+
+
+def offer() -> None:
+    """Says in one line that logs are left, if some are."""
+    runs = left_runs()
+    if not runs:
+        return
+    what = f"{named(runs[-1])} was" if len(runs) == 1 else f"{len(runs)} runs, the last {named(runs[-1])}, were"
+    complain(
+        f"{what} cut off before the recordings were made: `netrev-go recover` makes them"
+        + (f" (`rm -r {plain(str(runs[-1].folder))}` discards the logs)" if len(runs) == 1 else "")
+    )
+
+
+def recover(options: argparse.Namespace, base: pathlib.Path, go: Go | None, wish: Wish) -> int:
+    """Makes recordings of all runs that are left, and removes the logs of which netrev takes the recordings."""
+    look(base)
+    runs = [run for run in left_runs() if taken_over(run)]
+    if not runs:
+        say(["no run was cut off: nothing is to be recovered"])
+    status, made = Recovered.ALL, 0
+    for run in runs:
+        say([f"{named(run)}:"])
+        making = Making(run.folder, base, go, wish, made)
+        try:
+            making.all(True)
+        finally:
+            making.leave(options.keep)
+        made = making.made
+        if making.trouble:
+            status = Recovered.UNWRITTEN
+        elif not making.all_taken:
+            status = status or Recovered.REFUSED
+    if len(runs) > 1:
+        say([f"netrev-go: {counted(made, 'recording')} of {len(runs)} runs"])
+    return status
