@@ -187,6 +187,9 @@ def findings(recording: str, seconds: float) -> list[str]:
     ) as running:  # fmt: skip
         try:
             said, _ = running.communicate(timeout=seconds)
+        except KeyboardInterrupt:
+            running.kill()
+            raise
         except subprocess.TimeoutExpired:
             running.send_signal(signal.SIGINT)  # it says then what it has found
             try:

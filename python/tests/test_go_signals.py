@@ -4,13 +4,15 @@ in for Go."""
 import os
 import pty
 import signal
+import subprocess
 from pathlib import Path
 
 import pytest
 from netrev_go.run_folders import left_runs
 
-from .go_stand_in import PATIENCE, WAITS, WHOLE, StandIn, wait_until
+from .go_stand_in import PATIENCE, WAITS, WHOLE, StandIn, until, wait_until
 
+RUNS = f"touch here; {until('end')}"
 CANCELLING = (signal.SIGQUIT, signal.SIGHUP, signal.SIGTERM, signal.SIGINT)
 
 
@@ -38,7 +40,7 @@ def test_a_signal_reaches_the_program_and_the_recording_is_made(folder: Path, nu
 @pytest.mark.parametrize("number", (signal.SIGQUIT, signal.SIGHUP, signal.SIGTERM), ids=lambda number: number.name)
 def test_a_signal_that_comes_while_recordings_are_made_stops_nothing(folder: Path, number: signal.Signals) -> None:
     stand_in = StandIn(folder, "exit 3")
-    stand_in.executable("netrev", "touch asked; until [ -e answer ]; do sleep 0.05; done; echo ok 245 steps")
+    stand_in.executable("netrev", f"touch asked; {until('answer')}; echo ok 245 steps")
     running = stand_in.start("-o", "x", "run", ".")
     stand_in.wait_for("asked")
     running.send_signal(number)
@@ -51,7 +53,7 @@ def test_a_signal_that_comes_while_recordings_are_made_stops_nothing(folder: Pat
 
 def test_a_signal_that_comes_while_recordings_are_made_begins_no_further_run(folder: Path) -> None:
     stand_in = StandIn(folder, "echo ran >> runs; exit 1")
-    stand_in.executable("netrev", "touch asked; until [ -e answer ]; do sleep 0.05; done; echo ok 245 steps")
+    stand_in.executable("netrev", f"touch asked; {until('answer')}; echo ok 245 steps")
     running = stand_in.start("--runs", "3", "test", ".")
     stand_in.wait_for("asked")
     running.send_signal(signal.SIGTERM)
@@ -113,7 +115,7 @@ def ended(process: int, terminal: int) -> int:
 
 
 def test_under_nohup_sighup_stays_ignored(folder: Path) -> None:
-    stand_in = StandIn(folder, "touch here; until [ -e end ]; do sleep 0.05; done; exit 5")
+    stand_in = StandIn(folder, f"{RUNS}; exit 5")
     running = stand_in.start("-o", "x", "run", ".", ignored=signal.SIGHUP)
     stand_in.wait_for("here")
     running.send_signal(signal.SIGHUP)
@@ -133,7 +135,7 @@ def killed(stand_in: StandIn) -> None:
 
 
 def test_a_run_whose_netrev_go_is_killed_is_offered_and_recovered(folder: Path) -> None:
-    stand_in = StandIn(folder, "touch here; until [ -e end ]; do sleep 0.05; done")
+    stand_in = StandIn(folder, RUNS)
     killed(stand_in)
     _, errors = stand_in.call("convert")
     assert "`netrev-go -o x run 'serve me'` of 2" in errors
@@ -146,7 +148,7 @@ def test_a_run_whose_netrev_go_is_killed_is_offered_and_recovered(folder: Path) 
 
 
 def test_several_runs_that_were_cut_off_are_recovered_together(folder: Path) -> None:
-    stand_in = StandIn(folder, "touch here; until [ -e end ]; do sleep 0.05; done")
+    stand_in = StandIn(folder, RUNS)
     for _ in range(2):
         killed(stand_in)
         for name in ("here", "end"):
@@ -158,7 +160,7 @@ def test_several_runs_that_were_cut_off_are_recovered_together(folder: Path) -> 
 
 
 def test_a_run_that_cannot_be_recovered_keeps_its_logs(folder: Path) -> None:
-    stand_in = StandIn(folder, "touch here; until [ -e end ]; do sleep 0.05; done")
+    stand_in = StandIn(folder, RUNS)
     killed(stand_in)
     stand_in.executable("netrev", "echo step 1: fault 107 reason 4; exit 1")
     status, errors = stand_in.call("recover")
@@ -169,7 +171,7 @@ def test_a_run_that_cannot_be_recovered_keeps_its_logs(folder: Path) -> None:
 def test_logs_of_a_netrev_go_that_runs_and_of_other_users_are_left_alone(
     folder: Path, monkeypatch: pytest.MonkeyPatch
 ) -> None:
-    stand_in = StandIn(folder, "touch here; until [ -e end ]; do sleep 0.05; done")
+    stand_in = StandIn(folder, RUNS)
     monkeypatch.setenv("NETREV_LOGS", str(stand_in.logs))
     running = stand_in.start("-o", "x", "run", ".")
     stand_in.wait_for("here")
@@ -186,17 +188,17 @@ def test_logs_of_a_netrev_go_that_runs_and_of_other_users_are_left_alone(
 def test_a_log_that_a_program_still_writes_is_left_alone_and_kept(folder: Path) -> None:
     stand_in = StandIn(
         folder,
-        """python3 -c '
+        f"""python3 -c '
 import mmap, os, time
 log = os.environ["NETREV_LOG"] + "." + str(os.getpid())
 os.rename(os.environ["NETREV_LOG"] + "." + str(os.getppid()), log)
 with open(log, "r+b") as file:
     mapped = mmap.mmap(file.fileno(), 4096)
 open("here", "w").close()
-while not os.path.exists("end"):
+while os.path.exists("go") and not os.path.exists("end"):
     time.sleep(0.05)
 ' > /dev/null 2>&1 &
-until [ -e here ]; do sleep 0.05; done""",
+{until("here")}""",
     )
     status, errors = stand_in.call("-o", "x", "run", ".")
     assert (status, stand_in.recording("x")) == (0, WHOLE.read_text()), errors
@@ -213,3 +215,12 @@ def test_only_the_user_can_read_a_runs_folder_unless_that_is_root(folder: Path) 
     assert stand_in.call("-o", "x", "run", ".")[0] == 0
     modes = [line.split()[0] for line in (folder / "modes").read_text().splitlines()]
     assert modes == (["711", "1733"] if os.geteuid() == 0 else ["700", "700"])
+
+
+def test_standard_error_that_is_full_changes_no_status(folder: Path) -> None:
+    stand_in = StandIn(folder, 'rm "$NETREV_LOG.$$"; exit 2')
+    with open("/dev/full", "w") as full:
+        ended = subprocess.run(
+            stand_in.words("run", "-nosuch", "."), cwd=folder, env=stand_in.environment(), stderr=full, check=False
+        )
+    assert ended.returncode == 2
