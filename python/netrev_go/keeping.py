@@ -44,8 +44,8 @@ def unwritten(name: pathlib.Path, fault: OSError) -> str:
     return f"{fault.filename or name}: {fault.strerror or fault}"
 
 
-def is_nothing_recorded(folder: pathlib.Path, failed: bool) -> bool:
-    """Says why there is no log, when there is none."""
+def told_no_log(folder: pathlib.Path, failed: bool) -> bool:
+    """Says why no log is there, if none is; whether that is so."""
     if logs_in(folder):
         return False
     if not folder.is_dir():
@@ -57,8 +57,8 @@ def is_nothing_recorded(folder: pathlib.Path, failed: bool) -> bool:
     return True
 
 
-def is_any_unrecorded(folder: pathlib.Path) -> bool:
-    """Says which processes couldn't be recorded, when some couldn't."""
+def told_unrecorded(folder: pathlib.Path) -> bool:
+    """Says which processes couldn't be recorded; whether some couldn't."""
     lines = unrecorded(folder)
     for line in lines:
         complain(line)
@@ -83,7 +83,7 @@ def leave(folder: pathlib.Path, keep: bool, is_whole: bool, running: list[pathli
             forget(log)
             continue
         complain(
-            f"process {process_of(log)} runs on, and its log grows: `netrev-go -o NAME convert {log}` makes a recording of it, and "
+            f"process {process_of(log)} runs on, and its log grows: `netrev-go -o NAME convert {log}` makes a recording of it now, and "
             "`netrev-go recover` after its end"
         )
 
@@ -110,12 +110,12 @@ class Making:
         """Makes them after the program's end."""
         self.trouble = False
         self._running = still_written(self._folder)
-        if is_nothing_recorded(self._folder, failed):
+        if told_no_log(self._folder, failed):
             self.trouble = not self._folder.is_dir()
         else:
             self.all_taken, self.made = self._make(self._base, replace(self._wish, failed=failed), self.made)
             self._is_whole = self.all_taken
-        if is_any_unrecorded(self._folder):
+        if told_unrecorded(self._folder):
             self.all_taken = False
 
     def leave(self, keep: bool) -> None:

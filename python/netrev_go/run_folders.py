@@ -21,6 +21,7 @@ from itertools import islice
 from typing import TextIO
 
 from .running import PREFIX, logs_in, places, still_written
+from .toolchain import Trouble
 
 OWNER = (
     "owner"  # a file that the netrev-go which has the folder keeps locked; the kernel unlocks it, however that one ends
@@ -41,14 +42,17 @@ HELD: dict[pathlib.Path, TextIO] = {}  # the locked files of this netrev-go's fo
 def claimed(folder: pathlib.Path) -> pathlib.Path:
     """Makes a new folder this netrev-go's, and fit for the programs of a run."""
     marks = folder / UNRECORDED
-    marks.mkdir(0o700)
-    if os.geteuid() == 0:  # its programs may have children of other users: they leave a mark, and see nothing
-        folder.chmod(0o711)
-        marks.chmod(0o1733)
-    file = (folder / OWNER).open("x", encoding="utf-8", errors="surrogateescape")
-    fcntl.flock(file, fcntl.LOCK_EX)
-    file.write(f"{shlex.join(['netrev-go', *sys.argv[1:]])[:MOST_OF_COMMAND]}\n")
-    file.flush()
+    try:
+        marks.mkdir(0o700)
+        if os.geteuid() == 0:  # its programs may have children of other users: they leave a mark, and see nothing
+            folder.chmod(0o711)
+            marks.chmod(0o1733)
+        file = (folder / OWNER).open("x", encoding="utf-8", errors="surrogateescape")
+        fcntl.flock(file, fcntl.LOCK_EX)
+        file.write(f"{shlex.join(['netrev-go', *sys.argv[1:]])[:MOST_OF_COMMAND]}\n")
+        file.flush()
+    except OSError as fault:
+        raise Trouble(f"no log can be made in {folder}: {fault.strerror}. Nothing was run") from None
     HELD[folder] = file
     return folder
 

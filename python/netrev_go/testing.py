@@ -17,7 +17,7 @@ from netrev_words.plain import plain
 
 from . import forms
 from .converting import Wish
-from .keeping import Making, complain, is_any_unrecorded, is_nothing_recorded, leave, say
+from .keeping import Making, complain, leave, say, told_no_log, told_unrecorded
 from .linking import kept
 from .outputs import base_name, look_folder
 from .run_folders import claimed
@@ -145,8 +145,8 @@ class Run:
 
     def _take(self, folder: pathlib.Path, failed: bool) -> bool:
         """Makes the recordings; whether the logs can go."""
-        self.has_recorded = not is_any_unrecorded(folder)
-        if is_nothing_recorded(folder, failed):
+        self.has_recorded = not told_unrecorded(folder)
+        if told_no_log(folder, failed):
             self.is_last, self.has_recorded = True, False
             return True
         before, self._recordings.all_recorded = self._recordings.all_recorded, True

@@ -175,6 +175,18 @@ class Lost(Run):
         self.assertIn("Please keep the log and report it", said)
         self.assertEqual(self.again(said), self.WHOLE)
 
+    def test_processes_that_cannot_write_a_log_are_named(self) -> None:
+        mark = 'touch "$NETREV_LOG.unrecorded/process.{}"; '
+        marks = mark.format("12.13") + mark.format("14.27") + mark.format("15.27") + mark.format("x.y")
+        for command in ("run", "test"):
+            returned, said = self.called("--strict", "-o", f"of-{command}", command, ".", does=marks)
+            self.assertEqual(returned, Status.UNRECORDED, said)
+            self.assertIn("netrev-go: process 12 couldn't write a log (Permission denied): it isn't recorded\n", said)
+            self.assertIn("2 processes couldn't write a log (its files may not be so large, by ulimit -f): they", said)
+            self.assertNotIn("the logs are in", said)
+        returned, said = self.called("run", ".", does=marks, leaves="true")
+        self.assertEqual((returned, "nothing was recorded" in said), (0, False), said)
+
     def test_logs_that_are_gone_are_said_to_be(self) -> None:
         returned, said = self.called("--strict", "run", "main.go", does='rm -r "$(dirname $NETREV_LOG)"')
         self.assertEqual(returned, Status.UNRECORDED, said)

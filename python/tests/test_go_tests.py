@@ -107,6 +107,12 @@ class Ranning(unittest.TestCase):
         self.assertEqual(len(tests_of(lines).ran), 4)
         self.assertEqual(of_log(pathlib.Path("/nowhere/log.1")).ran, [])
 
+    def test_the_file_is_mapped_and_zeros_say_nothing(self) -> None:
+        lines = "1 1 5 package p\n2 3 9 ru\0\0\0\0\n3 3 9 runs T\n3 3 9 fai\0\0\0\0" + "\0" * 10**6
+        self.assertEqual(
+            [(test.package, test.name, test.went()) for test in tests_of(lines).ran], [("p", "T", Went.UNFINISHED)]
+        )
+
     def test_it_runs_again_by_the_same_name(self) -> None:
         tests = tests_of("1 1 1 package p\n1 2 1 runs T\n1 2 1 ends T\n2 3 1 runs T\n2 3 1 fails T\n2 3 1 ends T\n")
         self.assertEqual([test.went().value for test in tests.ran], ["passed", "failed"])
