@@ -16,7 +16,7 @@ from .keeping import Making, complain, say, unwritten
 from .options import POSSIBLE, SUSPECTS, asks_for_help, check, help_of, parser
 from .outputs import base_name, look, numbered
 from .recovery import offer, recover
-from .run_folders import claimed
+from .run_folders import claim
 from .running import Runner, as_a_shell_has_it, limits_of, log_of_process, logs_folder
 from .testing import record_tests
 from .toolchain import Go, Trouble, find_go
@@ -63,7 +63,7 @@ def record(options: argparse.Namespace, go: Go) -> int:
         return status_of(came.status, bad, options.strict and not came.all_recorded)
     base = base_name(options.o)
     look(base)
-    folder = claimed(logs_folder(options.points))
+    folder = claim(logs_folder(options.points))
     making = Making(folder, base, go, wish_of(options))
     try:
         status = as_a_shell_has_it(Runner(command, folder, limits_of(options)).wait(making.so_far))

@@ -8,14 +8,14 @@ import sys
 from dataclasses import replace
 from typing import TextIO
 
-from netrev_words.counting import counted
+from netrev_words.plurals import counted
 from netrev_words.plain import plain
 
 from .converting import Wish, convert
 from .forms import suspects_in
 from .outputs import numbered
 from .ran import forget
-from .run_folders import give_up, remove, unrecorded
+from .run_folders import release, remove, unrecorded
 from .running import LOGS, logs_in, process_of, still_written
 from .toolchain import Go
 
@@ -44,7 +44,7 @@ def unwritten(name: pathlib.Path, fault: OSError) -> str:
     return f"{fault.filename or name}: {fault.strerror or fault}"
 
 
-def told_no_log(folder: pathlib.Path, failed: bool) -> bool:
+def report_no_log(folder: pathlib.Path, failed: bool) -> bool:
     """Says why no log is there, if none is; whether that is so."""
     if logs_in(folder):
         return False
@@ -57,7 +57,7 @@ def told_no_log(folder: pathlib.Path, failed: bool) -> bool:
     return True
 
 
-def told_unrecorded(folder: pathlib.Path) -> bool:
+def report_unrecorded(folder: pathlib.Path) -> bool:
     """Says which processes couldn't be recorded; whether some couldn't."""
     lines = unrecorded(folder)
     for line in lines:
@@ -69,7 +69,7 @@ def leave(folder: pathlib.Path, keep: bool, is_whole: bool, running: list[pathli
     """Removes a run's logs, unless they are wanted, a recording of one is missing, or these programs run on."""
     logs = logs_in(folder)
     if keep or logs and not is_whole:
-        give_up(folder)
+        release(folder)
         say([f"the logs are in {plain(str(folder))}"])
         if logs and not is_whole:
             again = str(logs[0]) if len(logs) == 1 else f"{folder}/{LOGS}"
@@ -91,12 +91,12 @@ def leave(folder: pathlib.Path, keep: bool, is_whole: bool, running: list[pathli
 class Making:
     """Makes the recordings of a folder's logs."""
 
-    def __init__(self, folder: pathlib.Path, base: pathlib.Path, go: Go | None, wish: Wish, made: int = 0) -> None:
+    def __init__(self, folder: pathlib.Path, base: pathlib.Path, go: Go | None, wish: Wish, count: int = 0) -> None:
         self._folder, self._base, self._go, self._wish = folder, base, go, wish
         self._times = 0
         self._is_whole = False  # whether nothing that was run would be lost with the logs
         self._running: list[pathlib.Path] = []
-        self.made = made  # the recordings of this name so far
+        self.count = count  # of the recordings of this name so far
         self.all_taken = False
         self.trouble = False  # whether one couldn't be written
         self.suspected = False
@@ -110,23 +110,23 @@ class Making:
         """Makes them after the program's end."""
         self.trouble = False
         self._running = still_written(self._folder)
-        if told_no_log(self._folder, failed):
+        if report_no_log(self._folder, failed):
             self.trouble = not self._folder.is_dir()
         else:
-            self.all_taken, self.made = self._make(self._base, replace(self._wish, failed=failed), self.made)
+            self.all_taken, self.count = self._make(self._base, replace(self._wish, failed=failed), self.count)
             self._is_whole = self.all_taken
-        if told_unrecorded(self._folder):
+        if report_unrecorded(self._folder):
             self.all_taken = False
 
     def leave(self, keep: bool) -> None:
         """Removes the logs, unless there is a reason to keep them."""
         leave(self._folder, keep, self._is_whole, self._running)
 
-    def _make(self, base: pathlib.Path, wish: Wish, made: int) -> tuple[bool, int]:
+    def _make(self, base: pathlib.Path, wish: Wish, count: int) -> tuple[bool, int]:
         """A recording of each log in which sockets were opened: whether all are taken, and how many there are of this name."""
-        ok, before, without = True, made, 0
+        ok, before, without = True, count, 0
         for log in logs_in(self._folder):
-            name = numbered(base, made + 1)
+            name = numbered(base, count + 1)
             try:
                 outcome = convert(log, name, self._go, wish)
             except OSError as fault:
@@ -136,12 +136,12 @@ class Making:
             if outcome.is_empty:
                 without += 1
                 continue
-            made += 1
+            count += 1
             ok = ok and outcome.taken
             self.suspected = self.suspected or bool(suspects_in(outcome.lines))
             say(outcome.lines)
-        if without and made == before:
+        if without and count == before:
             say(["no socket was opened: there is nothing to record"])
         elif without:
             say([f"{counted(without, 'more process', 'more processes')} opened no socket"])
-        return ok, made
+        return ok, count

@@ -6,13 +6,13 @@ import argparse
 import pathlib
 from enum import IntEnum
 
-from netrev_words.counting import counted
+from netrev_words.plurals import counted
 from netrev_words.plain import plain
 
 from .converting import Wish
 from .keeping import Making, complain, say
 from .outputs import look
-from .run_folders import LeftRun, left_runs, taken_over
+from .run_folders import LeftRun, left_runs, take_over
 from .toolchain import Go
 
 LONGEST_COMMAND = 60
@@ -47,22 +47,22 @@ def offer() -> None:
 def recover(options: argparse.Namespace, base: pathlib.Path, go: Go | None, wish: Wish) -> int:
     """Makes recordings of all runs that are left, and removes the logs of which netrev takes the recordings."""
     look(base)
-    runs = [run for run in left_runs() if taken_over(run)]
+    runs = [run for run in left_runs() if take_over(run)]
     if not runs:
         say(["no run was cut off: nothing is to be recovered"])
-    status, made = Recovered.ALL, 0
+    status, count = Recovered.ALL, 0
     for run in runs:
         say([f"{named(run)}:"])
-        making = Making(run.folder, base, go, wish, made)
+        making = Making(run.folder, base, go, wish, count)
         try:
             making.all(True)
         finally:
             making.leave(options.keep)
-        made = making.made
+        count = making.count
         if making.trouble:
             status = Recovered.UNWRITTEN
         elif not making.all_taken:
             status = status or Recovered.REFUSED
     if len(runs) > 1:
-        say([f"netrev-go: {counted(made, 'recording')} of {len(runs)} runs"])
+        say([f"netrev-go: {counted(count, 'recording')} of {len(runs)} runs"])
     return status

@@ -8,7 +8,7 @@ import shlex
 import shutil
 
 from netrev_words.built import netrev_program
-from netrev_words.counting import counted
+from netrev_words.plurals import counted
 from netrev_words.plain import plain
 
 from .asking import Late, at_the_end, causes, check, hanging, never_closed, suspects

@@ -39,7 +39,7 @@ WHY = {
 HELD: dict[pathlib.Path, TextIO] = {}  # the locked files of this netrev-go's folders
 
 
-def claimed(folder: pathlib.Path) -> pathlib.Path:
+def claim(folder: pathlib.Path) -> pathlib.Path:
     """Makes a new folder this netrev-go's, and fit for the programs of a run."""
     marks = folder / UNRECORDED
     try:
@@ -57,7 +57,7 @@ def claimed(folder: pathlib.Path) -> pathlib.Path:
     return folder
 
 
-def give_up(folder: pathlib.Path) -> None:
+def release(folder: pathlib.Path) -> None:
     """Makes a folder nobody's: what is left in it was told, and isn't offered again."""
     with contextlib.suppress(OSError):
         (folder / OWNER).unlink()
@@ -66,7 +66,7 @@ def give_up(folder: pathlib.Path) -> None:
 
 
 def remove(folder: pathlib.Path) -> None:
-    give_up(folder)
+    release(folder)
     shutil.rmtree(folder, ignore_errors=True)
 
 
@@ -124,7 +124,7 @@ def is_own(path: pathlib.Path, is_of_kind: Callable[[int], bool]) -> bool:
     return status.st_uid == os.geteuid() and is_of_kind(status.st_mode)
 
 
-def taken_over(run: LeftRun) -> bool:
+def take_over(run: LeftRun) -> bool:
     """Makes a left run this netrev-go's, unless another one was faster."""
     try:
         file = (run.folder / OWNER).open("r+", encoding="utf-8")

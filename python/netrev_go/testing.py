@@ -11,16 +11,16 @@ import time
 from collections.abc import Callable, Iterator
 from dataclasses import dataclass, replace
 
-from netrev_words.counting import counted
+from netrev_words.plurals import counted
 from netrev_words.files import written_whole
 from netrev_words.plain import plain
 
 from . import forms
 from .converting import Wish
-from .keeping import Making, complain, leave, say, told_no_log, told_unrecorded
+from .keeping import Making, complain, leave, say, report_no_log, report_unrecorded
 from .linking import kept
 from .outputs import base_name, look_folder
-from .run_folders import claimed
+from .run_folders import claim
 from .running import Runner, as_a_shell_has_it, limits_of, logs_folder, still_written, stop_at_once
 from .tested import Recordings
 from .toolchain import Go
@@ -120,7 +120,7 @@ class Run:
 
     def once(self, one: Round) -> int:
         """Runs it; Go's status. The logs stay where something can't be made of them."""
-        folder = claimed(logs_folder(self._options.points))
+        folder = claim(logs_folder(self._options.points))
         limits = replace(limits_of(self._options), processors=one.processors)
         is_whole, running = False, list[pathlib.Path]()
         try:
@@ -145,8 +145,8 @@ class Run:
 
     def _take(self, folder: pathlib.Path, failed: bool) -> bool:
         """Makes the recordings; whether the logs can go."""
-        self.has_recorded = not told_unrecorded(folder)
-        if told_no_log(folder, failed):
+        self.has_recorded = not report_unrecorded(folder)
+        if report_no_log(folder, failed):
             self.is_last, self.has_recorded = True, False
             return True
         before, self._recordings.all_recorded = self._recordings.all_recorded, True

@@ -3,7 +3,7 @@
 from dataclasses import dataclass
 from typing import NamedTuple
 
-from netrev_words.counting import counted
+from netrev_words.plurals import counted
 
 from .output import Row, Table
 from .recorded_changes import RecordedChanges

@@ -2,7 +2,7 @@
 
 from typing import Iterable, Optional
 
-from netrev_words.counting import counted
+from netrev_words.plurals import counted
 from netrev_words.vocabulary import Of
 
 from .output import Row, Table, Values

@@ -4,7 +4,7 @@ had another one than the machine."""
 import json
 from typing import Any, Optional
 
-from netrev_words.counting import counted
+from netrev_words.plurals import counted
 from netrev_words.vocabulary import COUNTED_ANSWERS, KINDS
 
 

@@ -4,7 +4,7 @@ look where something hangs, so a thousand that wait for one lock ask for that lo
 from functools import cached_property
 from typing import Iterable, Mapping, Optional
 
-from netrev_words.counting import counted
+from netrev_words.plurals import counted
 from netrev_words.vocabulary import Of
 
 from .backwards import Lock, last_steps, takings

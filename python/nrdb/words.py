@@ -4,7 +4,7 @@ import json
 from dataclasses import dataclass
 from typing import Any, Mapping
 
-from netrev_words.counting import counted
+from netrev_words.plurals import counted
 from netrev_words.vocabulary import CELLS, Of
 
 DUMPED = 80  # digits of a dump that are shown as text

@@ -17,7 +17,7 @@ from pathlib import Path
 
 from netrev_go.fetching import SUITES, commands_of, is_here
 from netrev_go.running import Limits, environment, logs_in
-from netrev_go.run_folders import claimed
+from netrev_go.run_folders import claim
 from netrev_go.toolchain import Go, overlay, quiet_go
 
 SOURCE = Path(__file__).with_suffix(".go")
@@ -58,7 +58,7 @@ class Programs:
     def runs(self, name: str) -> tuple[Run, Run, Path]:
         """A run without recording, one with it, and the folder of the latter's logs."""
         self._runs += 1
-        logs = claimed(Path(tempfile.mkdtemp(dir=self._folder)))
+        logs = claim(Path(tempfile.mkdtemp(dir=self._folder)))
         settings = environment(logs, Limits(points=2**16))
         return self._run("plain", name, dict(os.environ)), self._run("recording", name, settings), logs
 

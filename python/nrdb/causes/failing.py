@@ -3,7 +3,7 @@ or a broken connection who closed the other end."""
 
 from typing import Optional
 
-from netrev_words.counting import counted
+from netrev_words.plurals import counted
 
 from ..one_call import CLOSE, Call, Outcome
 from ..recording import Recording

@@ -4,7 +4,7 @@ itself, so each is said with `Perhaps`."""
 
 from typing import Iterator, NamedTuple, Optional
 
-from netrev_words.counting import counted
+from netrev_words.plurals import counted
 
 from ..one_call import CLOSE, Call, Outcome
 from ..recording import Recording

@@ -2,7 +2,7 @@
 
 from typing import Iterator
 
-from netrev_words.counting import counted
+from netrev_words.plurals import counted
 
 from ..attached import END
 from ..files import writing

@@ -2,7 +2,7 @@
 
 from typing import Iterator, NamedTuple
 
-from netrev_words.counting import counted
+from netrev_words.plurals import counted
 
 from ..noted import Hold
 from ..words import SIDES as NAMES

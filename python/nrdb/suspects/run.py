@@ -5,7 +5,7 @@ from typing import Optional
 
 from netrev_machine.machine import INSIDE
 
-from netrev_words.counting import counted
+from netrev_words.plurals import counted
 
 from ..causes.index import Index, index_of
 from ..noted import AT, Use

@@ -2,7 +2,7 @@
 
 from typing import Optional
 
-from netrev_words.counting import counted
+from netrev_words.plurals import counted
 
 from ..noted import Timeout
 from ..output import Row, Table, Values

@@ -3,7 +3,7 @@ place."""
 
 from typing import Iterator
 
-from netrev_words.counting import counted
+from netrev_words.plurals import counted
 
 from ..found import Evidence, Suspect, Weight
 from ..run import Run
