@@ -158,7 +158,7 @@ class Pressing(unittest.TestCase):
         """A Ctrl-C has come that no session and no case had."""
         self.came += 1
 
-    def release(self, happens):
+    def give_up(self, happens):
         """Asks a netrev, of which the session is given up by what happens then, and ends it."""
         interrupts = Interrupts()
         with confined():
@@ -183,7 +183,7 @@ class Pressing(unittest.TestCase):
             netrev.while_stopped(pressed, pressed, late)
             netrev.close()
 
-        self.release(closes)
+        self.give_up(closes)
         is_over.set()
         self.assertTrue(is_pressed.wait(10))
         self.assertEqual(self.came, 0)
@@ -201,7 +201,7 @@ class Pressing(unittest.TestCase):
             with mock.patch.object(threading.Thread, "start", begins):
                 netrev.while_stopped(nothing)
 
-        self.release(stops)
+        self.give_up(stops)
         self.assertEqual([thread.is_alive() for thread in begun], [False])
 
     def test_what_is_pressed_within_a_case_is_gone_behind_it(self):
