@@ -8,7 +8,6 @@ import pathlib
 import shlex
 import subprocess
 import sys
-from enum import IntEnum
 
 from .converting import Wish, convert
 from .doctor import doctor
@@ -18,24 +17,13 @@ from .outputs import base_name, look, numbered
 from .recovery import offer, recover
 from .run_folders import claim
 from .running import Runner, as_a_shell_has_it, limits_of, log_of_process, logs_folder
+from .status import Status
 from .testing import record_tests
 from .toolchain import Go, Trouble, find_go
 from .trying import ready
 
 
 KNOWN: list[object] = []  # of the log that is converted; of the last one to the end, as to give it back takes long
-
-
-class Status(IntEnum):
-    """How netrev-go ends where it isn't Go's own status with which it does."""
-
-    DONE = 0
-    REFUSED = 1  # a log that is converted gives no recording
-    USAGE = 2
-    SUSPECTED = 3  # and --fail-on asks for that
-    TROUBLE = 4
-    UNRECORDED = 5  # and --strict asks for that
-    INTERRUPTED = 130
 
 
 def flags(go: Go, words: list[str]) -> list[str]:

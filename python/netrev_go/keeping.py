@@ -8,8 +8,8 @@ import sys
 from dataclasses import replace
 from typing import TextIO
 
-from netrev_words.plurals import counted
 from netrev_words.plain import plain
+from netrev_words.plurals import counted
 
 from .converting import Wish, convert
 from .forms import suspects_in

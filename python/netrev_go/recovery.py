@@ -4,32 +4,24 @@ from __future__ import annotations
 
 import argparse
 import pathlib
-from enum import IntEnum
 
-from netrev_words.plurals import counted
 from netrev_words.plain import plain
+from netrev_words.plurals import counted
 
 from .converting import Wish
 from .keeping import Making, complain, say
 from .outputs import look
 from .run_folders import LeftRun, left_runs, take_over
+from .status import Status
 from .toolchain import Go
 
 LONGEST_COMMAND = 60
 
 
-class Recovered(IntEnum):
-    """How `recover` ends."""
-
-    ALL = 0
-    REFUSED = 1  # a log gives no recording
-    UNWRITTEN = 4
-
-
 def named(run: LeftRun) -> str:
     """A run in words, as short as a line needs."""
     command = plain(run.command)
-    return f"`{command if len(command) <= LONGEST_COMMAND else command[:LONGEST_COMMAND] + '..'}` of {run.time()}"
+    return f"`{command if len(command) <= LONGEST_COMMAND else command[:LONGEST_COMMAND] + '..'}` of {run.when()}"
 
 
 def offer() -> None:
@@ -49,8 +41,8 @@ def recover(options: argparse.Namespace, base: pathlib.Path, go: Go | None, wish
     look(base)
     runs = [run for run in left_runs() if take_over(run)]
     if not runs:
-        say(["no run was cut off: nothing is to be recovered"])
-    status, count = Recovered.ALL, 0
+        say(["netrev-go: no run was cut off"])
+    status, count = Status.DONE, 0
     for run in runs:
         say([f"{named(run)}:"])
         making = Making(run.folder, base, go, wish, count)
@@ -60,9 +52,9 @@ def recover(options: argparse.Namespace, base: pathlib.Path, go: Go | None, wish
             making.leave(options.keep)
         count = making.count
         if making.trouble:
-            status = Recovered.UNWRITTEN
+            status = Status.TROUBLE
         elif not making.all_taken:
-            status = status or Recovered.REFUSED
+            status = status or Status.REFUSED
     if len(runs) > 1:
         say([f"netrev-go: {counted(count, 'recording')} of {len(runs)} runs"])
     return status

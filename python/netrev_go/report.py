@@ -8,8 +8,8 @@ import shlex
 import shutil
 
 from netrev_words.built import netrev_program
-from netrev_words.plurals import counted
 from netrev_words.plain import plain
+from netrev_words.plurals import counted
 
 from .asking import Late, at_the_end, causes, check, hanging, never_closed, suspects
 from .lines import OF_GO, Call, Calls

@@ -94,7 +94,7 @@ class LeftRun:
     command: str
     began: float  # seconds since 1970
 
-    def time(self) -> str:
+    def when(self) -> str:
         return time.strftime("%Y-%m-%d %H:%M", time.localtime(self.began))
 
 

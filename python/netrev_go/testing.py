@@ -11,9 +11,9 @@ import time
 from collections.abc import Callable, Iterator
 from dataclasses import dataclass, replace
 
-from netrev_words.plurals import counted
 from netrev_words.files import written_whole
 from netrev_words.plain import plain
+from netrev_words.plurals import counted
 
 from . import forms
 from .converting import Wish

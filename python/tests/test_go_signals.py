@@ -143,7 +143,7 @@ def test_a_run_whose_netrev_go_is_killed_is_offered_and_recovered(folder: Path) 
     status, errors = stand_in.call("-o", "again", "recover")
     assert (status, stand_in.recording("again")) == (0, WHOLE.read_text()), errors
     assert remaining_logs(stand_in) == []
-    assert "nothing is to be recovered" in stand_in.call("recover")[1]
+    assert "no run was cut off" in stand_in.call("recover")[1]
     assert "recover" not in stand_in.call("convert")[1]
 
 
@@ -175,7 +175,7 @@ def test_logs_of_a_netrev_go_that_runs_and_of_other_users_are_left_alone(
     monkeypatch.setenv("NETREV_LOGS", str(stand_in.logs))
     running = stand_in.start("-o", "x", "run", ".")
     stand_in.wait_for("here")
-    assert left_runs() == [] and "nothing is to be recovered" in stand_in.call("recover")[1]
+    assert left_runs() == [] and "no run was cut off" in stand_in.call("recover")[1]
     running.kill()
     running.wait(PATIENCE)
     assert len(left_runs()) == 1
@@ -203,7 +203,7 @@ while os.path.exists("go") and not os.path.exists("end"):
     status, errors = stand_in.call("-o", "x", "run", ".")
     assert (status, stand_in.recording("x")) == (0, WHOLE.read_text()), errors
     assert "runs on, and its log grows: `netrev-go -o NAME convert " in errors
-    assert "nothing is to be recovered" in stand_in.call("recover")[1]
+    assert "no run was cut off" in stand_in.call("recover")[1]
     (folder / "end").touch()
     wait_until(lambda: "cut off" in stand_in.call("convert")[1])
     assert stand_in.call("-o", "y", "recover")[0] == 0
