@@ -37,7 +37,7 @@ MAIN = program(
 )  # fmt: skip
 TEST = MAIN.replace("package main", "package p").replace('"net"', '"net"\n\t"testing"')
 TEST = TEST.replace("func main()", "func TestServe(t *testing.T)")
-LONGEST = 4.0  # seconds from netrev-go's start to the signal; the program runs 3 seconds or more
+EARLIEST, LATEST = -2.0, 5.0  # seconds to the signal, after the program's beginning or, below 0, after netrev-go's
 
 
 @dataclass
@@ -68,7 +68,7 @@ class Trial:
         return run.stderr
 
     def run(self, number: int, command: str, sent: signal.Signals, seconds: float) -> str:
-        """One run: its status, and what became of it."""
+        """One run, with a signal so many seconds after the program's beginning, or netrev-go's: its status, and what became of it."""
         errors = self.folder / f"errors {number}"
         with errors.open("w") as file:
             running = subprocess.Popen(
@@ -76,8 +76,10 @@ class Trial:
                 cwd=self.folder / command, env=self.environment(number), stdin=subprocess.DEVNULL,
                 stdout=subprocess.DEVNULL, stderr=file, start_new_session=True,
             )  # fmt: skip
+        if seconds > 0:
+            wait_until(lambda: running.poll() is not None or (self.folder / f"began {number}").exists())
         try:
-            running.wait(seconds)
+            running.wait(abs(seconds))
         except subprocess.TimeoutExpired:
             running.send_signal(sent)
         running.wait()
@@ -124,9 +126,9 @@ def tried(release: str, runs: int, seed: int, netrev: str) -> Counter[str]:
         trial.called(0, "doctor")  # it makes the overlay
         for number in range(1, runs + 1):
             sent, command = SIGNALS[number % 4], ("run", "test")[number // 4 % 2]
-            seconds = dice.uniform(0.2, LONGEST)
+            seconds = dice.uniform(EARLIEST, LATEST)
             outcome = trial.run(number, command, sent, seconds)
-            print(f"{release}  {number:>3}  {command:<4}  {sent.name:<7} after {seconds:.2f} s: {outcome}", flush=True)
+            print(f"{release}  {number:>3}  {command:<4}  {sent.name:<7} at {seconds:5.2f} s: {outcome}", flush=True)
             sums[outcome.rpartition(", ")[2]] += 1
     return sums
 

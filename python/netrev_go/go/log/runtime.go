@@ -84,6 +84,7 @@ var (
 	netrevBase   uintptr
 	netrevRing   uintptr
 	netrevPoints uint64
+	netrevRoomed uint64 // the points with smaller numbers have room
 	netrevBegin  int64
 	netrevLocks  [64]struct {
 		mutex
@@ -133,6 +134,7 @@ const (
 	netrevClosing   = 3*goarch.IsAmd64 + 57*goarch.IsArm64
 	netrevFstat     = 5*goarch.IsAmd64 + 80*goarch.IsArm64
 	netrevMmap      = 9*goarch.IsAmd64 + 222*goarch.IsArm64
+	netrevMadvise   = 28*goarch.IsAmd64 + 233*goarch.IsArm64
 	netrevGetpid    = 39*goarch.IsAmd64 + 172*goarch.IsArm64
 	netrevSendfile  = 40*goarch.IsAmd64 + 71*goarch.IsArm64
 	netrevTruncate  = 77*goarch.IsAmd64 + 46*goarch.IsArm64
@@ -185,12 +187,16 @@ func netrevReserve(file, size uintptr) uintptr {
 	return 0
 }
 
-// netrevHasRoom takes room for a part of a mapping, and says whether there was any: the kernel adds 0 to a word of each page. Where
-// there is no room it says so, and the program isn't ended by SIGBUS, as it would be by a write of its own. This needs no
-// descriptor.
+// netrevHasRoom takes room for a part of a mapping, and says whether there was any. The kernel writes first: where there is no room
+// it says so, and the program isn't ended by SIGBUS, as it would be by a write of its own. This needs no descriptor. Before
+// Linux 5.14 one call can't do it for all pages: then the kernel adds 0 to a word of each.
 func netrevHasRoom(begin, size uintptr) bool {
-	const wakeOp, private, add, fault = 5, 128, 1 << 28, 14
-	for page := begin &^ (netrevPageBytes - 1); page < begin+size; page += netrevPageBytes {
+	const populateWrite, wakeOp, private, add, fault = 23, 5, 128, 1 << 28, 14
+	page := begin &^ (netrevPageBytes - 1)
+	if _, errno := netrevSystem(netrevMadvise, page, begin+size-page, populateWrite); errno == 0 {
+		return true
+	}
+	for ; page < begin+size; page += netrevPageBytes {
 		if _, errno := netrevSystem(netrevFutex, page, wakeOp|private, 0, 0, page, add); errno == fault {
 			return false
 		}
@@ -277,7 +283,8 @@ func netrevMap(file uintptr, process uint64) (errno uintptr) {
 	return 0
 }
 
-// netrevKeepProgram copies the program beside the log, once for all processes that run it: by it addresses become lines.
+// netrevKeepProgram copies the program beside the log, once for all processes that run it: by it addresses become lines. Where it
+// has no room there, nothing is left of it.
 func netrevKeepProgram(path string) {
 	from, errno := netrevOpenFile([]byte("/proc/self/exe\x00"), netrevCloseOnExec, 0)
 	if errno != 0 {
@@ -287,20 +294,27 @@ func netrevKeepProgram(path string) {
 	netrevSystem(netrevFstat, from, uintptr(unsafe.Pointer(&status)))
 	inode, size, changed := status[1], uintptr(status[6]), status[11]*1000000000+status[12]
 	*netrevWord(netrevHeadProgram), *netrevWord(netrevHeadProgramTime) = inode, changed
-	if size > netrevLargest() {
-		netrevSystem(netrevClosing, from)
-		return
-	}
-	if to, errno := netrevOpenFile(netrevName(path+".program", inode, changed), netrevCreateAnew, 0600); errno == 0 {
-		for {
-			n, errno := netrevSystem(netrevSendfile, to, from, 0, 1<<30)
-			if errno != 0 || n == 0 {
-				break
+	name := netrevName(path+".program", inode, changed)
+	if size <= netrevLargest() {
+		if to, errno := netrevOpenFile(name, netrevCreateAnew, 0600); errno == 0 {
+			if netrevCopy(from, to) < size {
+				netrevSystem(netrevUnlink, netrevHere, uintptr(unsafe.Pointer(&name[0])), 0)
 			}
+			netrevSystem(netrevClosing, to)
 		}
-		netrevSystem(netrevClosing, to)
 	}
 	netrevSystem(netrevClosing, from)
+}
+
+// netrevCopy copies the rest of a file, and returns how many bytes that were.
+func netrevCopy(from, to uintptr) (copied uintptr) {
+	for {
+		n, errno := netrevSystem(netrevSendfile, to, from, 0, 1<<30)
+		if errno != 0 || n == 0 {
+			return copied
+		}
+		copied += n
+	}
 }
 
 // netrevLog writes a point: what, by which goroutine, at which address, what was seen there, and the time: where Go read none for
@@ -310,13 +324,18 @@ func netrevLog(kind uint64, goid uint64, at uintptr, a, b, c, now int64) {
 	if now == 0 {
 		now = nanotime()
 	}
-	if number%netrevChunk == 0 && !netrevRoom(uint64(number)) {
-		return
+	if number%netrevChunk == 0 {
+		netrevRoom(uint64(number))
 	}
 	if ended := atomic.Load64(netrevWord(netrevHeadEnded)); ended != 0 && uint64(number) >= ended-1 {
 		return
 	}
-	p := (*[netrevPointWords]uint64)(unsafe.Pointer(netrevRing + uintptr(uint64(number)%netrevPoints)*netrevPointWords*8))
+	place := netrevRing + uintptr(uint64(number)%netrevPoints)*netrevPointWords*8
+	if uint64(number) >= atomic.Load64(&netrevRoomed) && !netrevHasRoom(place, netrevPointWords*8) {
+		atomic.Cas64(netrevWord(netrevHeadEnded), 0, uint64(number)+1)
+		return
+	}
+	p := (*[netrevPointWords]uint64)(unsafe.Pointer(place))
 	var stack uint64
 	if gp := getg(); netrevLines && (kind <= netrevOpenFailed || kind == netrevParksKind) && gp.m != nil && gp == gp.m.curg {
 		stack = netrevStack(gp, sys.GetCallerSP()-16)
@@ -328,18 +347,21 @@ func netrevLog(kind uint64, goid uint64, at uintptr, a, b, c, now int64) {
 	atomic.Store64(&p[0], uint64(number+1)<<8|kind)
 }
 
-// netrevRoom takes the room for the points behind the next ones, while the ring goes round for the first time. Where there is
-// none left, the log ends.
-func netrevRoom(number uint64) bool {
-	next := number + netrevChunk
-	if next >= netrevPoints {
-		return true
+// netrevRoom takes the room for the next points, while the ring goes round for the first time. A point that comes before that is
+// done takes its own; where there is none left, the log ends.
+func netrevRoom(number uint64) {
+	first, end := atomic.Load64(&netrevRoomed), number+2*netrevChunk
+	if end > netrevPoints {
+		end = netrevPoints
 	}
-	if netrevHasRoom(netrevRing+uintptr(next)*netrevPointWords*8, netrevChunk*netrevPointWords*8) {
-		return true
+	if first >= end || !netrevHasRoom(netrevRing+uintptr(first)*netrevPointWords*8, uintptr(end-first)*netrevPointWords*8) {
+		return
 	}
-	atomic.Cas64(netrevWord(netrevHeadEnded), 0, number+1)
-	return false
+	if end == netrevPoints {
+		end = ^uint64(0)
+	}
+	for old := first; old < end && !atomic.Cas64(&netrevRoomed, old, end); old = atomic.Load64(&netrevRoomed) {
+	}
 }
 
 // netrevStack finds a stack by its frame pointers in the table of those met before, or puts it there. Where a part of the
