@@ -183,13 +183,13 @@ func closeStreams() {
 	}
 }
 
-// closeWhileItWorks closes all that it doesn't know between two points, and has files of its own in their place.
+// closeWhileItWorks closes all but sockets and what Go's poller has, and has files of its own under their numbers.
 func closeWhileItWorks() {
 	a, _ := pair()
 	known := map[int]bool{}
 	for _, number := range numbers() {
 		name, _ := os.Readlink(fmt.Sprint("/proc/self/fd/", number))
-		known[number] = number < 3 || strings.HasPrefix(name, "socket:") || strings.HasPrefix(name, "anon_inode:")
+		known[number] = strings.HasPrefix(name, "socket:") || strings.HasPrefix(name, "anon_inode:") || strings.HasPrefix(name, "pipe:")
 	}
 	for number := 3; number < 64; number++ {
 		if !known[number] {
