@@ -37,6 +37,7 @@ MAIN = program(
 )  # fmt: skip
 TEST = MAIN.replace("package main", "package p").replace('"net"', '"net"\n\t"testing"')
 TEST = TEST.replace("func main()", "func TestServe(t *testing.T)")
+WORDS = {"run": ["run", "main.go"], "test": ["--all", "test", "."]}  # by --all a test that passes has a recording too
 EARLIEST, LATEST = -2.0, 5.0  # seconds to the signal, after the program's beginning or, below 0, after netrev-go's
 
 
@@ -72,7 +73,7 @@ class Trial:
         errors = self.folder / f"errors {number}"
         with errors.open("w") as file:
             running = subprocess.Popen(
-                [TOOL, "-o", f"../out {number}", command, "." if command == "test" else "main.go"],
+                [TOOL, "-o", f"../out {number}", *WORDS[command]],
                 cwd=self.folder / command, env=self.environment(number), stdin=subprocess.DEVNULL,
                 stdout=subprocess.DEVNULL, stderr=file, start_new_session=True,
             )  # fmt: skip
