@@ -2,6 +2,7 @@
 fetches it."""
 
 import os
+import re
 
 import pytest
 from netrev_go.fetching import is_here
@@ -9,7 +10,7 @@ from netrev_go.ran import of_log
 from netrev_go.run_folders import unrecorded
 from netrev_go.running import logs_in
 
-from .go_untouched import NAMES, OF_ROOT, programs
+from .go_untouched import NAMES, OF_ROOT, SOURCE, programs
 
 RELEASE = "1.27"
 UNRECORDED = {
@@ -36,9 +37,15 @@ def test_a_recorded_program_leaves_what_it_leaves_without_recording() -> None:
             if name == "a test that closes all":
                 tests += [test.name for log in logs_in(logs) for test in of_log(log).ran]
             assert logs_in(logs) or why[name], name
-    assert len(wanted) >= 39 and differing == {}
+    assert differing == {}
     assert tests == ["TestCloses", "TestWorks"]
     for name in set(UNRECORDED) & set(wanted):
         (line,) = why.pop(name)
         assert f"couldn't write a log ({UNRECORDED[name]})" in line
     assert [name for name, lines in why.items() if lines] == []
+
+
+def test_the_pages_say_how_many_programs_there_are() -> None:
+    root = SOURCE.parents[2]
+    for page in ("docs/use/INSTRUMENTING.md", "docs/believe/PROMISES.md", "CHANGELOG.md"):
+        assert re.search(rf"\b{len(NAMES)} programs\b", (root / page).read_text()), page
