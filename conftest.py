@@ -27,8 +27,10 @@ def pytest_addoption(parser: pytest.Parser) -> None:
 
 
 def pytest_configure() -> None:
-    # What a shell begins in the background inherits an ignored SIGINT, and hands it on; then the tests of Ctrl-C fail.
+    # What a shell begins in the background inherits an ignored SIGINT and SIGQUIT, and hands them on; then the tests of Ctrl-C and
+    # Ctrl-\ fail.
     signal.signal(signal.SIGINT, signal.default_int_handler)
+    signal.signal(signal.SIGQUIT, signal.SIG_DFL)
 
 
 def pytest_collection_modifyitems(config: pytest.Config, items: list[pytest.Item]) -> None:

@@ -25,20 +25,20 @@ from .go_tool import TOOL, program
 SIGNALS = (signal.SIGQUIT, signal.SIGHUP, signal.SIGTERM, signal.SIGKILL)
 MAIN = program(
     """\tos.WriteFile(os.Getenv("BEGAN"), nil, 0o600)
-	for i := 0; i < 3000; i++ {
+	for i := 0; i < 150; i++ {
 		if _, err := os.Stat(os.Getenv("END")); err == nil {
 			break
 		}
 		a.Write([]byte("x"))
 		b.Read(make([]byte, 1))
-		time.Sleep(time.Millisecond)
+		time.Sleep(20 * time.Millisecond)
 	}""",
     "os", "time",
 )  # fmt: skip
 TEST = MAIN.replace("package main", "package p").replace('"net"', '"net"\n\t"testing"')
 TEST = TEST.replace("func main()", "func TestServe(t *testing.T)")
 WORDS = {"run": ["run", "main.go"], "test": ["--all", "test", "."]}  # by --all a test that passes has a recording too
-EARLIEST, LATEST = -2.0, 5.0  # seconds to the signal, after the program's beginning or, below 0, after netrev-go's
+EARLIEST, LATEST = -2.0, 4.0  # seconds to the signal, after the program's beginning or, below 0, after netrev-go's
 
 
 @dataclass

@@ -82,12 +82,30 @@ def at_a_terminal(stand_in: StandIn, *words: str) -> tuple[int, int]:
     return process, terminal
 
 
+def status_of(process: int) -> int:
+    """The status of a process, once it has ended."""
+    found: list[int] = []
+
+    def has_ended() -> bool:
+        number, status = os.waitpid(process, os.WNOHANG)
+        found.append(status)
+        return number != 0
+
+    try:
+        wait_until(has_ended)
+    except AssertionError:
+        os.kill(process, signal.SIGKILL)
+        raise
+    return os.waitstatus_to_exitcode(found[-1])
+
+
 def test_ctrl_backslash_at_a_terminal_reaches_the_program_once(folder: Path) -> None:
     stand_in = StandIn(folder, catching(signal.SIGQUIT))
     process, terminal = at_a_terminal(stand_in, "-o", "x", "run", ".")
     stand_in.wait_for("here")
     os.write(terminal, b"\x1c")
-    status = os.waitstatus_to_exitcode(ended(process, terminal))
+    status = status_of(process)
+    os.close(terminal)
     assert (status, stand_in.recording("x")) == (7, WHOLE.read_text())
     assert (folder / "caught").read_text() == "SIGQUIT\n"
 
@@ -97,21 +115,9 @@ def test_a_terminal_that_is_closed_loses_nothing(folder: Path) -> None:
     process, terminal = at_a_terminal(stand_in, "-o", "x", "run", ".")
     stand_in.wait_for("here")
     os.close(terminal)
-    _, status = os.waitpid(process, 0)
-    assert (os.waitstatus_to_exitcode(status), stand_in.recording("x")) == (7, WHOLE.read_text())
+    assert (status_of(process), stand_in.recording("x")) == (7, WHOLE.read_text())
     assert (folder / "caught").read_text() == "SIGHUP\n"
     assert remaining_logs(stand_in) == []
-
-
-def ended(process: int, terminal: int) -> int:
-    """The status of a process, whose output is read meanwhile."""
-    try:
-        while os.read(terminal, 4096):
-            pass
-    except OSError:  # nobody has the terminal any more
-        pass
-    os.close(terminal)
-    return os.waitpid(process, 0)[1]
 
 
 def test_under_nohup_sighup_stays_ignored(folder: Path) -> None:
