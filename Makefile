@@ -11,7 +11,7 @@ LIB = $(DESTDIR)$(PREFIX)/lib/netrev
 SHARE = $(DESTDIR)$(PREFIX)/share
 INSTALLED = $(shell sed -n 's/^include = \[\(.*\)\]/\1/p' pyproject.toml | tr -d '"*,')
 
-.PHONY: ready help look run hunt test lint refused loopback hostile upgrades system fuzz fuzz-around agree companion sizes netrev examples share bench pace real \
+.PHONY: ready help look run hunt test lint refused loopback hostile upgrades system fuzz fuzz-around agree companion sizes netrev examples share bench pace real trials \
 	install install-files vsix package deb release try-deb clean
 
 # The program that NETREV names is taken as it is; else the one that is built here, once it is proved.
@@ -191,6 +191,12 @@ try-deb:
 real: ready
 	@sh scripts/pytest.sh $(addprefix python/tests/,go_tool.py go_kept.py go_planted.py go_tests.py)
 	@python3 python netrev_go.real --only '$(ONLY)' --tests '$(TESTS)' --go "$(GO)"
+
+# Tries that recording changes nothing of a program and loses no run: `make trials GO="1.19 1.27"`. Some ten minutes a release, and not in
+# the gate but for a part.
+trials: ready
+	@python3 python tests.go_untouched $(GO)
+	@python3 python tests.go_killed $(GO)
 
 # Removes all that was built and checked here. What `make test` keeps on this machine stays.
 clean:

@@ -27,8 +27,10 @@ def pytest_addoption(parser: pytest.Parser) -> None:
 
 
 def pytest_configure() -> None:
-    # What a shell begins in the background inherits an ignored SIGINT, and hands it on; then the tests of Ctrl-C fail.
+    # What a shell begins in the background inherits an ignored SIGINT and SIGQUIT, and hands them on; then the tests of Ctrl-C and
+    # Ctrl-\ fail.
     signal.signal(signal.SIGINT, signal.default_int_handler)
+    signal.signal(signal.SIGQUIT, signal.SIG_DFL)
 
 
 def pytest_collection_modifyitems(config: pytest.Config, items: list[pytest.Item]) -> None:
@@ -65,6 +67,14 @@ def pytest_terminal_summary(terminalreporter: Any) -> None:
     named = [(name, why) for name, why in named if why != UNBUILT]
     for name, why in named + [(f"{unbuilt} tests that play the built program", UNBUILT)] * bool(unbuilt):
         terminalreporter.write_line(f"left out: {name}: {why}")
+
+
+@pytest.fixture(scope="session", autouse=True)
+def logs_of_their_own() -> Iterator[None]:
+    """netrev-go puts logs into a folder of the tests', so that logs which others left aren't offered there."""
+    with tempfile.TemporaryDirectory(prefix="netrev-logs-") as name, pytest.MonkeyPatch.context() as patch:
+        patch.setenv("NETREV_LOGS", name)
+        yield
 
 
 @pytest.fixture

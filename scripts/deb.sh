@@ -91,7 +91,7 @@ cat > "$root/DEBIAN/prerm" <<END
 #!/bin/sh
 # Takes away what Python has compiled.
 set -e
-find /usr/lib/netrev -name __pycache__ -prune -exec rm -rf {} +
+[ ! -d /usr/lib/netrev ] || find /usr/lib/netrev -name __pycache__ -prune -exec rm -rf {} +
 END
 find "$root" -type d -exec chmod 755 {} +
 find "$root" -type f -exec chmod u=rwX,go=rX {} +

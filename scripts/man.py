@@ -16,7 +16,7 @@ ROOT = pathlib.Path(__file__).resolve().parents[1]
 COMMANDS = ROOT / "docs/use/COMMANDS.md"
 sys.path.insert(0, str(ROOT / "python"))
 
-from netrev_go import options  # noqa: E402
+from netrev_go import options, usage  # noqa: E402
 from netrev_words.version import VERSION  # noqa: E402
 from nrdb import cli  # noqa: E402
 
@@ -118,20 +118,27 @@ OTHERS: dict[str, tuple[argparse.ArgumentParser, str, str, str]] = {
     "netrev-go": (
         options.parser(),
         "record a Go program as it is",
-        "[options] run | test | build | convert | env | doctor ..",
-        "What stands behind run, test and build is Go's own. run, test and build end with Go's own status, and say their own words on "
-        "standard error. Where Go's is 0, --fail-on makes it 3 and --strict 5. 4 is for something in the way before Go ran, 2 for "
-        "other words.",
+        f"[options] {' | '.join(options.COMMANDS)} ..",
+        "Put options of netrev-go before the command, and Go's own after run, test and build. These end with Go's own status, and print "
+        "their own words on standard error. When Go's status is 0, --fail-on makes it 3 and --strict 5. 4 means that Go wasn't run, "
+        "and 2 a usage error.",
     ),
 }
 
 
 def options_of(parser: argparse.ArgumentParser) -> Iterator[str]:
-    """An entry for each option."""
-    for action in parser._actions:
-        if action.option_strings and action.help:
+    """An entry for each option, below the title of its group."""
+    for group in parser._action_groups:
+        options_of_group = [action for action in group._group_actions if action.option_strings and action.help]
+        if options_of_group and group.title and group.title not in ("options", "optional arguments"):
+            yield f".SS {text(group.title)}"
+        for action in options_of_group:
             value = f" {action.metavar}" if action.metavar else ""
-            yield from (".TP", text(", ".join(f"`{name}`{value}" for name in action.option_strings)), text(action.help))
+            yield from (
+                ".TP",
+                text(", ".join(f"`{name}`{value}" for name in action.option_strings)),
+                text(action.help or ""),
+            )
 
 
 def other_page(name: str) -> str:
@@ -144,7 +151,7 @@ def other_page(name: str) -> str:
     ]
     head += [".SH SYNOPSIS", f".B {text(name)}", text(called), ".SH DESCRIPTION", text(does)]
     if name == "netrev-go":
-        head += [".PP", ".nf", *map(text, options.HELP.splitlines()[:6]), ".fi"]
+        head += [".PP", ".nf", *map(text, usage.SUMMARY.splitlines()[2:]), ".fi"]
     return "\n".join([*head, ".SH OPTIONS", *options_of(parser)]) + "\n" + TAIL
 
 

@@ -8,34 +8,24 @@ import pathlib
 import shlex
 import subprocess
 import sys
-from enum import IntEnum
 
 from netrev_words.command_lines import command
 
 from .converting import Wish, convert
 from .doctor import doctor
 from .keeping import Making, complain, say, unwritten
-from .options import POSSIBLE, SUSPECTS, check, parser
+from .options import POSSIBLE, SUSPECTS, asks_for_help, check, help_of, parser
 from .outputs import base_name, look, numbered
+from .recovery import offer, recover
+from .run_folders import claim
 from .running import Runner, as_a_shell_has_it, limits_of, log_of_process, logs_folder
+from .status import Status
 from .testing import record_tests
 from .toolchain import Go, Trouble, find_go
 from .trying import ready
 
 
 KNOWN: list[object] = []  # of the log that is converted; of the last one to the end, as to give it back takes long
-
-
-class Status(IntEnum):
-    """How netrev-go ends where it isn't Go's own status with which it does."""
-
-    DONE = 0
-    REFUSED = 1  # a log that is converted gives no recording
-    USAGE = 2
-    SUSPECTED = 3  # and --fail-on asks for that
-    TROUBLE = 4
-    UNRECORDED = 5  # and --strict asks for that
-    INTERRUPTED = 130
 
 
 def flags(go: Go, words: list[str]) -> list[str]:
@@ -63,7 +53,7 @@ def record(options: argparse.Namespace, go: Go) -> int:
         return status_of(came.status, bad, options.strict and not came.all_recorded)
     base = base_name(options.o)
     look(base)
-    folder = logs_folder(options.points)
+    folder = claim(logs_folder(options.points))
     making = Making(folder, base, go, wish_of(options))
     try:
         status = as_a_shell_has_it(Runner(command, folder, limits_of(options)).wait(making.so_far))
@@ -85,6 +75,14 @@ def wish_of(options: argparse.Namespace) -> Wish:
     return Wish(options.sockets, options.megabytes, options.words, options.all_bytes)
 
 
+def go_if_any() -> Go | None:
+    """The installed Go; without one a recording has no lines."""
+    try:
+        return find_go()
+    except Trouble:
+        return None
+
+
 def convert_one(options: argparse.Namespace) -> int:
     """Makes recordings of logs. One that can't be made takes nothing from the others."""
     logs = [pathlib.Path(word) for word in options.words_of_go]
@@ -94,10 +92,7 @@ def convert_one(options: argparse.Namespace) -> int:
         print("convert: which log? (or --pid PID)", file=sys.stderr)
         return Status.USAGE
     base = base_name(options.o, (logs[0].name if len(logs) == 1 else "") or "recording")
-    try:
-        go: Go | None = find_go()
-    except Trouble:
-        go = None
+    go = go_if_any()
     status: int = Status.DONE
     for index, log in enumerate(logs, 1):
         KNOWN.clear()
@@ -139,7 +134,13 @@ def main(arguments: list[str] | None = None) -> int:
     options = parser().parse_args(arguments)
     gc.disable()  # a log has millions of small things, and no cycle among them
     try:
+        if asks_for_help(options):
+            say([help_of(options.command)], sys.stdout)
+            return Status.DONE
         check(options)
+        if options.command == "recover":
+            return recover(options, base_name(options.o, "recovered"), go_if_any(), wish_of(options))
+        offer()
         if options.command == "convert":
             return convert_one(options)
         if options.command == "doctor":

@@ -13,7 +13,8 @@ from netrev_words.plain import plain
 
 from .ran import Ran, Went
 
-LINE = re.compile(r"([\w./@+~-]+\.go):(\d+)\b")
+# A file's name begins where a word does: else a long word would be searched from each of its letters.
+LINE = re.compile(r"(?<![\w./@+~-])([\w./@+~-]+\.go):(\d+)\b")
 WORST = (Went.FAILED, Went.UNFINISHED, Went.PASSED, Went.SKIPPED)
 
 
@@ -57,6 +58,10 @@ class Told:
 
     def is_red(self) -> bool:
         return self.failed > 0
+
+    def outcome(self) -> str:
+        """How it ended: `failed`, or `failed in 1 of 3 runs`."""
+        return f"{self.status} in {self.failed} of {self.runs} runs" if self.runs > 1 else self.status
 
     def place(self) -> tuple[str, int] | None:
         """Where it failed, else the first line of the program that is named."""
@@ -104,7 +109,7 @@ def of_property(text: str) -> str:
 def annotation(one: Told) -> str:
     """GitHub's for a test that failed."""
     title = f"title={of_property(plain(f'{one.package} {one.test}'))}"
-    words = [f"{one.status} in {one.failed} of {one.runs} runs", *one.says]
+    words = [one.outcome(), *one.says]
     place = one.place()
     where = f"file={of_property(plain(place[0]))},line={place[1]}," if place else ""
     return f"::error {where}{title}::{of_data(chr(10).join(map(plain, words)))}"
@@ -153,5 +158,5 @@ def add_case(suite: ElementTree.Element, one: Told) -> None:
     if not one.is_red():
         return
     sort = "failure" if one.status == Went.FAILED.value else "error"
-    message = f"{one.status} in {one.failed} of {one.runs} runs"
+    message = one.outcome()
     ElementTree.SubElement(case, sort, {"message": message}).text = "\n".join(map(plain, one.says))

@@ -5,18 +5,20 @@ from __future__ import annotations
 import os
 import pathlib
 import shlex
-import shutil
 import sys
 from dataclasses import replace
 from typing import TextIO
 
 from netrev_words.command_lines import command
 from netrev_words.plain import plain
+from netrev_words.plurals import counted
 
 from .converting import Wish, convert
 from .forms import suspects_in
 from .outputs import numbered
-from .running import LOGS, logs_in
+from .ran import forget
+from .run_folders import release, remove, unrecorded
+from .running import LOGS, logs_in, process_of, still_written
 from .toolchain import Go
 
 
@@ -36,7 +38,7 @@ def say(lines: list[str], stream: TextIO | None = None) -> None:
 
 def complain(text: str) -> None:
     """Tells what stands in the way."""
-    print("netrev-go: " + "\n".join(plain(line) for line in text.split("\n")), file=sys.stderr)
+    say(["netrev-go: " + "\n".join(plain(line) for line in text.split("\n"))])
 
 
 def convert_hint(folder: pathlib.Path, logs: list[pathlib.Path]) -> str:
@@ -50,13 +52,58 @@ def unwritten(name: pathlib.Path, fault: OSError) -> str:
     return f"{fault.filename or name}: {fault.strerror or fault}"
 
 
+def report_no_log(folder: pathlib.Path, failed: bool) -> bool:
+    """Says why no log is there, if none is; whether that is so."""
+    if logs_in(folder):
+        return False
+    if not folder.is_dir():
+        complain(f"{folder}, where the logs were, is gone: nothing can be made of them")
+    elif not unrecorded(folder):
+        complain(
+            f"nothing was recorded: {'Go failed before it ran' if failed else 'no program ran, or it opened no log'}"
+        )
+    return True
+
+
+def report_unrecorded(folder: pathlib.Path) -> bool:
+    """Says which processes couldn't be recorded; whether some couldn't."""
+    lines = unrecorded(folder)
+    for line in lines:
+        complain(line)
+    return bool(lines)
+
+
+def leave(folder: pathlib.Path, keep: bool, is_whole: bool, running: list[pathlib.Path]) -> None:
+    """Removes a run's logs, unless they are wanted, a recording of one is missing, or these programs run on."""
+    logs = logs_in(folder)
+    if keep or logs and not is_whole:
+        release(folder)
+        say([f"the logs are in {plain(str(folder))}"])
+        if logs and not is_whole:
+            complain(convert_hint(folder, logs))
+        return
+    if not any(log in logs for log in running):
+        remove(folder)
+        return
+    for log in logs:
+        if log not in running:
+            forget(log)
+            continue
+        complain(
+            f"process {process_of(log)} runs on, and its log grows: `{command('netrev-go')} -o NAME convert {shlex.quote(str(log))}` "
+            f"makes a recording of it now, and `{command('netrev-go')} recover` after its end"
+        )
+
+
 class Making:
     """Makes the recordings of a folder's logs."""
 
-    def __init__(self, folder: pathlib.Path, base: pathlib.Path, go: Go, wish: Wish) -> None:
+    def __init__(self, folder: pathlib.Path, base: pathlib.Path, go: Go | None, wish: Wish, count: int = 0) -> None:
         self._folder, self._base, self._go, self._wish = folder, base, go, wish
         self._times = 0
         self._is_whole = False  # whether nothing that was run would be lost with the logs
+        self._running: list[pathlib.Path] = []
+        self.count = count  # of the recordings of this name so far
         self.all_taken = False
         self.trouble = False  # whether one couldn't be written
         self.suspected = False
@@ -64,38 +111,29 @@ class Making:
     def so_far(self) -> None:
         """Makes them of what is there, while the program runs on."""
         self._times += 1
-        self._make(self._base.with_name(f"{self._base.name}-so-far-{self._times}"), self._wish)
+        self._make(self._base.with_name(f"{self._base.name}-so-far-{self._times}"), self._wish, 0)
 
     def all(self, failed: bool) -> None:
-        """Makes them behind the program's end."""
+        """Makes them after the program's end."""
         self.trouble = False
-        if not self._folder.is_dir():
-            complain(f"{self._folder}, where the logs were, is gone: nothing can be made of them")
-            self.trouble = True
-            return
-        self.all_taken, count = self._make(self._base, replace(self._wish, failed=failed))
-        self._is_whole = self.all_taken
-        if not count:
-            why = "Go failed before it ran" if failed else "no program was run, or it opened no log"
-            complain(f"nothing was recorded: {why}")
+        self._running = still_written(self._folder)
+        if report_no_log(self._folder, failed):
+            self.trouble = not self._folder.is_dir()
+        else:
+            self.all_taken, self.count = self._make(self._base, replace(self._wish, failed=failed), self.count)
+            self._is_whole = self.all_taken
+        if report_unrecorded(self._folder):
             self.all_taken = False
 
     def leave(self, keep: bool) -> None:
-        """Takes the logs away, unless they are wanted, or something isn't made of them."""
-        logs = logs_in(self._folder)
-        if not keep and (self._is_whole or not logs):
-            shutil.rmtree(self._folder, ignore_errors=True)
-            return
-        say([f"the logs are in {plain(str(self._folder))}"])
-        if logs and not self._is_whole:
-            complain(convert_hint(self._folder, logs))
+        """Removes the logs, unless there is a reason to keep them."""
+        leave(self._folder, keep, self._is_whole, self._running)
 
-    def _make(self, base: pathlib.Path, wish: Wish) -> tuple[bool, int]:
-        """A recording of each log in which sockets were opened: whether all are taken, and how many logs there are."""
-        logs = logs_in(self._folder)
-        made, ok, without = 0, True, 0
-        for log in logs:
-            name = numbered(base, made + 1)
+    def _make(self, base: pathlib.Path, wish: Wish, count: int) -> tuple[bool, int]:
+        """A recording of each log in which sockets were opened: whether all are taken, and how many there are of this name."""
+        ok, before, without = True, count, 0
+        for log in logs_in(self._folder):
+            name = numbered(base, count + 1)
             try:
                 outcome = convert(log, name, self._go, wish)
             except OSError as fault:
@@ -105,12 +143,12 @@ class Making:
             if outcome.is_empty:
                 without += 1
                 continue
-            made += 1
+            count += 1
             ok = ok and outcome.taken
             self.suspected = self.suspected or bool(suspects_in(outcome.lines))
             say(outcome.lines)
-        if without and not made:
+        if without and count == before:
             say(["no socket was opened: there is nothing to record"])
         elif without:
-            say([f"{without} more processes opened no socket"])
-        return ok, len(logs)
+            say([f"{counted(without, 'more process', 'more processes')} opened no socket"])
+        return ok, count

@@ -1,14 +1,17 @@
-"""The words of `netrev-go`."""
+"""The command line of `netrev-go`."""
 
 from __future__ import annotations
 
 import argparse
+from collections.abc import Callable
+from typing import NoReturn
 
 from netrev_words.version import VERSION
 
 from .running import MOST_POINTS
 from .sockets import FEW_BYTES, MOST_MEGABYTES, MOST_SOCKETS
 from .toolchain import Trouble
+from .usage import SUMMARY, USAGES
 
 LEAST_POINTS, GREATEST_POINTS = 2**14, 2**24
 GREATEST_MEGABYTES, MOST_PROCESSORS, MOST_SECONDS, MOST_RUNS, GREATEST_SEED = (
@@ -19,45 +22,10 @@ GREATEST_MEGABYTES, MOST_PROCESSORS, MOST_SECONDS, MOST_RUNS, GREATEST_SEED = (
     10**8,
 )
 SUSPECTS, POSSIBLE = "suspects", "possible"
-COMMANDS = ("run", "test", "build", "convert", "env", "doctor")
+COMMANDS = tuple(USAGES)
 OF_TESTS = "all runs until_failure seconds explore json github junit html delays".split()
-HELP = """\
-netrev-go [options] run . ARGS            record a program that `go run` runs
-netrev-go [options] test ./...            record tests, and keep NAME/PACKAGE.TEST.jsonl of those that fail
-netrev-go build -o prog .                 build a program that records where NETREV_LOG=PATH is set: its log is PATH.PID
-netrev-go [options] convert LOG           make a recording of a log, or of a running process's with --pid PID
-netrev-go env                             print two variables by which any go run, go test or Makefile records
-netrev-go doctor                          check whether the installed Go can be recorded, and what else is missing
-
-Arguments after run, test and build go to Go. The program needs no changes.
-
-example: record the tests of a module, and open a recording of one that failed
-  netrev-go test ./...
-  nrdb recordings/PACKAGE.TEST.jsonl"""
-
-
-def parser() -> argparse.ArgumentParser:
-    made = argparse.ArgumentParser(
-        prog="netrev-go", usage=argparse.SUPPRESS, description=HELP, formatter_class=argparse.RawTextHelpFormatter
-    )
-    made.add_argument(
-        "--version", action="version", version=f"netrev-go {VERSION}", help="prints the version, and ends"
-    )
-    made.add_argument(
-        "-o", metavar="NAME", help="the recording is NAME.jsonl, its lines NAME.where; of tests the folder NAME"
-    )
-    add_limits(made)
-    add_tests(made)
-    made.add_argument(
-        "--fail-on", metavar="WHAT", type=failing_words,
-        help="status 3, where Go's is 0, and there are `suspects`, or `possible` findings of --explore",
-    )  # fmt: skip
-    made.add_argument(
-        "--strict", action="store_true", help="status 5, where Go's is 0 and something couldn't be recorded"
-    )
-    made.add_argument("command", choices=COMMANDS, metavar="COMMAND")
-    made.add_argument("words_of_go", nargs=argparse.REMAINDER, metavar="...")
-    return made
+HELP_WORDS = ("-h", "-help", "--help")
+OptionGroup = Callable[[argparse._ArgumentGroup], object]
 
 
 def failing_words(text: str) -> list[str]:
@@ -67,49 +35,134 @@ def failing_words(text: str) -> list[str]:
     return words
 
 
-def add_limits(made: argparse.ArgumentParser) -> None:
-    """The options of how a program is run, and of what a recording has."""
-    made.add_argument("-n", metavar="SECONDS", type=float, help="send SIGQUIT to a program after SECONDS")
-    made.add_argument("--procs", metavar="N", type=int, help="GOMAXPROCS")
-    made.add_argument("--points", metavar="N", type=int, default=MOST_POINTS, help="how many points the log keeps")
-    made.add_argument("--sockets", metavar="N", type=int, default=MOST_SOCKETS, help="the newest N sockets alone")
-    made.add_argument(
-        "--all-bytes",
-        action="store_true",
-        help=f"a read or a write counts all of its bytes, and not {FEW_BYTES} at most",
+def add_files(group: argparse._ArgumentGroup) -> None:
+    """The options of what is written."""
+    group.add_argument(
+        "-o", metavar="NAME", help="write NAME.jsonl and NAME.where; for tests, write below the folder NAME"
     )
-    made.add_argument(
-        "--megabytes", metavar="N", type=int, default=MOST_MEGABYTES,
-        help="limit the recorded data to N MB of text",
+    group.add_argument("--words", action="store_true", help="write Go's lock words to NAME.words too")
+
+
+def add_logs(group: argparse._ArgumentGroup) -> None:
+    """The option of the logs, which are removed otherwise."""
+    group.add_argument("--keep", action="store_true", help="keep the logs, and say where they are")
+
+
+def add_status(group: argparse._ArgumentGroup) -> None:
+    """The options of the exit status."""
+    group.add_argument(
+        "--fail-on", metavar="WHAT", type=failing_words,
+        help="exit with 3 instead of 0 when there are `suspects`, or `possible` findings of --explore",
     )  # fmt: skip
-    made.add_argument("--pid", metavar="PID", type=int, help="convert: the process whose log it is")
-    made.add_argument("--no-lines", action="store_true", help="records no lines of the source")
-    made.add_argument("--no-orders", action="store_true", help="records nothing of channels and of who made whom ready")
-    made.add_argument("--words", action="store_true", help="writes Go's lock words to NAME.words")
-    made.add_argument("--keep", action="store_true", help="keeps the logs, and says where")
+    group.add_argument(
+        "--strict", action="store_true", help="exit with 5 instead of 0 when something couldn't be recorded"
+    )
 
 
-def add_tests(made: argparse.ArgumentParser) -> None:
-    """The options of tests."""
-    made.add_argument(
-        "--all", action="store_true", help="test: keeps a recording of each test, not only of those that fail"
+def add_run(group: argparse._ArgumentGroup) -> None:
+    """The options of how a program runs, and of what it records."""
+    group.add_argument("-n", metavar="SECONDS", type=float, help="send SIGQUIT to a program that runs longer")
+    group.add_argument("--procs", metavar="N", type=int, help="set GOMAXPROCS")
+    group.add_argument(
+        "--points", metavar="N", type=int, default=MOST_POINTS,
+        help=f"keep the newest N points in the log, 64 bytes each ({MOST_POINTS:,} by default)",
+    )  # fmt: skip
+    group.add_argument("--no-lines", action="store_true", help="record no lines of the source")
+    group.add_argument(
+        "--no-orders", action="store_true", help="record no channels, and not which goroutine wakes which"
     )
-    made.add_argument("--runs", metavar="N", type=int, help="test: runs them N times")
-    made.add_argument("--until-failure", action="store_true", help="test: runs them again until one fails")
-    made.add_argument("--seconds", metavar="S", type=float, help="test: runs them again for S seconds")
-    made.add_argument(
-        "--delays", metavar="SEED", type=int, help="test: small delays in the program, at points that the seed draws"
+
+
+def add_recording(group: argparse._ArgumentGroup) -> None:
+    """The options of what a recording has of a log."""
+    group.add_argument(
+        "--sockets", metavar="N", type=int, default=MOST_SOCKETS,
+        help="keep at most N sockets, the newest and those still open",
+    )  # fmt: skip
+    group.add_argument(
+        "--all-bytes", action="store_true", help=f"count all bytes of a read or a write, not {FEW_BYTES} at most"
     )
-    made.add_argument(
-        "--explore",
-        metavar="S",
-        type=float,
-        help="test: where all pass, S seconds of other schedules: possible findings",
+    group.add_argument(
+        "--megabytes", metavar="N", type=int, default=MOST_MEGABYTES,
+        help="write at most N MB of text for the bytes that were moved",
+    )  # fmt: skip
+
+
+def add_convert(group: argparse._ArgumentGroup) -> None:
+    """The options of `convert` alone."""
+    group.add_argument("--pid", metavar="PID", type=int, help="convert the log of this process")
+
+
+def add_tests(group: argparse._ArgumentGroup) -> None:
+    """The options of `test` alone."""
+    group.add_argument("--all", action="store_true", help="keep a recording of each test, not only of those that fail")
+    group.add_argument("--runs", metavar="N", type=int, help="run the tests N times")
+    group.add_argument("--until-failure", action="store_true", help="run the tests again until one fails")
+    group.add_argument("--seconds", metavar="S", type=float, help="run the tests again for S seconds")
+    group.add_argument(
+        "--delays", metavar="SEED", type=int, help="delay goroutines a little, at points that the seed draws"
     )
-    made.add_argument("--json", metavar="FILE", help="test: a line of JSON for each test")
-    made.add_argument("--junit", metavar="FILE", help="test: JUnit's XML")
-    made.add_argument("--github", action="store_true", help="test: an annotation of GitHub's for each test that fails")
-    made.add_argument("--html", action="store_true", help="test: the timeline of each recording beside it, as a page")
+    group.add_argument(
+        "--explore", metavar="S", type=float,
+        help="when all tests pass, play other schedules of their recordings for S seconds",
+    )  # fmt: skip
+    group.add_argument("--json", metavar="FILE", help="write a line of JSON for each test; - is standard output")
+    group.add_argument("--junit", metavar="FILE", help="write JUnit's XML; - is standard output")
+    group.add_argument("--github", action="store_true", help="print an annotation for GitHub for each test that fails")
+    group.add_argument("--html", action="store_true", help="write the timeline of each recording as a page beside it")
+
+
+GROUPS: dict[str, tuple[str, OptionGroup]] = {
+    "files": ("files", add_files),
+    "logs": ("logs", add_logs),
+    "status": ("exit status", add_status),
+    "run": ("the run", add_run),
+    "recording": ("the recording", add_recording),
+    "convert": ("only for `convert`", add_convert),
+    "test": ("only for `test`", add_tests),
+}
+
+
+class Parser(argparse.ArgumentParser):
+    """The parser of netrev-go's words, whose usage errors point to the help."""
+
+    def error(self, message: str) -> NoReturn:
+        what = "no command" if message.startswith("the following arguments are required") else message
+        self.exit(2, f"netrev-go: {what}\n`netrev-go --help` lists the commands and options\n")
+
+
+def parser() -> argparse.ArgumentParser:
+    made = Parser(
+        prog="netrev-go", usage=argparse.SUPPRESS, description=SUMMARY, add_help=False,
+        formatter_class=argparse.RawDescriptionHelpFormatter,
+    )  # fmt: skip
+    about = made.add_argument_group("about netrev-go")
+    about.add_argument("-h", "--help", action="help", help="print this help")
+    about.add_argument("--version", action="version", version=f"netrev-go {VERSION}", help="print the version")
+    for title, add in GROUPS.values():
+        add(made.add_argument_group(title))
+    made.add_argument("command", choices=COMMANDS, metavar="COMMAND", help=argparse.SUPPRESS)
+    made.add_argument("words_of_go", nargs=argparse.REMAINDER, metavar="WORDS", help=argparse.SUPPRESS)
+    return made
+
+
+def help_of(command: str) -> str:
+    """The help of a command: an example, and its options."""
+    usage = USAGES[command]
+    heads = [usage.does, usage.example, *([f"Options, which come before `{command}`:"] if usage.options else [])]
+    made = argparse.ArgumentParser(
+        usage=usage.call, description="\n\n".join(heads), epilog=usage.more, add_help=False,
+        formatter_class=argparse.RawDescriptionHelpFormatter,
+    )  # fmt: skip
+    for name in usage.options:
+        title, add = GROUPS[name]
+        add(made.add_argument_group(title))
+    return made.format_help().rstrip("\n")
+
+
+def asks_for_help(options: argparse.Namespace) -> bool:
+    """Whether a command's own help is wanted: `netrev-go run --help`."""
+    return options.words_of_go[:1] != [] and options.words_of_go[0] in HELP_WORDS
 
 
 LIMITS = (

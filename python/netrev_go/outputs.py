@@ -6,7 +6,7 @@ import contextlib
 import os
 import pathlib
 
-from netrev_words.files import beside
+from netrev_words.files import beside, check_links
 
 from .toolchain import Trouble
 
@@ -36,6 +36,8 @@ def look(base: pathlib.Path) -> None:
         try_folder(base)
         with contextlib.suppress(FileNotFoundError):
             os.lstat(base.with_name(base.name + LONGEST_ENDING))
+        for ending in (RECORDING, LINES):
+            check_links(base.with_name(base.name + ending))
     except OSError as fault:
         raise Trouble(f"{base}{RECORDING} can't be written: {fault.strerror}. Nothing was run") from None
     for ending in (RECORDING, LINES):

@@ -3,11 +3,14 @@
 from __future__ import annotations
 
 import pathlib
+from collections.abc import Iterator
 from dataclasses import dataclass, field
 from enum import Enum
+from typing import BinaryIO
 
 ENDING = ".tests"
 MOST_BYTES = 2**26
+PIECE = 2**16
 SECOND = 10**9
 
 
@@ -99,16 +102,35 @@ def place_of(text: str) -> tuple[str, int] | None:
     return file.removeprefix(f"{pathlib.Path.cwd()}/"), int(line)
 
 
+def forget(log: pathlib.Path) -> None:
+    """Removes a log, and the lines of its tests."""
+    for path in (log, log.with_name(log.name + ENDING)):
+        path.unlink(missing_ok=True)
+
+
 def of_log(log: pathlib.Path) -> Tests:
     """The tests of the process that wrote this log. A line that is damaged says nothing."""
     tests = Tests()
     try:
         with log.with_name(log.name + ENDING).open("rb") as file:
-            text = file.read(MOST_BYTES).decode("utf-8", "replace")
+            text = b"".join(written(file)).decode("utf-8", "replace")
     except OSError:
         return tests
     for line in text.split("\n"):
         words = line.split(" ", 4)
-        if len(words) == 5 and all(word.isascii() and word.isdigit() and len(word) < 20 for word in words[:3]):
+        if (
+            len(words) == 5
+            and "\0" not in line
+            and all(word.isascii() and word.isdigit() and len(word) < 20 for word in words[:3])
+        ):
             tests.take(int(words[0]), int(words[1]), int(words[2]), words[3], words[4])
     return tests
+
+
+def written(file: BinaryIO) -> Iterator[bytes]:
+    """What was written into a file that is mapped: the rest of it is zeros, and mostly a hole."""
+    for _ in range(MOST_BYTES // PIECE):
+        piece = file.read(PIECE)
+        if piece == bytes(len(piece)):
+            return
+        yield piece

@@ -8,6 +8,7 @@ import pathlib
 from netrev_words.built import netrev_program
 from netrev_words.command_lines import command_line, file_word, how_to_get_netrev
 from netrev_words.plain import plain
+from netrev_words.plurals import counted
 
 from .asking import Late, at_the_end, causes, check, hanging, never_closed, suspects
 from .lines import OF_GO, Call, Calls
@@ -28,11 +29,6 @@ def in_words(status: str) -> str:
     if words[0] == "owing":
         return f"owes releases to those that wait for socket {words[1]}"
     return WAITS.get(side, "waits")
-
-
-def counted(number: int, name: str) -> str:
-    """So many of what has this name."""
-    return f"{number} {name}" if number == 1 else f"{number} {name}s"
 
 
 def short(call: Call) -> str:
@@ -109,12 +105,12 @@ def report(
     recording: Recording, name: pathlib.Path, calls: dict[int, Calls], failed: bool = False
 ) -> tuple[bool, list[str]]:
     """Whether netrev takes the recording, and the lines that say what it has. `failed` is whether the program did."""
-    counts = f"{recording.goroutines} goroutines, {recording.sockets} sockets"
+    counts = f"{counted(recording.goroutines, 'goroutine')}, {counted(recording.sockets, 'socket')}"
     notes = [f"  ({note})" for note in recording.notes]
     netrev = netrev_program()
     if netrev is None:
         return True, [
-            f"{plain(str(name))}: {len(recording.lines)} steps; {counts}", *notes,
+            f"{plain(str(name))}: {counted(len(recording.lines), 'step')}; {counts}", *notes,
             f"  not checked: netrev is missing: {how_to_get_netrev()}",
         ]  # fmt: skip
     try:

@@ -23,9 +23,11 @@ MOST_POINTS = 2**20
 POINT_BYTES, STACK_BYTES, SPARE = 64, 4 * 2**20, 64 * 2**20
 LOG = re.compile(r"log\.(\d+)(?:\.\d+)?\Z")
 LOGS = "log.[0-9]*"  # the same for a shell
-GRACE = 3.0
+IN_MEMORY, PREFIX = "/dev/shm", "netrev-go-"
+GRACE, SHORT_GRACE = 3.0, 0.5
 LOOK = 0.05
-SIGNALS = (signal.SIGINT, signal.SIGTERM, signal.SIGUSR1)
+CANCELLING = (signal.SIGINT, signal.SIGTERM, signal.SIGQUIT, signal.SIGHUP)
+SIGNALS = (*CANCELLING, signal.SIGUSR1)
 FROM_THE_TERMINAL = 0x80  # the kernel's own si_code, SI_KERNEL
 
 
@@ -49,15 +51,22 @@ def as_a_shell_has_it(status: int) -> int:
     return status if status >= 0 else 128 - status
 
 
+def places() -> list[str]:
+    """Where logs may be: in the folder that NETREV_LOGS names; else in memory, and below TMPDIR."""
+    given = os.environ.get("NETREV_LOGS")
+    return [given] if given else [IN_MEMORY, tempfile.gettempdir()]
+
+
 def logs_folder(points: int) -> pathlib.Path:
     """A new folder with room for a log: in memory, where there is such a file system."""
     wanted = points * POINT_BYTES + STACK_BYTES + SPARE
-    for place in ("/dev/shm", tempfile.gettempdir()):
+    for place in places():
         if os.access(place, os.W_OK) and shutil.disk_usage(place).free >= wanted:
-            return pathlib.Path(tempfile.mkdtemp(prefix="netrev-go-", dir=place))
+            return pathlib.Path(tempfile.mkdtemp(prefix=PREFIX, dir=place))
+    where = " and ".join(places())
     raise Trouble(
-        f"neither /dev/shm nor {tempfile.gettempdir()} has {wanted // 2**20} MB free for a log: "
-        "TMPDIR names another folder, --points makes the log smaller"
+        f"no log can be made in {where}, without {wanted // 2**20} MB free: NETREV_LOGS names another folder, --points makes the log "
+        "smaller"
     )
 
 
@@ -75,8 +84,23 @@ def process_of(log: pathlib.Path) -> int:
     return int(found[1]) if found else 0
 
 
-def heed_signals() -> None:
+def heeded() -> tuple[signal.Signals, ...]:
+    """The signals that a run waits for. Under nohup SIGHUP is ignored, and stays so."""
+    return tuple(
+        number for number in SIGNALS if number != signal.SIGHUP or signal.getsignal(number) is not signal.SIG_IGN
+    )
+
+
+def unblock_signals() -> None:
     signal.pthread_sigmask(signal.SIG_UNBLOCK, SIGNALS)
+
+
+def stop_at_once() -> None:
+    """From here on nothing would be lost: each signal stops netrev-go, as Ctrl-C does."""
+    for number in CANCELLING:
+        if number in heeded():
+            signal.signal(number, signal.default_int_handler)
+    unblock_signals()
 
 
 def environment(folder: pathlib.Path, limits: Limits, delays: int = 0) -> dict[str, str]:
@@ -101,16 +125,16 @@ def writes(process: int, log: pathlib.Path) -> bool:
         return False
 
 
+def still_written(folder: pathlib.Path) -> list[pathlib.Path]:
+    """The logs of a folder whose processes run."""
+    return [log for log in logs_in(folder) if writes(process_of(log), log)]
+
+
 def send(log: pathlib.Path, number: signal.Signals) -> None:
     """A signal to the process that writes a log, if it runs."""
     if writes(process_of(log), log):
         with contextlib.suppress(ProcessLookupError):
             os.kill(process_of(log), number)
-
-
-def send_all(folder: pathlib.Path, number: signal.Signals) -> None:
-    for log in logs_in(folder):
-        send(log, number)
 
 
 class Runner:
@@ -121,41 +145,56 @@ class Runner:
         self.began: dict[pathlib.Path, float] = {}
         self.told: set[pathlib.Path] = set()  # to quit
         self.cancelled = False
-        signal.pthread_sigmask(signal.SIG_BLOCK, SIGNALS)
-        self.process = subprocess.Popen(command, env=environment(folder, limits, delays), preexec_fn=heed_signals)
+        self._signals = heeded()
+        signal.pthread_sigmask(signal.SIG_BLOCK, self._signals)
+        self.process = subprocess.Popen(command, env=environment(folder, limits, delays), preexec_fn=unblock_signals)
 
     def wait(self, so_far: Callable[[], None]) -> int:
-        """Go's exit status. `so_far` is called where a recording is asked for while the program runs. From then on Ctrl-C and
-        SIGTERM are netrev-go's own."""
+        """Go's exit status. `so_far` is called when a recording is asked for while the program runs."""
         while self.process.poll() is None:
-            seen = signal.sigtimedwait(SIGNALS, LOOK)
+            seen = signal.sigtimedwait(self._signals, LOOK)
             if seen is not None:
                 self.attend(seen, so_far)
             if self.limits.seconds is not None:
                 self.end_the_old(time.monotonic(), self.limits.seconds)
-        if self.cancelled:
-            self.let_them_end()
-        signal.signal(signal.SIGUSR1, signal.SIG_IGN)
-        for number in (signal.SIGINT, signal.SIGTERM):
-            signal.signal(number, signal.default_int_handler)
-        heed_signals()
+        self.let_them_end(GRACE if self.cancelled else SHORT_GRACE)
+        self.finish_first()
         return self.process.returncode
 
+    def finish_first(self) -> None:
+        """From here on recordings are made of what ran, and Ctrl-C alone stops that. The other signals stay blocked, also in the programs
+        that make them."""
+        signal.signal(signal.SIGUSR1, signal.SIG_IGN)
+        signal.signal(signal.SIGINT, signal.default_int_handler)
+        signal.pthread_sigmask(signal.SIG_UNBLOCK, (signal.SIGINT, signal.SIGUSR1))
+
+    def is_cancelled(self) -> bool:
+        """Whether a signal came for the run, or since its end."""
+        return self.cancelled or not signal.sigpending().isdisjoint(CANCELLING)
+
     def attend(self, seen: signal.struct_siginfo, so_far: Callable[[], None]) -> None:
-        """Passes a signal on to the programs and to Go. At a terminal, Ctrl-C has gone to all of them already."""
+        """Passes a signal on to the programs and to Go, unless the terminal has sent it to all of them."""
         number = signal.Signals(seen.si_signo)
         if number == signal.SIGUSR1:
             so_far()
             return
         self.cancelled = True
-        if seen.si_code != FROM_THE_TERMINAL:
-            send_all(self.folder, number)
+        if seen.si_code != FROM_THE_TERMINAL or number == signal.SIGHUP and is_leader():
+            self.pass_on(number)
+
+    def pass_on(self, number: signal.Signals) -> None:
+        """Sends a signal to the programs, and to Go. SIGHUP would end Go, and a program may run on after it: Go gets it only while no
+        program runs."""
+        programs = still_written(self.folder)
+        for log in programs:
+            send(log, number)
+        if number != signal.SIGHUP or not programs:
             self.process.send_signal(number)
 
-    def let_them_end(self) -> None:
+    def let_them_end(self, seconds: float) -> None:
         """Waits a while for the programs, which Go may have left behind."""
-        end = time.monotonic() + GRACE
-        while any(writes(process_of(log), log) for log in logs_in(self.folder)) and time.monotonic() < end:
+        end = time.monotonic() + seconds
+        while still_written(self.folder) and time.monotonic() < end:
             time.sleep(LOOK)
 
     def end_the_old(self, now: float, seconds: float) -> None:
@@ -167,6 +206,11 @@ class Runner:
                 send(log, signal.SIGQUIT)
             elif age >= seconds + GRACE:
                 send(log, signal.SIGKILL)
+
+
+def is_leader() -> bool:
+    """Whether this process leads its session: a terminal that is closed tells the leader alone."""
+    return os.getsid(0) == os.getpid()
 
 
 def log_of_process(process: int) -> pathlib.Path:

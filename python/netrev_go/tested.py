@@ -8,9 +8,9 @@ import re
 import signal
 import subprocess
 import sys
-from collections import Counter
 from collections.abc import Iterable
 from dataclasses import replace
+from itertools import count
 
 from netrev_words.built import netrev_program
 from netrev_words.command_lines import file_word
@@ -52,7 +52,7 @@ class Recordings:
         self.base, self._go, self._wish, self._keeps_all = base, go, wish, keeps_all
         self._is_page_wanted = is_page_wanted
         self.told: dict[tuple[str, str], Told] = {}
-        self._names: Counter[pathlib.Path] = Counter()
+        self._names: set[pathlib.Path] = set()  # that recordings have
         self._short: dict[str, str] = {}  # of which package a short name is
         self.all_recorded = True  # what should have been
         self.trouble = False  # whether one couldn't be written
@@ -86,8 +86,9 @@ class Recordings:
         if self._short.setdefault(short, package) != package:
             short = package.replace("/", "_")
         name = self.base / file_name(short, test) if test else self.base / file_name(short)
-        self._names[name] += 1
-        return numbered(name, self._names[name])
+        free = next(path for path in (numbered(name, made) for made in count(1)) if path not in self._names)
+        self._names.add(free)
+        return free
 
     def whole(self, log: pathlib.Path, tests: Tests) -> None:
         """The recording of a process in which no test is known to have failed, though something did."""
@@ -105,7 +106,7 @@ class Recordings:
             if outcome is None:
                 continue
             if outcome.is_empty:
-                self._names[name] -= 1
+                self._names.discard(name)
             if test.is_red():
                 at = f", at {test.place[0]}:{test.place[1]}" if test.place else ""
                 head = f"{test.went().value.upper()} {test.package} {test.name}{at}"
@@ -187,6 +188,9 @@ def findings(recording: str, seconds: float) -> list[str]:
     ) as running:  # fmt: skip
         try:
             said, _ = running.communicate(timeout=seconds)
+        except KeyboardInterrupt:
+            running.kill()
+            raise
         except subprocess.TimeoutExpired:
             running.send_signal(signal.SIGINT)  # it says then what it has found
             try:

@@ -6,7 +6,6 @@ import argparse
 import itertools
 import os
 import pathlib
-import shutil
 import sys
 import time
 from collections.abc import Callable, Iterator
@@ -14,13 +13,15 @@ from dataclasses import dataclass, replace
 
 from netrev_words.files import written_whole
 from netrev_words.plain import plain
+from netrev_words.plurals import counted
 
 from . import forms
 from .converting import Wish
-from .keeping import Making, complain, convert_hint, say
+from .keeping import Making, complain, leave, say, report_no_log, report_unrecorded
 from .linking import kept
 from .outputs import base_name, look_folder
-from .running import Runner, as_a_shell_has_it, limits_of, logs_folder, logs_in
+from .run_folders import claim
+from .running import Runner, as_a_shell_has_it, limits_of, logs_folder, still_written, stop_at_once
 from .tested import Recordings
 from .toolchain import Go
 
@@ -83,9 +84,12 @@ def record_tests(options: argparse.Namespace, go: Go, command: list[str], wish: 
         run_all(options, go, [program, test, *more, *words], wish, recordings, came)
     came.all_recorded = came.all_recorded and recordings.all_recorded
     came.suspected = recordings.suspected
-    if options.explore is not None and not came.status:
-        came.possible = recordings.explore(options.explore)
-    tell(options, recordings, came)
+    try:
+        if options.explore is not None and not came.status:
+            stop_at_once()
+            came.possible = recordings.explore(options.explore)
+    finally:
+        tell(options, recordings, came)
     return came
 
 
@@ -116,19 +120,20 @@ class Run:
 
     def once(self, one: Round) -> int:
         """Runs it; Go's status. The logs stay where something can't be made of them."""
-        folder = logs_folder(self._options.points)
+        folder = claim(logs_folder(self._options.points))
         limits = replace(limits_of(self._options), processors=one.processors)
-        is_whole = False
+        is_whole, running = False, list[pathlib.Path]()
         try:
             runner = Runner(self._command, folder, limits, one.delays)
             status = as_a_shell_has_it(runner.wait(self._so_far(folder)))
-            self.is_last = runner.cancelled
             if status and one.words() != "run 1":
                 say([f"netrev-go: {one.words()} failed"])
+            running = still_written(folder)
             is_whole = self._take(folder, status != 0)
+            self.is_last = self.is_last or runner.is_cancelled()
             return status
         finally:
-            self._leave(folder, is_whole)
+            leave(folder, self._options.keep, is_whole, running)
 
     def _so_far(self, folder: pathlib.Path) -> Callable[[], None]:
         def make() -> None:
@@ -140,10 +145,8 @@ class Run:
 
     def _take(self, folder: pathlib.Path, failed: bool) -> bool:
         """Makes the recordings; whether the logs can go."""
-        if not logs_in(folder):
-            why = "Go failed before it ran" if failed else "no program was run, or it opened no log"
-            gone = "" if folder.is_dir() else f", and {folder}, where the logs were, is gone"
-            complain(f"nothing was recorded: {why}{gone}")
+        self.has_recorded = not report_unrecorded(folder)
+        if report_no_log(folder, failed):
             self.is_last, self.has_recorded = True, False
             return True
         before, self._recordings.all_recorded = self._recordings.all_recorded, True
@@ -152,15 +155,6 @@ class Run:
         self._recordings.all_recorded = before and is_whole
         return is_whole
 
-    def _leave(self, folder: pathlib.Path, is_whole: bool) -> None:
-        """Takes the logs away, unless they are wanted, or something isn't made of them."""
-        if not self._options.keep and (is_whole or not logs_in(folder)):
-            shutil.rmtree(folder, ignore_errors=True)
-            return
-        say([f"the logs are in {plain(str(folder))}"])
-        if not is_whole:
-            complain(convert_hint(folder, logs_in(folder)))
-
 
 def tell(options: argparse.Namespace, recordings: Recordings, came: Came) -> None:
     """Says how many tests failed in how many runs, and writes what machines read."""
@@ -168,9 +162,12 @@ def tell(options: argparse.Namespace, recordings: Recordings, came: Came) -> Non
     red = [one for one in told if one.is_red()]
     is_kept = any(one.recording for one in told)
     if came.runs > 1 or red or is_kept:
-        lines = [f"netrev-go: {len(told)} tests, {came.runs} run{'s' * (came.runs > 1)}; {len(red)} failed"]
+        lines = [f"netrev-go: {counted(len(told), 'test')}, {counted(came.runs, 'run')}; {len(red)} failed"]
         if came.runs > 1:
-            lines += [plain(f"  {one.package} {one.test}: failed in {one.failed} of {one.runs} runs") for one in red]
+            lines += [
+                plain(f"  {one.package} {one.test}: failed in {one.failed} of {counted(one.runs, 'run')}")
+                for one in red
+            ]
         lines += [plain(f"  recordings are in {recordings.base}")] if is_kept else []
         say(lines)
     if options.json:

@@ -9,7 +9,6 @@ import os
 import pathlib
 import re
 import subprocess
-import sys
 import tempfile
 from dataclasses import dataclass
 
@@ -19,6 +18,7 @@ from netrev_words.plain import plain
 
 from .asking import check
 from .compare import DIFFERS, by_the_model, differing
+from .keeping import say
 from .logfile import NoLog, read_log
 from .making import Nothing, Recording, Unconvertible, make, write, write_words
 from .running import LOG
@@ -161,5 +161,5 @@ def ready(go: Go) -> pathlib.Path:
     without = left_out(go)
     if before is None and (without or not is_tried(go.version)):
         said = f"netrev-go: {go.version} ({tried(go.version)}) can be recorded: {came.said}"
-        print("\n".join(plain(line) for line in [said, *without]), file=sys.stderr)
+        say([plain(line) for line in [said, *without]])
     return made

@@ -8,6 +8,7 @@ from pathlib import Path
 from typing import IO, Any, Iterator
 
 STREAMS = tuple(map(Path, ("/dev", "/dev/fd", "/proc/self/fd")))
+MOST_LINKS = 40  # as the kernel follows
 OF_LINES = b'{"where":'  # a file of lines beside a recording begins so (docs/use/RECORDING.md)
 
 
@@ -19,10 +20,12 @@ def beside(path: Path) -> Path:
 @contextmanager
 def whole(path: Path, mode: str = "w") -> Iterator[IO[Any]]:
     """A file to write to, which takes its place at the end. An OSError that names it where it can't, or where all can't be
-    written. What isn't a file, as a pipe, is written to as it is, and so is what is open already, by a name as /dev/stdout.
+    written. What isn't a file, as a pipe, is written to as it is, and so is what is open already, by a name as /dev/stdout. A link is
+    followed, unless it is another user's.
     """
     try:
         check_name(path)
+        check_links(path)
         if path.exists() and (path.parent in STREAMS or not path.is_file()):
             with open_for(path, mode) as direct:
                 yield direct
@@ -51,6 +54,18 @@ def check_name(path: str | Path) -> None:
         is_name = False
     if not is_name:
         raise OSError(errno.EINVAL, "no file can have that name", str(path))
+
+
+def check_links(path: Path) -> None:
+    """An OSError where a path leads on by a link of another user's, who could have a file of this user's replaced by it. Root's links
+    are the system's."""
+    for _ in range(MOST_LINKS):
+        if not path.is_symlink():
+            return
+        if path.lstat().st_uid not in (os.geteuid(), 0):
+            raise OSError(errno.EACCES, "another user's link, which isn't followed", str(path))
+        path = path.parent / os.readlink(path)
+    raise OSError(errno.ELOOP, os.strerror(errno.ELOOP), str(path))
 
 
 def open_for(path: Path, mode: str) -> IO[Any]:

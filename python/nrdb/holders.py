@@ -3,10 +3,12 @@
 from dataclasses import dataclass
 from typing import NamedTuple
 
+from netrev_words.plurals import counted
+
 from .output import Row, Table
 from .recorded_changes import RecordedChanges
 from .recording import Recording, Step
-from .words import SIDES, LockWord, counted, lock_words
+from .words import SIDES, LockWord, lock_words
 from .world import World
 
 LOCKING = ("incref", "increfclose", "decref", "rwlock", "rwunlock")

@@ -4,7 +4,7 @@ from dataclasses import dataclass
 from enum import Enum
 from typing import Optional
 
-from .words import counted
+from netrev_words.plurals import counted
 
 OPEN, CLOSE, CLOSE_WRITE, CONTROL = "Open", "Close", "CloseWrite", "Control"
 

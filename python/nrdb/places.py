@@ -2,10 +2,11 @@
 
 from typing import Iterable, Optional
 
+from netrev_words.plurals import counted
 from netrev_words.vocabulary import Of
 
 from .output import Row, Table, Values
-from .words import SIDES, LockWord, counted, info_words, lock_words
+from .words import SIDES, LockWord, info_words, lock_words
 from .world import World
 
 SOCKET_CELLS = ("lock", "rsem", "wsem", "in", "out", "shut")

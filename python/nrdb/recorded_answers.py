@@ -4,9 +4,9 @@ had another one than the machine."""
 import json
 from typing import Any, Optional
 
+from netrev_words.plurals import counted
 from netrev_words.vocabulary import COUNTED_ANSWERS, KINDS
 
-from .words import counted
 
 OF_A_CHECK = (
     "nothing was in the way",

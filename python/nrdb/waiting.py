@@ -4,13 +4,14 @@ look where something hangs, so a thousand that wait for one lock ask for that lo
 from functools import cached_property
 from typing import Iterable, Mapping, Optional
 
+from netrev_words.plurals import counted
 from netrev_words.vocabulary import Of
 
 from .backwards import Lock, last_steps, takings
 from .groups import grouped
 from .output import Row, Table
 from .recording import Step
-from .words import SIDES, LockWord, counted, status_words
+from .words import SIDES, LockWord, status_words
 from .world import World
 
 QUIET = ("idle", "gone")

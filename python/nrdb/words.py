@@ -4,6 +4,7 @@ import json
 from dataclasses import dataclass
 from typing import Any, Mapping
 
+from netrev_words.plurals import counted
 from netrev_words.vocabulary import CELLS, Of
 
 DUMPED = 80  # digits of a dump that are shown as text
@@ -39,11 +40,6 @@ class LockWord:
             f"{self.writers} waiting to write" if self.writers else "",
         ]
         return ", ".join(filter(None, said))
-
-
-def counted(number: int, name: str) -> str:
-    """So many of what has this name: `1 reference`, `2 references`."""
-    return f"{number} {name}" if number == 1 else f"{number} {name}s"
 
 
 def lock_words(value: str) -> str:

@@ -2,10 +2,12 @@
 Go and netrev, and is run by `make real`."""
 
 import os
+import pathlib
 import shutil
 import subprocess
-import unittest
 
+from netrev_go.logfile import read_log
+from netrev_go.running import logs_in
 from tests.go_tool import ENDS, Tool, program
 
 BECOMES = program(
@@ -31,17 +33,13 @@ class Kept(Tool):
         self.recorded(said, "x-2")
         self.assertNotIn("nothing is recorded", said)
 
-    def test_a_log_that_cannot_be_made_is_told_by_its_error(self) -> None:
+    def test_a_log_that_cannot_be_made_changes_nothing_of_the_program(self) -> None:
         self.written(ENDS)
         self.assertEqual(self.called("build", "-o", "prog", "main.go")[0], 0)
-        for folder, error in (("nowhere", 2), ("main.go", 20)):
+        for folder in ("nowhere", "main.go"):
             settings = self.environment(NETREV_LOG=f"{folder}/log")
-            ended = subprocess.run(
-                ["./prog"], cwd=self.folder, env=settings, capture_output=True, text=True, check=True
-            )
-            self.assertRegex(
-                ended.stderr, rf"the log {folder}/log\.\d+ can't be made \(error {error}\): nothing is recorded"
-            )
+            ended = subprocess.run(["./prog"], cwd=self.folder, env=settings, capture_output=True, check=True)
+            self.assertEqual((ended.stdout, ended.stderr), (b"", b""))
 
     def test_no_program_that_it_starts_has_the_log_open(self) -> None:
         self.written(INHERITS)
@@ -58,13 +56,30 @@ class Kept(Tool):
         self.assertIn("recording.jsonl -ex continue -ex 'info errors'", said)
         self.assertNotIn("--explore", said)
 
-    @unittest.skipUnless(os.geteuid() == 0 and shutil.which("mount"), "only root can mount a small file system")
-    def test_a_full_disk_keeps_the_logs(self) -> None:
+    def mounted(self, size: str) -> pathlib.Path:
+        """A file system of this size."""
         small = self.folder / "small"
         small.mkdir()
-        if os.system(f"mount -t tmpfs -o size=128k none {small} 2>/dev/null"):
-            self.skipTest("no file system can be mounted here")
+        if os.geteuid() or os.system(f"mount -t tmpfs -o size={size} none {small} 2>/dev/null"):
+            self.skipTest("only root can mount a small file system")
         self.addCleanup(os.system, f"umount {small}")
+        return small
+
+    def test_a_log_without_room_ends_and_the_program_goes_on(self) -> None:
+        self.written(MANY.replace("5000", "50000"))
+        self.assertEqual(self.called("build", "-o", "prog", "main.go")[0], 0)
+        small = self.mounted("8m")
+        settings = self.environment(NETREV_LOG=f"{small}/log")
+        ended = subprocess.run(["./prog"], cwd=self.folder, env=settings, capture_output=True, check=True)
+        self.assertEqual((ended.stdout, ended.stderr), (b"", b""))
+        (log,) = logs_in(small)
+        read = read_log(log)
+        self.assertGreater(len(read.points), 30_000)
+        self.assertEqual(read.notes[0], "there was no room for more of the log: it ends before the program did")
+        self.assertEqual(list(small.glob("log.program.*")), [])
+
+    def test_a_full_disk_keeps_the_logs(self) -> None:
+        self.mounted("128k")
         self.written(MANY)
         status, said = self.called("-o", "small/x", "--keep", "--strict", "run", "main.go")
         self.assertEqual(status, 5, said)

@@ -103,7 +103,7 @@ class Tool(unittest.TestCase):
         return run.returncode, run.stdout
 
     def recorded(self, said: str, name: str = "recording") -> None:
-        self.assertRegex(said, rf"{name}\.jsonl: ok \d+ steps; \d+ goroutines, \d+ sockets")
+        self.assertRegex(said, rf"{name}\.jsonl: ok \d+ steps; \d+ goroutines?, \d+ sockets?")
 
 
 class Programs(Tool):

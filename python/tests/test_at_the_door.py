@@ -108,3 +108,17 @@ class Launching(unittest.TestCase):
             with mock.patch.object(sys, "argv", ["netrev", "check", "x"]):
                 launching.main()
         became.assert_called_once_with("/p", ["/p", "check", "x"])
+
+
+def test_the_debian_package_can_be_removed_where_its_folder_is_gone(folder: Path) -> None:
+    text = (ROOT / "scripts/deb.sh").read_text()
+    script = text.partition('> "$root/DEBIAN/prerm" <<END\n')[2].partition("\nEND\n")[0]
+    assert script.startswith("#!/bin/sh")
+    installed = folder / "netrev"
+    for has_folder in (True, False):
+        if has_folder:
+            (installed / "nrdb/__pycache__").mkdir(parents=True)
+        ended = subprocess.run(["sh", "-c", script.replace("/usr/lib/netrev", str(installed))], check=False)
+        assert (ended.returncode, installed.exists()) == (0, has_folder)
+        assert not (installed / "nrdb/__pycache__").exists()
+        shutil.rmtree(installed, ignore_errors=True)

@@ -22,6 +22,7 @@ from netrev_go.cli import Status
 from netrev_go.making import make
 from netrev_go.outputs import base_name, look
 from netrev_go.points import Kind, Log
+from netrev_go.running import SIGNALS, logs_in
 from netrev_go.toolchain import Go, Trouble
 from netrev_go.zeros import Zeros
 from netrev_words.files import whole
@@ -50,8 +51,9 @@ class Run(unittest.TestCase):
         before = os.getcwd()
         os.chdir(self.folder)
         self.addCleanup(os.chdir, before)
-        for number in (signal.SIGINT, signal.SIGTERM, signal.SIGUSR1):
+        for number in SIGNALS:
             self.addCleanup(signal.signal, number, signal.getsignal(number))
+        self.addCleanup(signal.pthread_sigmask, signal.SIG_SETMASK, signal.pthread_sigmask(signal.SIG_BLOCK, ()))
 
     def go(self, does: str, status: int, leaves: str) -> Go:
         """What stands in for Go."""
@@ -149,13 +151,18 @@ class Lost(Run):
 
     def test_whatever_fails_the_logs_stay(self) -> None:
         logs = self.folder / "logs"
-        logs.mkdir()
-        with mock.patch.object(cli, "logs_folder", lambda _: logs):
+
+        def folder(_: int) -> pathlib.Path:
+            logs.mkdir()
+            return logs
+
+        with mock.patch.object(cli, "logs_folder", folder):
             with mock.patch.object(keeping, "convert", side_effect=MemoryError), self.assertRaises(MemoryError):
                 self.called("run", "main.go")
-        self.assertEqual([log.read_bytes() for log in logs.iterdir()], [self.log.read_bytes()])
-        with mock.patch.object(keeping, "convert", side_effect=KeyboardInterrupt):
-            returned, said = self.called("run", "main.go")
+            self.assertEqual([log.read_bytes() for log in logs_in(logs)], [self.log.read_bytes()])
+            shutil.rmtree(logs)
+            with mock.patch.object(keeping, "convert", side_effect=KeyboardInterrupt):
+                returned, said = self.called("run", "main.go")
         self.assertEqual(returned, 130, said)
         self.assertEqual(self.again(said), self.WHOLE)
 
@@ -167,6 +174,18 @@ class Lost(Run):
         self.assertEqual(returned, Status.UNRECORDED, said)
         self.assertIn("Please keep the log and report it", said)
         self.assertEqual(self.again(said), self.WHOLE)
+
+    def test_processes_that_cannot_write_a_log_are_named(self) -> None:
+        mark = 'touch "$NETREV_LOG.unrecorded/process.{}"; '
+        marks = mark.format("12.13") + mark.format("14.27") + mark.format("15.27") + mark.format("x.y")
+        for command in ("run", "test"):
+            returned, said = self.called("--strict", "-o", f"of-{command}", command, ".", does=marks)
+            self.assertEqual(returned, Status.UNRECORDED, said)
+            self.assertIn("netrev-go: process 12 couldn't write a log (Permission denied): it isn't recorded\n", said)
+            self.assertIn("2 processes couldn't write a log (its files may not be so large, by ulimit -f): they", said)
+            self.assertNotIn("the logs are in", said)
+        returned, said = self.called("run", ".", does=marks, leaves="true")
+        self.assertEqual((returned, "nothing was recorded" in said), (0, False), said)
 
     def test_logs_that_are_gone_are_said_to_be(self) -> None:
         returned, said = self.called("--strict", "run", "main.go", does='rm -r "$(dirname $NETREV_LOG)"')

@@ -1,5 +1,6 @@
 """Where the recorder's logs go, and what is said where there is no room for them."""
 
+import os
 import pathlib
 import shutil
 import tempfile
@@ -26,6 +27,10 @@ def with_room(**free: int) -> ContextManager[object]:
 class Room(unittest.TestCase):
     def setUp(self) -> None:
         self.folder = folder_of(self)
+        patched = mock.patch.dict(os.environ)
+        patched.start()
+        self.addCleanup(patched.stop)
+        os.environ.pop("NETREV_LOGS", None)
 
     def made_with(self, **free: int) -> pathlib.Path:
         """The folder that is made where there is so much room. Its place has another one's name."""
@@ -40,9 +45,16 @@ class Room(unittest.TestCase):
         self.assertEqual(self.made_with(shm=2**20, other=2**30).parent, self.folder)
 
     def test_no_room_is_said(self) -> None:
-        said = rf"neither /dev/shm nor {self.folder} has 132 MB free for a log: TMPDIR names another folder, --points makes"
+        said = rf"no log can be made in /dev/shm and {self.folder}, without 132 MB free: NETREV_LOGS names another folder, --points"
         with self.assertRaisesRegex(Trouble, said):
             self.made_with(shm=2**27, other=2**27)
+
+    def test_netrev_logs_names_the_folder(self) -> None:
+        with with_room(shm=2**30, other=2**30), mock.patch.dict(os.environ, NETREV_LOGS=str(self.folder)):
+            self.assertEqual(logs_folder(MOST_POINTS).parent, self.folder)
+        with with_room(shm=2**30, other=2**20), mock.patch.dict(os.environ, NETREV_LOGS=str(self.folder)):
+            with self.assertRaisesRegex(Trouble, f"no log can be made in {self.folder}, without"):
+                logs_folder(MOST_POINTS)
 
     def test_a_processes_logs_are_those_of_its_number(self) -> None:
         for name in ("log.12", "log.7.2", "log.program.5.6", "other.3"):

@@ -8,6 +8,7 @@ import pathlib
 import re
 import signal
 import tempfile
+import time
 import unittest
 from dataclasses import asdict
 from typing import Optional
@@ -22,9 +23,11 @@ from netrev_go.cutting import sockets_of
 from netrev_go.forms import Cause, Told
 from netrev_go.points import Kind, Log
 from netrev_go.ran import Ran, Tests, Went, of_log
-from netrev_go.running import FROM_THE_TERMINAL, Limits, Runner
+from netrev_go.running import FROM_THE_TERMINAL, SIGNALS, Limits, Runner
 from netrev_go.sockets import owned
-from netrev_go.tested import file_name, short_name
+from netrev_go.converting import Wish
+from netrev_go.tested import Recordings, file_name, short_name
+from netrev_go.toolchain import Go
 from nrdb.where import Lines
 
 from .test_go_converting import Points
@@ -103,6 +106,12 @@ class Ranning(unittest.TestCase):
         lines = f"x\n1 1\n1 1 -5 package p\n{10**30} 1 5 package p\n1 1 1 ends TestNone\n\x00\xff 1 1 runs T\n" + LINES
         self.assertEqual(len(tests_of(lines).ran), 4)
         self.assertEqual(of_log(pathlib.Path("/nowhere/log.1")).ran, [])
+
+    def test_the_file_is_mapped_and_zeros_say_nothing(self) -> None:
+        lines = "1 1 5 package p\n2 3 9 ru\0\0\0\0\n3 3 9 runs T\n3 3 9 fai\0\0\0\0" + "\0" * 10**6
+        self.assertEqual(
+            [(test.package, test.name, test.went()) for test in tests_of(lines).ran], [("p", "T", Went.UNFINISHED)]
+        )
 
     def test_it_runs_again_by_the_same_name(self) -> None:
         tests = tests_of("1 1 1 package p\n1 2 1 runs T\n1 2 1 ends T\n2 3 1 runs T\n2 3 1 fails T\n2 3 1 ends T\n")
@@ -286,11 +295,13 @@ def keys_of_the_page() -> list[str]:
 
 
 class Forms(unittest.TestCase):
+    NOWHERE = pathlib.Path("/nowhere")
+
     def test_what_a_page_or_a_terminal_would_obey_is_written_out(self) -> None:
         one = Told("p", "T\x1b[31m", "failed", 1, 1, says=["a\x07b"], causes=[Cause("x,y:z.go", 3, "")])
         self.assertEqual(
             forms.annotation(one),
-            "::error file=x%2Cy%3Az.go,line=3,title=p T\\x1b[31m::failed in 1 of 1 runs%0Aa\\x07b",
+            "::error file=x%2Cy%3Az.go,line=3,title=p T\\x1b[31m::failed%0Aa\\x07b",
         )
         case = ElementTree.fromstring(forms.junit([one]))[0][0]
         self.assertEqual(case.get("name"), "T\\x1b[31m")
@@ -300,7 +311,7 @@ class Forms(unittest.TestCase):
         one = Told("p", strange, "failed", 1, 1, file=strange, line=3, says=[strange, "b"], suspects=[strange])
         properties, message = as_github_reads(forms.annotation(one))
         self.assertEqual(properties, {"file": strange, "line": "3", "title": f"p {strange}"})
-        self.assertEqual(message, f"failed in 1 of 1 runs\n{strange}\nb")
+        self.assertEqual(message, f"failed\n{strange}\nb")
         (case,) = ElementTree.fromstring(forms.junit([one])).iter("testcase")
         self.assertEqual((case.get("name"), case[0].text), (strange, f"{strange}\nb"))
         (line,) = forms.json_lines([one]).splitlines()
@@ -315,6 +326,20 @@ class Forms(unittest.TestCase):
         self.assertEqual(short_name("v2"), "v2")
         self.assertEqual(file_name("toy", "Test/a b/../c"), "toy.Test.a_b....c")
         self.assertLess(len(file_name("toy", "x" * 400)), 250)
+
+    def test_each_recording_has_a_name_of_its_own(self) -> None:
+        recordings = Recordings(pathlib.Path("r"), Go("go", self.NOWHERE, "", "", ""), Wish(), False, False)
+        names = [recordings.name_of("p", test).name for test in ("T/a=b", "T/a_b", "T/a_b-2", "T/a b")]
+        self.assertEqual(names, ["p.T.a_b.jsonl", "p.T.a_b-2.jsonl", "p.T.a_b-2-2.jsonl", "p.T.a_b-3.jsonl"])
+
+    def test_a_long_line_is_searched_in_no_time(self) -> None:
+        begin = time.process_time()
+        self.assertEqual(forms.causes_in(["x" * 100_000, "a.go:7"]), [Cause("a.go", 7, "a.go:7")])
+        self.assertLess(time.process_time() - begin, 5)
+
+    def test_of_several_runs_it_is_said_in_how_many_it_failed(self) -> None:
+        self.assertEqual(Told("p", "T", "failed", 1, 1).outcome(), "failed")
+        self.assertEqual(Told("p", "T", "failed", 3, 1).outcome(), "failed in 1 of 3 runs")
 
     def test_the_page_has_each_key_and_element(self) -> None:
         page = (PYTHON.parent / "docs/use/CI.md").read_text()
@@ -331,8 +356,9 @@ class Signals(unittest.TestCase):
     """A signal is for netrev-go's one thread: a process of pytest-xdist has two."""
 
     def setUp(self) -> None:
-        for number in (signal.SIGINT, signal.SIGTERM, signal.SIGUSR1):
+        for number in SIGNALS:
             self.addCleanup(signal.signal, number, signal.getsignal(number))
+        self.addCleanup(signal.pthread_sigmask, signal.SIG_SETMASK, signal.pthread_sigmask(signal.SIG_BLOCK, ()))
         self.folder = folder_of(self)
 
     def ended(self, script: str, called: Optional[list[bool]] = None) -> tuple[int, bool]:

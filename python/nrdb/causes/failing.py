@@ -3,9 +3,10 @@ or a broken connection who closed the other end."""
 
 from typing import Optional
 
+from netrev_words.plurals import counted
+
 from ..one_call import CLOSE, Call, Outcome
 from ..recording import Recording
-from ..words import counted
 from .hanging import who_could
 from .index import READING, Cause, Index, index_of, went_well
 from .words import duration, name_of, place_of_step, told

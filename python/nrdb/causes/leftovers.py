@@ -4,10 +4,11 @@ itself, so each is said with `Perhaps`."""
 
 from typing import Iterator, NamedTuple, Optional
 
+from netrev_words.plurals import counted
+
 from ..one_call import CLOSE, Call, Outcome
 from ..recording import Recording
 from ..where import OF_THE_PROGRAM
-from ..words import counted
 from .failing import cause_of
 from .index import Cause, Index, index_of, went_well
 from .words import is_of_go, place_of_step, told

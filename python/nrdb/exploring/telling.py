@@ -2,11 +2,12 @@
 
 from typing import Optional
 
+from netrev_words.plurals import counted
+
 from ..calls import Book
 from ..one_call import Call
 from ..recording import Recording
 from ..suspects.loading import LOST_WAKE_UP
-from ..words import counted
 from .failing import FAILS, Failed, Reason, Why
 from .finding import Exploring, Finding
 from .hanging import moved_by

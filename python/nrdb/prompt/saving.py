@@ -2,10 +2,11 @@
 
 from typing import Iterator
 
+from netrev_words.plurals import counted
+
 from ..attached import END
 from ..files import writing
 from ..session import Misused, Session
-from ..words import counted
 from .answers_of_calls import usage
 
 

@@ -2,9 +2,10 @@
 
 from typing import Iterator, NamedTuple
 
+from netrev_words.plurals import counted
+
 from ..noted import Hold
 from ..words import SIDES as NAMES
-from ..words import counted
 from .found import Evidence, Suspect, Weight
 from .run import TWICE, Run
 

@@ -5,11 +5,12 @@ from typing import Optional
 
 from netrev_machine.machine import INSIDE
 
+from netrev_words.plurals import counted
+
 from ..causes.index import Index, index_of
 from ..noted import AT, Use
 from ..noted_goroutines import MANY
 from ..notes import Notes
-from ..words import counted
 
 SIDES = {"Read": "r", "Write": "w"}  # of the calls that a deadline ends
 SHORT = 10  # a pause of so few steps says nothing, however long others were

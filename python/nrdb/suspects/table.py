@@ -2,12 +2,13 @@
 
 from typing import Optional
 
+from netrev_words.plurals import counted
+
 from ..noted import Timeout
 from ..output import Row, Table, Values
 from ..recording import Recording
 from ..scout import Scout
 from ..where import OF_GO
-from ..words import counted
 from .found import Suspect
 from .ranking import Ranked, all_suspects_of
 

@@ -3,6 +3,9 @@
 // With NETREV_LOG=PATH in its environment a program writes the file PATH.PID, which is mapped: whatever way the process ends, the
 // kernel keeps what was written, and it may be read while the process runs. Words are of 64 bits. A header comes first, then
 // the stacks, then a ring of points. Without it nothing is done but a look at netrevOn.
+//
+// The program runs as it would without the log: no descriptor is open while it runs, since it may close all that it doesn't know and
+// have their numbers again for files of its own, and nothing is printed.
 
 package runtime
 
@@ -78,10 +81,10 @@ var (
 	netrevSeed   uint64 // of the delays; 0 where there are none
 	netrevDraws  uint64
 	netrevOwn    []byte // the log's name
-	netrevFile   uintptr
 	netrevBase   uintptr
 	netrevRing   uintptr
 	netrevPoints uint64
+	netrevRoomed uint64 // the points with smaller numbers have room
 	netrevBegin  int64
 	netrevLocks  [64]struct {
 		mutex
@@ -129,13 +132,16 @@ func netrevNumber(text string) uint64 {
 const (
 	netrevOpening   = 257*goarch.IsAmd64 + 56*goarch.IsArm64
 	netrevClosing   = 3*goarch.IsAmd64 + 57*goarch.IsArm64
-	netrevWriting   = 1*goarch.IsAmd64 + 64*goarch.IsArm64
 	netrevFstat     = 5*goarch.IsAmd64 + 80*goarch.IsArm64
 	netrevMmap      = 9*goarch.IsAmd64 + 222*goarch.IsArm64
+	netrevMadvise   = 28*goarch.IsAmd64 + 233*goarch.IsArm64
 	netrevGetpid    = 39*goarch.IsAmd64 + 172*goarch.IsArm64
 	netrevSendfile  = 40*goarch.IsAmd64 + 71*goarch.IsArm64
 	netrevTruncate  = 77*goarch.IsAmd64 + 46*goarch.IsArm64
+	netrevFutex     = 202*goarch.IsAmd64 + 98*goarch.IsArm64
+	netrevUnlink    = 263*goarch.IsAmd64 + 35*goarch.IsArm64
 	netrevFallocate = 285*goarch.IsAmd64 + 47*goarch.IsArm64
+	netrevPrlimit   = 302*goarch.IsAmd64 + 261*goarch.IsArm64
 )
 
 const (
@@ -143,6 +149,8 @@ const (
 	netrevCreateAnew   = 0x2 | 0x40 | 0x80 | netrevCloseOnExec
 	netrevCloseOnExec  = 0x80000
 	netrevAlreadyThere = 17
+	netrevTooLarge     = 27
+	netrevPageBytes    = 4096
 )
 
 // netrevSystem is a call of the system, with its error. Nothing moves on the stack meanwhile, as it doesn't grow.
@@ -160,11 +168,48 @@ func netrevOpenFile(name []byte, flags, mode uintptr) (file, errno uintptr) {
 	return netrevSystem(netrevOpening, netrevHere, uintptr(unsafe.Pointer(&name[0])), flags, mode)
 }
 
-// netrevReserve takes room for a part of the log, and says whether there was any. A file system that can't tell has it.
-func netrevReserve(offset, size uintptr) bool {
+// netrevShared maps a file's first bytes, which then change with the mapping; the file may be closed.
+func netrevShared(file, size uintptr) (base, errno uintptr) {
+	const readAndWrite, shared = 3, 1
+	if _, errno = netrevSystem(netrevTruncate, file, size); errno != 0 {
+		return 0, errno
+	}
+	return netrevSystem(netrevMmap, 0, size, readAndWrite, shared, file, 0)
+}
+
+// netrevReserve takes room for the first bytes of a file that is open; the error is that of a disk or a quota that is full. A file
+// system that can't reserve has room until it is used.
+func netrevReserve(file, size uintptr) uintptr {
 	const noSpace, quota = 28, 122
-	_, errno := netrevSystem(netrevFallocate, netrevFile, 0, offset, size)
-	return errno != noSpace && errno != quota
+	if _, errno := netrevSystem(netrevFallocate, file, 0, 0, size); errno == noSpace || errno == quota {
+		return errno
+	}
+	return 0
+}
+
+// netrevHasRoom takes room for a part of a mapping, and says whether there was any. The kernel writes first: where there is no room
+// it says so, and the program isn't ended by SIGBUS, as it would be by a write of its own. This needs no descriptor. Before
+// Linux 5.14 one call can't do it for all pages: then the kernel adds 0 to a word of each.
+func netrevHasRoom(begin, size uintptr) bool {
+	const populateWrite, wakeOp, private, add, fault = 23, 5, 128, 1 << 28, 14
+	page := begin &^ (netrevPageBytes - 1)
+	if _, errno := netrevSystem(netrevMadvise, page, begin+size-page, populateWrite); errno == 0 {
+		return true
+	}
+	for ; page < begin+size; page += netrevPageBytes {
+		if _, errno := netrevSystem(netrevFutex, page, wakeOp|private, 0, 0, page, add); errno == fault {
+			return false
+		}
+	}
+	return true
+}
+
+// netrevLargest is how many bytes a file of this process may have (ulimit -f). A longer one would bring it SIGXFSZ.
+func netrevLargest() uintptr {
+	const fileSize = 1
+	limits := [2]uint64{^uint64(0), 0}
+	netrevSystem(netrevPrlimit, 0, fileSize, 0, uintptr(unsafe.Pointer(&limits)))
+	return uintptr(limits[0])
 }
 
 // The log begins before any code of the program's.
@@ -180,14 +225,14 @@ func init() {
 		netrevOwn = netrevName(path, uint64(process), again)
 		file, errno = netrevOpenFile(netrevOwn, netrevCreateAnew, 0600)
 	}
-	if errno != 0 {
-		print("netrev: the log ", path, ".", process, " can't be made (error ", errno, "): nothing is recorded\n")
-		return
-	}
-	netrevFile = file
-	if !netrevMap(uint64(process)) {
-		print("netrev: there is no room for the log ", path, ".", process, ": nothing is recorded\n")
+	if errno == 0 {
+		if errno = netrevMap(file, uint64(process)); errno != 0 {
+			netrevSystem(netrevUnlink, netrevHere, uintptr(unsafe.Pointer(&netrevOwn[0])), 0)
+		}
 		netrevSystem(netrevClosing, file)
+	}
+	if errno != 0 {
+		netrevUnrecorded(path, uint64(process), uint64(errno))
 		return
 	}
 	netrevKeepProgram(path)
@@ -197,39 +242,49 @@ func init() {
 	atomic.Store(&netrevOn, 1)
 }
 
-// netrevMap gives the log its size and its header.
-func netrevMap(process uint64) bool {
-	const readAndWrite, shared = 3, 1
-	points := uint64(netrevMostPoints)
+// netrevUnrecorded leaves the empty file PATH.unrecorded/PROCESS.ERROR, by which netrev-go knows of a process that can't write a
+// log. Without that folder it leaves nothing. Standard error is the program's, which another one may read.
+func netrevUnrecorded(path string, process, why uint64) {
+	if file, errno := netrevOpenFile(netrevName(path+".unrecorded/process", process, why), netrevCreateAnew, 0600); errno == 0 {
+		netrevSystem(netrevClosing, file)
+	}
+}
+
+// netrevMap gives the log its size and its header; fewer points where a file of this process may not be so long.
+func netrevMap(file uintptr, process uint64) (errno uintptr) {
+	const ring, pointBytes = netrevHeaderBytes + netrevStacks*netrevStackWords*8, netrevPointWords * 8
+	points := uintptr(netrevMostPoints)
 	if n := netrevNumber(gogetenv("NETREV_POINTS")); n >= netrevChunk {
-		points = n
+		points = uintptr(n)
 	}
-	ring := uintptr(netrevHeaderBytes + netrevStacks*netrevStackWords*8)
-	size := ring + uintptr(points)*netrevPointWords*8
-	if _, errno := netrevSystem(netrevTruncate, netrevFile, size); errno != 0 {
-		return false
+	if largest := netrevLargest(); largest < ring+points*pointBytes {
+		if largest < ring+netrevChunk*pointBytes {
+			return netrevTooLarge
+		}
+		points = (largest - ring) / pointBytes / netrevChunk * netrevChunk
 	}
-	if !netrevReserve(0, ring+2*netrevChunk*netrevPointWords*8) {
-		return false
-	}
-	base, errno := netrevSystem(netrevMmap, 0, size, readAndWrite, shared, netrevFile, 0)
+	base, errno := netrevShared(file, ring+points*pointBytes)
 	if errno != 0 {
-		return false
+		return errno
+	}
+	if errno = netrevReserve(file, ring+netrevChunk*pointBytes); errno != 0 {
+		return errno
 	}
 	netrevBase = base
 	netrevRing = netrevBase + ring
-	netrevPoints = points
+	netrevPoints = uint64(points)
 	netrevBegin = nanotime()
-	*netrevWord(netrevHeadPoints) = points
+	*netrevWord(netrevHeadPoints) = netrevPoints
 	*netrevWord(netrevHeadStacks) = netrevStacks
 	*netrevWord(netrevHeadBegin) = uint64(netrevBegin)
 	*netrevWord(netrevHeadProcess) = process
 	*netrevWord(netrevHeadText) = uint64(firstmoduledata.text)
 	atomic.Store64(netrevWord(netrevHeadMagic), netrevMagic)
-	return true
+	return 0
 }
 
-// netrevKeepProgram copies the program beside the log, once for all processes that run it: by it addresses become lines.
+// netrevKeepProgram copies the program beside the log, once for all processes that run it: by it addresses become lines. Where it
+// has no room there, nothing is left of it.
 func netrevKeepProgram(path string) {
 	from, errno := netrevOpenFile([]byte("/proc/self/exe\x00"), netrevCloseOnExec, 0)
 	if errno != 0 {
@@ -237,18 +292,29 @@ func netrevKeepProgram(path string) {
 	}
 	var status [24]uint64
 	netrevSystem(netrevFstat, from, uintptr(unsafe.Pointer(&status)))
-	inode, changed := status[1], status[11]*1000000000+status[12]
+	inode, size, changed := status[1], uintptr(status[6]), status[11]*1000000000+status[12]
 	*netrevWord(netrevHeadProgram), *netrevWord(netrevHeadProgramTime) = inode, changed
-	if to, errno := netrevOpenFile(netrevName(path+".program", inode, changed), netrevCreateAnew, 0600); errno == 0 {
-		for {
-			n, errno := netrevSystem(netrevSendfile, to, from, 0, 1<<30)
-			if errno != 0 || n == 0 {
-				break
+	name := netrevName(path+".program", inode, changed)
+	if size <= netrevLargest() {
+		if to, errno := netrevOpenFile(name, netrevCreateAnew, 0600); errno == 0 {
+			if netrevCopy(from, to) < size {
+				netrevSystem(netrevUnlink, netrevHere, uintptr(unsafe.Pointer(&name[0])), 0)
 			}
+			netrevSystem(netrevClosing, to)
 		}
-		netrevSystem(netrevClosing, to)
 	}
 	netrevSystem(netrevClosing, from)
+}
+
+// netrevCopy copies the rest of a file, and returns how many bytes that were.
+func netrevCopy(from, to uintptr) (copied uintptr) {
+	for {
+		n, errno := netrevSystem(netrevSendfile, to, from, 0, 1<<30)
+		if errno != 0 || n == 0 {
+			return copied
+		}
+		copied += n
+	}
 }
 
 // netrevLog writes a point: what, by which goroutine, at which address, what was seen there, and the time: where Go read none for
@@ -258,13 +324,18 @@ func netrevLog(kind uint64, goid uint64, at uintptr, a, b, c, now int64) {
 	if now == 0 {
 		now = nanotime()
 	}
-	if number%netrevChunk == 0 && !netrevRoom(uint64(number)) {
-		return
+	if number%netrevChunk == 0 {
+		netrevRoom(uint64(number))
 	}
 	if ended := atomic.Load64(netrevWord(netrevHeadEnded)); ended != 0 && uint64(number) >= ended-1 {
 		return
 	}
-	p := (*[netrevPointWords]uint64)(unsafe.Pointer(netrevRing + uintptr(uint64(number)%netrevPoints)*netrevPointWords*8))
+	place := netrevRing + uintptr(uint64(number)%netrevPoints)*netrevPointWords*8
+	if uint64(number) >= atomic.Load64(&netrevRoomed) && !netrevHasRoom(place, netrevPointWords*8) {
+		atomic.Cas64(netrevWord(netrevHeadEnded), 0, uint64(number)+1)
+		return
+	}
+	p := (*[netrevPointWords]uint64)(unsafe.Pointer(place))
 	var stack uint64
 	if gp := getg(); netrevLines && (kind <= netrevOpenFailed || kind == netrevParksKind) && gp.m != nil && gp == gp.m.curg {
 		stack = netrevStack(gp, sys.GetCallerSP()-16)
@@ -276,20 +347,21 @@ func netrevLog(kind uint64, goid uint64, at uintptr, a, b, c, now int64) {
 	atomic.Store64(&p[0], uint64(number+1)<<8|kind)
 }
 
-// netrevRoom takes the room for the points behind the next ones, while the ring goes round for the first time. Where there is
-// none left, the log ends.
-func netrevRoom(number uint64) bool {
-	next := number + netrevChunk
-	if next >= netrevPoints {
-		return true
+// netrevRoom takes the room for the next points, while the ring goes round for the first time. A point that comes before that is
+// done takes its own; where there is none left, the log ends.
+func netrevRoom(number uint64) {
+	first, end := atomic.Load64(&netrevRoomed), number+2*netrevChunk
+	if end > netrevPoints {
+		end = netrevPoints
 	}
-	if netrevReserve(netrevRing-netrevBase+uintptr(next)*netrevPointWords*8, netrevChunk*netrevPointWords*8) {
-		return true
+	if first >= end || !netrevHasRoom(netrevRing+uintptr(first)*netrevPointWords*8, uintptr(end-first)*netrevPointWords*8) {
+		return
 	}
-	if atomic.Cas64(netrevWord(netrevHeadEnded), 0, number+1) {
-		print("netrev: there is no more room for the log: it ends here\n")
+	if end == netrevPoints {
+		end = ^uint64(0)
 	}
-	return false
+	for old := first; old < end && !atomic.Cas64(&netrevRoomed, old, end); old = atomic.Load64(&netrevRoomed) {
+	}
 }
 
 // netrevStack finds a stack by its frame pointers in the table of those met before, or puts it there. Where a part of the
@@ -576,31 +648,54 @@ func poll_runtime_netrevClosed(kind uint64, word *uint64, bits int64) {
 	unlock(l)
 }
 
-// netrevTests is the file LOG.tests, of a program that has tests.
-var netrevTests uintptr
+// netrevTests is where the file LOG.tests is mapped, of a program that has tests; 0 where it isn't.
+var (
+	netrevTests     uintptr
+	netrevTestsRoom uintptr
+	netrevTestsUsed uint64
+)
 
 // netrevTest writes a line there: how many points were passed, the goroutine, the time since the log began, what happened, and
-// of which test or package. The first one makes the file.
+// of which test or package. The first one makes the file. Lines that there is no room for are left out.
 //
 //go:linkname netrevTest
 func netrevTest(what, name string) {
-	const append_ = 0x400
-	if netrevOn == 0 {
+	if netrevOn == 0 || netrevTests == 0 && !netrevMapTests() {
 		return
-	}
-	if netrevTests == 0 {
-		path := append(append([]byte{}, netrevOwn[:len(netrevOwn)-1]...), ".tests\x00"...)
-		file, errno := netrevOpenFile(path, netrevCreateAnew|append_, 0600)
-		if errno != 0 {
-			return
-		}
-		netrevTests = file
 	}
 	line := netrevDigits(nil, atomic.Load64(netrevWord(netrevHeadPassed)))
 	line = netrevDigits(append(line, ' '), netrevGoroutine())
 	line = netrevDigits(append(line, ' '), uint64(nanotime()-netrevBegin))
 	line = append(append(append(append(append(line, ' '), what...), ' '), name...), '\n')
-	netrevSystem(netrevWriting, netrevTests, uintptr(unsafe.Pointer(&line[0])), uintptr(len(line)))
+	end := uintptr(atomic.Xadd64(&netrevTestsUsed, int64(len(line))))
+	begin := end - uintptr(len(line))
+	if end > netrevTestsRoom || !netrevHasRoom(netrevTests+begin, uintptr(len(line))) {
+		return
+	}
+	last := len(line) - 1 // first: a line that is never finished takes none of the next one
+	*(*byte)(unsafe.Pointer(netrevTests + end - 1)) = line[last]
+	copy(unsafe.Slice((*byte)(unsafe.Pointer(netrevTests+begin)), last), line)
+}
+
+// netrevMapTests makes LOG.tests and maps it, and says whether that could be done.
+func netrevMapTests() bool {
+	const most = 1 << 26
+	path := append(append([]byte{}, netrevOwn[:len(netrevOwn)-1]...), ".tests\x00"...)
+	file, errno := netrevOpenFile(path, netrevCreateAnew, 0600)
+	if errno != 0 {
+		return false
+	}
+	netrevTestsRoom = most
+	if largest := netrevLargest(); largest < most {
+		netrevTestsRoom = largest
+	}
+	base, errno := netrevShared(file, netrevTestsRoom)
+	netrevSystem(netrevClosing, file)
+	if errno != 0 {
+		return false
+	}
+	netrevTests = base
+	return true
 }
 
 func netrevMixed(x uint64) uint64 {

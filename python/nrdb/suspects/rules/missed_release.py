@@ -3,7 +3,8 @@ place."""
 
 from typing import Iterator
 
-from ...words import counted
+from netrev_words.plurals import counted
+
 from ..found import Evidence, Suspect, Weight
 from ..run import Run
 

@@ -1,0 +1,135 @@
+"""The folder into which a run's programs write their logs: which netrev-go has it, which processes couldn't be recorded, and the
+folders that are left of a netrev-go that was killed."""
+
+from __future__ import annotations
+
+import contextlib
+import errno
+import fcntl
+import os
+import pathlib
+import re
+import shlex
+import shutil
+import stat
+import sys
+import time
+from collections import defaultdict
+from collections.abc import Callable
+from dataclasses import dataclass
+from itertools import islice
+from typing import TextIO
+
+from .running import PREFIX, logs_in, places, still_written
+from .toolchain import Trouble
+
+OWNER = (
+    "owner"  # a file that the netrev-go which has the folder keeps locked; the kernel unlocks it, however that one ends
+)
+UNRECORDED = (
+    "log.unrecorded"  # a folder in which each process that can't write a log leaves an empty file (go/log/runtime.go)
+)
+MARK = re.compile(r"process\.(\d{1,10})\.(\d{1,4})\Z")
+MOST_MARKS, MOST_OF_COMMAND = 1_000, 4_096
+WHY = {
+    errno.EFBIG: "its files may not be so large, by ulimit -f",
+    errno.EEXIST: "it became another program too often",
+    errno.ENOMEM: "its memory is limited, by ulimit -v",
+}
+HELD: dict[pathlib.Path, TextIO] = {}  # the locked files of this netrev-go's folders
+
+
+def claim(folder: pathlib.Path) -> pathlib.Path:
+    """Makes a new folder this netrev-go's, and fit for the programs of a run."""
+    marks = folder / UNRECORDED
+    try:
+        marks.mkdir(0o700)
+        if os.geteuid() == 0:  # its programs may have children of other users: they leave a mark, and see nothing
+            folder.chmod(0o711)
+            marks.chmod(0o1733)
+        file = (folder / OWNER).open("x", encoding="utf-8", errors="surrogateescape")
+        fcntl.flock(file, fcntl.LOCK_EX)
+        file.write(f"{shlex.join(['netrev-go', *sys.argv[1:]])[:MOST_OF_COMMAND]}\n")
+        file.flush()
+    except OSError as fault:
+        raise Trouble(f"no log can be made in {folder}: {fault.strerror}. Nothing was run") from None
+    HELD[folder] = file
+    return folder
+
+
+def release(folder: pathlib.Path) -> None:
+    """Makes a folder nobody's: what is left in it was told, and isn't offered again."""
+    with contextlib.suppress(OSError):
+        (folder / OWNER).unlink()
+    if (file := HELD.pop(folder, None)) is not None:
+        file.close()
+
+
+def remove(folder: pathlib.Path) -> None:
+    release(folder)
+    shutil.rmtree(folder, ignore_errors=True)
+
+
+def unrecorded(folder: pathlib.Path) -> list[str]:
+    """A line for each reason for which processes of a run couldn't write a log."""
+    processes: dict[int, list[int]] = defaultdict(list)
+    with contextlib.suppress(OSError):
+        for path in islice((folder / UNRECORDED).iterdir(), MOST_MARKS):
+            if found := MARK.match(path.name):
+                processes[int(found[2])].append(int(found[1]))
+    return [line_of(sorted(numbers), WHY.get(why) or os.strerror(why)) for why, numbers in sorted(processes.items())]
+
+
+def line_of(processes: list[int], why: str) -> str:
+    if len(processes) == 1:
+        return f"process {processes[0]} couldn't write a log ({why}): it isn't recorded"
+    return f"{len(processes)} processes couldn't write a log ({why}): they aren't recorded"
+
+
+@dataclass(frozen=True)
+class LeftRun:
+    """A run whose netrev-go was killed before it made recordings."""
+
+    folder: pathlib.Path
+    command: str
+    began: float  # seconds since 1970
+
+    def when(self) -> str:
+        return time.strftime("%Y-%m-%d %H:%M", time.localtime(self.began))
+
+
+def left_runs() -> list[LeftRun]:
+    """The runs that are left, the oldest first: this user's, which no netrev-go has and no program writes any more."""
+    folders = [folder for place in places() for folder in pathlib.Path(place).glob(PREFIX + "*")]
+    return sorted(filter(None, map(left_run, folders)), key=lambda run: run.began)
+
+
+def left_run(folder: pathlib.Path) -> LeftRun | None:
+    """The run that is left in a folder, if one is."""
+    try:
+        if not (is_own(folder, stat.S_ISDIR) and is_own(folder / OWNER, stat.S_ISREG)):
+            return None
+        with (folder / OWNER).open(encoding="utf-8", errors="replace") as file:
+            fcntl.flock(file, fcntl.LOCK_EX | fcntl.LOCK_NB)
+            command = file.readline(MOST_OF_COMMAND).rstrip("\n")
+            began = os.fstat(file.fileno()).st_mtime
+    except OSError:  # a netrev-go that runs has the lock, or the folder is gone
+        return None
+    return LeftRun(folder, command, began) if logs_in(folder) and not still_written(folder) else None
+
+
+def is_own(path: pathlib.Path, is_of_kind: Callable[[int], bool]) -> bool:
+    """Whether a path is this user's, is no link, and is of this kind."""
+    status = path.lstat()
+    return status.st_uid == os.geteuid() and is_of_kind(status.st_mode)
+
+
+def take_over(run: LeftRun) -> bool:
+    """Makes a left run this netrev-go's, unless another one was faster."""
+    try:
+        file = (run.folder / OWNER).open("r+", encoding="utf-8")
+        fcntl.flock(file, fcntl.LOCK_EX | fcntl.LOCK_NB)
+    except OSError:
+        return False
+    HELD[run.folder] = file
+    return True
