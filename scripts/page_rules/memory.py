@@ -25,16 +25,20 @@ def forgotten(tree: Tree) -> Iterator[Finding]:
                 yield Finding(path, number, f"{found[0]} leaks memory, and stands in {MAY_FORGET} alone")
 
 
-# the library's refusal, made by hand
-MADE = re.compile(r"(?<!: )\bAllocError\b(?=\)|\.)")
+# the library's refusal as a type: in the result of a function, in a conversion from it, and in an import under its own name
+TYPE = re.compile(
+    r", AllocError>|\bFrom<AllocError>|\bfn from\(\w+: AllocError\)|^use std::alloc::(?:AllocError|\{[\w, ]*\});$"
+)
+# its name anywhere else makes one, or gives it another name
+MADE = re.compile(r"\bAllocError\b")
 # where a library says that it was refused memory by a word of its own, which carries none
 SAID = re.compile(r"\b(?:\w+::OutOfMemory|Category::Memory)\b.*=>")
-# what is printed where memory was refused, and what prints it too, though no memory was refused
-PRINTED = re.compile(r'"fault 108 memory|\bUnshared::NoTag\b')
+# what is printed where memory was refused
+PRINTED = re.compile(r'"fault 108 memory')
 MESSAGE = re.compile(r"\s*#\[error\(")
-# the type that carries a refusal, and the types that are printed so: they carry one, or are never made
+# the type that carries a refusal, and where the types stand that are printed so, each of which carries one
 CARRIES = "crates/nr_rev/src/memory.rt"
-PRINTS = ("crates/nr_recording/src/fault.rt", "crates/nr_serving/src/session.rt")
+PRINTS = "crates/nr_recording/src/fault.rt"
 
 
 def refused(tree: Tree) -> Iterator[Finding]:
@@ -45,7 +49,7 @@ def refused(tree: Tree) -> Iterator[Finding]:
     for crate in verdict.below(tree, verdict.PROGRAM):
         for path in tree.matching(f"crates/{crate}/src/*.rt"):
             for number, line in enumerate(without_comments(tree.text(path)).split("\n"), 1):
-                if path != CARRIES and not SAID.search(line) and (found := MADE.search(line)):
+                if path != CARRIES and not SAID.search(line) and (found := MADE.search(TYPE.sub("", line))):
                     yield Finding(path, number, f"{found[0]}: nothing here says that memory was refused")
-                if path not in PRINTS and not MESSAGE.match(line) and (found := PRINTED.search(line)):
-                    yield Finding(path, number, f"{found[0].strip(chr(34))} stands in {' and '.join(PRINTS)} alone")
+                if path != PRINTS and not MESSAGE.match(line) and (found := PRINTED.search(line)):
+                    yield Finding(path, number, f"{found[0].strip(chr(34))} stands in {PRINTS} alone")

@@ -1,58 +1,137 @@
-"""The calls that get at a stream or at a caller are made where docs/believe/TRUSTED.md says that they are read by eye, and nowhere else.
+"""The calls that get at a stream, a caller or a log are made where docs/believe/TRUSTED.md says so, and nowhere else.
 
-The laws speak of logs. So a call past the logs, as of a reader that was taken out of its source, would be in none of them. In the
-program's sources each such call has its number of places here; whoever makes one more reads the page, and says so.
+The laws speak of logs. A call past the logs, as of a reader that was taken out of its source, would be in none of them, and a
+note that no call stands behind would be in one. So each such call of the program's sources is listed here with the functions that
+make it, and those that no contract holds to the truth are the rows of TRUSTED's table of what is read by eye.
 """
 
 import re
+from collections import Counter
 from collections.abc import Iterator
 
 from page_rules import verdict
-from page_rules.sources import without_comments
+from page_rules.sources import lines_by_function, without_comments
 from page_rules.tree import Finding, Tree
 
-TEXT, SERVING, LOOPBACK = "crates/nr_text/src/", "crates/nr_serving/src/", "crates/netrev/src/loopback.rt"
+PAGE = "docs/believe/TRUSTED.md"
+LOOPBACK = "crates/netrev/src/loopback.rt"
 
-# a call, and how often it stands in which files: of a raw stream, or of what wraps it
+# a call, and the functions that make it, each so often: of a raw stream, of what wraps it, or of a log
 CALLS: dict[str, dict[str, int]] = {
-    ".read(": {
-        f"{TEXT}logged.rt": 1,
-        f"{TEXT}source.rt": 1,
-        "crates/nr_lines/src/engine.rt": 1,
-        f"{SERVING}connection.rt": 1,
+    ".read(": {"LoggedReader::read": 1, "Source::read": 1, "answer": 1, "read_away": 1},
+    ".write(": {"LoggedWriter::write": 1, "write_some": 1},
+    ".into_inner(": {
+        "Buffered::into_inner": 1,
+        "Sink::into_inner": 1,
+        "Source::into_inner": 1,
+        "LoggedCallers::let_go": 2,
     },
-    ".write(": {f"{TEXT}logged.rt": 1, f"{TEXT}buffered.rt": 1},
-    ".into_inner(": {f"{TEXT}buffered.rt": 1, f"{TEXT}sink.rt": 1, f"{TEXT}source.rt": 1, f"{SERVING}logged.rt": 2},
-    "read_away(": {f"{SERVING}logged.rt": 1},
-    "end_replies(": {f"{SERVING}connection.rt": 1, f"{SERVING}logged.rt": 1, LOOPBACK: 1},
-    "connections.next(": {f"{SERVING}logged.rt": 1},
-    ".accept(": {LOOPBACK: 1},
-    "rt.stdin(": {"crates/netrev/src/main.rt": 1},
-    "rt.stdout(": {"crates/netrev/src/main.rt": 2},
-    "rt.stderr(": {"crates/netrev/src/main.rt": 1},
+    "read_away(": {"LoggedCallers::let_go": 1},
+    "end_replies(": {"LoggedCallers::let_go": 1},
+    "connections.next(": {"LoggedCallers::next": 1},
+    "ports.open(": {"LoggedPorts::open": 1, "open_ports": 1},
+    ".give_up(": {"write_some": 1, "Source::read": 1, "Source::give_up": 1, "answer": 1, "serve_one": 1},
+    ".calls.and(": {
+        "LoggedReader::read": 1,
+        "LoggedReader::give_up": 1,
+        "LoggedWriter::write": 1,
+        "LoggedWriter::give_up": 1,
+    },
+    ".moments.and(": {"LoggedReader::read": 1},
+    ".conversations.and(": {"LoggedCallers::let_go": 1},
+    ".arrived(": {"LoggedCallers::next": 3, "LoggedCallers::give_up": 1, "Callers::note": 1},
+    ".fronts.opened(": {"LoggedPorts::open": 1},
+    ".fronts.ended(": {"LoggedPorts::end": 1},
+    ".log.opened(": {"Loopback::open": 1},
+    ".accept(": {"Callers::accept": 1, "Callers::next": 1},
+    "rt.stdin(": {"run_program": 1},
+    "rt.stdout(": {"run_program": 1, "main": 1},
+    "rt.stderr(": {"main": 1},
     ".forever(": {},
 }
 
+# the functions above that a contract holds to what they say; all others are read by eye
+HELD = {
+    "Buffered::into_inner",
+    "LoggedCallers::give_up",
+    "LoggedPorts::end",
+    "LoggedPorts::open",
+    "LoggedReader::give_up",
+    "LoggedWriter::give_up",
+    "Sink::into_inner",
+    "Source::give_up",
+    "Source::into_inner",
+    "Source::read",
+    "answer",
+    "open_ports",
+    "read_away",
+    "serve_one",
+    "write_some",
+}
+# what makes none of these calls and is read by eye too, since it puts together what those make
+JOINS = {"LoggedCallers::serve_next"}
+# files of which all is read by eye
+FILES = {LOOPBACK, "crates/netrev/src/main.rt"}
 
-def _code(tree: Tree) -> Iterator[tuple[str, str]]:
-    """The program's sources without comments."""
+HEADING = "## What is read by eye"
+ROW = re.compile(r"^\| `([\w:./]+)`", re.MULTILINE)
+
+
+def _count(call: str, line: str) -> int:
+    """How often a call stands in a line: one of a method, or of a function of this name."""
+    before = "" if call.startswith(".") else r"(?<!\w)"
+    return 0 if re.search(rf"\bfn {re.escape(call)}", line) else len(re.findall(before + re.escape(call), line))
+
+
+def _made(tree: Tree) -> dict[str, Counter[tuple[str, str]]]:
+    """Which functions of which files make each call, and how often."""
+    made: dict[str, Counter[tuple[str, str]]] = {call: Counter() for call in CALLS}
     for crate in verdict.below(tree, verdict.PROGRAM):
         for path in tree.matching(f"crates/{crate}/src/*.rt"):
-            yield path, without_comments(tree.text(path))
+            for function, line in lines_by_function(without_comments(tree.text(path))):
+                for call, functions in made.items():
+                    if count := _count(call, line):
+                        functions[path, function] += count
+    return made
 
 
-def _count(call: str, text: str) -> int:
-    """How often a call stands in a text: one of a method, or of a function of this name."""
-    before = "" if call.startswith(".") else r"(?<!\w)"
-    return len(re.findall(before + re.escape(call), text))
+def _by_eye(tree: Tree, made: dict[str, Counter[tuple[str, str]]]) -> Iterator[Finding]:
+    """Places that are read by eye and that TRUSTED's table lacks, or has without need."""
+    text = tree.text(PAGE)
+    if HEADING not in text:
+        return
+    rows = set(ROW.findall(text.partition(HEADING)[2].partition("\n## ")[0]))
+    wanted = {
+        path if path in FILES else function
+        for functions in made.values()
+        for path, function in functions
+        if function not in HELD
+    }
+    wanted = (wanted | (JOINS if wanted else set())) - {"crates/netrev/src/main.rt"}
+    for name in sorted(wanted - rows):
+        yield Finding(
+            PAGE, 1, f"{name} gets at a stream, a caller or a log, and isn't in the table of what is read by eye"
+        )
+    for name in sorted(rows - wanted):
+        yield Finding(PAGE, 1, f"{name} is in the table of what is read by eye, and makes no such call")
 
 
 def raw_calls(tree: Tree) -> Iterator[Finding]:
-    """Calls past the logs, and calls that a file has more or less often than is said here."""
-    for path, text in _code(tree):
-        counted = {call: (_count(call, text), places.get(path, 0)) for call, places in CALLS.items()}
-        for call, (found, wanted) in counted.items():
-            if found != wanted:
+    """Calls past the logs, calls that a function makes more or less often than is said here, and what TRUSTED says of them."""
+    made = _made(tree)
+    for call, functions in made.items():
+        wanted = CALLS[call]
+        counted: Counter[str] = Counter()
+        for (path, function), count in functions.items():
+            counted[function] += count
+            if count > wanted.get(function, 0):
                 yield Finding(
-                    path, 1, f"{call} stands here {found} times, and {wanted} are read by eye (docs/believe/TRUSTED.md)"
+                    path,
+                    1,
+                    f"{call} stands {count} times in {function or 'no function'}, and {wanted.get(function, 0)} are known ({PAGE})",
                 )
+        if tree.matching("crates/nr_text/src/logged.rt"):
+            for function, count in wanted.items():
+                if counted[function] < count:
+                    yield Finding(PAGE, 1, f"{call} stands {counted[function]} times in {function}, and not {count}")
+    yield from _by_eye(tree, made)

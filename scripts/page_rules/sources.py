@@ -87,6 +87,19 @@ def functions_of(path: str, text: str) -> Iterator[Function]:
             yield Function(found["name"], owner, trait, PurePosixPath(path).stem, is_public, contract)
 
 
+def lines_by_function(text: str) -> Iterator[tuple[str, str]]:
+    """Each line of a source without comments, with the function that it stands in: `Type::name`, `name`, or nothing."""
+    owner = function = ""
+    for line in text.split("\n"):
+        if line == "}":
+            owner = function = ""
+        elif begins := OWNER.match(line):
+            owner = begins["type"] or begins["owner"]
+        if found := FUNCTION.match(line):
+            function = f"{owner}::{found['name']}" if owner else found["name"]
+        yield function, line
+
+
 def crate_of(tree: Tree, name: str) -> Crate:
     """What a crate has."""
     crate = Crate()

@@ -1,9 +1,9 @@
 -- What a program does over its file, and what is printed where none runs.
-use Rattle.std.specs.Prelude.{◌≡◌, ℕ, true, List, ◌++◌, take, codes}
+use Rattle.std.specs.Prelude.{◌≡◌, ◌⊎◌, ℕ, true, List, ◌++◌, codes}
 use Rattle.std.specs.declared.io.ErrorKind.{ErrorKind}
 use Rattle.std.specs.declared.io.ErrorKind.TheVariants as kind
 use Rattle.nr_rev.specs.Refusing.{refused_memory}
-use Rattle.nr_text.specs.Streams.{Incoming, Outgoing, Sends}
+use Rattle.nr_text.specs.Streams.{Incoming, Outgoing, WritesAll, WritesPrefix}
 use Rattle.nr_recording.specs.Faults.{memory_line}
 use Rattle.nr_serving.specs.Conversations.{FrontsLog}
 use Rattle.nr_programs.specs.Changes.{Changes}
@@ -65,13 +65,14 @@ Plays (program.Changes file) bytes input left before after old new status =
 Plays (program.Serve file sharing) bytes input left before after old new status =
     (left ≡ input) × ServesAll bytes sharing before after old new status
 
--- What is printed where no program runs: a prefix of how netrev is called, on the second stream;
--- out of memory, on the first; nothing.
+-- What is printed where no program runs: how netrev is called, on the second stream, whole unless a
+-- write failed; out of memory, on the first; nothing.
 abbrev pub PrintsUnstarted : Unstarted → Outgoing → Outgoing → Outgoing → Outgoing → ExitStatus
     → Type 0
 PrintsUnstarted unstarted.Usage old new before after status =
     (status ≡ statuses.Usage) × (new ≡ old)
-    × ((n : ℕ) × Sends before after (take n usage_text))
+    × (WritesAll before after usage_text
+    ⊎ ((count : ℕ) × WritesPrefix before after usage_text count))
 PrintsUnstarted (unstarted.Memory refused) old new before after status =
     EndsPrinting memory_line statuses.Refused old new status × (after ≡ before)
 PrintsUnstarted unstarted.File old new before after status =

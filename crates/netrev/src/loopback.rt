@@ -1,7 +1,9 @@
 //! Callers over the loopback.
 
+ghost use Rattle.std.specs.Prelude.{◌≡◌, [], ◌∷◌, ◌++◌};
+
 use crate::arguments::Program;
-use nr_serving::{Connections, Next, Ports};
+use nr_serving::{Arrival, Connections, Conversations, Fronts, Next, Ports};
 use std::io;
 use std::net::{Ipv4Addr, Shutdown, SocketAddr, TcpListener, TcpStream};
 use std::num::NonZeroU32;
@@ -18,30 +20,46 @@ pub(crate) struct Callers {
     listener: Option<TcpListener>,
     /// How many are served before it ends, if it ever does.
     left: Option<u32>,
+    /// What came of waiting so far.
+    log: Conversations,
 }
 
-/// A caller has two handles of its socket.
+impl Callers {
+    // Notes what came of waiting once.
+    fn note(&mut self, arrival: Arrival)
+        ensures { self.new.log.arrivals ≡ self.old.log.arrivals ++ arrival ∷ [] }
+    {
+        self.log = self.log.arrived(&arrival);
+    }
+
+    // Waits for a caller, who has two handles of its socket.
+    fn accept(&self) -> Option<(TcpStream, TcpStream)> {
+        let (reader, _) = self.listener.as_ref()?.accept().ok()?;
+        let writer = reader.try_clone().ok()?;
+        // replies are short, and go out when they are there; if that can't be set they go out later
+        let _ = writer.set_nodelay(true);
+        Some((reader, writer))
+    }
+}
+
 impl Connections for Callers {
     type Reader = TcpStream;
 
     type Writer = TcpStream;
 
+    ghost arrivals = { λ c. c.log.arrivals };
+
     fn next(&mut self) -> Next<TcpStream, TcpStream> {
         if self.left == Some(0) {
+            self.note(Arrival::Ended);
             return Next::Ended;
         }
-        let Some(listener) = &self.listener else {
+        let Some((reader, writer)) = self.accept() else {
+            self.note(Arrival::Failed);
             return Next::Failed;
         };
-        let Ok((reader, _)) = listener.accept() else {
-            return Next::Failed;
-        };
-        let Ok(writer) = reader.try_clone() else {
-            return Next::Failed;
-        };
-        // replies are short, and go out when they are there; where that can't be set they go out later
-        let _ = writer.set_nodelay(true);
         self.left = self.left.map(|left| left.saturating_sub(1));
+        self.note(Arrival::Came);
         Next::Serve(reader, writer)
     }
 
@@ -59,6 +77,8 @@ pub(crate) struct Loopback<'a> {
     port: u32,
     /// After how many callers each ends, if it ever does.
     connections: Option<NonZeroU32>,
+    /// The ports that were opened.
+    log: Fronts,
 }
 
 impl<'a> Loopback<'a> {
@@ -75,6 +95,7 @@ impl<'a> Loopback<'a> {
             rt,
             port,
             connections,
+            log: Fronts::new(),
         }
     }
 
@@ -89,10 +110,14 @@ impl<'a> Loopback<'a> {
 impl Ports for Loopback<'_> {
     type Callers = Callers;
 
+    ghost opened = { λ p. p.log.opened };
+
     fn open(&mut self, front: usize) -> Callers {
+        self.log = self.log.opened(&front);
         Callers {
             listener: self.listen(front),
             left: self.connections.map(NonZeroU32::get),
+            log: Conversations::new(),
         }
     }
 }

@@ -1,9 +1,12 @@
 //! The program `serve` over callers in memory.
+
+ghost use Rattle.std.specs.Prelude.{◌≡◌};
+
 use crate::playing::{Played, record};
 use nr_machine::World;
 use nr_programs::{ExitStatus, Sharing, serve_bytes};
 use nr_replay_tests::{HEADER, WAITS};
-use nr_serving::{Connections, LoggedPorts, Next, Ports};
+use nr_serving::{Arrival, Connections, Conversations, Fronts, LoggedPorts, Next, Ports};
 use nr_text::Sink;
 use std::alloc::{AllocError, Global};
 use std::io;
@@ -122,6 +125,20 @@ impl Write for Replies<'_> {
 struct Callers<'a> {
     parts: &'a [Part],
     seen: &'a [Seen],
+    log: Conversations,
+}
+
+impl<'a> Callers<'a> {
+    /// The next caller, if one is left.
+    fn take(&mut self) -> Option<Caller<'a>>
+        ensures { self.new.log ≡ self.old.log }
+    {
+        let (part, parts) = self.parts.split_first()?;
+        let (seen, rest) = self.seen.split_first()?;
+        self.parts = parts;
+        self.seen = rest;
+        Some(Caller { part, seen })
+    }
 }
 
 impl<'a> Connections for Callers<'a> {
@@ -129,17 +146,19 @@ impl<'a> Connections for Callers<'a> {
 
     type Writer = Replies<'a>;
 
+    ghost arrivals = { λ c. c.log.arrivals };
+
     fn next(&mut self) -> Next<Lines<'a>, Replies<'a>> {
-        let Some((part, parts)) = self.parts.split_first() else {
-            return Next::Ended;
-        };
-        let Some((seen, rest)) = self.seen.split_first() else {
-            return Next::Failed;
-        };
-        self.parts = parts;
-        self.seen = rest;
-        let caller = Caller { part, seen };
-        Next::Serve(Lines(caller), Replies(caller))
+        match self.take() {
+            Some(caller) => {
+                self.log = self.log.arrived(&Arrival::Came);
+                Next::Serve(Lines(caller), Replies(caller))
+            }
+            None => {
+                self.log = self.log.arrived(&Arrival::Ended);
+                Next::Ended
+            }
+        }
     }
 
     fn end_replies(writer: &Replies<'a>) -> io::Result<()> {
@@ -156,18 +175,26 @@ struct Switchboard<'a> {
     each: usize,
     parts: &'a [Part],
     seen: &'a [Seen],
+    log: Fronts,
 }
 
 impl<'a> Ports for Switchboard<'a> {
     type Callers = Callers<'a>;
 
-    fn open(&mut self, _front: usize) -> Callers<'a> {
+    ghost opened = { λ p. p.log.opened };
+
+    fn open(&mut self, front: usize) -> Callers<'a> {
+        self.log = self.log.opened(&front);
         let each = self.each.min(self.parts.len()).min(self.seen.len());
         let (parts, more) = self.parts.split_at(each);
         let (seen, rest) = self.seen.split_at(each);
         self.parts = more;
         self.seen = rest;
-        Callers { parts, seen }
+        Callers {
+            parts,
+            seen,
+            log: Conversations::new(),
+        }
     }
 }
 
@@ -187,7 +214,12 @@ fn serve<R: Threads + Sync>(
         journal: 16,
         connections: None,
     };
-    let mut ports = LoggedPorts::new(Switchboard { each, parts, seen });
+    let mut ports = LoggedPorts::new(Switchboard {
+        each,
+        parts,
+        seen,
+        log: Fronts::new(),
+    });
     let mut output = Sink::new(Vec::new(alloc));
     let text = recording.into_bytes();
     let status = serve_bytes::<World, R, _, _>(rt, alloc, text, sharing, &mut ports, &mut output);

@@ -64,8 +64,8 @@ pub record EndsWithin (texts : List (List ℕ)) (sent : List ℕ) : Type 0 where
 -- it, from where the front was; all of it unless a write failed. Where a read failed, an unfinished
 -- last line is no command. Before each read all whole lines were answered. Where neither failed,
 -- a read found the caller's end, or a line is `quit`. These lines were run: the first ones, up to
--- one that is `quit`, or whose reply wasn't written, or all; nothing was sent but their texts. Where
--- a write failed, the last of them is the line whose text was cut. They met what lines may meet,
+-- one that is `quit`, or whose reply wasn't written, or all; nothing was sent but their texts. If a
+-- write failed, the last of them is the line whose text was cut. They met what lines may meet,
 -- where the journal is of this size.
 pub record IsAnswered (r : Recording) (journal : JournalSize) (tag : ℕ) (c : Conversation)
     (s : SessionState) : Type 0 where

@@ -5,7 +5,7 @@ ghost use Rattle.nr_journal.specs.Rule.{tag_of};
 ghost use Rattle.nr_journal.specs.Auxiliary.Rule.{HasOpcode};
 
 use crate::twice::{Came, Twice, grant, refuse};
-use nr_journal::{Journal, Offered, Pass, Seat};
+use nr_journal::{Journal, Offered, Pass, Passes, Seat};
 use nr_rev::Memory;
 use std::alloc::Global;
 
@@ -60,6 +60,35 @@ fn make_alone(alloc: Global) -> Came {
     match Journal::alone(alloc, 2) {
         Ok((journal, mut pass)) => Came::of(has_room_for_two(&journal, &mut pass)),
         Err(_) => Came::Refused,
+    }
+}
+
+// Whether a journal of two words has two passes left, with the tags 0 and 1, and room for two words.
+fn gives_two(journal: &Journal, passes: &mut Passes) -> bool
+    requires table { passes.old.table ≡ journal.now }
+    requires two { (passes.old.next ≡ 0) × (passes.old.passes ≡ 2) }
+{
+    let mut first = journal.take(passes);
+    let second = journal.take(passes);
+    (first.tag(), second.tag()) == (0, 1) && has_room_for_two(journal, &mut first)
+}
+
+// Makes a journal of two words and two passes.
+fn make_of_passes(alloc: Global) -> Came {
+    match Journal::of_passes(alloc, 2, 2) {
+        Ok((journal, mut passes)) => Came::of(gives_two(&journal, &mut passes)),
+        Err(_) => Came::Refused,
+    }
+}
+
+/// Makes one of two passes twice.
+pub(crate) fn make_of_passes_twice(rt: &HostRuntime) -> Twice {
+    refuse(rt);
+    let first = make_of_passes(rt.alloc());
+    grant(rt);
+    Twice {
+        first,
+        again: make_of_passes(rt.alloc()),
     }
 }
 

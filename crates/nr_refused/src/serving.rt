@@ -5,7 +5,7 @@ use crate::texts::TEXT;
 use crate::twice::{Came, Twice, grant, refuse};
 use nr_machine::World;
 use nr_programs::{ExitStatus, Sharing, serve_bytes};
-use nr_serving::LoggedPorts;
+use nr_serving::{Fronts, LoggedPorts};
 use nr_text::Sink;
 use std::alloc::Global;
 use std::thread::Threads;
@@ -48,6 +48,7 @@ fn serve_into<H: Threads + Sync>(
     let mut ports = LoggedPorts::new(Switchboard {
         parts: PARTS.as_slice(),
         seen,
+        log: Fronts::new(),
     });
     let status = serve_bytes::<World, H, _, _>(handles, alloc, text, SHARING, &mut ports, &mut out);
     let left = out.into_inner().len();

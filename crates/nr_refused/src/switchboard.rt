@@ -1,6 +1,6 @@
 //! Callers in memory: each sends its lines at once, and what it is answered is compared.
 
-use nr_serving::{Connections, Next, Ports};
+use nr_serving::{Arrival, Connections, Conversations, Fronts, Next, Ports};
 use std::io;
 use std::io::{ErrorKind, Read, Write};
 use std::sync::atomic::AtomicU32;
@@ -91,6 +91,7 @@ impl Write for Replies<'_> {
 #[derive(Drop)]
 pub(crate) struct Callers<'a> {
     caller: Option<Caller<'a>>,
+    log: Conversations,
 }
 
 impl<'a> Connections for Callers<'a> {
@@ -98,10 +99,18 @@ impl<'a> Connections for Callers<'a> {
 
     type Writer = Replies<'a>;
 
+    ghost arrivals = { λ c. c.log.arrivals };
+
     fn next(&mut self) -> Next<Lines<'a>, Replies<'a>> {
         match self.caller.take() {
-            Some(caller) => Next::Serve(Lines(caller), Replies(caller)),
-            None => Next::Ended,
+            Some(caller) => {
+                self.log = self.log.arrived(&Arrival::Came);
+                Next::Serve(Lines(caller), Replies(caller))
+            }
+            None => {
+                self.log = self.log.arrived(&Arrival::Ended);
+                Next::Ended
+            }
         }
     }
 }
@@ -111,16 +120,23 @@ impl<'a> Connections for Callers<'a> {
 pub(crate) struct Switchboard<'a> {
     pub(crate) parts: &'a [Part],
     pub(crate) seen: &'a [Seen],
+    pub(crate) log: Fronts,
 }
 
 impl<'a> Ports for Switchboard<'a> {
     type Callers = Callers<'a>;
 
+    ghost opened = { λ p. p.log.opened };
+
     fn open(&mut self, front: usize) -> Callers<'a> {
+        self.log = self.log.opened(&front);
         let caller = match (self.parts.get(front), self.seen.get(front)) {
             (Some(part), Some(seen)) => Some(Caller { part, seen }),
             _ => None,
         };
-        Callers { caller }
+        Callers {
+            caller,
+            log: Conversations::new(),
+        }
     }
 }

@@ -3,7 +3,9 @@
 use nr_machine::World;
 use nr_replay_tests::ticking;
 use nr_search::OneWorker;
-use nr_serving::{Connections, Ended, LoggedPorts, Next, Ports, Shape, share};
+use nr_serving::{
+    Arrival, Connections, Conversations, Ended, Fronts, LoggedPorts, Next, Ports, Shape, share,
+};
 use nr_snaps::Film;
 use std::alloc::Global;
 use std::io;
@@ -77,6 +79,7 @@ struct Wire<'a> {
 #[derive(Drop)]
 struct Caller<'a> {
     wire: Option<Wire<'a>>,
+    log: Conversations,
 }
 
 impl<'a> Connections for Caller<'a> {
@@ -84,10 +87,18 @@ impl<'a> Connections for Caller<'a> {
 
     type Writer = Noting<'a>;
 
+    ghost arrivals = { λ c. c.log.arrivals };
+
     fn next(&mut self) -> Next<Giving<'a>, Noting<'a>> {
         match self.wire.take() {
-            Some(Wire { giving, noting }) => Next::Serve(giving, noting),
-            None => Next::Ended,
+            Some(Wire { giving, noting }) => {
+                self.log = self.log.arrived(&Arrival::Came);
+                Next::Serve(giving, noting)
+            }
+            None => {
+                self.log = self.log.arrived(&Arrival::Ended);
+                Next::Ended
+            }
         }
     }
 }
@@ -100,12 +111,16 @@ struct Wires<'a> {
     answered: &'a AtomicBool,
     reported: &'a AtomicBool,
     first_waits: bool,
+    log: Fronts,
 }
 
 impl<'a> Ports for Wires<'a> {
     type Callers = Caller<'a>;
 
+    ghost opened = { λ p. p.log.opened };
+
     fn open(&mut self, front: usize) -> Caller<'a> {
+        self.log = self.log.opened(&front);
         let wire = if front == 0 {
             Wire {
                 giving: Giving {
@@ -133,7 +148,10 @@ impl<'a> Ports for Wires<'a> {
                 noting: Noting(self.reported),
             }
         };
-        Caller { wire: Some(wire) }
+        Caller {
+            wire: Some(wire),
+            log: Conversations::new(),
+        }
     }
 }
 
@@ -159,6 +177,7 @@ fn share_between<R: Threads + Sync>(rt: &R, alloc: Global, first_waits: bool) ->
         answered: &answered,
         reported: &reported,
         first_waits,
+        log: Fronts::new(),
     };
     share_over(rt, alloc, wires)
 }

@@ -37,8 +37,9 @@ IsEntry tags word = HasOpcode word × IsDrawn tags (tag_of word)
 
 -- What is known is true. Of a seat: how many passes the journal has at most, and the bits of the
 -- tags that it tried are set. Of the passes that are left: that too; the bits of all tags are set,
--- and no word has a tag that is left. Of a pass: how many passes there are at most; its own bit and all below it are set. It has
--- seen a prefix of the log with all of its own words, and what it learnt of is a prefix.
+-- and no word has a tag that is left. Of a pass: how many passes there are at most; its own bit and
+-- all below it are set. It has seen a prefix of the log with all of its own words, and what it
+-- learnt of is a prefix.
 abbrev pub Fits : ℕ → ℕ → List ℕ → View → Type 0
 Fits most tags log (Outside tried passes) = (passes ≡ most) × AreDrawn tags tried
 Fits most tags log (Keeping next passes) =

@@ -45,8 +45,8 @@ abbrev pub TakesSome : {E : Type 0} → Outgoing → Outgoing → List ℕ → R
 TakesSome old new bytes (Ok n) = Takes old new bytes (Moved n)
 TakesSome old new bytes (Err _) = Takes old new bytes Failed
 
--- The moment is that of a source and a sink as they are. Where the source wasn't at its end, no read
--- before it found the end.
+-- The moment is that of a source and a sink as they are. If the source wasn't at its end, the read
+-- before it didn't find the end.
 abbrev pub IsNow : Incoming → Outgoing → Moment → Type 0
 IsNow input output m =
     (m.received ≡ input.received) × (m.sent ≡ output.sent) × (input.ended ≡ false → m.ended ≡ false)
