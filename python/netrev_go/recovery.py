@@ -4,6 +4,7 @@ from __future__ import annotations
 
 import argparse
 import pathlib
+import shlex
 
 from netrev_words.plain import plain
 from netrev_words.plurals import counted
@@ -32,7 +33,7 @@ def offer() -> None:
     what = f"{named(runs[-1])} was" if len(runs) == 1 else f"{len(runs)} runs, the last {named(runs[-1])}, were"
     complain(
         f"{what} cut off before the recordings were made: `netrev-go recover` makes them"
-        + (f" (`rm -r {plain(str(runs[-1].folder))}` discards the logs)" if len(runs) == 1 else "")
+        + (f" (`rm -r {shlex.quote(str(runs[-1].folder))}` discards the logs)" if len(runs) == 1 else "")
     )
 
 
