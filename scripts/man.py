@@ -151,7 +151,7 @@ def other_page(name: str) -> str:
     ]
     head += [".SH SYNOPSIS", f".B {text(name)}", text(called), ".SH DESCRIPTION", text(does)]
     if name == "netrev-go":
-        head += [".PP", ".nf", *map(text, usage.SUMMARY.splitlines()[2:]), ".fi"]
+        head += [".PP", ".nf", *map(text, usage.SUMMARY.split("\n\n")[1].splitlines()), ".fi"]
     return "\n".join([*head, ".SH OPTIONS", *options_of(parser)]) + "\n" + TAIL
 
 
