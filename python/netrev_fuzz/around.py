@@ -2,12 +2,13 @@
 
 Plays random cases of what is round netrev, each sort for the same time: damaged `logs` of the recorder; `views` of nrdb over recordings
 with any file of lines beside them; `editors` that ask the adapter for anything; `browsers` that type any line. In each it is a fault
-where Python ends with a traceback, where one takes too long, too much memory, or a file, and where a terminal would obey. A case has
+where Python has a traceback, also one that nrdb answers by a line, where one takes too long, too much memory, or a file, and where a terminal would obey. A case has
 a seed of its own, `S-logs-1`, ..; `--case S-logs-1` plays that one alone. The program is $NETREV, else the built one. Ends with status 1 where
 there was a fault.
 """
 
 import argparse
+import io
 import os
 import shutil
 import signal
@@ -16,9 +17,11 @@ import tempfile
 import time
 import traceback
 from collections import Counter
-from contextlib import contextmanager
+from contextlib import contextmanager, redirect_stderr
 from pathlib import Path
 from typing import Callable, Iterator, Optional, Sequence
+
+from nrdb.errors import WANTED_BY
 
 from . import browsers, damaged_logs, editors, side_files
 
@@ -55,13 +58,29 @@ def in_time() -> Iterator[None]:
         signal.signal(signal.SIGALRM, before)
 
 
+@contextmanager
+def tracebacks() -> Iterator[io.StringIO]:
+    """Within, nrdb prints here the tracebacks of its own errors, each of which it answers by a line."""
+    printed, before = io.StringIO(), os.environ.get(WANTED_BY)
+    os.environ[WANTED_BY] = "1"
+    try:
+        with redirect_stderr(printed):
+            yield printed
+    finally:
+        if before is None:
+            del os.environ[WANTED_BY]
+        else:
+            os.environ[WANTED_BY] = before
+
+
 def fault_of(seed: str, program: str) -> str:
     """What is wrong with the case of a seed; nothing where all is well."""
     sort = seed.rsplit("-", 2)[1]
     folder = Path(tempfile.mkdtemp(prefix="netrev-fuzz-"))
     try:
-        with in_time():
-            return SORTS[sort](seed, folder, program)
+        with in_time(), tracebacks() as printed:
+            fault = SORTS[sort](seed, folder, program)
+        return fault or (printed.getvalue() if "Traceback " in printed.getvalue() else "")
     except Late:
         return f"it takes more than {PATIENCE} s"
     except Exception:

@@ -3,6 +3,7 @@ in for Go."""
 
 import os
 import pty
+import re
 import signal
 import subprocess
 from pathlib import Path
@@ -69,7 +70,7 @@ def test_ctrl_c_stops_the_making_of_recordings_and_says_where_the_logs_are(folde
     stand_in.wait_for("asked")
     running.send_signal(signal.SIGINT)
     _, errors = running.communicate(timeout=PATIENCE)
-    assert running.returncode == 130 and "nothing is lost: `netrev-go -o NAME convert " in errors
+    assert running.returncode == 130 and re.search(r"nothing is lost: `\S*netrev-go -o NAME convert ", errors)
     assert stand_in.call("doctor")[1].count("recover") == 0  # it was told, so it isn't offered
 
 
@@ -145,7 +146,7 @@ def test_a_run_whose_netrev_go_is_killed_is_offered_and_recovered(folder: Path) 
     killed(stand_in)
     _, errors = stand_in.call("convert")
     assert "`netrev-go -o x run 'serve me'` of 2" in errors
-    assert "cut off before the recordings were made: `netrev-go recover` makes them" in errors
+    assert re.search(r"cut off before the recordings were made: `\S*netrev-go recover` makes them", errors)
     status, errors = stand_in.call("-o", "again", "recover")
     assert (status, stand_in.recording("again")) == (0, WHOLE.read_text()), errors
     assert remaining_logs(stand_in) == []
@@ -208,7 +209,7 @@ while os.path.exists("go") and not os.path.exists("end"):
     )
     status, errors = stand_in.call("-o", "x", "run", ".")
     assert (status, stand_in.recording("x")) == (0, WHOLE.read_text()), errors
-    assert "runs on, and its log grows: `netrev-go -o NAME convert " in errors
+    assert re.search(r"runs on, and its log grows: `\S*netrev-go -o NAME convert ", errors)
     assert "no run was cut off" in stand_in.call("recover")[1]
     (folder / "end").touch()
     wait_until(lambda: "cut off" in stand_in.call("convert")[1])

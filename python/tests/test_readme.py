@@ -7,7 +7,7 @@ import sys
 import unittest
 from pathlib import Path
 
-from netrev_go.options import parser
+from netrev_go.options import COMMANDS, parser
 from netrev_go.sockets import MOST_GOROUTINES, MOST_SOCKETS, MOST_STEPS
 from nrdb.options import parser as nrdb_parser
 
@@ -58,6 +58,8 @@ def test_readme_names_targets_and_options_that_exist() -> None:
             assert words[0] in targets(), words
         elif words == ["--version"]:
             assert "--version" in printed(sys.executable, "python", program.replace("-", "_"), "--help")
+        elif program == "netrev-go" and words[-1] == "--help":
+            assert len(words) == 2 and words[0] in COMMANDS, words
         elif program == "netrev-go":
             wanted = parser().parse_args([word.replace("PID", "4711") for word in words])
             assert not [word for word in wanted.words_of_go if word.startswith("--")], words

@@ -78,7 +78,7 @@ class Install(unittest.TestCase):
             self.assertEqual({file.parent.name for file in lib.glob("*/__init__.py")}, set(INSTALLED))
             self.assertEqual(contents(lib), contents(ROOT / "python"))
             self.assertEqual(printed(prefix / "bin/nrdb", *ASKED), nrdb(*ASKED))
-            self.assertIn("records where NETREV_LOG=PATH is set", printed(prefix / "bin/netrev-go", "--help"))
+            self.assertIn("netrev-go records Go programs as they are", printed(prefix / "bin/netrev-go", "--help"))
             found = "import sys; from netrev_words import built; print(built.netrev_program())"
             self.assertEqual(
                 printed("python3", "-c", found, PYTHONPATH=str(prefix / "lib/netrev"), PATH=os.defpath).strip(),
@@ -123,5 +123,5 @@ class Install(unittest.TestCase):
         self.assertEqual(contents(there), contents(ROOT / "python"))
         self.assertEqual(printed(there / "bin/nrdb", *ASKED, NETREV=NETREV, PYTHONPATH=str(there)), nrdb(*ASKED))
         self.assertIn(
-            "records where NETREV_LOG=PATH is set", printed(there / "bin/netrev-go", "--help", PYTHONPATH=str(there))
+            "netrev-go records Go programs as they are", printed(there / "bin/netrev-go", "--help", PYTHONPATH=str(there))
         )
