@@ -62,7 +62,7 @@ pub(crate) enum Call {
 }
 
 /// Their names.
-pub(crate) static CALLS: [(&str, Call); 44] = [
+pub(crate) static CALLS: [(&str, Call); 45] = [
     ("read", Call::Read),
     ("write", Call::Write),
     ("load", Call::Load),
