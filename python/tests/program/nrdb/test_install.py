@@ -123,5 +123,6 @@ class Install(unittest.TestCase):
         self.assertEqual(contents(there), contents(ROOT / "python"))
         self.assertEqual(printed(there / "bin/nrdb", *ASKED, NETREV=NETREV, PYTHONPATH=str(there)), nrdb(*ASKED))
         self.assertIn(
-            "netrev-go records Go programs as they are", printed(there / "bin/netrev-go", "--help", PYTHONPATH=str(there))
+            "netrev-go records Go programs as they are",
+            printed(there / "bin/netrev-go", "--help", PYTHONPATH=str(there)),
         )
