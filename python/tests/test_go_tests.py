@@ -108,7 +108,7 @@ class Ranning(unittest.TestCase):
         self.assertEqual(of_log(pathlib.Path("/nowhere/log.1")).ran, [])
 
     def test_the_file_is_mapped_and_zeros_say_nothing(self) -> None:
-        lines = "1 1 5 package p\n2 3 9 ru\0\0\0\0\n3 3 9 runs T\n3 3 9 fai\0\0\0\0" + "\0" * 10**6
+        lines = "1 1 5 package p\n2 3 9 runs Te\0\0\0\0\n3 3 9 runs T\n3 3 9 fai\0\0\0\0" + "\0" * 10**6
         self.assertEqual(
             [(test.package, test.name, test.went()) for test in tests_of(lines).ran], [("p", "T", Went.UNFINISHED)]
         )
