@@ -29,6 +29,12 @@ def until(name: str) -> str:
 WAITS = until("never")
 
 
+def reset_signals(ignored: int | None = None) -> None:
+    """Has this process ignore one signal at most. What runs the tests may ignore others, as nohup does, and hand that on."""
+    for number in (signal.SIGHUP, signal.SIGINT, signal.SIGQUIT, signal.SIGTERM):
+        signal.signal(number, signal.SIG_IGN if number == ignored else signal.SIG_DFL)
+
+
 class StandIn:
     """A folder with a script for Go, in which netrev-go is started."""
 
@@ -54,7 +60,7 @@ class StandIn:
         return subprocess.Popen(
             self.words(*words), cwd=self.folder, env=self.environment(), text=True, stdin=subprocess.DEVNULL,
             stdout=subprocess.PIPE, stderr=subprocess.PIPE,
-            preexec_fn=(lambda: signal.signal(ignored, signal.SIG_IGN) and None) if ignored else None,
+            preexec_fn=lambda: reset_signals(ignored),
         )  # fmt: skip
 
     def call(self, *words: str) -> tuple[int, str]:

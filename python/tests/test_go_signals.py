@@ -11,7 +11,7 @@ from pathlib import Path
 import pytest
 from netrev_go.run_folders import left_runs
 
-from .go_stand_in import PATIENCE, WAITS, WHOLE, StandIn, until, wait_until
+from .go_stand_in import PATIENCE, WAITS, WHOLE, StandIn, reset_signals, until, wait_until
 
 RUNS = f"touch here; {until('end')}"
 CANCELLING = (signal.SIGQUIT, signal.SIGHUP, signal.SIGTERM, signal.SIGINT)
@@ -78,6 +78,7 @@ def at_a_terminal(stand_in: StandIn, *words: str) -> tuple[int, int]:
     """Starts netrev-go at a terminal of its own: its process, and the terminal's other end."""
     process, terminal = pty.fork()
     if process == 0:
+        reset_signals()
         os.chdir(stand_in.folder)
         os.execvpe(stand_in.words()[0], stand_in.words(*words), stand_in.environment())
     return process, terminal
