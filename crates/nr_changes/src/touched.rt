@@ -51,6 +51,13 @@ impl Touched {
         }
     }
 
+    /// The descriptor, if there is one.
+    pub fn descriptor(&self) -> Option<u32>
+        ensures { result ≡ self.now.descriptor }
+    {
+        self.descriptor
+    }
+
     /// The cells that a step of this kind may change where it touches this: in the order in which cells are listed, each once.
     /// For a step of a world they are `touched_cells`: each other cell has the same value behind the step as before it
     /// (`laws::steps_change_what_they_touch_alone`).

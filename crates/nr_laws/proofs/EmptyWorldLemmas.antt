@@ -51,7 +51,7 @@ empty_world_fits limits room =
       sockets_limited = omega arith;
       descriptors_limited = omega arith;
       firings_limited = omega arith;
-      clock = record { begun = record { le = tt }; time = record { sfits = lit< tt } };
+      clock = record { begun = record { le = tt }; time = record { sfits = lit< tt }; come = λ i firing at. cc };
     }
   where
     nothing_there : (p : TimerPlace) (e : Entry) → timer_at [] [] p ≡ Some e → ⊥

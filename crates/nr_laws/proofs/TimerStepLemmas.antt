@@ -7,6 +7,7 @@ use Rattle.nr_rev.specs.declared.sides.Side.{Side}
 use Rattle.nr_rev.specs.declared.sides.Sides.{Sides}
 use Rattle.nr_rev.specs.World.{World, with_row, is_free_number, least_entry}
 use Rattle.nr_rev.specs.Timer.{IsTime, entries_from, entries_at, entry_of}
+use Rattle.nr_rev.proofs.ListUpdateLemmas.{slice_get-push_cases}
 use Rattle.nr_rev.proofs.HeapEntryLemmas.{In, entry_in, in_append, least_in}
 use Rattle.nr_rev.specs.WellFormed.{WellFormed, RowFits, EntryFits, FiringFits, IsDueFor, ArmedAt, FiringAt, armed_at, IsCurrent}
 use Rattle.nr_rev.proofs.SideLemmas.{each_side, other_side, of_side-twice, with_side_all}
@@ -31,10 +32,12 @@ use Rattle.nr_laws.proofs.DescriptorChangeLemmas.{changed_keeps}
 use Rattle.std.proofs.lemmas.List.Edits.{length-remove}
 use Rattle.nr_rev.proofs.OutcomeLemmas.{Ends, Keeps, KeepsFor, Ends-ok, Ends-bind, Ends-then, Ends-either, Ends-certain, Ends-found_or, Ends-refused_if, Ends-refused_unless}
 
-not_negative : (t c : ℤ) → int_lt t c ≡ false → pos 0 ≤ℤ c → pos 0 ≤ℤ t
-not_negative (pos n) c e h = omega (arith, ints)
-not_negative (negsuc n) (pos m) e h = cc
-not_negative (negsuc n) (negsuc m) e h = absurd h.le
+-- what was no later than the clock is no later than a later clock
+not_before : (a t c : ℤ) → int_lt t c ≡ false → a ≤ℤ c → a ≤ℤ t
+not_before a t c e h = omega (arith, ints)
+
+no_later : (a c : ℤ) → int_le a c ≡ true → a ≤ℤ c
+no_later a c e = omega (arith, ints)
 
 entries_in : (rows : List DescriptorRow) (d : ℕ) (e : Entry) → In e (entries_from d (map (λ row. row.timers) rows))
     → (k : ℕ) × (e.descriptor ≡ d + k) × ((row : DescriptorRow) × (slice_get rows k ≡ Some row) × (of_side e.side row.timers ≡ Some e.timer))
@@ -76,8 +79,8 @@ running_open w d row side h at runs =
     true≢false (sym runs ∙ ap (of_side side) (fits.closing (h.free.closing d row is at)) ∙ of_side-twice side false)
 
 popped : (w : World) (e : Entry) (row : DescriptorRow) → WellFormed w → slice_get w.descriptors e.descriptor ≡ Some row → of_side e.side row.timers ≡ Some e.timer
-    → length w.firings < 2 * w.limits.descriptors → WellFormed (record (with_row e.descriptor (unarmed row e.side) w) { firings = w.firings ++ e ∷ [] })
-popped w e row h at is room =
+    → length w.firings < 2 * w.limits.descriptors → e.timer.due ≤ℤ w.clock → WellFormed (record (with_row e.descriptor (unarmed row e.side) w) { firings = w.firings ++ e ∷ [] })
+popped w e row h at is room due =
     record {
       goroutines = GoroutinesFit-rows _ w.sockets w.descriptors _ w.free (length-set _ e.descriptor _) h.goroutines;
       words = WaitWordsFit-rows w.goroutines w.descriptors w.waiters e.descriptor row (unarmed row e.side) at refl h.words;
@@ -90,7 +93,16 @@ popped w e row h at is room =
       sockets_limited = h.sockets_limited;
       descriptors_limited = rw length-set h.descriptors_limited;
       firings_limited = rw length-append (omega arith);
-      clock = h.clock;
+      clock =
+          record {
+            begun = h.clock.begun;
+            time = h.clock.time;
+            come = λ i firing f_is.
+                elim (slice_get-push_cases w.firings e firing i f_is) [
+                  | inl old ↦ h.clock.come i firing old
+                  | inr new ↦ subst (λ (f : Entry). f.timer.due ≤ℤ w.clock) new.1 due
+                ];
+          };
     }
 
 -- the deadlines that a function covers are past
@@ -193,6 +205,9 @@ passed_firing row f e may stale h = record { side = h.side; sequence = h.sequenc
                     let own : s ≡ e.side = kept.alone s (sym (ap (λ g. covers_side g s) due.function) ∙ covers) in
                     ap is_positive (ap (λ x. of_side x (past f row.descriptor.deadlines)) own ∙ kept.deadline ∙ sym (ap (λ x. of_side x row.descriptor.deadlines) own))
                     ∙ due.positive s covers;
+                due = λ s covers.
+                    let own : s ≡ e.side = kept.alone s (sym (ap (λ g. covers_side g s) due.function) ∙ covers) in
+                    due.due s covers ∙ ap (λ x. of_side x row.descriptor.deadlines) own ∙ sym kept.deadline ∙ sym (ap (λ x. of_side x (past f row.descriptor.deadlines)) own);
                 running = due.running;
                 function = due.function ∙ sym kept.function;
               }
@@ -212,7 +227,12 @@ removed_keeps w i e h at =
       sockets_limited = h.sockets_limited;
       descriptors_limited = h.descriptors_limited;
       firings_limited = let n = length-remove w.firings i (slice_get_within _ _ _ at) in let m = h.firings_limited in fewer _ _ _ n m;
-      clock = h.clock;
+      clock =
+          record {
+            begun = h.clock.begun;
+            time = h.clock.time;
+            come = λ j firing f_is. h.clock.come (skip i j) firing (sym (slice_get-remove w.firings i j e at) ∙ f_is);
+          };
     }
   where
     fewer : (a b c : ℕ) → a + 1 ≡ b → b ≤ c → a ≤ c
@@ -289,18 +309,23 @@ tick_sound w t h =
       sockets_limited = h.sockets_limited;
       descriptors_limited = h.descriptors_limited;
       firings_limited = h.firings_limited;
-      clock = record { begun = not_negative t w.clock later h.clock.begun; time = is_time };
+      clock =
+          record {
+            begun = not_before (pos 0) t w.clock later h.clock.begun;
+            time = is_time;
+            come = λ i firing at. not_before firing.timer.due t w.clock later (h.clock.come i firing at);
+          };
     })
 
 pub pop_sound : (w : World) → WellFormed w → Keeps (pop w)
 pop_sound w h =
     Ends-bind (Ends-found_or (least_entry w) _ refl) λ entry found.
-    Ends-then (Ends-refused_unless (int_le entry.timer.due w.clock) _ refl) λ _.
+    Ends-then (Ends-refused_unless (int_le entry.timer.due w.clock) _ refl) λ due.
     Ends-then (Ends-refused_unless (nat_lt (length w.firings) (2 * w.limits.descriptors)) _ refl) λ room.
     Ends-bind (Ends-row_of entry.descriptor w) λ row at.
     let s = least_is_there w entry found in
     let same : s.0 ≡ row = same_Some _ _ (sym s.1 ∙ at) in
-    Ends-ok (popped w entry row h at (ap (λ (r : DescriptorRow). of_side entry.side r.timers) (sym same) ∙ s.2) (below_of _ _ room))
+    Ends-ok (popped w entry row h at (ap (λ (r : DescriptorRow). of_side entry.side r.timers) (sym same) ∙ s.2) (below_of _ _ room) (no_later entry.timer.due w.clock due))
 
 timed : (row : DescriptorRow) (f : TimerFunction) → MayFire row f → is_timed f row.descriptor ≡ true
 timed row TimerFunction.Read may = ap₂ (λ x y. x && y) (may.positive Read refl) may.running

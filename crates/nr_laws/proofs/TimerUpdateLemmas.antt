@@ -1,5 +1,5 @@
 -- Entries and firings fit a descriptor after a side's timer is kept, armed anew or stopped.
-use Rattle.std.proofs.Common.{◌≡◌, ◌≢◌, ℕ, ◌+◌, List, [], ◌∷◌, Bool, true, false, not, Option, Some, None, ◌⊎◌, inl, inr, refl, sym, ap, subst, ◌∙◌, arith, true≢false, int_eq}
+use Rattle.std.proofs.Common.{◌≡◌, ◌≢◌, ℕ, ◌+◌, List, [], ◌∷◌, Bool, true, false, ℤ, not, Option, Some, None, ◌⊎◌, inl, inr, refl, sym, ap, subst, ◌∙◌, arith, true≢false, int_eq}
 use Rattle.std.proofs.lemmas.Option.{same_Some, none-some}
 use Rattle.std.proofs.lemmas.Bool.Decides.{Decides-int_eq}
 use Rattle.std.specs.Prelude.{if◌then◌else◌}
@@ -78,6 +78,19 @@ combo_positive d e s = go s
     go Read = parts.0
     go Write = ap is_positive (sym equal) ∙ parts.0
 
+-- under combo both deadlines are one time
+combo_same : (d : Descriptor) → is_combo d ≡ true → (a b : Side) → of_side a d.deadlines ≡ of_side b d.deadlines
+combo_same d e = go
+  where
+    equal : d.deadlines.read ≡ d.deadlines.write
+    equal = (Decides-int_eq d.deadlines.read d.deadlines.write).0 (both_true (is_positive d.deadlines.read) (int_eq d.deadlines.read d.deadlines.write) e).1
+
+    go : (a b : Side) → of_side a d.deadlines ≡ of_side b d.deadlines
+    go Read Read = refl
+    go Read Write = equal
+    go Write Read = sym equal
+    go Write Write = refl
+
 pub combo_of_both : (side : Side) (d : Descriptor) → timer_function side d ≡ TimerFunction.Both → is_combo d ≡ true
 combo_of_both Read d e = go (is_combo d) e
   where
@@ -93,6 +106,21 @@ covered TimerFunction.Read Read side e c = inl (sym e)
 covered TimerFunction.Read Write side e c = cc
 covered TimerFunction.Write Read side e c = cc
 covered TimerFunction.Write Write side e c = inl (sym e)
+
+-- a function covers the side that goes with it
+pub own_side : (f : TimerFunction) (side : Side) → side ≡ side_of_function f → covers_side f side ≡ true
+own_side TimerFunction.Read side e = ap (covers_side TimerFunction.Read) e
+own_side TimerFunction.Write side e = ap (covers_side TimerFunction.Write) e
+own_side TimerFunction.Both side e = refl
+
+-- what a side's deadline is, it is of each side that its timer's function covers
+pub due_of_each : (t : ℤ) (f : TimerFunction) (s side : Side) (d : Descriptor) → t ≡ of_side side d.deadlines → side ≡ side_of_function f → covers_side f s ≡ true
+    → (f ≡ TimerFunction.Both → is_combo d ≡ true) → t ≡ of_side s d.deadlines
+due_of_each t f s side d is same covers combo =
+    elim (covered f s side same covers) [
+      | inl own ↦ is ∙ sym (ap (λ x. of_side x d.deadlines) own)
+      | inr both ↦ is ∙ combo_same d (combo both) side s
+    ]
 
 pub firing_fits : (e : Entry) (old new : Descriptor) → TimerUpdate e.side old new → FiringFits old e → FiringFits new e
 firing_fits e old new (Kept sequence running same) h =
@@ -110,6 +138,9 @@ firing_fits e old new (Kept sequence running same) h =
                       ap is_positive (ap (λ x. of_side x new.deadlines) own ∙ alike.0 ∙ sym (ap (λ x. of_side x old.deadlines) own)) ∙ due.positive s covers
                   | inr is_both ↦ combo_positive new (alike.1 ∙ combo_of_both e.side old (sym due.function ∙ is_both)) s
                 ];
+            due = λ s covers.
+                due_of_each e.timer.due e.timer.function s e.side new (due.due e.side (own_side e.timer.function e.side h.side) ∙ sym alike.0) h.side covers
+                (λ is_both. alike.1 ∙ combo_of_both e.side old (sym due.function ∙ is_both));
             running = running ∙ due.running;
             function = due.function ∙ sym (function_like e.side old new alike.1);
           };

@@ -16,7 +16,7 @@ use Rattle.nr_rev.specs.Timer.{IsTime}
 use Rattle.nr_rev.specs.declared.timer.Entry.{Entry}
 use Rattle.nr_rev.specs.declared.descriptor.Descriptor.{Descriptor}
 use Rattle.nr_rev.specs.Descriptor.{timer_function, is_combo, is_positive}
-use Rattle.nr_laws.proofs.TimerUpdateLemmas.{covered, combo_positive, combo_of_both}
+use Rattle.nr_laws.proofs.TimerUpdateLemmas.{covered, combo_positive, combo_of_both, due_of_each}
 use Rattle.nr_rev.proofs.SideLemmas.{other_side, of_side-with_side_same, of_side-with_side_other}
 use Rattle.nr_rev.specs.WellFormed.{TimerPlace, ArmedAt, FiringAt, timer_at, armed_at, IsCurrent}
 
@@ -151,6 +151,9 @@ FiringFits-popped row e h is =
                   | inl own ↦ ap is_positive (ap (λ x. of_side x row.descriptor.deadlines) own ∙ sym fits.due) ∙ is_it (is_positive e.timer.due) fits.positive
                   | inr is_both ↦ combo_positive row.descriptor (combo_of_both e.side row.descriptor (sym fits.function ∙ is_both)) s
                 ];
+            due = λ s covers.
+                due_of_each e.timer.due e.timer.function s e.side row.descriptor fits.due (function_side e.side row.descriptor ∙ sym (ap side_of_function fits.function)) covers
+                (λ is_both. combo_of_both e.side row.descriptor (sym fits.function ∙ is_both));
             running = fits.running;
             function = fits.function;
           };

@@ -43,7 +43,7 @@ marks_keep_timers rows firings n d row words error fdseq at small h =
       due = f.due;
       current = λ now.
           let due : IsDueFor row.descriptor firing = f.current now in
-          record { positive = due.positive; running = due.running; function = due.function ∙ sym (same firing.side) };
+          record { positive = due.positive; due = due.due; running = due.running; function = due.function ∙ sym (same firing.side) };
     })
     h
   where

@@ -86,10 +86,13 @@ pub record EntryFits (d : Descriptor) (side : Side) (timer : Timer) : Type 0 whe
   pub due : timer.due ≡ of_side side d.deadlines
   pub function : timer.function ≡ timer_function side d
 
--- a firing of d that isn't stale
+-- a firing of d that isn't stale: each side that it serves still has the deadline for which its
+-- timer was armed
 pub record IsDueFor (d : Descriptor) (firing : Entry) : Type 0 where
   pub positive : (side : Side) → covers_side firing.timer.function side ≡ true
       → IsTrue (is_positive (of_side side d.deadlines))
+  pub due : (side : Side) → covers_side firing.timer.function side ≡ true
+      → firing.timer.due ≡ of_side side d.deadlines
   pub running : of_side firing.side d.running ≡ true
   pub function : firing.timer.function ≡ timer_function firing.side d
 
@@ -206,10 +209,12 @@ pub record FreeFits (descriptors : List DescriptorRow) (free : List ℕ) : Type 
   pub words : (d : ℕ) (side : Side) (word : WaitWord) → is_free_number d free ≡ true
       → HasWaitWord descriptors d side word → (word ≡ Nil) ⊎ (word ≡ Ready)
 
--- the clock began at 0 and goes on
-pub record ClockFits (clock : ℤ) : Type 0 where
+-- the clock began at 0 and goes on; the time of each firing has come
+pub record ClockFits (clock : ℤ) (firings : List Entry) : Type 0 where
   pub begun : pos 0 ≤ℤ clock
   pub time : IsTime clock
+  pub come : (i : ℕ) (firing : Entry) → slice_get firings i ≡ Some firing
+      → firing.timer.due ≤ℤ clock
 
 -- what every state that steps lead to keeps: the parts fit one another, and no table is past its
 -- limit
@@ -225,4 +230,4 @@ pub record WellFormed (w : World) : Type 0 where
   pub sockets_limited : length w.sockets ≤ w.limits.sockets
   pub descriptors_limited : length w.descriptors ≤ w.limits.descriptors
   pub firings_limited : length w.firings ≤ 2 * w.limits.descriptors
-  pub clock : ClockFits w.clock
+  pub clock : ClockFits w.clock w.firings
