@@ -1,0 +1,193 @@
+-- What came of deadlines: each that passed, each call that ended with one, and each that was set
+-- anew before the goroutine that it woke had looked.
+use Rattle.std.specs.Prelude.{◌≡◌, ◌≢◌, ℕ, zero, suc, ◌<◌, ◌==◌, nat_lt, if◌then◌else◌, List, [], ◌∷◌, ◌++◌, Option, Some, None, option_and_then, option_map, IsTrue, false, codes, decimal}
+use Rattle.std.specs.Option.{option_map_or}
+use Rattle.nr_rev.specs.declared.sides.Mode.{Mode}
+use Rattle.nr_rev.specs.declared.sides.Side.{Side}
+use Rattle.nr_rev.specs.declared.sides.Side.TheVariants.{Read, Write}
+use Rattle.nr_rev.specs.declared.sides.Sides.{Sides}
+use Rattle.nr_rev.specs.Run.{Recording}
+use Rattle.nr_rev.specs.Sides.{names_side, of_side}
+use Rattle.nr_text.specs.Auxiliary.Text.{text_of_parts}
+use Rattle.nr_suspects.specs.declared.account.Account.{Account}
+use Rattle.nr_suspects.specs.declared.deadline_finding.DeadlineFinding.{DeadlineFinding}
+use Rattle.nr_suspects.specs.declared.deadline_finding.Consequence.{Consequence}
+use Rattle.nr_suspects.specs.declared.deadline_finding.Consequence.TheVariants.{Passed, EndedCall, TakenBack}
+use Rattle.nr_suspects.specs.declared.notice.Notice.{Notice}
+use Rattle.nr_suspects.specs.declared.notice.Notice.TheVariants.{Opened, Checked, SetDeadline, PassedDeadline}
+use Rattle.nr_suspects.specs.declared.notice.Passing.{Passing}
+use Rattle.nr_suspects.specs.declared.setting.Deadline.{Deadline}
+use Rattle.nr_suspects.specs.declared.setting.Setting.{Setting}
+use Rattle.nr_suspects.specs.declared.setting.StepBy.{StepBy}
+use Rattle.nr_suspects.specs.Debts.{account}
+use Rattle.nr_suspects.specs.LostWakeUps.{side_letter}
+use Rattle.nr_suspects.specs.Notices.{notice_at}
+
+-- what is kept of the deadline of a side, by what is kept of its descriptor
+abbrev pub deadline_of : Side → Option Account → Option Deadline
+deadline_of side a = option_map (λ (x : Account). of_side side x.deadlines) a
+
+-- which step set the deadline of a side, if one did since the descriptor was opened
+abbrev pub side_setting : Side → Option Account → Option Setting
+side_setting side a = option_and_then (λ (x : Deadline). x.setting) (deadline_of side a)
+
+-- the goroutine that was woken when the deadline of a side passed, and hasn't looked yet
+abbrev pub woken_of : Side → Option Account → Option ℕ
+woken_of side a = option_and_then (λ (x : Deadline). x.woken) (deadline_of side a)
+
+-- what came at step n of the deadline of a side of descriptor d, of which this is kept
+abbrev pub finding : ℕ → ℕ → Side → Consequence → Option Account → List DeadlineFinding
+finding n d side consequence a =
+    option_map_or (λ setting. record {
+      position = n;
+      descriptor = d;
+      side = side;
+      consequence = consequence;
+      setting = setting;
+    } ∷ []) (side_setting side a) []
+
+-- it passed, if this is its passing
+abbrev pub passed_at : ℕ → ℕ → Side → Option Passing → Option Account → List DeadlineFinding
+passed_at n d side None a = []
+passed_at n d side (Some passing) a = finding n d side Passed a
+
+-- it was set anew before the goroutine that it woke had looked
+abbrev pub taken_back_at : ℕ → ℕ → Mode → Side → Option Account → List DeadlineFinding
+taken_back_at n d mode side a =
+    if names_side mode side
+    then option_map_or (λ woken. finding n d side (TakenBack woken) a) (woken_of side a) []
+    else []
+
+-- what came of deadlines at a step of this number, where this is kept of each descriptor before it
+abbrev pub findings_at : ℕ → Notice → (ℕ → Option Account) → List DeadlineFinding
+findings_at n (PassedDeadline d passings) kept =
+    passed_at n d Read passings.read (kept d) ++ passed_at n d Write passings.write (kept d)
+findings_at n (Checked v code) kept =
+    if code == 2 then finding n v.descriptor v.side (EndedCall v.goroutine) (kept v.descriptor)
+    else []
+findings_at n (SetDeadline g d mode) kept =
+    taken_back_at n d mode Read (kept d) ++ taken_back_at n d mode Write (kept d)
+findings_at n _ kept = []
+
+-- what is kept at position n of a descriptor that there may be
+abbrev pub account_within : Recording → ℕ → ℕ → Option Account
+account_within r n d = if nat_lt d r.limits.descriptors then account r d n else None
+
+-- What came of deadlines in the first n steps of a recording.
+abbrev pub deadline_findings : Recording → ℕ → List DeadlineFinding
+deadline_findings r zero = []
+deadline_findings r (suc n) =
+    deadline_findings r n ++ findings_at (suc n) (notice_at r n) (account_within r n)
+
+-- ---- in words
+
+-- the step after position n set the deadline of a side of descriptor d, by goroutine g
+abbrev pub IsSetting : Recording → ℕ → Side → ℕ → ℕ → Mode → Type 0
+IsSetting r d side n g mode =
+    (notice_at r n ≡ SetDeadline g d mode) × IsTrue (names_side mode side)
+
+-- the step after position n set the deadline of the other side of descriptor d alone, by
+-- goroutine g
+abbrev pub IsMove : Recording → ℕ → Side → ℕ → ℕ → Type 0
+IsMove r d side n g =
+    (mode : Mode) × (notice_at r n ≡ SetDeadline g d mode) × (names_side mode side ≡ false)
+
+-- this is the first such step after position `start` and before position n, or there is none
+abbrev pub IsFirstMove : Recording → ℕ → ℕ → ℕ → Side → Option StepBy → Type 0
+IsFirstMove r start n d side None = (k g : ℕ) → start < k → k < n → ¬ IsMove r d side k g
+IsFirstMove r start n d side (Some move) =
+    (at : ℕ) × (start < at) × (at < n) × (move.step ≡ suc at) × IsMove r d side at move.goroutine
+    × ((k g : ℕ) → start < k → k < at → ¬ IsMove r d side k g)
+
+-- The deadline of a side of descriptor d at position n is the one that this step set: since then no
+-- step set it, and none opened the descriptor anew.
+pub record IsSetBy (r : Recording) (n d : ℕ) (side : Side) (setting : Setting) : Type 0 where
+  pub at : ℕ
+  pub before : at < n
+  pub step : setting.by.step ≡ suc at
+  pub sets : IsSetting r d side at setting.by.goroutine setting.mode
+  pub last : (k g : ℕ) (mode : Mode) → at < k → k < n → ¬ IsSetting r d side k g mode
+  pub unopened : (k s : ℕ) → at < k → k < n → notice_at r k ≢ Opened d s
+  pub moved : IsFirstMove r at n d side setting.moved
+
+-- This came of the deadline of a side of descriptor d at the step after position n: a timer was
+-- run, and the deadline passed; a call checked the side, and its code was that of a deadline that
+-- has passed; or the deadline was set, and the goroutine that it woke hadn't looked.
+abbrev pub Comes : Recording → ℕ → ℕ → Side → Consequence → Type 0
+Comes r n d side Passed =
+    (passings : Sides (Option Passing)) × (passing : Passing)
+    × (notice_at r n ≡ PassedDeadline d passings) × (of_side side passings ≡ Some passing)
+Comes r n d side (EndedCall g) =
+    notice_at r n ≡ Checked (record { goroutine = g; descriptor = d; side = side }) 2
+Comes r n d side (TakenBack woken) =
+    (g : ℕ) × (mode : Mode) × IsSetting r d side n g mode
+    × (woken_of side (account r d n) ≡ Some woken)
+
+-- What a finding says is so: this came of the deadline, at that step, and the step that it names
+-- had set the deadline.
+pub record IsFinding (r : Recording) (n : ℕ) (found : DeadlineFinding) : Type 0 where
+  pub at : ℕ
+  pub before : at < n
+  pub position : found.position ≡ suc at
+  pub comes : Comes r at found.descriptor found.side found.consequence
+  pub set : IsSetBy r at found.descriptor found.side found.setting
+
+-- a finding of the deadline of this side, which came at the step after position n
+pub record IsOf (n d : ℕ) (side : Side) (consequence : Consequence) (found : DeadlineFinding) :
+    Type 0 where
+  pub position : found.position ≡ suc n
+  pub descriptor : found.descriptor ≡ d
+  pub side_is : found.side ≡ side
+  pub consequence_is : found.consequence ≡ consequence
+
+-- ---- their lines
+
+-- what came, as it is printed
+abbrev pub consequence_name : Consequence → List ℕ
+consequence_name Passed = codes " passed-deadline"
+consequence_name (EndedCall g) = codes " timeout"
+consequence_name (TakenBack g) = codes " taken-back"
+
+-- the goroutine whose call ended, or that was woken
+abbrev pub goroutine_of : Consequence → Option ℕ
+goroutine_of Passed = None
+goroutine_of (EndedCall g) = Some g
+goroutine_of (TakenBack g) = Some g
+
+-- ` gor 2`, if there is one
+abbrev pub goroutine_text : Option ℕ → List ℕ
+goroutine_text None = []
+goroutine_text (Some g) = codes " gor " ++ decimal g
+
+-- `at 91 timeout`
+abbrev pub consequence_text : DeadlineFinding → List ℕ
+consequence_text found =
+    codes "at " ++ (decimal found.position ++ consequence_name found.consequence)
+
+abbrev pub mode_text : Mode → List ℕ
+mode_text Mode.Read = codes " r"
+mode_text Mode.Write = codes " w"
+mode_text Mode.Both = codes " rw"
+
+-- ` moved 75 by 3`, if a step set the other side alone since
+abbrev pub moved_text : Option StepBy → List ℕ
+moved_text None = []
+moved_text (Some by) =
+    codes " moved " ++ (decimal by.step ++ (codes " by " ++ decimal by.goroutine))
+
+-- ` desc 0 r set 60 by 2 rw`
+abbrev pub setting_text : DeadlineFinding → List ℕ
+setting_text found =
+    codes " desc " ++ (decimal found.descriptor ++ (side_letter found.side
+    ++ (codes " set " ++ (decimal found.setting.by.step
+    ++ (codes " by " ++ (decimal found.setting.by.goroutine ++ mode_text found.setting.mode))))))
+
+-- `at 91 timeout gor 2 desc 0 r set 60 by 2 rw moved 75 by 3`
+abbrev pub deadline_line : DeadlineFinding → List ℕ
+deadline_line found =
+    consequence_text found ++ (goroutine_text (goroutine_of found.consequence)
+    ++ (setting_text found ++ (moved_text found.setting.moved ++ codes "\n")))
+
+-- a line for each
+abbrev pub deadline_lines : List DeadlineFinding → List ℕ
+deadline_lines found = text_of_parts deadline_line found

@@ -1,0 +1,64 @@
+//! What is kept of the other end of each socket while the steps of a recording are made.
+
+ghost use Rattle.std.specs.Prelude.{◌≡◌, IfOk, None, replicate};
+ghost use Rattle.nr_suspects.specs.Peers.{ArePeersNoted, IsPeerNotedAt, peer_in};
+
+use crate::notice::Notice;
+use crate::peer::{Peer, peer_after};
+use nr_rev::Memory;
+use std::alloc::Global;
+use std::marker::Model;
+
+/// What is kept of the other end of each socket: a place for each number that a socket may have.
+#[derive(Drop)]
+pub struct Peers {
+    peers: Vec<Option<Peer>>,
+}
+
+impl Model for Peers {
+    ghost use Rattle.std.specs.Prelude.{List, Option};
+    ghost use Rattle.nr_suspects.specs.declared.peer.Peer.{Peer};
+
+    ghost Value = { List (Option Peer) };
+
+    ghost view = { λ n. n.peers.items };
+}
+
+impl Peers {
+    /// Of so many sockets, none of which was opened yet.
+    pub fn new(alloc: Global, sockets: u32) -> Result<Peers, Memory>
+        ensures { IfOk result (λ peers. peers ≡ replicate sockets None) }
+    {
+        let peers = vec![in alloc; None; sockets as usize]?;
+        Ok(Peers { peers })
+    }
+
+    /// What is kept of the socket, if it has a place and was opened.
+    pub fn of(&self, socket: u32) -> Option<Peer>
+        ensures { result ≡ peer_in self.now socket }
+    {
+        *self.peers.get(socket as usize)?
+    }
+
+    /// Writes down what a step did.
+    pub fn note(&mut self, notice: Notice)
+        ensures { ArePeersNoted notice self.old self.new }
+    {
+        match notice {
+            Notice::SocketOpened { socket, .. } | Notice::PeerClosed { socket } => {
+                self.note_at(socket, notice)
+            }
+            _ => {}
+        }
+    }
+
+    // Writes it down at the place of a socket.
+    fn note_at(&mut self, socket: u32, notice: Notice)
+        ensures { IsPeerNotedAt socket notice self.old self.new }
+    {
+        let at = socket as usize;
+        if at < self.peers.len() {
+            self.peers[at] = peer_after(socket, notice, self.peers[at]);
+        }
+    }
+}

@@ -1,0 +1,145 @@
+//! Which step set a deadline, and what came of it.
+
+ghost use Rattle.std.specs.Prelude.{◌≡◌};
+ghost use Rattle.nr_suspects.specs.Settings.{after_passing, after_setting, looked_at, moved_since, passed_with, set_by, woken_but};
+
+use crate::notice::Passing;
+use nr_rev::{Mode, Side, Sides};
+
+/// A step, and its goroutine.
+#[derive(Clone, Copy, Debug, PartialEq, Eq)]
+pub struct StepBy {
+    /// The number of the step, counted from 1.
+    pub step: usize,
+    /// Its goroutine.
+    pub goroutine: u32,
+}
+
+/// The setting of a deadline.
+#[derive(Clone, Copy, Debug, PartialEq, Eq)]
+pub struct Setting {
+    /// The step that set it.
+    pub by: StepBy,
+    /// The sides whose deadline it set.
+    pub mode: Mode,
+    /// The first step after it that set the other side's deadline alone.
+    pub moved: Option<StepBy>,
+}
+
+/// What is kept of the deadline of a side.
+#[derive(Clone, Copy, Debug, PartialEq, Eq)]
+pub struct Deadline {
+    /// Its setting.
+    pub setting: Option<Setting>,
+    /// The goroutine that was woken when it passed, and hasn't looked why.
+    pub woken: Option<u32>,
+}
+
+impl Deadline {
+    /// It was never set.
+    pub const NEVER_SET: Deadline = Deadline {
+        setting: None,
+        woken: None,
+    };
+
+    // After this step set the deadlines that the mode names.
+    fn set_by(self, by: StepBy, mode: Mode, side: Side) -> Deadline
+        ensures { result ≡ set_by by mode side self }
+    {
+        if mode.names(side) {
+            return Deadline {
+                setting: Some(Setting {
+                    by,
+                    mode,
+                    moved: None,
+                }),
+                woken: None,
+            };
+        }
+        Deadline {
+            setting: self.setting.map(
+                |setting|
+                    ensures { result ≡ moved_since by setting }
+                { setting.moved_since(by) },
+            ),
+            woken: self.woken,
+        }
+    }
+
+    // After it passed, if this is its passing.
+    fn passed_with(self, passing: Option<Passing>) -> Deadline
+        ensures { result ≡ passed_with passing self }
+    {
+        match passing {
+            None => self,
+            Some(passing) => Deadline {
+                setting: self.setting,
+                woken: passing.woken,
+            },
+        }
+    }
+}
+
+impl Setting {
+    // After this step set the other side's deadline alone.
+    fn moved_since(self, by: StepBy) -> Setting
+        ensures { result ≡ moved_since by self }
+    {
+        Setting {
+            by: self.by,
+            mode: self.mode,
+            moved: Some(self.moved.unwrap_or(by)),
+        }
+    }
+}
+
+// The goroutine that was woken, unless it is this one.
+fn woken_but(goroutine: u32, woken: Option<u32>) -> Option<u32>
+    ensures { result ≡ woken_but goroutine woken }
+{
+    match woken {
+        Some(woken) if goroutine != woken => Some(woken),
+        _ => None,
+    }
+}
+
+/// Both sides' deadlines after the goroutine set those that the mode names, by the step of this number.
+pub(crate) fn after_setting(
+    step: usize,
+    goroutine: u32,
+    mode: Mode,
+    deadlines: Sides<Deadline>,
+) -> Sides<Deadline>
+    ensures { result ≡ after_setting step goroutine mode deadlines }
+{
+    let by = StepBy { step, goroutine };
+    Sides {
+        read: deadlines.read.set_by(by, mode, Side::Read),
+        write: deadlines.write.set_by(by, mode, Side::Write),
+    }
+}
+
+/// Both sides' deadlines after these passings.
+pub(crate) fn after_passing(
+    passings: Sides<Option<Passing>>,
+    deadlines: Sides<Deadline>,
+) -> Sides<Deadline>
+    ensures { result ≡ after_passing passings deadlines }
+{
+    Sides {
+        read: deadlines.read.passed_with(passings.read),
+        write: deadlines.write.passed_with(passings.write),
+    }
+}
+
+/// Both sides' deadlines after the goroutine visited one of them.
+pub(crate) fn looked_at(goroutine: u32, side: Side, deadlines: Sides<Deadline>) -> Sides<Deadline>
+    ensures { result ≡ looked_at goroutine side deadlines }
+{
+    let here = deadlines.of(side);
+    let looked = Deadline {
+        setting: here.setting,
+        woken: woken_but(goroutine, here.woken),
+    };
+    deadlines.with(side, looked)
+}
