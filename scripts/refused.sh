@@ -1,7 +1,7 @@
 #!/bin/sh
 # Plays the built program with each of its allocations refused in turn:  scripts/refused.sh
 #
-# Over each example `run`, `check`, `upgrade` and `changes`, and besides a recording that is refused, a file that is missing and words
+# Over each example `run`, `check`, `upgrade`, `changes` and `suspects`, and besides a recording that is refused, a file that is missing and words
 # that ask for nothing. A refused allocation is told once, and of nothing else: while netrev loads as `fault 108 memory`
 # with status 1, and after that in place of one reply: of a look as `fault 301 memory`, and the look is sent again; of a
 # `continue` or `reverse-continue` as `fault 302 memory, placed N`, and its reply is asked for by `resume`. Then that reply
@@ -115,10 +115,12 @@ refuse_each() {
 	told=$((told + loading + lines + writing))
 }
 
-# What the steps changed, with each allocation refused.
-play_changes() {
-	python3 "$here/../python" netrev_machine changes "$2" > "$work/right" || [ "$1" != 0 ]
-	refuse_each "$1" "$work/nothing" changes "$2"
+# What the steps changed, and the suspects, with each allocation refused.
+play_lists() {
+	for program in changes suspects; do
+		python3 "$here/../python" netrev_machine "$program" "$2" > "$work/right" || [ "$1" != 0 ]
+		refuse_each "$1" "$work/nothing" "$program" "$2"
+	done
 }
 
 # An example with all its memory, and then with each allocation refused.
@@ -137,7 +139,7 @@ play_example() {
 
 	python3 "$here/../python" tests.program.given "$recording" > "$work/right"
 	refuse_each 0 "$work/nothing" upgrade "$recording"
-	play_changes 0 "$recording"
+	play_lists 0 "$recording"
 }
 
 # A recording that is refused, whatever the program is: $work/right has its fault.
@@ -146,7 +148,7 @@ play_refused() {
 	refuse_each 1 "$work/nothing" check "$1"
 	refuse_each 1 "$work/nothing" upgrade "$1"
 	refuse_each 1 "$work/nothing" serve "$1" --port 65535
-	play_changes 1 "$1"
+	play_lists 1 "$1"
 }
 
 for recording in "$examples"/*.jsonl; do
@@ -178,6 +180,7 @@ refuse_each 3 "$work/nothing" run "$work/missing.jsonl"
 refuse_each 3 "$work/nothing" check "$work/missing.jsonl"
 refuse_each 3 "$work/nothing" upgrade "$work/missing.jsonl"
 refuse_each 3 "$work/nothing" changes "$work/missing.jsonl"
+refuse_each 3 "$work/nothing" suspects "$work/missing.jsonl"
 refuse_each 3 "$work/nothing" serve "$work/missing.jsonl" --port 65535
 
 {
@@ -185,12 +188,14 @@ refuse_each 3 "$work/nothing" serve "$work/missing.jsonl" --port 65535
 	echo "       netrev check FILE"
 	echo "       netrev upgrade FILE"
 	echo "       netrev changes FILE"
+	echo "       netrev suspects FILE"
 	echo "       netrev serve FILE --port P [--fronts N] [--workers W] [--journal H] [--connections C]"
 } > "$work/usage"
 refuse_each 2 "$work/usage" walk "$examples/first.jsonl"
 refuse_each 2 "$work/usage" run
 refuse_each 2 "$work/usage" upgrade
 refuse_each 2 "$work/usage" changes
+refuse_each 2 "$work/usage" suspects
 refuse_each 2 "$work/usage"
 refuse_each 2 "$work/usage" serve "$examples/first.jsonl"
 refuse_each 2 "$work/usage" serve "$examples/first.jsonl" --port 65535 --fronts 2

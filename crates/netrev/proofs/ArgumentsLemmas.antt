@@ -46,3 +46,8 @@ pub changes_asks : (program file : Text) → IsPlain file → Ask (program ∷ c
 unfolding clap_on_literals
 changes_asks program [] plain = record { faultless = refl; is_asked = refl }
 changes_asks program (x ∷ xs) plain = record { faultless = simp plain; is_asked = simp plain }
+
+pub suspects_asks : (program file : Text) → IsPlain file → Ask (program ∷ codes "suspects" ∷ file ∷ []) (codes "suspects", file, None)
+unfolding clap_on_literals
+suspects_asks program [] plain = record { faultless = refl; is_asked = refl }
+suspects_asks program (x ∷ xs) plain = record { faultless = simp plain; is_asked = simp plain }

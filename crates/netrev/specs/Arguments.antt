@@ -36,18 +36,18 @@ serve_program =
     (option_rule (codes "port"))) (option_rule (codes "fronts"))) (option_rule (codes "workers")))
     (option_rule (codes "journal"))) (option_rule (codes "connections"))
 
--- `netrev run FILE`, `netrev check FILE`, `netrev upgrade FILE`, `netrev changes FILE` and
--- `netrev serve FILE --port P ..`, and no other
+-- `netrev run FILE`, `netrev check FILE`, `netrev upgrade FILE`, `netrev changes FILE`,
+-- `netrev suspects FILE` and `netrev serve FILE --port P ..`, and no other
 abbrev pub netrev : App
 netrev =
     with_subcommand (with_subcommand (with_subcommand (with_subcommand (with_subcommand
-    (on_top (λ s. record s {
+    (with_subcommand (on_top (λ s. record s {
       disable_help_flag = true;
       disable_help_subcommand = true;
       subcommand_required = true;
     }) (new_app (codes "netrev"))) (file_program (codes "run")).top)
     (file_program (codes "check")).top) (file_program (codes "upgrade")).top)
-    (file_program (codes "changes")).top) serve_program.top
+    (file_program (codes "changes")).top) (file_program (codes "suspects")).top) serve_program.top
 
 -- the number of an option: that of its text, or where it isn't there this one
 abbrev pub number_or : Option ℕ → Option Text → Option ℕ
@@ -102,6 +102,7 @@ asked_of (program.Run file) = (codes "run", file.now, None)
 asked_of (program.Check file) = (codes "check", file.now, None)
 asked_of (program.Upgrade file) = (codes "upgrade", file.now, None)
 asked_of (program.Changes file) = (codes "changes", file.now, None)
+asked_of (program.Suspects file) = (codes "suspects", file.now, None)
 asked_of (program.Serve file sharing) = (codes "serve", file.now, Some sharing)
 
 -- the arguments, the program's own name first, are a command line that asks for this
@@ -119,6 +120,7 @@ file_of (program.Run file) = file.now
 file_of (program.Check file) = file.now
 file_of (program.Upgrade file) = file.now
 file_of (program.Changes file) = file.now
+file_of (program.Suspects file) = file.now
 file_of (program.Serve file sharing) = file.now
 
 -- `Memory` where the error is out of memory, and `Usage` where it is any other

@@ -11,6 +11,7 @@ use Rattle.nr_programs.specs.Run.{EndsPrinting}
 use Rattle.nr_programs.specs.Auxiliary.Run.{Checks}
 use Rattle.nr_programs.specs.Serving.{ServesAll}
 use Rattle.nr_programs.specs.Sharing.{is_in_range}
+use Rattle.nr_programs.specs.Suspects.{ShowsSuspects}
 use Rattle.nr_programs.specs.Transcript.{RunsTranscript}
 use Rattle.nr_programs.specs.Upgrade.{Upgrades}
 use Rattle.nr_programs.specs.declared.run.ExitStatus.{ExitStatus}
@@ -39,6 +40,7 @@ usage_text =
     ++ codes "       netrev check FILE\n"
     ++ codes "       netrev upgrade FILE\n"
     ++ codes "       netrev changes FILE\n"
+    ++ codes "       netrev suspects FILE\n"
     ++ codes "       netrev serve FILE --port P [--fronts N] [--workers W] [--journal H]"
     ++ codes " [--connections C]\n"
 
@@ -48,6 +50,7 @@ IsInRange (program.Run file) = Unit {0}
 IsInRange (program.Check file) = Unit {0}
 IsInRange (program.Upgrade file) = Unit {0}
 IsInRange (program.Changes file) = Unit {0}
+IsInRange (program.Suspects file) = Unit {0}
 IsInRange (program.Serve file sharing) = is_in_range sharing ≡ true
 
 -- What a program does over the bytes of its file. Only `run` reads input, and it writes its
@@ -62,6 +65,8 @@ Plays (program.Upgrade file) bytes input left before after old new status =
     (left ≡ input) × (after ≡ before) × Upgrades bytes old new status
 Plays (program.Changes file) bytes input left before after old new status =
     (left ≡ input) × (after ≡ before) × Changes bytes old new status
+Plays (program.Suspects file) bytes input left before after old new status =
+    (left ≡ input) × (after ≡ before) × ShowsSuspects bytes old new status
 Plays (program.Serve file sharing) bytes input left before after old new status =
     (left ≡ input) × ServesAll bytes sharing before after old new status
 

@@ -19,7 +19,7 @@ use std::alloc::{AllocError, Global};
 
 /// How the program is called.
 pub const USAGE: &str =
-    "usage: netrev run FILE\n       netrev check FILE\n       netrev upgrade FILE\n       netrev changes FILE\n       netrev serve FILE --port P [--fronts N] [--workers W] [--journal H] [--connections C]\n";
+    "usage: netrev run FILE\n       netrev check FILE\n       netrev upgrade FILE\n       netrev changes FILE\n       netrev suspects FILE\n       netrev serve FILE --port P [--fronts N] [--workers W] [--journal H] [--connections C]\n";
 
 /// How many words a session's journal has room for, where the number isn't given.
 pub const USUAL_JOURNAL: u32 = 4_096;
@@ -35,6 +35,8 @@ pub enum Program<'a> {
     Upgrade { file: &'a str },
     /// Writes the cells that each step changed, with their values, to standard output.
     Changes { file: &'a str },
+    /// Writes the lost wake-ups and the held references of closed sockets to standard output.
+    Suspects { file: &'a str },
     /// Commands and replies over the loopback, of several people who share one session.
     Serve { file: &'a str, sharing: Sharing },
 }
@@ -49,6 +51,7 @@ impl<'a> Program<'a> {
             | Program::Check { file }
             | Program::Upgrade { file }
             | Program::Changes { file }
+            | Program::Suspects { file }
             | Program::Serve { file, .. } => file,
         }
     }
@@ -126,6 +129,7 @@ fn command<'a>(alloc: Global) -> Result<Command<'a>, AllocError>
     let check = file_command(alloc, "check")?;
     let upgrade = file_command(alloc, "upgrade")?;
     let changes = file_command(alloc, "changes")?;
+    let suspects = file_command(alloc, "suspects")?;
     let serve = serve_command(alloc)?;
     Command::new(alloc, "netrev")
         .disable_help_flag(true)
@@ -135,6 +139,7 @@ fn command<'a>(alloc: Global) -> Result<Command<'a>, AllocError>
         .subcommand(check)?
         .subcommand(upgrade)?
         .subcommand(changes)?
+        .subcommand(suspects)?
         .subcommand(serve)
 }
 
@@ -183,6 +188,7 @@ fn matched_program<'a>(matches: &ArgMatches<'a>) -> Option<Program<'a>>
         "check" => Some(Program::Check { file }),
         "upgrade" => Some(Program::Upgrade { file }),
         "changes" => Some(Program::Changes { file }),
+        "suspects" => Some(Program::Suspects { file }),
         "serve" => match sharing_in(inner) {
             Some(sharing) => Some(Program::Serve { file, sharing }),
             None => None,
@@ -220,4 +226,6 @@ pub fn plain_arguments_ask()
         → Ask (program ∷ codes "upgrade" ∷ file ∷ []) (codes "upgrade", file, None) }
     ensures changes { (program file : List ℕ) → IsPlain file
         → Ask (program ∷ codes "changes" ∷ file ∷ []) (codes "changes", file, None) }
+    ensures suspects { (program file : List ℕ) → IsPlain file
+        → Ask (program ∷ codes "suspects" ∷ file ∷ []) (codes "suspects", file, None) }
 {}

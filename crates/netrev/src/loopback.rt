@@ -89,7 +89,8 @@ impl<'a> Loopback<'a> {
             Program::Run { .. }
             | Program::Check { .. }
             | Program::Upgrade { .. }
-            | Program::Changes { .. } => (0, None),
+            | Program::Changes { .. }
+            | Program::Suspects { .. } => (0, None),
         };
         Loopback {
             rt,

@@ -4,6 +4,7 @@
 //! `netrev check FILE` says whether the recording can be walked.
 //! `netrev upgrade FILE` writes the recording with the answer of each step.
 //! `netrev changes FILE` writes the cells that each step changed.
+//! `netrev suspects FILE` writes the lost wake-ups and the held references of closed sockets.
 //! `netrev serve FILE --port P` answers the commands of several people, who share one session, over the loopback.
 #![tactic(auto)]
 

@@ -10,7 +10,8 @@ ghost use Rattle.netrev.specs.declared.starting.Unstarted.TheVariants as reasons
 use crate::arguments::{ArgumentsFault, Program, USAGE};
 use nr_changes::TouchesCells;
 use nr_programs::{
-    ExitStatus, changes_bytes, check_bytes, refuse, run_bytes, serve_bytes, upgrade_bytes,
+    ExitStatus, changes_bytes, check_bytes, refuse, run_bytes, serve_bytes, suspects_bytes,
+    upgrade_bytes,
 };
 use nr_recording::OutOfMemory;
 use nr_rev::Memory;
@@ -145,6 +146,7 @@ where
         Program::Check { .. } => check_bytes::<W, O>(alloc, text.as_slice(), output),
         Program::Upgrade { .. } => upgrade_bytes::<W, O>(alloc, text.as_slice(), output),
         Program::Changes { .. } => changes_bytes::<W, O>(alloc, text.as_slice(), output),
+        Program::Suspects { .. } => suspects_bytes::<W, O>(alloc, text.as_slice(), output),
         Program::Serve { sharing, .. } => {
             serve_bytes::<W, R, P, O>(rt, alloc, text, sharing, ports, output)
         }

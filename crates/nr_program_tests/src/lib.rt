@@ -4,6 +4,8 @@
 #[cfg(test)]
 mod changes;
 #[cfg(test)]
+mod deadlines;
+#[cfg(test)]
 mod playing;
 #[cfg(test)]
 mod recordings;
@@ -12,7 +14,11 @@ mod serving;
 #[cfg(test)]
 mod sessions;
 #[cfg(test)]
+mod sleepers;
+#[cfg(test)]
 mod streams;
+#[cfg(test)]
+mod suspects;
 #[cfg(test)]
 mod texts;
 #[cfg(test)]

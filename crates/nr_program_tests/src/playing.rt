@@ -1,7 +1,9 @@
 //! Plays the programs on recordings: what came of it is a plain value, which tests compare.
 use crate::texts::SCRIPT;
 use nr_machine::World;
-use nr_programs::{ExitStatus, changes_bytes, check_bytes, run_bytes, upgrade_bytes};
+use nr_programs::{
+    ExitStatus, changes_bytes, check_bytes, run_bytes, suspects_bytes, upgrade_bytes,
+};
 use nr_replay_tests::{AtBrim, Cup};
 use nr_text::{Sink, Source};
 use std::alloc::{AllocError, Global};
@@ -87,6 +89,7 @@ pub(crate) enum Program {
     Check,
     Upgrade,
     Changes,
+    Suspects,
 }
 
 impl Program {
@@ -97,6 +100,7 @@ impl Program {
             Program::Check => check_bytes::<World, _>(alloc, bytes, output),
             Program::Upgrade => upgrade_bytes::<World, _>(alloc, bytes, output),
             Program::Changes => changes_bytes::<World, _>(alloc, bytes, output),
+            Program::Suspects => suspects_bytes::<World, _>(alloc, bytes, output),
         }
     }
 
@@ -139,6 +143,11 @@ pub(crate) fn upgrade(alloc: Global, header: &str, steps: &str) -> Result<Played
 /// Writes what each step of a header and steps changed.
 pub(crate) fn changes(alloc: Global, header: &str, steps: &str) -> Result<Played, AllocError> {
     Program::Changes.play(alloc, header, steps)
+}
+
+/// Finds what is suspect in a header and steps.
+pub(crate) fn suspects(alloc: Global, header: &str, steps: &str) -> Result<Played, AllocError> {
+    Program::Suspects.play(alloc, header, steps)
 }
 
 /// A header and steps.

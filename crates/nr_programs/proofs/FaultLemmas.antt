@@ -64,14 +64,14 @@ module _ (r : Recorded) where
       there (Some s) is e = (s, is, (let same : s.step ≡ step = cc in same), ap (option_and_then (λ (x : RecordedStep). x.answer)) is)
 
   -- the fault from there is the step's, or the one behind it
-  fault_at : (n : ℕ) (s : RecordedStep) → slice_get r.steps n ≡ Some s
+  pub fault_at : (n : ℕ) (s : RecordedStep) → slice_get r.steps n ≡ Some s
       → fault_from n ≡ fault_or (step_fault (n + 1) s.answer (outcome (world_at (run_of r) n) s.step)) (first_fault (n + 1 + 1) (next_of (world_at (run_of r) n) (outcome (world_at (run_of r) n) s.step)) (drop (n + 1) r.steps))
   fault_at n s read =
       ap (first_fault (n + 1) (world_at (run_of r) n))
       (drop_more r.steps n s (slice_get_within r.steps n s read) ∙ ap (λ x. x ∷ drop (n + 1) r.steps) (get_or_from_slice_get r.steps n s s read))
 
   -- a step that applies and answers as is recorded is passed over
-  step_on : (n : ℕ) (step : Step) (given : Answer) (next : World) → slice_get (run_of r).steps n ≡ Some step → outcome (world_at (run_of r) n) step ≡ Ok (given, next) → Agrees (recorded_at r n) given → fault_from n ≡ fault_from (n + 1)
+  pub step_on : (n : ℕ) (step : Step) (given : Answer) (next : World) → slice_get (run_of r).steps n ≡ Some step → outcome (world_at (run_of r) n) step ≡ Ok (given, next) → Agrees (recorded_at r n) given → fault_from n ≡ fault_from (n + 1)
   step_on n step given next read applies agrees =
       let s = step_there n step read in
       let applies' : outcome (world_at (run_of r) n) s.0.step ≡ Ok (given, next) = subst (λ x. outcome (world_at (run_of r) n) x ≡ Ok (given, next)) (sym s.2) applies in

@@ -7,6 +7,7 @@ pub mod OpeningLemmas
 pub mod PlacedLemmas
 pub mod RepliesLemmas
 pub mod ServingLemmas
+pub mod SuspectsLemmas
 pub mod SharedLemmas
 mod TranscriptLemmas
 pub mod UpgradeLemmas

@@ -3,4 +3,5 @@ pub mod Changes
 pub mod Run
 pub mod Serving
 pub mod Shared
+pub mod Suspects
 pub mod Transcript

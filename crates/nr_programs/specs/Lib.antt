@@ -11,6 +11,7 @@ pub mod Accepted
 pub mod Examples
 pub mod Sharing
 pub mod ShortRuns
+pub mod Suspects
 pub mod Upgrade
 -- what goes on with the files that the laws rest on
 pub mod Auxiliary

@@ -7,7 +7,7 @@ ghost use Rattle.nr_programs.specs.Changes.{Changes, WritesChanges};
 ghost use Rattle.nr_programs.specs.Auxiliary.Changes.{HasFault, StepsOn, as_lines, change_text};
 ghost use Rattle.nr_programs.specs.Run.{EndsPrinting};
 
-use crate::run::{Accepted, ExitStatus, print, refuse};
+use crate::run::{Accepted, ExitStatus, print_both, refuse};
 use arrayvec::ArrayVec;
 use nr_changes::{CellWithValue, Changes, MOST_CELLS, TouchesCells, advance};
 use nr_command::send_printed;
@@ -162,8 +162,5 @@ fn end<T: Text, O: Write>(
     ensures { EndsPrinting (text_of_parts change_text lines.now ++ T.text last.now) wanted
         output.old output.new result }
 {
-    match output.print(&Parts(lines)) {
-        Ok(()) => print(last, wanted, output),
-        Err(_) => ExitStatus::StreamFailed,
-    }
+    print_both(&Parts(lines), last, wanted, output)
 }

@@ -1,6 +1,6 @@
 //! The programs `run` and `check`, over the bytes of the file and the streams.
 
-ghost use Rattle.std.specs.Prelude.{◌≡◌, ◌⊎◌, false};
+ghost use Rattle.std.specs.Prelude.{◌≡◌, ◌⊎◌, ◌++◌, false};
 ghost use Rattle.std.specs.Process.{exit_status};
 ghost use Rattle.nr_rev.specs.Run.{Recording};
 ghost use Rattle.nr_programs.specs.Opening.{IsGoodText};
@@ -158,6 +158,21 @@ pub(crate) fn print<T: Text, O: Write>(
 {
     match output.print(text) {
         Ok(()) => wanted,
+        Err(_) => ExitStatus::StreamFailed,
+    }
+}
+
+// Prints two texts, and returns the given status where both went out.
+pub(crate) fn print_both<A: Text, B: Text, O: Write>(
+    first: &A,
+    last: &B,
+    wanted: ExitStatus,
+    output: &mut Sink<O>,
+) -> ExitStatus
+    ensures { EndsPrinting (A.text first.now ++ B.text last.now) wanted output.old output.new result }
+{
+    match output.print(first) {
+        Ok(()) => print(last, wanted, output),
         Err(_) => ExitStatus::StreamFailed,
     }
 }

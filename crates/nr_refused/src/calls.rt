@@ -58,11 +58,12 @@ pub(crate) enum Call {
     Check,
     Upgrade,
     Changes,
+    Suspects,
     Serve,
 }
 
 /// Their names.
-pub(crate) static CALLS: [(&str, Call); 45] = [
+pub(crate) static CALLS: [(&str, Call); 46] = [
     ("read", Call::Read),
     ("write", Call::Write),
     ("load", Call::Load),
@@ -107,6 +108,7 @@ pub(crate) static CALLS: [(&str, Call); 45] = [
     ("check-bytes", Call::Check),
     ("upgrade-bytes", Call::Upgrade),
     ("changes-bytes", Call::Changes),
+    ("suspects-bytes", Call::Suspects),
     ("serve-bytes", Call::Serve),
 ];
 
@@ -137,6 +139,7 @@ impl Call {
             Call::Check => Some(texts::check_twice(rt)),
             Call::Upgrade => Some(texts::upgrade_twice(rt)),
             Call::Changes => Some(texts::change_twice(rt)),
+            Call::Suspects => Some(texts::suspect_twice(rt)),
             Call::Fresh => Some(worlds::make_twice::<World>(rt)),
             Call::FreshPlain => Some(worlds::make_twice::<PlainWorld>(rt)),
             Call::Serve => serving::serve_twice(rt, handles),

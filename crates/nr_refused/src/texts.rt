@@ -2,7 +2,7 @@
 
 use crate::twice::{Came, Twice, grant, refuse};
 use nr_machine::World;
-use nr_programs::{ExitStatus, changes_bytes, check_bytes, upgrade_bytes};
+use nr_programs::{ExitStatus, changes_bytes, check_bytes, suspects_bytes, upgrade_bytes};
 use nr_recording::{ReadFault, Recording, WriteFault, read, write};
 use nr_rev::Memory;
 use nr_snaps::Film;
@@ -265,6 +265,67 @@ fn change_into(alloc: Global, room: &mut [u8]) -> (ExitStatus, usize) {
 fn came_of_changing(status: ExitStatus, out: Option<&[u8]>) -> Came {
     match (status, out) {
         (ExitStatus::Done, Some(out)) => Came::of(out == CHANGED.as_bytes()),
+        (ExitStatus::Refused, Some(out)) => {
+            Came::Refused.leaving(out == b"fault 108 memory\n".as_slice())
+        }
+        _ => Came::Wrong,
+    }
+}
+
+/// A call ends with a deadline; a goroutine takes an event and sleeps without a read; another closes the socket and keeps a reference.
+const SUSPICIOUS: &str = r#"{"buf":16,"desc":2,"gor":4,"netrev":1,"sock":2}
+["sockopen",16,16]
+["pollopen",0,0]
+["setdeadline",0,0,"w",-1]
+["waitbegin",0,0,"w"]
+["arrive",0,"6869"]
+["pollevent",0,1,"r",0]
+["pollreset",0,0,"r"]
+["waitbegin",0,0,"r"]
+["blockarm",0]
+["blockcheck",0]
+["parkcommit",0]
+["spawn"]
+["incref",1,0]
+["increfclose",1,0]
+["decref",1,0]
+"#;
+
+/// What is found in it.
+const SUSPECTED: &str = "at 4 timeout gor 0 desc 0 w set 3 by 0 w
+at 15 lost-wakeup gor 0 desc 0 r event 6 taken 7 by 0
+at 15 asleep gor 0 desc 0 r because bytes
+at 15 held-reference sock 0 gor 1 count 1 since 14
+ok 15 steps
+";
+
+/// Finds twice what is suspect in a recording.
+pub(crate) fn suspect_twice(rt: &HostRuntime) -> Twice {
+    let mut room = [0u8; ROOM];
+    refuse(rt);
+    let (status, count) = suspect_into(rt.alloc(), room.as_mut_slice());
+    grant(rt);
+    let first = came_of_suspecting(status, room.get(..count));
+    let (status, count) = suspect_into(rt.alloc(), room.as_mut_slice());
+    Twice {
+        first,
+        again: came_of_suspecting(status, room.get(..count)),
+    }
+}
+
+// Finds what is suspect, and how many bytes are out.
+fn suspect_into(alloc: Global, room: &mut [u8]) -> (ExitStatus, usize) {
+    let all = room.len();
+    let mut out = Sink::new(room);
+    let status = suspects_bytes::<World, _>(alloc, SUSPICIOUS.as_bytes(), &mut out);
+    let left = out.into_inner().len();
+    (status, all.saturating_sub(left))
+}
+
+// Where memory was refused, the line of that fault is all.
+fn came_of_suspecting(status: ExitStatus, out: Option<&[u8]>) -> Came {
+    match (status, out) {
+        (ExitStatus::Done, Some(out)) => Came::of(out == SUSPECTED.as_bytes()),
         (ExitStatus::Refused, Some(out)) => {
             Came::Refused.leaving(out == b"fault 108 memory\n".as_slice())
         }

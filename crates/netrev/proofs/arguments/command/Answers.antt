@@ -21,10 +21,11 @@ top = on_top wants_program (on_top no_help (on_top no_help_flag (new_app (codes 
 pub returns : goal.returns
 unfolding no_help_flag no_help wants_program
 returns c =
-    let run_is : app_of c.in_ok-run.run' ≡ file_program (codes "run") = search rules in
-    let check_is : app_of c.in_ok-check.check ≡ file_program (codes "check") = search rules in
-    let upgrade_is : app_of c.in_ok-upgrade.upgrade ≡ file_program (codes "upgrade") = search rules in
-    let changes_is : app_of c.in_ok-changes.changes ≡ file_program (codes "changes") = search rules in
+    let run_is : app_of c.in_ok-run.run' ≡ file_program (codes "run") = c.in_ok-run.ensures.app in
+    let check_is : app_of c.in_ok-check.check ≡ file_program (codes "check") = c.in_ok-check.ensures.app in
+    let upgrade_is : app_of c.in_ok-upgrade.upgrade ≡ file_program (codes "upgrade") = c.in_ok-upgrade.ensures.app in
+    let changes_is : app_of c.in_ok-changes.changes ≡ file_program (codes "changes") = c.in_ok-changes.ensures.app in
+    let suspects_is : app_of c.in_ok-suspects.suspects ≡ file_program (codes "suspects") = c.in_ok-suspects.ensures.app in
     let new_is : app_of c.new.result ≡ new_app (codes "netrev") = search rules in
     let flag_is : app_of c.disable_help_flag.result ≡ on_top no_help_flag (app_of c.new.result) = ap app_of_fields c.disable_help_flag.ensures in
     let help_is : app_of c.disable_help_subcommand.result ≡ on_top no_help (app_of c.disable_help_flag.result) = ap app_of_fields c.disable_help_subcommand.ensures in
@@ -38,4 +39,6 @@ returns c =
     c.in_ok-subcommand-3.ensures.shape c.in_ok-upgrade.ensures.local ∙ ap₂ with_subcommand second_is (ap (λ (a : App). a.top) upgrade_is) in
     let fourth_is : app_of c.in_ok-subcommand-4.field-0 ≡ with_subcommand (with_subcommand (with_subcommand (with_subcommand top (file_program (codes "run")).top) (file_program (codes "check")).top) (file_program (codes "upgrade")).top) (file_program (codes "changes")).top =
     c.in_ok-subcommand-4.ensures.shape c.in_ok-changes.ensures.local ∙ ap₂ with_subcommand third_is (ap (λ (a : App). a.top) changes_is) in
-    IfOk-weaker c.subcommand-5.result _ _ (λ command h. h.shape c.in_ok-serve.ensures.local ∙ ap₂ with_subcommand fourth_is (ap (λ (a : App). a.top) c.in_ok-serve.ensures.app)) c.subcommand-5.ensures
+    let fifth_is : app_of c.in_ok-subcommand-5.field-0 ≡ with_subcommand (with_subcommand (with_subcommand (with_subcommand (with_subcommand top (file_program (codes "run")).top) (file_program (codes "check")).top) (file_program (codes "upgrade")).top) (file_program (codes "changes")).top) (file_program (codes "suspects")).top =
+    c.in_ok-subcommand-5.ensures.shape c.in_ok-suspects.ensures.local ∙ ap₂ with_subcommand fourth_is (ap (λ (a : App). a.top) suspects_is) in
+    IfOk-weaker c.subcommand-6.result _ _ (λ command h. h.shape c.in_ok-serve.ensures.local ∙ ap₂ with_subcommand fifth_is (ap (λ (a : App). a.top) c.in_ok-serve.ensures.app)) c.subcommand-6.ensures

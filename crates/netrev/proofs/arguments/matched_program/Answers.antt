@@ -32,6 +32,11 @@ returns-in-changes-clause-named c =
     let read = c.in-Some-get_str.ensures ∙ first_value-rows (found_of c.in-Some.inner.now) (codes "file") in
     asked_in-word _ _ _ _ _ _ (codes "changes") c.in-Some.ensures.name c.in-Some.ensures.rows read (search rules)
 
+pub returns-in-suspects-clause-named : goal.returns-in-suspects-clause-named
+returns-in-suspects-clause-named c =
+    let read = c.in-Some-get_str.ensures ∙ first_value-rows (found_of c.in-Some.inner.now) (codes "file") in
+    asked_in-word _ _ _ _ _ _ (codes "suspects") c.in-Some.ensures.name c.in-Some.ensures.rows read (search rules)
+
 pub returns-in-Some-sharing_in-clause-named : goal.returns-in-Some-sharing_in-clause-named
 returns-in-Some-sharing_in-clause-named c =
     let read = c.in-Some-get_str.ensures ∙ first_value-rows (found_of c.in-Some.inner.now) (codes "file") in

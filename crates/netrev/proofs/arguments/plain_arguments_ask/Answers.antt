@@ -1,4 +1,4 @@
-use Rattle.netrev.proofs.ArgumentsLemmas.{run_asks, check_asks, upgrade_asks, changes_asks}
+use Rattle.netrev.proofs.ArgumentsLemmas.{run_asks, check_asks, upgrade_asks, changes_asks, suspects_asks}
 use Rattle.netrev.proofs.arguments.plain_arguments_ask.Goals as goal
 
 pub returns-clause-run : goal.returns-clause-run
@@ -12,3 +12,6 @@ returns-clause-upgrade c = upgrade_asks
 
 pub returns-clause-changes : goal.returns-clause-changes
 returns-clause-changes c = changes_asks
+
+pub returns-clause-suspects : goal.returns-clause-suspects
+returns-clause-suspects c = suspects_asks
