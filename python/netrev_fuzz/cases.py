@@ -22,7 +22,7 @@ Made = tuple[bytes, Optional[bytes]]  # a recording's text, and the script where
 
 
 class Case(NamedTuple):
-    """A recording, which of `run`, `check`, `upgrade` and `changes` is to play it, and for `run` what is written to its standard
+    """A recording, which of `run`, `check`, `upgrade`, `changes` and `suspects` is to play it, and for `run` what is written to its standard
     input."""
 
     seed: str
@@ -162,7 +162,7 @@ def make(seed: str) -> Case:
     recording, script = sort(dice)
     if script is None and dice.random() < 0.1:
         script = Speaker(dice, []).script(3)
-    others = ["upgrade", "changes"]
+    others = ["upgrade", "changes", "suspects"]
     program = dice.choice(["check", *others]) if script is None else dice.choice(["run"] * 8 + others)
     if program in others:
         script = b""

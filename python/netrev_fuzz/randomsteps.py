@@ -85,14 +85,16 @@ def features(world: World) -> Iterator[str]:
 class Author:
     """Makes up steps for the state that a recording has come to."""
 
-    def __init__(self, dice: random.Random, wild: float = 0.03, version: Optional[int] = None) -> None:
+    def __init__(
+        self, dice: random.Random, wild: float = 0.03, version: Optional[int] = None, themes: Sequence[str] = THEMES
+    ) -> None:
         self.dice = dice
         self.version = version or dice.choice(VERSIONS)
         self.limits = random_limits(dice, self.version)
         self.wild = wild
         self.past = SELDOM
         self.of_goroutines = dice.uniform(0.35, 0.8)
-        theme = dice.choice(THEMES).split()
+        theme = dice.choice(themes).split()
         idle = {kind: weight for kind, weight in OF_IDLE.items() if kind in KINDS[self.version]}
         self.of_idle = {kind: self.weight(kind in theme, weight) for kind, weight in idle.items()}
         self.of_nobody = {kind: self.weight(kind in theme, weight) for kind, weight in OF_NOBODY.items()}

@@ -25,6 +25,7 @@ VIEWS = (
     "break main.go:7", "frame", "up", "history main.go:7", "list main.go:7", "goto 1ns",
 )  # fmt: skip
 WRITTEN = (".html", ".json", ".jsonl", ".md", ".svg", ".where")
+REASONS = ("\x1b[2J", "a select", "a mutex", "time.Sleep", "room in a channel", "")
 STRANGE = ("\x1b[2J", "\u202e", "\ud800", "</script>", "main.go", "x" * 300, "|`*", "\n")
 NESTED = (b"[" * 100_000, b'{"call":' * 50_000, b"9" * 5_000, b"\xff", b"null", b"{}")
 
@@ -32,7 +33,7 @@ NESTED = (b"[" * 100_000, b'{"call":' * 50_000, b"9" * 5_000, b"\xff", b"null", 
 def lines_of(dice: random.Random, steps: int) -> list[Any]:
     """The lines of a file that is of its form, with texts that a program may have."""
     calls = dice.choice([1, 3, 10])
-    found: list[Any] = [{"where": 1, "steps": steps}]
+    found: list[Any] = [{"where": dice.choice([1, 2]), "steps": steps}]
     for number in range(1, calls + 1):
         names = {name: dice.choice(STRANGE) for name in ("function", "file")}
         found.append(
@@ -46,6 +47,12 @@ def lines_of(dice: random.Random, steps: int) -> list[Any]:
         ends = [1, steps, steps + 1, 0, -1, 2**70, dice.randint(1, steps + 1)]
         found.append({"orders": [[dice.choice(ends), dice.choice(ends)] for _ in range(dice.randrange(8))]})
         found.append({"peers": [[dice.choice(ends), dice.choice(ends)], [0, 1]]})
+        found.append({"ends": [[dice.choice(ends) for _ in range(3)], [0, 1, 2]]})
+        own, other = dice.choice(STRANGE), dice.choice(STRANGE)
+        found.append({"addresses": [[dice.choice(ends), own, other], [0, "127.0.0.1:53", ""]]})
+        found.append(
+            {"sent": [[dice.choice(ends), dice.choice(STRANGE)], [dice.randint(1, steps + 1), "127.0.0.1:53"]]}
+        )
         found.append({"errors": [[dice.choice(ends), dice.choice(STRANGE)], [dice.randint(1, steps + 1), "EPIPE"]]})
         words = dice.choice(STRANGE), dice.choice(ends), dice.choice([-1, 0, 1])
         found.append({"waits": [[dice.choice(ends), 0, dice.randrange(3), *words]]})
@@ -53,7 +60,31 @@ def lines_of(dice: random.Random, steps: int) -> list[Any]:
         found.append({"times": [dice.choice([0, 1, 2**40]) for _ in range(dice.choice([steps, 1]))]})
         names = {name: dice.choice(STRANGE) for name in ("test", "package")}
         found.append({**names, "steps": [dice.choice(ends), dice.choice(ends)]})
+        found += goroutines_of(dice, ends, calls)
     return found
+
+
+def goroutines_of(dice: random.Random, ends: list[int], calls: int) -> list[Any]:
+    """Lines of all goroutines, whose steps and times are of these numbers."""
+
+    def numbers(count: int) -> list[int]:
+        return [dice.choice(ends) for _ in range(count)]
+
+    goids = range(1, 5)
+    at = [[dice.randrange(3), dice.choice(STRANGE)] for _ in range(dice.randrange(3))]
+    words = dice.choice(REASONS), dice.randrange(5)
+    return [
+        {"goroutines": [[goid, dice.randrange(-1, 3), dice.randint(0, calls), *numbers(5)] for goid in goids]},
+        {"objects": [[dice.randrange(3), dice.choice(STRANGE), dice.choice(ends)]]},
+        {
+            "parks": [
+                [dice.choice(goids), *numbers(4), *words, dice.choice(goids), at] for _ in range(dice.randrange(4))
+            ]
+        },
+        {"uses": [[dice.randrange(3), dice.choice(goids), dice.choice(STRANGE), dice.randrange(5), *numbers(5)]]},
+        {"timers": [[dice.randrange(3), dice.choice(goids), dice.randrange(5), *numbers(3)]]},
+        {"left_out": [[*words, *numbers(2)]]},
+    ]
 
 
 def file_of(dice: random.Random, steps: int) -> tuple[bytes, bool]:

@@ -1,6 +1,6 @@
-"""netrev as the model plays it: what `run`, `check`, `upgrade` and `changes` print over the bytes of a recording."""
+"""netrev as the model plays it: what `run`, `check`, `upgrade`, `changes` and `suspects` print over the bytes of a recording."""
 
-from typing import Iterable, NamedTuple, Optional
+from typing import Callable, Iterable, NamedTuple, Optional
 
 from netrev_words.jsontext import Doubtful
 from netrev_words.reading import Fault, read_text
@@ -12,9 +12,15 @@ from .machine import World
 from .observing import Observer
 from .replaying import positions
 from .session import Session, recording_of, replies_to
+from .suspects import suspects
 from .wellformed import breaches
 
 HELD = 500  # of so many positions the states are looked over
+Listed = Callable[[bytes, Observer], tuple[list[str], bool]]
+LISTS: dict[str, Listed] = {
+    "changes": changes,
+    "suspects": suspects,
+}  # programs that print lines and then that of `check`
 
 
 class Printed(NamedTuple):
@@ -63,8 +69,8 @@ def held_together(
 def printed(program: str, recording: bytes, script: bytes, observer: Observer) -> Optional[Printed]:
     """What `netrev PROGRAM` prints over this recording, of `run` to this script; None where the model has no opinion."""
     try:
-        if program == "changes":
-            lines, is_good = changes(recording, observer)
+        if program in LISTS:
+            lines, is_good = LISTS[program](recording, observer)
             return Printed(0 if is_good else 1, "".join(f"{line}\n" for line in lines).encode())
         replayed = replay(recording, observer, program == "run", program == "upgrade")
     except Fault as fault:

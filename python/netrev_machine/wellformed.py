@@ -66,9 +66,11 @@ def timers(world: World) -> Iterator[str]:
         yield f"two timers of one side count: {counting}"
     for firing in world.firings:
         desc = world.descs[firing.desc]
-        covered = all(desc.deadlines[at(side)] > 0 for side in firing.covers)
+        covered = all(desc.deadlines[at(side)] == firing.when > 0 for side in firing.covers)
         if current(world, firing) and not (covered and desc.running[at(firing.side)]):
-            yield f"a firing that counts covers no time to come: {firing}"
+            yield f"a firing that counts isn't of its sides' deadlines: {firing}"
+        if firing.when > world.clock:
+            yield f"the time of a firing hasn't come: {firing}"
     numbers = [timer.number for timer in (*world.timers, *world.firings)]
     if len(set(numbers)) != len(numbers) or any(number >= world.next_number for number in numbers):
         yield f"arming numbers {numbers}, and the next is {world.next_number}"
