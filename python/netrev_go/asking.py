@@ -7,14 +7,21 @@ import pathlib
 import re
 import subprocess
 import sys
+from typing import TypeVar
 
 from netrev_words.command_lines import file_word
 
 PACKAGES = pathlib.Path(__file__).resolve().parents[1]
 ASKED = "info suspects"
-PATIENCE = 60  # seconds
+PATIENCE, OF_CAUSES = (
+    60,
+    600,
+)  # seconds: for the suspects, and for the causes, which a busy machine may take so long for
 AT_REST = ("idle", "gone", "absent")
 PRINTED = re.compile(r"(gor|lock) (\d+) = (.*)")
+
+
+T = TypeVar("T", bound="Asked")
 
 
 class Late(Exception):
@@ -23,8 +30,8 @@ class Late(Exception):
 
 def check(netrev: str, recording: pathlib.Path) -> tuple[bool, str]:
     """Whether netrev takes the recording, and its words."""
-    run = subprocess.run([netrev, "check", file_word(recording)], capture_output=True, text=True, check=False)
-    return run.returncode == 0, (run.stdout or run.stderr).strip()
+    with Check(netrev, recording) as checking:
+        return checking.outcome()
 
 
 def at_the_end(netrev: str, recording: pathlib.Path, steps: int, cells: list[str]) -> dict[tuple[str, int], str]:
@@ -55,17 +62,65 @@ def suspects(netrev: str, recording: pathlib.Path) -> list[str]:
     return [line.removeprefix("| ") for line in told] if told and told[0].startswith("| ") else []
 
 
-def causes(recording: pathlib.Path) -> list[str]:
-    """Why calls failed and hang, by nrdb, for a program that failed; nothing where nothing is known of that. Late where it takes too
-    long."""
-    words = [sys.executable, str(PACKAGES), "nrdb.causes", file_word(recording)]
-    try:
-        run = subprocess.run(words, capture_output=True, text=True, timeout=PATIENCE, check=False)
-    except subprocess.TimeoutExpired:
-        raise Late(f"nrdb's causes took more than {PATIENCE} s") from None
-    except OSError:
-        return []
-    return run.stdout.splitlines() if run.returncode == 0 else []
+class Asked:
+    """A program that answers while something else is done: from the beginning of a `with` on, at most until its end."""
+
+    def __init__(self, words: list[str], **environment: str) -> None:
+        self._words, self._environment = words, os.environ | environment
+        self._process: subprocess.Popen[str] | None = None
+        self._fault: OSError | None = None
+
+    def __enter__(self: T) -> T:
+        none, piped = subprocess.DEVNULL, subprocess.PIPE
+        try:
+            self._process = subprocess.Popen(
+                self._words, env=self._environment, stdin=none, stdout=piped, stderr=piped, text=True
+            )
+        except OSError as fault:
+            self._fault = fault
+        return self
+
+    def answer(self, seconds: float | None = None) -> tuple[int, str, str]:
+        """Its status and what it printed on both outputs, after its end. An OSError if it couldn't be started."""
+        if self._process is None:
+            raise self._fault or OSError("it wasn't started")
+        printed, errors = self._process.communicate(timeout=seconds)
+        return self._process.returncode, printed, errors
+
+    def __exit__(self, *_: object) -> None:
+        if self._process is not None:
+            self._process.kill()
+            self._process.communicate()
+
+
+class Check(Asked):
+    """`netrev check` of a recording."""
+
+    def __init__(self, netrev: str, recording: pathlib.Path) -> None:
+        super().__init__([netrev, "check", file_word(recording)])
+
+    def outcome(self) -> tuple[bool, str]:
+        """Whether netrev takes the recording, and its words."""
+        status, printed, errors = self.answer()
+        return status == 0, (printed or errors).strip()
+
+
+class Causes(Asked):
+    """Why calls failed and hang in a program that failed, by nrdb, which asks netrev what the steps changed, and reckons that itself if
+    netrev doesn't say it soon."""
+
+    def __init__(self, netrev: str, recording: pathlib.Path) -> None:
+        super().__init__([sys.executable, str(PACKAGES), "nrdb.causes", file_word(recording)], NETREV=netrev)
+
+    def lines(self) -> list[str]:
+        """What nrdb says; nothing if nothing is known. Late if it takes too long."""
+        try:
+            status, printed, _ = self.answer(OF_CAUSES)
+        except subprocess.TimeoutExpired:
+            raise Late(f"nrdb's causes took more than {OF_CAUSES} s") from None
+        except OSError:
+            return []
+        return printed.splitlines() if status == 0 else []
 
 
 def hanging(values: dict[tuple[str, int], str]) -> dict[int, str]:

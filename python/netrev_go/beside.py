@@ -19,19 +19,50 @@ OF_CONNECTIONS = frozenset(
 )  # fmt: skip
 
 
+OF_DATAGRAMS, GOES_TO = 1, 2  # what a point NAMED is, as go/log/poll.go has it
+OF_IPV4, LOOPBACK, UNSPECIFIED = 1, 3, 4  # sorts of addresses there
+
+
+def address_words(packed: int) -> str:
+    """An address and its port in words; empty for none. Of one of IPv6 only a number is known."""
+    sort, address, port = packed >> 56, packed >> 16 & 2**40 - 1, packed & 65_535
+    if sort == OF_IPV4:
+        return f"{'.'.join(str(address >> shift & 255) for shift in (24, 16, 8, 0))}:{port}"
+    plain = {LOOPBACK: "::1", UNSPECIFIED: "::"}.get(sort, f"..{address:x}")
+    return f"[{plain}]:{port}" if sort else ""
+
+
 @dataclass
 class Beside:
-    """Pairs of sockets that are one connection's ends, of each error the step behind which its goroutine had it, and who waits elsewhere."""
+    """Pairs of sockets that are one connection's ends, the names of both ends of each socket, of each error the step behind which its goroutine had
+    it, and who waits elsewhere."""
 
     peers: list[tuple[int, int]] = field(default_factory=list)
     errors: list[tuple[int, str]] = field(default_factory=list)
     waits: list[Wait] = field(default_factory=list)  # outside of the poller
+    ends: list[tuple[int, int, int]] = field(default_factory=list)  # sockets with the numbers of both ends' names
+    addresses: list[tuple[int, str, str]] = field(
+        default_factory=list
+    )  # of sockets for datagrams, and to which they are connected
+    sent: list[tuple[int, str]] = field(default_factory=list)  # behind which steps datagrams went to which addresses
+    _names: dict[int, int] = field(default_factory=dict)  # the numbers of names
     _ends: dict[tuple[int, int], list[int]] = field(
         default_factory=dict
     )  # sockets by names, whose other end isn't met yet
 
-    def named(self, socket: int, point: Point) -> None:
-        """A socket's own name and the other end's. A name may be taken again, so of several the newest is meant."""
+    def named(self, socket: int, point: Point, step: int = 0) -> None:
+        """A socket's own name and the other end's. A name may be taken again, so of several the newest is meant. Of a socket for datagrams its
+        addresses, and behind which step one goes where."""
+        if point.c == OF_DATAGRAMS:
+            self.addresses.append((socket, address_words(point.a), address_words(point.b)))
+        elif point.c == GOES_TO:
+            self.sent.append((step, address_words(point.a)))
+        else:
+            self._is_connected(socket, point)
+
+    def _is_connected(self, socket: int, point: Point) -> None:
+        own, other = (self._names.setdefault(name, len(self._names) + 1) for name in (point.a, point.b))
+        self.ends.append((socket, own, other))
         others = self._ends.get((point.b, point.a))
         if others:
             self.peers.append((others.pop(), socket))

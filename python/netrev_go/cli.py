@@ -13,7 +13,7 @@ from netrev_words.command_lines import command
 
 from .converting import Wish, convert
 from .doctor import doctor
-from .keeping import Making, complain, say, unwritten
+from .keeping import Making, Saying, complain, say, unwritten
 from .options import POSSIBLE, SUSPECTS, asks_for_help, check, help_of, parser
 from .outputs import base_name, look, numbered
 from .recovery import offer, recover
@@ -96,13 +96,14 @@ def convert_one(options: argparse.Namespace) -> int:
     status: int = Status.DONE
     for index, log in enumerate(logs, 1):
         KNOWN.clear()
+        saying = Saying([], stream=sys.stdout)
         try:
-            outcome = convert(log, numbered(base, index), go, wish_of(options), KNOWN)
+            outcome = convert(log, numbered(base, index), go, wish_of(options), KNOWN, saying.hear)
         except OSError as fault:
             complain(unwritten(numbered(base, index), fault))
             status = Status.TROUBLE
             continue
-        say(outcome.lines, sys.stdout)
+        saying.rest(outcome.lines)
         status = status or (Status.DONE if outcome.taken else Status.REFUSED)
     return status
 

@@ -288,7 +288,7 @@ class Converter:
         self.step(f'["fire",{place},"{"stale" if point.b & STALE else "done"}"]')
 
     def named(self, point: Point, socket: Socket) -> None:
-        self.beside.named(socket.number, point)
+        self.beside.named(socket.number, point, self.last_steps[self.goroutine(point.goroutine)] if point.c else 0)
 
     def header(self) -> str:
         # A recording has room for two firings a descriptor that wait to be run. Several processors may have more.

@@ -11,14 +11,17 @@ from functools import partial
 from netrev_words.files import forget_where
 from netrev_words.plain import plain
 
-from .cutting import sockets_of
-from .lines import Roots, lines_of
+from .cutting import goroutines_of, sockets_of
+from .goroutine_lines import Everybody, kept
+from .goroutines import Goroutines
+from .line_reader import line_reader
+from .lines import Calls, Roots, lines_of
 from .logfile import NoLog, read_log
 from .making import NoSocket, Nothing, Part, Recording, Unconvertible, make, write, write_words
 from .outputs import LINES, WORDS
 from .points import Log
 from .ran import Ran, Tests, of_log
-from .report import report
+from .report import Hear, report, unheard
 from .sockets import MOST_MEGABYTES, MOST_SOCKETS
 from .toolchain import Go
 from .where import write_where
@@ -61,12 +64,18 @@ class ReadLog:
 
 
 def convert(
-    log: pathlib.Path, name: pathlib.Path, go: Go | None, wish: Wish, known: list[object] | None = None
+    log: pathlib.Path,
+    name: pathlib.Path,
+    go: Go | None,
+    wish: Wish,
+    known: list[object] | None = None,
+    hear: Hear = unheard,
 ) -> Outcome:
     """Makes the recording NAME of a log, and NAME.where beside it where Go is there to tell its lines. What is known of them then is kept
-    in `known`, for whom to give that back takes too long."""
+    in `known`, for whom to give that back takes too long. `hear` gets what is said of the recording as soon as it is known.
+    """
     try:
-        return converted(ReadLog(log, read_log(log), of_log(log)), name, go, wish, known=known)
+        return converted(ReadLog(log, read_log(log), of_log(log)), name, go, wish, known=known, hear=hear)
     except NoLog as fault:
         return Outcome(False, [f"{plain(str(log))}: {fault}"])
 
@@ -78,6 +87,7 @@ def converted(
     wish: Wish,
     test: Ran | None = None,
     known: list[object] | None = None,
+    hear: Hear = unheard,
 ) -> Outcome:
     """Makes the recording NAME of a log that was read, or of one of its tests, where one is named."""
     log = read.log
@@ -95,20 +105,35 @@ def converted(
     write(recording, name)
     if wish.words:
         write_words(recording, name.with_suffix(WORDS))
+    found = recording.everybody
+    if test is not None:
+        found = goroutines_of(test, found, read.tests.ran, recording.numbers)
     calls = {}
     if go:
         roots = Roots(go.sources(), pathlib.Path.cwd())
-        used = set(recording.stacks) | {wait.stack for wait in recording.beside.waits}
-        calls = lines_of(log, used, program_of(read.path, log.program), go.program, roots)
+        used = set(recording.stacks) | found.stacks()
+        calls = lines_of(log, used, program_of(read.path, log.program), line_reader(go), roots)
     has_lines = any(known.calls for known in calls.values())
     more = of_tests(recording, read.tests)
     if has_lines or recording.orders is not None or more or recording.times:
-        write_where(lines, recording.stacks, calls, recording.orders, recording.beside, more, recording.times)
+        everybody = everybody_of(recording, found, calls)
+        write_where(
+            lines, recording.stacks, calls, recording.orders, recording.beside, more, recording.times, everybody
+        )
     if any(recording.stacks) and not has_lines:
         recording.notes.append(
             "no lines: Go or the program's copy isn't here, or Go reads no lines of it (-buildmode=pie)"
         )
-    return Outcome(*report(recording, name, calls, wish.failed))
+    return Outcome(*report(recording, name, calls, wish.failed, hear))
+
+
+def everybody_of(recording: Recording, found: Goroutines, calls: dict[int, Calls]) -> Everybody | None:
+    """All goroutines as the file of lines has them; None where the log has nothing of them."""
+    if not (found.parks or found.uses):
+        return None
+    last = [recording.stacks[step - 1] if step else 0 for step in recording.last_steps]
+    stacks = {goid: last[number] for goid, number in recording.numbers.items()}
+    return Everybody(found, kept(found, recording.numbers, calls), recording.numbers, stacks)
 
 
 def of_tests(recording: Recording, tests: Tests) -> list[dict[str, object]]:

@@ -1,10 +1,11 @@
 """Which of a log's sockets are of one test: its own and its subtests', and of what others opened that it is part of, or nobody's
-test did, those with which something was done while it ran."""
+test did, those with which something was done while it ran. And which of all goroutines: not those of other tests."""
 
 from __future__ import annotations
 
-from collections.abc import Iterable
+from collections.abc import Iterable, Mapping
 
+from .goroutines import Goroutines
 from .points import Kind, Log
 from .ran import Ran
 from .sockets import Owned, Socket
@@ -15,10 +16,8 @@ MADE = 1  # what a point says of a goroutine that another made, and not only mad
 class Makers:
     """Which goroutine made which, and so which test a goroutine is of."""
 
-    def __init__(self, log: Log, tests: Iterable[Ran]) -> None:
-        self.made_by = {
-            point.a: point.goroutine for point in log.points if point.kind == Kind.READY and point.b == MADE
-        }
+    def __init__(self, made_by: Mapping[int, int], tests: Iterable[Ran]) -> None:
+        self.made_by = made_by
         self.tests = {test.goroutine: test for test in tests}
 
     def test_of(self, goroutine: int) -> Ran | None:
@@ -34,7 +33,8 @@ class Makers:
 
 def sockets_of(test: Ran, log: Log, found: Owned, tests: list[Ran]) -> list[Socket]:
     """The sockets of one test."""
-    makers = Makers(log, tests)
+    made_by = {point.a: point.goroutine for point in log.points if point.kind == Kind.READY and point.b == MADE}
+    makers = Makers(made_by, tests)
     opened = {socket: makers.test_of(socket.opener) for socket in found.sockets}
     end = test.ended if test.ended is not None else log.points[-1].number + 1 if log.points else 0
     used = {socket for point, socket in found.points if test.began <= point.number < end}
@@ -46,3 +46,18 @@ def sockets_of(test: Ran, log: Log, found: Owned, tests: list[Ran]) -> list[Sock
         return socket in used and (owner is None or test.is_below(owner))
 
     return [socket for socket in found.sockets if is_of(socket)]
+
+
+def goroutines_of(test: Ran, found: Goroutines, tests: list[Ran], numbers: Mapping[int, int]) -> Goroutines:
+    """What goroutines did while one test ran, without those of other tests: such a goroutine may run on when its test has ended. The
+    recording's own, which are numbered, are kept."""
+    makers = Makers({goroutine: born.maker for goroutine, born in found.born.items()}, tests)
+
+    def is_of_another(goroutine: int) -> bool:
+        owner = makers.test_of(goroutine)
+        is_related = owner is None or owner is test or owner.is_below(test) or test.is_below(owner)
+        return not is_related and goroutine not in numbers
+
+    during = found.during(test.began_at, test.ended_at)
+    others = {goroutine for goroutine in during.goroutines() if is_of_another(goroutine)}
+    return during.without(others)

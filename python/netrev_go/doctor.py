@@ -8,6 +8,7 @@ from netrev_words.built import netrev_program
 from netrev_words.command_lines import how_to_get_netrev
 
 from .calls_of_go import unknown_calls
+from .line_reader import build_line_reader
 from .running import MOST_POINTS, logs_folder
 from .toolchain import HOW_TO_INSTALL, WITHOUT, Go, Trouble, cache, find_go, fit, overlay, tried
 from .trying import trial
@@ -70,6 +71,14 @@ def can_write() -> bool:
     return True
 
 
+def reads_lines(go: Go) -> str:
+    """By which program lines of source are read, which is built if it isn't here."""
+    try:
+        return f"read by {build_line_reader(go)}"
+    except Trouble as trouble:
+        return f"{trouble}. Go tries again when it first reads lines"
+
+
 def tries_well(go: Go) -> bool:
     """Whether the changed files are compiled, and a trial program is recorded as it should be."""
     try:
@@ -78,6 +87,7 @@ def tries_well(go: Go) -> bool:
         print(f"compiled: {trouble}")
         return False
     print("compiled: the changed files of Go's are")
+    print(f"lines: {reads_lines(go)}")
     came = trial(go)
     print(
         f"trial: {'all that was recorded is as it should be: ' if came.good else 'this Go is not recorded: '}{came.said}"

@@ -36,6 +36,25 @@ def say(lines: list[str], stream: TextIO | None = None) -> None:
             sys.stderr = nowhere
 
 
+class Saying:
+    """Says what is known of a recording as soon as it is known, below a head."""
+
+    def __init__(self, head: list[str], indent: str = "", stream: TextIO | None = None) -> None:
+        self._head, self._indent, self._stream = head, indent, stream
+        self._count = 0  # of the lines that were said
+
+    def hear(self, lines: list[str]) -> None:
+        """Says these lines, the next ones."""
+        if lines:
+            say([*self._head, *(self._indent + line for line in lines)], self._stream)
+            self._head = []
+            self._count += len(lines)
+
+    def rest(self, lines: list[str]) -> None:
+        """Of all lines, says those that weren't said yet."""
+        self.hear(lines[self._count :])
+
+
 def complain(text: str) -> None:
     """Tells what stands in the way."""
     say(["netrev-go: " + "\n".join(plain(line) for line in text.split("\n"))])
@@ -133,9 +152,9 @@ class Making:
         """A recording of each log in which sockets were opened: whether all are taken, and how many there are of this name."""
         ok, before, without = True, count, 0
         for log in logs_in(self._folder):
-            name = numbered(base, count + 1)
+            name, saying = numbered(base, count + 1), Saying([])
             try:
-                outcome = convert(log, name, self._go, wish)
+                outcome = convert(log, name, self._go, wish, hear=saying.hear)
             except OSError as fault:
                 complain(unwritten(name, fault))
                 ok, self.trouble = False, True
@@ -146,7 +165,7 @@ class Making:
             count += 1
             ok = ok and outcome.taken
             self.suspected = self.suspected or bool(suspects_in(outcome.lines))
-            say(outcome.lines)
+            saying.rest(outcome.lines)
         if without and count == before:
             say(["no socket was opened: there is nothing to record"])
         elif without:

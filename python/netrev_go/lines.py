@@ -1,4 +1,4 @@
-"""Lines of source for the addresses of a program, by `go tool addr2line`. A program without symbols has its lines too."""
+"""Lines of source for the addresses of a program, by Go's `addr2line`. A program without symbols has its lines too."""
 
 from __future__ import annotations
 
@@ -33,7 +33,7 @@ class Calls(NamedTuple):
 
 
 def shift(program: pathlib.Path, text: int) -> int | None:
-    """How much later the program's own code lay than `go tool addr2line` takes it to: that counts from the section .text, where
+    """How much later the program's own code lay than `addr2line` takes it to: that counts from the section .text, where
     C code may come first, and a program may lie anywhere. None where the file has no such section."""
     with program.open("rb") as file:
         data = file.read()
@@ -50,13 +50,13 @@ def shift(program: pathlib.Path, text: int) -> int | None:
     return None
 
 
-def looked_up(program: pathlib.Path, go: str, addresses: Iterable[int], moved: int) -> dict[int, tuple[str, str, int]]:
-    """The function, the file and the line at each address."""
+def looked_up(
+    program: pathlib.Path, reader: list[str], addresses: Iterable[int], moved: int
+) -> dict[int, tuple[str, str, int]]:
+    """The function, the file and the line at each address, by the command that reads them."""
     asked = sorted(set(addresses))
     text = "".join(f"{address - moved:#x}\n" for address in asked if address >= moved)
-    run = subprocess.run(
-        [go, "tool", "addr2line", program], input=text, capture_output=True, text=True, check=False, errors="replace"
-    )
+    run = subprocess.run([*reader, program], input=text, capture_output=True, text=True, check=False, errors="replace")
     told = run.stdout.split("\n")
     found = {}
     for address, function, place in zip((a for a in asked if a >= moved), told[0::2], told[1::2]):
@@ -110,8 +110,9 @@ def outside_the_runtime(calls: list[Call]) -> tuple[Call, ...]:
     return tuple(calls)
 
 
-def lines_of(log: Log, used: set[int], program: pathlib.Path, go: str, roots: Roots) -> dict[int, Calls]:
-    """The calls of the stacks that are used. None, where the program isn't there or has no table of lines."""
+def lines_of(log: Log, used: set[int], program: pathlib.Path, reader: list[str], roots: Roots) -> dict[int, Calls]:
+    """The calls of the stacks that are used, by the command that reads lines. None, where the program isn't there or has no table of
+    them."""
     stacks: dict[int, Stack] = {number: log.stacks[number] for number in used if number in log.stacks}
     try:
         moved = shift(program, log.text)
@@ -120,7 +121,7 @@ def lines_of(log: Log, used: set[int], program: pathlib.Path, go: str, roots: Ro
     if moved is None:
         return {}
     behind = {address for stack in stacks.values() for address in (*stack.calls, stack.made) if address}
-    found = looked_up(program, go, (address - 1 for address in behind), moved)
+    found = looked_up(program, reader, (address - 1 for address in behind), moved)
     calls = {}
     for number, stack in stacks.items():
         chain = [roots.call(*found[address - 1]) for address in stack.calls if address - 1 in found]

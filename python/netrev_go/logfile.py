@@ -177,7 +177,13 @@ def log_of(file: BinaryIO) -> Log:
     if len(points) + UNDER_WAY < kept or held < kept:
         log.notes.append(f"the log is cut short or damaged: {len(points)} of its {kept} points can be used")
     elif len(points) < kept:
-        log.notes.append(f"{kept - len(points)} points were under way when the log ended, and are left out")
+        missing = kept - len(points)
+        says = (
+            "1 point was under way when the log ended, and is"
+            if missing == 1
+            else f"{missing} points were under way when the log ended, and are"
+        )
+        log.notes.append(f"{says} left out")
     if header.stacks_lost:
         log.notes.append(f"{header.stacks_lost} points have no line: there were too many different stacks")
     return log

@@ -17,7 +17,8 @@ from .orders import Made, orders_of
 from .points import AT_A_SOCKET, LOCKING, ORDERING, Log, Point
 from .sockets import FEW_BYTES, MOST_MEGABYTES, MOST_SOCKETS, MOST_STEPS, POINT, Owned, Socket, chosen, owned
 from .times import times_of
-from .waits import CONCERNED, waits_of
+from .goroutines import CONCERNED, Goroutines, goroutines_of
+from .waits import waits_of
 from .zeros import Line
 
 
@@ -50,6 +51,8 @@ class Recording:
     times: list[int] | None = None  # of the steps, from the log's begin; None where the log has none
     points: list[tuple[Point, Socket]] = field(default_factory=list)
     ended: list[int] = field(default_factory=list)  # how many steps there are behind each point
+    everybody: Goroutines = field(default_factory=Goroutines)  # also goroutines without a step
+    numbers: dict[int, int] = field(default_factory=dict)  # the recording's goroutines, by Go's names
 
     @cached_property
     def words(self) -> list[LockWord]:
@@ -95,12 +98,14 @@ def make(
     if found.cut:
         notes.append(f"reads and writes count at most {FEW_BYTES} bytes each: --all-bytes counts all")
     orders = orders_of(log.of_kinds(ORDERING), converter.made) if log.has_orders else None
-    converter.beside.waits = waits_of(log.of_kinds(CONCERNED), converter.made, converter.goroutines)
+    everybody = goroutines_of(log.of_kinds(CONCERNED), converter.made, log.begin)
+    converter.beside.waits = waits_of(everybody, converter.goroutines)
     return Recording(
         converter.header(), converter.lines, converter.stacks,
         len(converter.goroutines), converter.last_steps, converter.sockets, orders, notes,
         converter.beside, FEW_BYTES if found.cut else None, converter.made,
         times_of(map(POINT, converter.points), converter.ended, log.begin), converter.points, converter.ended,
+        everybody, converter.goroutines,
     )  # fmt: skip
 
 

@@ -50,14 +50,23 @@ class Kind(IntEnum):
     NAMED = 123
     PARKS = 124
     GOES_ON = 125
+    CASES = 126
+    HANDED = 127
+    ENDS = 128
+    TIMER = 129
+    GROUP = 130
+    STOPPED = 131
 
 
 # Sets of plain numbers, as points have them: an enumeration's members are compared much more slowly.
 KINDS = frozenset(map(int, Kind))
 # Points at which the program itself puts goroutines in order, and which are at no socket.
 ORDERING = frozenset(range(Kind.READY, Kind.FOUND_CLOSED + 1))
-# Points at which a goroutine begins to wait outside of the poller, and goes on.
-WAITING = frozenset(map(int, (Kind.PARKS, Kind.GOES_ON)))
+# Points at which a goroutine begins to wait outside of the poller, goes on, gets a value that it waits for, makes or stops a timer, adds to
+# a WaitGroup, and ends.
+WAITING = frozenset(
+    map(int, (Kind.PARKS, Kind.GOES_ON, Kind.CASES, Kind.HANDED, Kind.ENDS, Kind.TIMER, Kind.GROUP, Kind.STOPPED))
+)
 AT_A_SOCKET = KINDS - ORDERING - WAITING
 LOCKING = frozenset(map(int, (Kind.INCREF, Kind.INCREF_CLOSE, Kind.DECREF, Kind.RW_LOCK, Kind.RW_UNLOCK)))
 # Points at a lock word's address. All others but INIT are at a descriptor's.

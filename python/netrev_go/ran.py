@@ -37,6 +37,9 @@ class Ran:
     ended: int | None = None
     ended_at: int | None = None
     skipped: bool = False
+    bubbles: int = (
+        0  # of testing/synctest that it is in: package testing runs the function of one as a test of the same name
+    )
 
     def went(self) -> Went:
         if self.failed is not None:
@@ -69,6 +72,8 @@ class Tests:
         """What a line says."""
         if what == "package":
             self.package = name
+        elif what == "runs" and name in self.by_name and self.by_name[name].ended is None:
+            self.by_name[name].bubbles += 1
         elif what == "runs":
             self.by_name[name] = Ran(self.package, name, goroutine, passed, time)
             self.ran.append(self.by_name[name])
@@ -77,7 +82,9 @@ class Tests:
 
     @staticmethod
     def happened(test: Ran, passed: int, time: int, what: str, place: str) -> None:
-        if what == "ends":
+        if what == "ends" and test.bubbles:
+            test.bubbles -= 1
+        elif what == "ends":
             test.ended, test.ended_at = passed, time
         elif what == "fails" and test.failed is None:
             test.failed, test.place = passed, place_of(place)

@@ -19,10 +19,11 @@ from netrev_words.plain import plain
 from .asking import PACKAGES
 from .converting import Outcome, ReadLog, Wish, converted
 from .forms import Told
-from .keeping import complain, say, unwritten
+from .keeping import Saying, complain, say, unwritten
 from .logfile import NoLog, read_log
 from .outputs import LONGEST_ENDING, numbered
 from .ran import Ran, Tests, of_log
+from .report import Hear, unheard
 from .running import as_a_shell_has_it, logs_in
 from .toolchain import Go
 
@@ -32,6 +33,7 @@ LONGEST_NAME = 255 - len(LONGEST_ENDING)
 OTHER = "process"  # the recording of a process that has no tests
 FOUND = 4  # nrdb's status where a schedule ends badly
 GRACE = 60  # seconds for reducing what was found
+INDENT = "  "
 
 
 def short_name(package: str) -> str:
@@ -43,6 +45,12 @@ def short_name(package: str) -> str:
 def file_name(*words: str) -> str:
     """A name for a file: a test's slashes are dots, and what a file's name shouldn't have is _."""
     return UNFIT.sub("_", ".".join(word.replace("/", ".") for word in words).lstrip("."))[:LONGEST_NAME]
+
+
+def head_of(test: Ran) -> str:
+    """How a test went, and where it failed if that is known."""
+    at = f", at {test.place[0]}:{test.place[1]}" if test.place else ""
+    return plain(f"{test.went().value.upper()} {test.package} {test.name}{at}")
 
 
 class Recordings:
@@ -93,28 +101,28 @@ class Recordings:
     def whole(self, log: pathlib.Path, tests: Tests) -> None:
         """The recording of a process in which no test is known to have failed, though something did."""
         name = self.name_of(tests.package or OTHER, "")
-        outcome = self.made(self.read(log, tests), name, None)
+        saying = Saying([f"{plain(tests.package or OTHER)}: no test of it is known to have failed"])
+        outcome = self.made(self.read(log, tests), name, None, saying.hear)
         if outcome is not None and not outcome.is_empty:
-            say([f"{plain(tests.package or OTHER)}: no test of it is known to have failed", *outcome.lines])
+            saying.rest(outcome.lines)
 
     def of_each(self, log: pathlib.Path, tests: Tests, kept: list[Ran]) -> None:
         """The recordings of a process's tests."""
         read = self.read(log, tests) if kept else None
         for test in kept:
-            told, name = self.of(test), self.name_of(test.package, test.name)
-            outcome = self.made(read, name, test)
+            told, name, head = self.of(test), self.name_of(test.package, test.name), head_of(test)
+            saying = Saying([head] if test.is_red() else [], INDENT)
+            outcome = self.made(read, name, test, saying.hear if test.is_red() else unheard)
             if outcome is None:
                 continue
-            if outcome.is_empty:
-                self._names.discard(name)
-            if test.is_red():
-                at = f", at {test.place[0]}:{test.place[1]}" if test.place else ""
-                head = f"{test.went().value.upper()} {test.package} {test.name}{at}"
-                say([plain(head + (": no socket is of it" if outcome.is_empty else ""))])
             if not outcome.is_empty:
-                self.keep(told, name, outcome)
+                self.keep(told, name, outcome, saying)
+                continue
+            self._names.discard(name)
+            if test.is_red():
+                say([f"{head}: no socket is of it"])
 
-    def keep(self, told: Told, name: pathlib.Path, outcome: Outcome) -> None:
+    def keep(self, told: Told, name: pathlib.Path, outcome: Outcome, saying: Saying) -> None:
         """Says what there is to say of a recording, and keeps it for machines."""
         told.say(outcome.lines)
         told.accepted = outcome.taken
@@ -122,7 +130,7 @@ class Recordings:
             told.recording = str(name)
         self.suspected = self.suspected or bool(told.suspects)
         if told.is_red() or told.suspects or not outcome.taken:
-            say([f"  {line}" for line in outcome.lines])
+            saying.rest(outcome.lines)
         if self._is_page_wanted and outcome.taken:
             told.page = page_of(name)
 
@@ -134,14 +142,14 @@ class Recordings:
             complain(f"{log}: {fault}")
             return None
 
-    def made(self, read: ReadLog | None, name: pathlib.Path, test: Ran | None) -> Outcome | None:
-        """What became of a recording; None where it can't be written, which is said."""
+    def made(self, read: ReadLog | None, name: pathlib.Path, test: Ran | None, hear: Hear) -> Outcome | None:
+        """What became of a recording; None where it can't be written, which is said. `hear` gets what is known of it first."""
         if read is None:
             return None
         failed = test is None or test.is_red()
         try:
             name.parent.mkdir(parents=True, exist_ok=True)
-            outcome = converted(read, name, self._go, replace(self._wish, failed=failed), test)
+            outcome = converted(read, name, self._go, replace(self._wish, failed=failed), test, hear=hear)
         except OSError as fault:
             complain(unwritten(name, fault))
             self.all_recorded, self.trouble = False, True

@@ -19,6 +19,7 @@ from netrev_words.plain import plain
 from .asking import check
 from .compare import DIFFERS, by_the_model, differing
 from .keeping import say
+from .line_reader import prepare_line_reader
 from .logfile import NoLog, read_log
 from .making import Nothing, Recording, Unconvertible, make, write, write_words
 from .running import LOG
@@ -153,6 +154,7 @@ def kept(go: Go) -> Trial | None:
 def ready(go: Go) -> pathlib.Path:
     """The overlay of a Go that can be recorded. It is tried once; of a release that never was, what came of it is said."""
     made = overlay(go)
+    prepare_line_reader(go)
     before = kept(go)
     came = before or trial(go)
     if not came.good:

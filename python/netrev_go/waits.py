@@ -1,17 +1,12 @@
-"""Where goroutines wait outside of the poller: at a channel, a select, a mutex, a condition or a WaitGroup. Of those that a recording has,
-and of waits in which it has a step."""
+"""Where goroutines that a recording has wait outside of the poller: at a channel, a select, a mutex, a condition or a WaitGroup. Of waits
+in which the recording has a step."""
 
 from __future__ import annotations
 
-from bisect import bisect_left
-from collections.abc import Iterable
 from typing import NamedTuple
 
-from .orders import Made
-from .points import Kind, Point
+from .goroutines import SLEEP, UNENDED, Goroutines
 
-READY, PARKS, GOES_ON = int(Kind.READY), int(Kind.PARKS), int(Kind.GOES_ON)
-CONCERNED = frozenset((READY, PARKS, GOES_ON))
 WAITED_FOR = ("", "a value from a channel", "room in a channel", "a select", "a condition")
 
 
@@ -27,28 +22,15 @@ class Wait(NamedTuple):
     by: int
 
 
-def waits_of(points: Iterable[Point], steps: list[Made], numbers: dict[int, int]) -> list[Wait]:
-    """The waits of the points that are concerned, in the order of their ends. `steps` has the steps that were made of a point, `numbers`
-    the recording's numbers of goroutines."""
-    begun: dict[int, Wait] = {}
-    ready: dict[int, int] = {}
-    found: list[Wait] = []
-
-    def step_before(number: int) -> int:
-        """The last step that was made before a point; 0 where none was."""
-        at = bisect_left(steps, (number,))
-        return steps[at - 1][2] if at else 0
-
-    for number, kind, goroutine, _, a, b, _, _, stack in points:
-        if kind == READY and not b:
-            ready[a] = numbers.get(goroutine, -1)
-        elif kind == PARKS and goroutine in numbers:
-            ready.pop(goroutine, None)
-            reason = WAITED_FOR[a] if 0 <= a < len(WAITED_FOR) else ""
-            begun[goroutine] = Wait(step_before(number), 0, numbers[goroutine], reason, stack, -1)
-        elif kind == GOES_ON and goroutine in begun:
-            wait = begun.pop(goroutine)
-            step = step_before(number)
-            if step > wait.first:
-                found.append(wait._replace(last=step, by=ready.get(goroutine, -1)))
-    return found + list(begun.values())
+def waits_of(found: Goroutines, numbers: dict[int, int]) -> list[Wait]:
+    """The waits in the order of their ends, those that don't end last. `numbers` has the recording's numbers of goroutines."""
+    waits = []
+    for park in (
+        *(found.parks[place] for place in found.finished),
+        *(one for one in found.parks if one.last == UNENDED),
+    ):
+        if park.goroutine in numbers and park.what != SLEEP and not park.first == park.last:
+            reason = WAITED_FOR[park.what] if park.what < len(WAITED_FOR) else ""
+            last, by = max(park.last, 0), numbers.get(park.by, -1)
+            waits.append(Wait(park.first, last, numbers[park.goroutine], reason, park.stack, by))
+    return waits

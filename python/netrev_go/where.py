@@ -4,11 +4,12 @@ from __future__ import annotations
 
 import json
 import pathlib
-from collections.abc import Iterable
+from collections.abc import Iterable, Sequence
 
 from netrev_words.files import written_whole
 
 from .beside import Beside
+from .goroutine_lines import Everybody
 from .lines import OF_A_LIBRARY, OF_THE_PROGRAM, Call, Calls
 from .orders import parts
 from .times import deltas
@@ -48,6 +49,11 @@ class Numbered:
             self.add({"stack": self.numbers[key], "calls": calls, **made})
         return self.numbers[key]
 
+    def made(self, key: int) -> int:
+        """The number of the call of the `go` statement that made the goroutine of a stack; 0 for none."""
+        known = self.stacks.get(key)
+        return self.call(known.made) if known and known.made else 0
+
 
 def write_where(
     name: pathlib.Path,
@@ -57,21 +63,24 @@ def write_where(
     beside: Beside = Beside(),
     more: Iterable[object] = (),
     times: list[int] | None = None,
+    everybody: Everybody | None = None,
 ) -> None:
     """Writes the file of a recording whose steps have these stacks, which the program puts in these orders, and what the log has
-    besides; more lines; and the steps' times."""
+    besides; more lines; the steps' times; and all goroutines."""
     numbered = Numbered(calls)
-    numbered.add({"where": 1, "steps": len(stacks)})
+    numbered.add({"where": 1 if everybody is None else 2, "steps": len(stacks)})
     number_of = {key: str(numbered.stack(key)) for key in dict.fromkeys(stacks)}.__getitem__
     for first in range(0, len(stacks), STEPS_A_LINE):
         numbers = ",".join(map(number_of, stacks[first : first + STEPS_A_LINE]))
         numbered.lines.append(f'{{"step":{first + 1},"stacks":[{numbers}]}}\n')
     for part in parts(orders, STEPS_A_LINE) if orders is not None else ():
         numbered.add({"orders": part})
-    for first in range(0, len(beside.peers), STEPS_A_LINE):
-        numbered.add({"peers": beside.peers[first : first + STEPS_A_LINE]})
-    for first in range(0, len(beside.errors), STEPS_A_LINE):
-        numbered.add({"errors": beside.errors[first : first + STEPS_A_LINE]})
+    of_sockets: dict[str, Sequence[object]] = {
+        "peers": beside.peers, "ends": beside.ends, "addresses": beside.addresses, "sent": beside.sent, "errors": beside.errors,
+    }  # fmt: skip
+    for what, pairs in of_sockets.items():
+        for first in range(0, len(pairs), STEPS_A_LINE):
+            numbered.add({what: pairs[first : first + STEPS_A_LINE]})
     waits = [wait._replace(stack=numbered.stack(wait.stack)) for wait in beside.waits]
     for first in range(0, len(waits), STEPS_A_LINE):
         numbered.add({"waits": waits[first : first + STEPS_A_LINE]})
@@ -80,6 +89,9 @@ def write_where(
     later = deltas(times or [])
     for first in range(0, len(later), STEPS_A_LINE):
         numbered.add({"times": later[first : first + STEPS_A_LINE]})
+    for what, values in everybody.lines(calls, numbered.stack, numbered.made) if everybody else ():
+        for first in range(0, len(values), STEPS_A_LINE):
+            numbered.add({what: values[first : first + STEPS_A_LINE]})
     written_whole(name, "".join(numbered.lines).encode("ascii"))
 
 

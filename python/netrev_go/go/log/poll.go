@@ -23,6 +23,12 @@ const (
 	netrevNamedKind       = 123 // no step: a is the name of a connection's own end, and b that of the other one
 )
 
+// What c of a netrevNamedKind is, if it isn't 0.
+const (
+	netrevOfDatagrams = 1 // a is the address of a socket for datagrams, and b the one that it is connected to, or 0
+	netrevGoesTo      = 2 // a is the address to which the goroutine is about to send a datagram
+)
+
 // What the log has of a system call's error.
 const (
 	netrevNoError = iota
@@ -110,8 +116,67 @@ func netrevInit(fd *FD) *FD {
 		if !netrevEnds(fd) { // it isn't connected yet
 			netrevIsNamed(fd.Sysfd, false)
 		}
+		if !fd.IsStream {
+			netrevDatagrams(fd)
+		}
 	}
 	return fd
+}
+
+// netrevDatagrams is a socket for datagrams, which has its address by now.
+func netrevDatagrams(fd *FD) {
+	own, err := syscall.Getsockname(fd.Sysfd)
+	if err != nil || netrevAddress(own) == 0 {
+		return
+	}
+	connected := int64(0)
+	if other, err := syscall.Getpeername(fd.Sysfd); err == nil {
+		connected = netrevAddress(other)
+	}
+	runtime_netrevPoint(netrevNamedKind, &fd.fdmu.state, netrevAddress(own), connected, netrevOfDatagrams)
+}
+
+// netrevSends is a datagram that is about to be sent to an address.
+func netrevSends(fd *FD, to syscall.Sockaddr) {
+	if address := netrevAddress(to); address != 0 {
+		runtime_netrevPoint(netrevNamedKind, &fd.fdmu.state, address, 0, netrevGoesTo)
+	}
+}
+
+// netrevAddress is an address and its port: of IPv4 1, the address and the port; of IPv6 2, 40 bits of a number for the address, and the port,
+// or 3 for the address ::1, and 4 for ::. It is 0 for what is neither.
+func netrevAddress(name syscall.Sockaddr) int64 {
+	switch end := name.(type) {
+	case *syscall.SockaddrInet4:
+		if end != nil {
+			return netrevPacked(1, end.Addr[:], end.Port)
+		}
+	case *syscall.SockaddrInet6:
+		if end == nil {
+			return 0
+		}
+		switch string(end.Addr[:12]) {
+		case "\x00\x00\x00\x00\x00\x00\x00\x00\x00\x00\xff\xff":
+			return netrevPacked(1, end.Addr[12:], end.Port)
+		case "\x00\x00\x00\x00\x00\x00\x00\x00\x00\x00\x00\x00":
+			if last := string(end.Addr[12:]); last == "\x00\x00\x00\x01" {
+				return netrevPacked(3, nil, end.Port)
+			} else if last == "\x00\x00\x00\x00" {
+				return netrevPacked(4, nil, end.Port)
+			}
+		}
+		hash := uint64(netrevEnd(name))
+		return netrevPacked(2, []byte{byte(hash >> 8), byte(hash >> 16), byte(hash >> 24), byte(hash >> 32), byte(hash >> 40)}, end.Port)
+	}
+	return 0
+}
+
+func netrevPacked(sort uint64, address []byte, port int) int64 {
+	packed := uint64(0)
+	for _, digits := range address {
+		packed = packed<<8 | uint64(digits)
+	}
+	return int64(sort<<56 | packed<<16 | uint64(port))
 }
 
 // netrevNamed has a bit for each of the system's descriptors whose ends were looked for since it was opened.

@@ -64,6 +64,9 @@ const (
 	netrevOpenFailed  = 116
 )
 
+// netrevStacked are the other kinds that have a stack, a bit for each from netrevOpenFailed on: 118 to 122, 124, 127 and 129 to 131 of orders.go.
+const netrevStacked = 0x1f<<2 | 1<<8 | 1<<11 | 7<<13
+
 // What marks a semaphore of a lock word, in the arguments of the runtime's own functions.
 const (
 	netrevSema     = 1 << 20
@@ -337,7 +340,7 @@ func netrevLog(kind uint64, goid uint64, at uintptr, a, b, c, now int64) {
 	}
 	p := (*[netrevPointWords]uint64)(unsafe.Pointer(place))
 	var stack uint64
-	if gp := getg(); netrevLines && (kind <= netrevOpenFailed || kind == netrevParksKind) && gp.m != nil && gp == gp.m.curg {
+	if gp := getg(); netrevLines && netrevHasStack(kind, goid, gp) && gp.m != nil && gp == gp.m.curg {
 		stack = netrevStack(gp, sys.GetCallerSP()-16)
 	}
 	atomic.Store64(&p[0], 0)
@@ -345,6 +348,12 @@ func netrevLog(kind uint64, goid uint64, at uintptr, a, b, c, now int64) {
 	sum := p[1] ^ p[2] ^ p[3] ^ p[4] ^ p[5] ^ p[6] ^ uint64(number)
 	p[7] = stack | (sum^sum>>32)<<32
 	atomic.Store64(&p[0], uint64(number+1)<<8|kind)
+}
+
+// netrevHasStack says whether a point of this kind has a stack. At a channel a goroutine may pass the point of another, whose stack that
+// isn't.
+func netrevHasStack(kind, goid uint64, gp *g) bool {
+	return kind <= netrevOpenFailed || netrevStacked>>(kind-netrevOpenFailed)&1 != 0 && goid == uint64(gp.goid)
 }
 
 // netrevRoom takes the room for the next points, while the ring goes round for the first time. A point that comes before that is

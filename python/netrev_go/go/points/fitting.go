@@ -49,6 +49,27 @@ func wanted() []fitting {
 	for _, r := range orders {
 		all = append(all, fitting{rule: r, without: ofOrders})
 	}
+	for _, r := range objects {
+		all = append(all, fitting{rule: r, without: ofObjects})
+	}
+	for _, r := range ends {
+		all = append(all, fitting{rule: r, without: ofEnds})
+	}
+	for _, r := range sleeps {
+		all = append(all, fitting{rule: r, without: ofSleeps})
+	}
+	for _, r := range timers {
+		all = append(all, fitting{rule: r, without: ofTimers})
+	}
+	for _, r := range stops {
+		all = append(all, fitting{rule: r, without: ofStops})
+	}
+	for _, r := range addressed {
+		all = append(all, fitting{rule: r, without: ofAddresses})
+	}
+	for _, r := range groups {
+		all = append(all, fitting{rule: r, without: ofGroups})
+	}
 	for _, r := range tests {
 		all = append(all, fitting{rule: r, without: ofTests})
 	}
@@ -76,19 +97,25 @@ func fitAll(folder string) (map[string]*source, []fitting) {
 }
 
 // together are what is recorded wholly or not at all.
-var together = map[string]bool{ofOrders: true, ofTests: true}
+var together = map[string]bool{ofOrders: true, ofObjects: true, ofTests: true}
 
-// withoutElse takes out what isn't needed: a way's rule that doesn't fit, where another for the same does; and the rules of what is
-// recorded wholly or not at all, where one of them doesn't fit.
+// withOrders are what is recorded with the program's orders alone: a log with such points is taken for one that has the orders.
+var withOrders = map[string]bool{ofObjects: true, ofEnds: true, ofSleeps: true, ofTimers: true, ofStops: true, ofGroups: true}
+
+// withoutElse takes out what isn't needed: a way's rule that doesn't fit, where another for the same does; the rules of what is
+// recorded wholly or not at all, where one of them doesn't fit; and with the orders those of what is recorded with them.
 func withoutElse(fittings []fitting) []fitting {
 	fits, unfit := map[string]bool{}, map[string]bool{}
 	for _, f := range fittings {
 		fits[f.without] = fits[f.without] || f.variant != nil
 		unfit[f.without] = unfit[f.without] || f.variant == nil
 	}
-	fits[""], fits[ofOrders], fits[ofTests] = false, false, false
+	fits[""], fits[ofOrders], fits[ofObjects], fits[ofEnds], fits[ofTests] = false, false, false, false, false
 	var kept []fitting
 	for _, f := range fittings {
+		if withOrders[f.without] && unfit[ofOrders] {
+			continue
+		}
 		if f.variant == nil && !fits[f.without] || f.variant != nil && !(together[f.without] && unfit[f.without]) {
 			kept = append(kept, f)
 		}

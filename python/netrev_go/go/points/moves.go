@@ -43,3 +43,19 @@ var ways = []way{
 		{"1.23", "!err1", moved("syscall.Sendfile(dst, src, ...)", "netrevWriteKind, dstFD, 1, n, err")}}}, "what SendFile writes"},
 	{rule{sender, "sendFile", all(moved("sendFileChunk(dst, src, ...)", "netrevWriteKind, dstFD, 1, n, err")...)}, "what SendFile writes"},
 }
+
+const ofAddresses = "where datagrams go"
+
+// Where datagrams go that are sent from a socket which needn't be connected.
+var addressed = []rule{
+	{sockets, "WriteTo", goesTo("syscall.Sendto(fd.Sysfd, ...)")},
+	{sockets, "WriteToInet4", goesTo("unix.SendtoInet4(fd.Sysfd, ...)")},
+	{sockets, "WriteToInet6", goesTo("unix.SendtoInet6(fd.Sysfd, ...)")},
+	{sockets, "WriteMsg", goesTo("syscall.SendmsgN(fd.Sysfd, ...)")},
+	{sockets, "WriteMsgInet4", goesTo("unix.SendmsgNInet4(fd.Sysfd, ...)")},
+	{sockets, "WriteMsgInet6", goesTo("unix.SendmsgNInet6(fd.Sysfd, ...)")},
+}
+
+func goesTo(call string) []variant {
+	return all(one(before, call, "if netrevOn != 0 { netrevSends(fd, sa) }"))
+}

@@ -42,10 +42,11 @@ const (
 	making    = "runtime/proc.go"
 	channels  = "runtime/chan.go"
 	selecting = "runtime/select.go"
+	grouping  = "sync/waitgroup.go"
 )
 
 // Which file gets which functions of ours.
-var appended = map[string]string{lockWords: "poll.go", polling: "runtime.go", channels: "orders.go", testing: "tests.go"}
+var appended = map[string]string{lockWords: "poll.go", polling: "runtime.go", channels: "orders.go", grouping: "groups.go", testing: "tests.go"}
 
 const swap = "atomic.CompareAndSwapUint64(&mu.state, old, new)"
 const isClosed = "old&mutexClosed != 0"

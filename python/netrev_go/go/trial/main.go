@@ -150,10 +150,12 @@ func queue(end, other *net.TCPConn) {
 	all.Wait()
 }
 
-// full fills the buffers, so that a writer waits until the other end reads.
+// full fills the buffers, so that a writer waits until the other end reads. They are small, since netrev checks each byte; where they are
+// smaller still, the kernel waits for a second.
 func full(end, other *net.TCPConn) {
-	end.SetWriteBuffer(1 << 16)
-	other.SetReadBuffer(1 << 16)
+	const buffer, piece = 1 << 15, 1 << 14
+	end.SetWriteBuffer(buffer)
+	other.SetReadBuffer(buffer)
 	done := make(chan bool)
 	go func() {
 		time.Sleep(moment)
@@ -161,7 +163,7 @@ func full(end, other *net.TCPConn) {
 		close(done)
 	}()
 	for i := 0; i < 16; i++ {
-		put(end, 1<<16)
+		put(end, piece)
 	}
 	end.CloseWrite()
 	<-done

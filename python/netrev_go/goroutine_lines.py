@@ -1,0 +1,221 @@
+"""What of all goroutines NAME.where has: which waits, uses of channels and goroutines there is room for, and the lines for them
+(docs/use/RECORDING.md has their form)."""
+
+from __future__ import annotations
+
+from collections import Counter
+from collections.abc import Callable, Iterable, Iterator
+from dataclasses import dataclass, field
+from itertools import compress
+
+from .goroutines import (
+    ADDED, CONDITION, DONE, MUTEX, OF_A_WAIT_GROUP, OTHER, READ_LOCK, ROOM, SEMAPHORE, UNENDED, VALUE, WAIT_GROUP, WRITE_LOCK, Goroutines, Park,
+    Span, Timer, Used,
+)  # fmt: skip
+from .lines import OF_GO, OF_THE_PROGRAM, Calls
+
+MOST = 2**16  # waits, uses of channels, timers, and goroutines
+OTHERS = 4  # of which a quarter at most are over when the log ends
+REASONS = (
+    "", "a value from a channel", "room in a channel", "a select", "a condition", "time.Sleep", "a mutex", "a read lock", "a write lock",
+    "a WaitGroup", "a semaphore", "a nil channel", "a select without cases",
+)  # fmt: skip
+FOR = {VALUE: "value", ROOM: "room"}
+CHANNEL = "channel"
+SORTS = {
+    MUTEX: "mutex", READ_LOCK: "RWMutex", WRITE_LOCK: "RWMutex", WAIT_GROUP: "WaitGroup", CONDITION: "condition",
+    SEMAPHORE: "semaphore",
+}  # fmt: skip
+# How far behind its object's address a semaphore is, in all releases of Go that are recorded.
+OF_A_MUTEX, OF_WRITERS, OF_READERS = 4, 8, 12
+OFFSETS = {MUTEX: OF_A_MUTEX, READ_LOCK: OF_READERS, WRITE_LOCK: OF_WRITERS, WAIT_GROUP: OF_A_WAIT_GROUP}
+# By which function of package sync a wait is known, the first one that is there: an RWMutex has a mutex.
+FUNCTIONS = (
+    ("sync.(*RWMutex).RLock", READ_LOCK), ("sync.(*RWMutex).Lock", WRITE_LOCK), ("sync.(*WaitGroup).Wait", WAIT_GROUP),
+    ("sync.(*Mutex)", MUTEX),
+)  # fmt: skip
+
+
+def names_of_go(calls: Calls | None) -> list[str]:
+    """The functions of Go's own that the program, or a library, is in, from the innermost."""
+    names = []
+    for call in calls.calls if calls else ():
+        if call.of != OF_GO:
+            break
+        names.append(call.function)
+    return names
+
+
+def waited_for(what: int, calls: Calls | None) -> int:
+    """What a goroutine waits for. Where the runtime says no more than that it is a semaphore, its stack says which."""
+    names = names_of_go(calls)
+    if what == MUTEX and any(name.startswith("sync.(*RWMutex).Lock") for name in names):
+        return WRITE_LOCK
+    if what not in (OTHER, SEMAPHORE):
+        return what if what < len(REASONS) else OTHER
+    plain = [name.removeprefix("internal/") for name in names]
+    return next((found for name, found in FUNCTIONS if any(one.startswith(name) for one in plain)), what)
+
+
+def semaphore_at(what: int, found: int, calls: Calls | None) -> int:
+    """How far behind its object a semaphore is, at which the runtime says that a goroutine waits for `what`, and its stack `found`."""
+    if what == SEMAPHORE and any("sync.(*Mutex)." in name for name in names_of_go(calls)):
+        return OF_A_MUTEX
+    return OFFSETS.get(found if what == SEMAPHORE else what, 0)
+
+
+@dataclass
+class Kept:
+    """What is kept: waits, uses, timers, and how many waits were left out, by what for, stack, and whether they have ended."""
+
+    parks: list[Park] = field(default_factory=list)
+    uses: list[tuple[Used, Span]] = field(default_factory=list)
+    timers: list[Timer] = field(default_factory=list)
+    left: Counter[tuple[int, int, bool]] = field(default_factory=Counter)
+
+
+def newest(waits: list[bool], most: int) -> Iterator[bool]:
+    """Which things of a list are kept, the newest of which is the last: first those that wait still, then a quarter as many of the others, the
+    newest ones."""
+    waiting = sum(waits)
+    too_many, others = max(waiting - most, 0), len(waits) - waiting
+    too_old = others - max(min(most - waiting, most // OTHERS, others), 0)
+    for is_waiting in waits:
+        if is_waiting:
+            too_many -= 1
+            yield too_many < 0
+        else:
+            too_old -= 1
+            yield too_old < 0
+
+
+def kept(found: Goroutines, numbers: dict[int, int], calls: dict[int, Calls], most: int = MOST) -> Kept:
+    """What is kept of all goroutines: what those did that the recording has, and what was done from a stack with a line of the program,
+    or in a goroutine that it made; all, where no lines are known."""
+    of_program = {
+        key
+        for key, known in calls.items()
+        if any(call.of == OF_THE_PROGRAM for call in known.calls) or known.made and known.made.of == OF_THE_PROGRAM
+    }
+    knows = any(known.calls for known in calls.values())
+
+    def is_concerned(goroutine: int, stack: int) -> bool:
+        return not knows or goroutine in numbers or stack in of_program
+
+    made = Kept()
+    parks = [park for park in found.parks if is_concerned(park.goroutine, park.stack)]
+    choice = list(newest([park.last == UNENDED for park in parks], most))
+    made.parks = list(compress(parks, choice))
+    made.left.update(
+        (park.what, park.stack, park.last != UNENDED) for park, is_kept in zip(parks, choice) if not is_kept
+    )
+    waited = {at.address for park in made.parks for at in park.objects}
+    at_end = {at.address for park in made.parks if park.last == UNENDED for at in park.objects}
+    uses = [
+        (use, span)
+        for use, span in sorted(found.uses.items(), key=lambda one: (one[1].last, one[1].end))
+        if use.address in waited or is_concerned(use.goroutine, use.stack)
+    ]
+    made.uses = list(compress(uses, newest([use.address in at_end for use, _ in uses], most)))
+    timers = [timer for timer in found.timers if is_concerned(timer.goroutine, timer.stack)]
+    made.timers = list(compress(timers, newest([timer.address in at_end for timer in timers], most)))
+    return made
+
+
+class Objects:
+    """The objects at which goroutines wait or that they use, numbered from 1, with what is known of each."""
+
+    def __init__(self, rooms: dict[int, int]) -> None:
+        self._rooms = rooms
+        self.numbers: dict[int, int] = {}
+        self._sorts: dict[int, str] = {}
+
+    def number(self, address: int, sort: str) -> int:
+        known = self._sorts.setdefault(address, sort)
+        if known != sort and sort == "RWMutex":  # whose mutex was met first
+            self._sorts[address] = sort
+        return self.numbers.setdefault(address, len(self.numbers) + 1)
+
+    def lines(self) -> list[tuple[int, str, int]]:
+        return [
+            (number, sort := self._sorts[address], self._rooms.get(address, -1) if sort == CHANNEL else -1)
+            for address, number in self.numbers.items()
+        ]
+
+
+@dataclass
+class Everybody:
+    """All goroutines as the file has them."""
+
+    found: Goroutines
+    kept: Kept
+    numbers: dict[int, int]  # the recording's, by Go's
+    last_stacks: dict[int, int]  # of the recording's goroutines, by Go's names
+
+    def lines(
+        self, calls: dict[int, Calls], stack: Callable[[int], int], call: Callable[[int], int], most: int = MOST
+    ) -> Iterable[tuple[str, list[tuple[object, ...]]]]:
+        """The lines by their names. `stack` numbers a stack, `call` the `go` statement of the goroutine that has it."""
+        objects = Objects(self.found.rooms)
+        parks = [self.park(park, calls.get(park.stack), objects, stack(park.stack)) for park in self.kept.parks]
+        uses: list[tuple[object, ...]] = [
+            (self.number_of(use, objects), use.goroutine, use.what, stack(use.stack), *span)
+            for use, span in self.kept.uses
+        ]
+        timers: list[tuple[object, ...]] = [
+            (objects.number(one.address, CHANNEL) if one.address else 0, one.goroutine, stack(one.stack), *one[3:])
+            for one in self.kept.timers
+        ]
+        yield "goroutines", [self.goroutine(goid, call(key)) for goid, key in self.goroutines(most).items()]
+        yield "objects", list(objects.lines())
+        yield "parks", parks
+        yield "uses", uses
+        yield "timers", timers
+        yield "left_out", [
+            (REASONS[waited_for(what, calls.get(key))], stack(key), *self.left(what, key))
+            for what, key in dict.fromkeys((what, key) for what, key, _ in self.kept.left)
+        ]
+
+    def left(self, what: int, stack: int) -> tuple[int, int]:
+        return self.kept.left[what, stack, False], self.kept.left[what, stack, True]
+
+    @staticmethod
+    def number_of(use: Used, objects: Objects) -> int:
+        """The number of what a goroutine used: a channel, or a WaitGroup, which is known by its semaphore."""
+        if use.what in (ADDED, DONE):
+            return objects.number(use.address - OF_A_WAIT_GROUP, SORTS[WAIT_GROUP])
+        return objects.number(use.address, CHANNEL)
+
+    @staticmethod
+    def park(park: Park, calls: Calls | None, objects: Objects, stack: int) -> tuple[object, ...]:
+        """A wait as the file has it."""
+        found = waited_for(park.what, calls)
+        back = semaphore_at(park.what, found, calls)
+        sort = SORTS.get(found, CHANNEL)
+        at = [(objects.number(one.address - back, sort), FOR.get(one.use, "")) for one in park.objects]
+        return (*park[:5], REASONS[found], stack, park.by, at, *([park.due] if park.due else []))
+
+    def goroutines(self, most: int) -> dict[int, int]:
+        """Go's names of the goroutines that the file has, with a stack of each (0: none is known): those of the recording, those that
+        wait, used a channel or made a timer, and those that made others ready, the newest where there isn't room for all.
+        """
+        stacks: dict[int, int] = dict(self.last_stacks)
+        for park in self.kept.parks:
+            if not stacks.get(park.goroutine):
+                stacks[park.goroutine] = park.stack
+            if park.by:
+                stacks.setdefault(park.by, 0)
+        others = [(use.goroutine, use.stack) for use, _ in self.kept.uses]
+        for goid, stack in others + [(timer.goroutine, timer.stack) for timer in self.kept.timers]:
+            if not stacks.get(goid):
+                stacks[goid] = stack
+        waiting = {park.goroutine for park in self.kept.parks if park.last == UNENDED}
+        in_order = sorted(stacks)
+        choice = newest([goid in self.numbers or goid in waiting for goid in in_order], most)
+        return {goid: stacks[goid] for goid in compress(in_order, choice)}
+
+    def goroutine(self, goid: int, made: int) -> tuple[object, ...]:
+        """A goroutine as the file has it."""
+        maker, first, begin = self.found.born.get(goid, (0, UNENDED, UNENDED))
+        last, end = self.found.ended.get(goid, (UNENDED, UNENDED))
+        return goid, self.numbers.get(goid, -1), made, maker, first, last, begin, end

@@ -1,0 +1,279 @@
+"""All goroutines of a log, also those that never touch a socket: where each waits outside of the poller and at what, which goroutine made
+it and when it ends, and what goroutines did at channels. They have Go's own names here, as in its stack dumps."""
+
+from __future__ import annotations
+
+from collections.abc import Container, Iterable
+from dataclasses import dataclass, field
+from typing import NamedTuple
+
+from .orders import Made
+from .points import ORDERING, WAITING, Kind, Point
+
+READY, SENT, RECEIVED, MET, CLOSED, FOUND_CLOSED = map(
+    int, (Kind.READY, Kind.SENT, Kind.RECEIVED, Kind.MET, Kind.CHANNEL_CLOSED, Kind.FOUND_CLOSED)
+)
+PARKS, GOES_ON, CASES, HANDED, ENDS, TIMER, GROUP, STOPPED = map(
+    int,
+    (Kind.PARKS, Kind.GOES_ON, Kind.CASES, Kind.HANDED, Kind.ENDS, Kind.TIMER, Kind.GROUP, Kind.STOPPED),
+)
+CONCERNED = ORDERING | WAITING
+BY_GO = 1  # of a point READY: made by a `go` statement
+GIVES, TAKES = 1, 2  # of a point MET: which way the value goes; 0 in logs of before
+PUT, TOOK, CLOSES, ENDED = "put", "took", "closed", "ended"
+ADDED, DONE = "added", "done"  # at a WaitGroup
+OF_A_WAIT_GROUP = 8  # how far behind a WaitGroup's address its semaphore is, in all releases of Go that are recorded
+NEVER = -1  # of a timer that was stopped, in place of when it is to go off
+OF_KIND = {SENT: PUT, RECEIVED: TOOK, CLOSED: CLOSES, FOUND_CLOSED: ENDED}
+# What a goroutine waits for, as go/log/orders.go has it: the lowest byte of a point's word.
+(
+    OTHER, VALUE, ROOM, SELECT, CONDITION, SLEEP, MUTEX, READ_LOCK, WRITE_LOCK, WAIT_GROUP, SEMAPHORE, NIL_CHANNEL, NO_CASES,
+) = range(13)  # fmt: skip
+UNENDED = -1
+BEHIND = 2**64, 0, 0  # a step behind the last point
+
+
+class At(NamedTuple):
+    """The address of an object at which a goroutine waits, and for what there: VALUE, ROOM, or 0."""
+
+    address: int
+    use: int
+
+
+class Park(NamedTuple):
+    """A wait outside of the poller: whose, behind which step it begins and behind which it ends, the times of both, what for, its stack,
+    which goroutine made it ready (0: none known), the objects, and until when a sleep is to last (0: not known)."""
+
+    goroutine: int
+    first: int
+    last: int
+    begin: int
+    end: int
+    what: int
+    stack: int
+    by: int
+    objects: tuple[At, ...]
+    due: int = 0
+
+
+class Born(NamedTuple):
+    """Which goroutine made another, behind which step, and when."""
+
+    maker: int
+    step: int
+    time: int
+
+
+class Timer(NamedTuple):
+    """A timer that a goroutine made, set anew or stopped: its channel's address (0: it calls a function), whose it was, from which stack, behind
+    which step, when, and when it was to go off (NEVER: it was stopped)."""
+
+    address: int
+    goroutine: int
+    stack: int
+    step: int
+    time: int
+    due: int
+
+
+class Used(NamedTuple):
+    """What a goroutine did at a channel or at a WaitGroup's semaphore from one stack."""
+
+    address: int
+    goroutine: int
+    what: str
+    stack: int
+
+
+class Span(NamedTuple):
+    """How often, and the first time and the last one, by steps and by the clock."""
+
+    often: int
+    first: int
+    last: int
+    begin: int
+    end: int
+
+
+@dataclass
+class Goroutines:
+    """What a log has of all goroutines. Waits have the order in which they begin."""
+
+    parks: list[Park] = field(default_factory=list)
+    finished: list[int] = field(default_factory=list)  # the places of those that ended, in the order of their ends
+    born: dict[int, Born] = field(default_factory=dict)
+    ended: dict[int, tuple[int, int]] = field(default_factory=dict)  # behind which step, and when
+    uses: dict[Used, Span] = field(default_factory=dict)
+    rooms: dict[int, int] = field(default_factory=dict)  # of channels, by their addresses
+    timers: list[Timer] = field(default_factory=list)
+
+    def stacks(self) -> set[int]:
+        """Those of waits, uses and timers."""
+        timers = {timer.stack for timer in self.timers}
+        return {park.stack for park in self.parks} | {use.stack for use in self.uses} | timers
+
+    def during(self, begin: int, end: int | None) -> Goroutines:
+        """Those waits and uses that overlap a time, and the timers that were made by its end."""
+
+        def overlaps(first: int, last: int) -> bool:
+            return (end is None or first <= end) and (last == UNENDED or last >= begin)
+
+        parks = [park for park in self.parks if overlaps(park.begin, park.end)]
+        uses = {use: span for use, span in self.uses.items() if overlaps(span.begin, span.end)}
+        timers = [timer for timer in self.timers if end is None or timer.time <= end]
+        return Goroutines(parks, [], self.born, self.ended, uses, self.rooms, timers)
+
+    def goroutines(self) -> set[int]:
+        """The goroutines that wait, use a channel or make a timer."""
+        waiting, timing = {park.goroutine for park in self.parks}, {timer.goroutine for timer in self.timers}
+        return waiting | timing | {use.goroutine for use in self.uses}
+
+    def without(self, others: Container[int]) -> Goroutines:
+        """What all but these goroutines did."""
+        parks = [park for park in self.parks if park.goroutine not in others]
+        uses = {use: span for use, span in self.uses.items() if use.goroutine not in others}
+        timers = [timer for timer in self.timers if timer.goroutine not in others]
+        return Goroutines(parks, [], self.born, self.ended, uses, self.rooms, timers)
+
+
+def objects_of(what: int, at: int, b: int, c: int) -> tuple[At, ...]:
+    """The objects of a point PARKS or CASES: one, or up to three channels of a select, with two bits for each of how it is used."""
+    if not at:
+        return ()
+    use = what & 255
+    if use != SELECT:
+        return (At(at, use if use == VALUE or use == ROOM else 0),)
+    if not b:
+        return (At(at, what >> 8 & 3),)
+    if not c:
+        return (At(at, what >> 8 & 3), At(b, what >> 10 & 3))
+    return (At(at, what >> 8 & 3), At(b, what >> 10 & 3), At(c, what >> 12 & 3))
+
+
+class Begun(NamedTuple):
+    """A wait that has begun: its place among all waits, and what is known of it."""
+
+    place: int
+    step: int
+    time: int
+    what: int
+    stack: int
+    objects: tuple[At, ...]
+    due: int
+
+
+class Passing:
+    """Goes over a log's points, and knows at each how many steps were made. (There may be half a million points.)"""
+
+    def __init__(self, begin: int) -> None:
+        self.found = Goroutines()
+        self.parks: list[Park | None] = []
+        self._begin = begin
+        self._parked: dict[int, Begun] = {}
+        self._ready: dict[int, int] = {}
+        self._cases: dict[int, tuple[At, ...]] = {}
+        self._uses: dict[tuple[int, int, str, int], list[int]] = {}
+
+    def point(self, point: Point, step: int) -> None:
+        """The next point, before which `step` is the last that was made."""
+        _, kind, g, at, a, b, c, clock, stack = point
+        time = max(clock - self._begin, 0)  # (logs of before have no times)
+        if kind == READY:
+            if b != BY_GO:
+                self._ready[a] = g
+            else:
+                self.found.born[a] = Born(g, step, time)
+        elif kind == PARKS:
+            self._parks(point, step, time)
+        elif kind == GOES_ON:
+            if g in self._parked:
+                self._ends(g, self._parked.pop(g), step, time)
+        elif kind == SENT or kind == RECEIVED or kind == FOUND_CLOSED:
+            self.found.rooms[at] = b
+            self._used(at, g, OF_KIND[kind], stack, step, time)
+        elif kind == CLOSED:
+            self._used(at, g, CLOSES, stack, step, time)
+        elif kind == MET or kind == HANDED:
+            self._met(point, step, time)
+        elif kind == CASES:
+            self._cases[g] = self._cases.get(g, ()) + objects_of(a, at, b, c)
+        elif kind == ENDS:
+            self.found.ended[g] = step, time
+        elif kind == TIMER:
+            self.found.timers.append(Timer(at, g, stack, step, time, max(a - self._begin, 0)))
+        elif kind == STOPPED:
+            self.found.timers.append(Timer(at, g, stack, step, time, NEVER))
+        elif kind == GROUP:
+            self._used(at + OF_A_WAIT_GROUP, g, ADDED if a > 0 else DONE, stack, step, time, abs(a))
+
+    def all(self) -> Goroutines:
+        """What was found, behind the last point."""
+        for g, begun in self._parked.items():
+            self.parks[begun.place] = self._park(g, begun, UNENDED, UNENDED, 0)
+        self.found.parks = [park for park in self.parks if park]
+        self.found.uses = {Used(*use): Span(*span) for use, span in self._uses.items()}
+        return self.found
+
+    def _parks(self, point: Point, step: int, time: int) -> None:
+        """A goroutine begins to wait. One that waits already does so to the end: its log was damaged."""
+        _, _, g, at, a, b, c, _, stack = point
+        what = a & 255
+        self._ready.pop(g, None)
+        objects = objects_of(a, at, b, c)
+        if g in self._cases:
+            objects = self._cases.pop(g) + objects
+        if at and (what == VALUE or what == ROOM):
+            self.found.rooms[at] = b
+        due = b - self._begin if what == SLEEP else 0
+        if g in self._parked:
+            self.parks[self._parked[g].place] = self._park(g, self._parked[g], UNENDED, UNENDED, 0)
+        self._parked[g] = Begun(len(self.parks), step, time, what, stack, objects, due if due > time else 0)
+        self.parks.append(None)
+
+    def _ends(self, g: int, begun: Begun, step: int, time: int) -> None:
+        """A goroutine goes on."""
+        self.parks[begun.place] = self._park(g, begun, step, time, self._ready.pop(g, 0))
+        self.found.finished.append(begun.place)
+
+    @staticmethod
+    def _park(g: int, begun: Begun, step: int, time: int, by: int) -> Park:
+        _, first, begin, what, stack, objects, due = begun
+        return Park(g, first, step, begin, time, what, stack, by, objects, due)
+
+    def _met(self, point: Point, step: int, time: int) -> None:
+        """A value goes from one goroutine to another, which waits for that."""
+        _, kind, g, at, other, b, _, _, stack = point
+        way = b if kind == MET else GIVES
+        if way != GIVES and way != TAKES:  # of a log of before
+            what = self._parked[other].what if other in self._parked else OTHER
+            way = {VALUE: GIVES, ROOM: TAKES}.get(what, 0)
+        self.found.rooms[at] = b if kind == HANDED else 0
+        if way:
+            mine, others = (PUT, TOOK) if way == GIVES else (TOOK, PUT)
+            self._used(at, g, mine, stack, step, time)
+            self._used(at, other, others, 0, step, time)
+
+    def _used(self, at: int, g: int, what: str, stack: int, step: int, time: int, often: int = 1) -> None:
+        """A goroutine did something at a channel or a WaitGroup. One that waits has the stack of its wait."""
+        if not stack and g in self._parked:
+            stack = self._parked[g].stack
+        use = at, g, what, stack
+        span = self._uses.get(use)
+        if span:
+            span[0] += often
+            span[2], span[4] = step, time
+        else:
+            self._uses[use] = [often, step, step, time, time]
+
+
+def goroutines_of(points: Iterable[Point], steps: list[Made], begin: int) -> Goroutines:
+    """All goroutines of the points that are concerned. `steps` has the steps that were made of a point, in the points' order."""
+    passing = Passing(begin)
+    pass_point = passing.point
+    following = iter((*steps, BEHIND))
+    step, upcoming = 0, next(following)
+    for point in points:
+        while upcoming[0] < point[0]:
+            step, upcoming = upcoming[2], next(following)
+        pass_point(point, step)
+    return passing.all()

@@ -1,0 +1,60 @@
+"""The program that reads lines of source, Go's own `addr2line`. Up to Go 1.24 it comes with Go. Later releases build it when it is first
+asked for, so netrev-go builds it once for each release, before the first recording, and keeps it."""
+
+from __future__ import annotations
+
+import contextlib
+import fcntl
+import hashlib
+import pathlib
+import re
+
+from .toolchain import Go, Trouble, cache, quiet_go
+
+NAME = "addr2line"
+PACKAGE = "cmd/addr2line"
+
+
+def shipped(go: Go) -> pathlib.Path:
+    """Where Go has its own, if it comes with it."""
+    return go.root / "pkg/tool" / go.system.replace("/", "_") / NAME
+
+
+def kept(go: Go) -> pathlib.Path:
+    """Where netrev-go keeps the one that it built."""
+    digest = hashlib.sha256(f"{go.version} {go.root}".encode()).hexdigest()
+    return cache() / f"{NAME}-{re.sub(r'[^0-9A-Za-z.+-]', '_', go.version)}-{digest[:12]}" / NAME
+
+
+def line_reader(go: Go) -> list[str]:
+    """The command that reads lines: Go's own, or the one that was built; else Go builds it now."""
+    for path in (shipped(go), kept(go)):
+        if path.exists():
+            return [str(path)]
+    return [go.program, "tool", NAME]
+
+
+def build_line_reader(go: Go) -> pathlib.Path:
+    """The program, built if it isn't here; Trouble if Go can't build it."""
+    if shipped(go).exists():
+        return shipped(go)
+    made = kept(go)
+    try:
+        made.parent.mkdir(parents=True, exist_ok=True)
+        with (made.parent / "lock").open("w") as lock:
+            fcntl.flock(lock, fcntl.LOCK_EX)
+            if not made.exists():  # nobody else built it meanwhile
+                part = made.with_name("part")
+                run = quiet_go(go, made.parent, "build", "-o", str(part), PACKAGE)
+                if run.returncode != 0:
+                    raise Trouble(f"Go couldn't build {PACKAGE}: {run.stderr.strip()[-600:]}")
+                part.rename(made)
+    except OSError as fault:
+        raise Trouble(f"{made.parent} can't be written ({fault.strerror})") from None
+    return made
+
+
+def prepare_line_reader(go: Go) -> None:
+    """Builds the program if it isn't here. Without it Go builds one when lines are read."""
+    with contextlib.suppress(Trouble):
+        build_line_reader(go)
