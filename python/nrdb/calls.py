@@ -9,7 +9,6 @@ from netrev_calls.flow import BY_STATUS
 from netrev_words.vocabulary import OF_A_GOROUTINE
 
 from .one_call import CLOSE, CLOSE_WRITE, CONTROL, OPEN, Call, Outcome
-from .noted import AT
 from .noted_goroutines import Goroutine
 from .notes import CLOSED, Look, Looks, Notes
 from .recording import Recording
@@ -88,7 +87,7 @@ def fail(notes: Notes, call: Call, outcome: Outcome) -> None:
         call.cause = notes.shut[call.socket].step
     elif outcome is Outcome.TIMED_OUT:
         timeout = notes.timeouts[-1]
-        call.cause = notes.use_of[timeout.descriptor].last_settings[AT[timeout.side]]
+        call.cause = timeout.due.setting.step
         call.passed = timeout.passing.step
 
 

@@ -28,6 +28,7 @@ from .refusals import explained, fault_of
 from .scout import Lost, Scout
 from .session import Misused, Session
 from .shapes import POSITION, Refused, Strange
+from .suspect_list import SuspectList
 
 DONE, REFUSED, USAGE, FAILED, SUSPECTS = range(5)
 SILENT = "no reply yet: somebody else is at this front, or netrev goes through what all have searched; nrdb waits"
@@ -119,6 +120,8 @@ def begun(wanted: argparse.Namespace, netrev: Netrev, interrupts: Interrupts, pr
         if session.scout and session.recorded:
             session.scout.drop()
             session.recorded.drop()
+        if session.recording and session.recording.suspects:
+            session.recording.suspects.drop()
     ended = netrev.close()
     status = status or (FAILED if session.errors else DONE)
     return status if wanted.web is not None else ended or status  # (the page may have gone on with another netrev)
@@ -147,6 +150,7 @@ def session_of(wanted: argparse.Namespace, netrev: Netrev, interrupts: Interrupt
     session = Session(netrev, recording, scout, printer, interrupts, ANSWERS, recorded=recorded)
     if recording and recorded and shutil.which(wanted.netrev):
         recording.changes = recorded
+        recording.suspects = SuspectList(wanted.netrev, wanted.file, interrupts)
         if wanted.lines or is_of_all(wanted):
             recorded.prepare()  # (while the other netrev reads the recording)
     session.program, session.path = wanted.netrev, wanted.file or ""

@@ -31,6 +31,10 @@ OF_NRDB = {
         ),
         command("frame [N]", "a call of the program's stack here, 0 is the innermost, and the source round it"),
         command("up", "the call that called this one"),
+        command(
+            "goroutine [N | goid N]",
+            "where goroutine N is, its stack and the source; bt, frame, up and down go by it until the session moves",
+        ),
         command("down", "the call that this one called"),
         command("goto N|start|end|TIME|PLACE", "goes to a position, either way; to a time of the clock, as 35ms"),
         command(
@@ -117,6 +121,11 @@ TOPICS = {
         Topic(
             Origin.NRDB, "hangs", "the calls that wait and don't end in the recording, and who could have woken them"
         ),
+        Topic(
+            Origin.NRDB,
+            "requests",
+            "the requests of net/http's client in the whole recording: of which line, on which connection, and what ended them",
+        ),
         Topic(Origin.NRDB, "suspects", "what isn't as it should be in the whole recording, by rules, the worst first"),
         Topic(Origin.NRDB, "holders S", "who holds the references of socket S, and since which step"),
     )
@@ -152,13 +161,23 @@ SPELLINGS = {
     "h": "help",
     "?": "help",
     "d": "delete",
+    "g": "goto",
+    "go": "goto",
+    "gr": "goroutine",
+    "thread": "goroutine",
     "bt": "where",
+    "stack": "where",
     "backtrace": "where",
     "exit": "quit",
     "jump": "goto",
     "advance": "goto",
 }
 TOPIC_SPELLINGS = {"threads": "goroutines", "fds": "descriptors", "b": "breakpoints"}
+TABLES_OF_OTHERS = {
+    "goroutines": "goroutines",
+    "grs": "goroutines",
+    "threads": "goroutines",
+}  # commands there, topics here
 
 FILE = re.compile(r"\b(FILE|OUT\.\w+)\b(?!:)")  # what stands for a file in a command's usage
 DIRECTIONS = ("reverse", "forward")
@@ -194,6 +213,8 @@ def whole_command(word: str) -> str:
 
 def whole_words(words: list[str]) -> list[str]:
     """The words of a line, those written out that were cut short: the command, a topic, a direction, a dump."""
+    if words[0] in TABLES_OF_OTHERS:
+        return ["info", TABLES_OF_OTHERS[words[0]], *words[1:]]
     first = whole_command(words[0])
     rest = words[1:]
     if first == "info" and rest:

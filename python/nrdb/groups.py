@@ -3,6 +3,7 @@
 from typing import Any, Callable, Hashable, Optional
 
 from .output import Row
+from .waits import Name, of_names
 from .words import DOING, SIDES
 
 MANY = 4  # that wait for the same, from which on they are one row
@@ -22,6 +23,8 @@ def grouped(rows: list[Row], who_has: Callable[[int, str], str]) -> list[Row]:
 
 def _likeness(values: dict[str, Any]) -> Optional[Hashable]:
     """What a goroutine has in common with those that wait for the same; None where it isn't asleep."""
+    if values.get("elsewhere"):
+        return (values["waits_for"], *_place(values))
     name, *rest = values["status"].split()
     if name == "queued":
         return values["status"]
@@ -34,15 +37,26 @@ def _common(values: dict[str, Any]) -> tuple[str, ...]:
     known = values["waits_for"].split("; ")[1:]
     unread = "bytes are unread" if "unread" in known[0] else ""
     rest = ["deadlines to come" if words.startswith("deadline at ") else words for words in known[1:]]
+    return tuple(filter(None, (unread, *rest, *_place(values))))
+
+
+def _place(values: dict[str, Any]) -> tuple[str, str]:
+    """The line of the program at which a goroutine is, and where it was started; empty if they aren't known."""
     at = values["at"].split(" since step ") if "at" in values else ["", ""]
-    made = at[1].partition("; ")[2] if at[1:] else ""
-    return tuple(filter(None, (unread, *rest, at[0], made)))
+    return at[0], at[1].partition("; ")[2] if at[1:] else ""
 
 
 def _group(rows: list[Row], who_has: Callable[[int, str], str]) -> Row:
     """One row for all of these."""
-    numbers = [row.values["goroutine"] for row in rows]
     first = rows[0].values
+    if first.get("elsewhere"):
+        names = [
+            Name(row.values["goid"], True) if "goid" in row.values else Name(row.values["goroutine"]) for row in rows
+        ]
+        why = "; ".join(filter(None, (first["waits_for"], *_place(first))))
+        values = {"goroutines": [name.values for name in names], "status": first["status"], "waits_for": why}
+        return Row(values, f"{len(rows)} {why}: {of_names(names)}")
+    numbers = [row.values["goroutine"] for row in rows]
     name, place, side = first["status"].split()
     if name == "queued":
         why = f"queued for socket {place}'s {SIDES[side]} lock, {who_has(int(place), side)}"

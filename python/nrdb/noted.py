@@ -1,6 +1,6 @@
 """What is noted of a recording: each sort of note, and the uses of descriptors, which most are of. (Goroutines: `noted_goroutines.py`.)"""
 
-from bisect import bisect_left, bisect_right
+from bisect import bisect_left
 from typing import NamedTuple, Optional
 
 CLOSING, TIMED_OUT, EVENT_ERROR = 1, 2, 3  # the codes of a side
@@ -8,24 +8,31 @@ new = tuple.__new__  # (of a million steps some 100,000 notes are made, and a na
 
 
 class Setting(NamedTuple):
-    """A `setdeadline`: its step, who made it, for which sides, the time that it was given, and the sides whose deadlines had passed."""
+    """A `setdeadline`: its step, who made it, for which sides, and the time that it was given."""
 
     step: int
     goroutine: int
     mode: str
     time: int
-    late: str
+
+
+class Due(NamedTuple):
+    """What a side's deadline is due to: its last setting, and the first one after it of the other side alone."""
+
+    setting: Setting
+    moved: Optional[Setting]
 
 
 class Passing(NamedTuple):
-    """A deadline has passed: at which step, of which kind."""
+    """A deadline has passed: at which step, of which kind, and what it is due to."""
 
     step: int
     kind: str
+    due: Due
 
 
 class Taking(NamedTuple):
-    """A readiness for reading was taken: at which step, by whom, and which step's event it was."""
+    """A readiness was taken: at which step, by whom, and which step's event it was."""
 
     step: int
     goroutine: int
@@ -48,13 +55,14 @@ class ErrorEvent(NamedTuple):
 
 
 class Timeout(NamedTuple):
-    """A call ended since its deadline had passed."""
+    """A call ended since its deadline had passed, and what that is due to."""
 
     step: int
     goroutine: int
     descriptor: int
     side: str
     passing: Passing
+    due: Due
 
 
 class Hold(NamedTuple):
@@ -81,8 +89,8 @@ class Use:
     """A use of a descriptor: for which socket, from which step to which (0: the end), its tag, and what happened in it."""
 
     __slots__ = (
-        *("descriptor", "socket", "opened", "closed", "tag", "late"),
-        *("settings", "last_settings", "passings", "last_events", "errors", "waits", "thrown", "taken"),
+        *("descriptor", "socket", "opened", "closed", "tag"),
+        *("settings", "dues", "passings", "last_events", "errors", "waits", "thrown", "taken"),
     )
 
     def __init__(self, descriptor: int, socket: int, opened: int, tag: int) -> None:
@@ -90,34 +98,26 @@ class Use:
         self.settings: list[Setting] = []
         self.errors: list[ErrorEvent] = []
         self.thrown: list[Taking] = []  # readinesses for reading that a pollreset threw away
-        self.taken: Optional[Taking] = None  # the last one that was taken, or thrown away
-        self.late = ""  # the sides whose deadlines have passed, in the order "rw"
-        # of both sides: the step that set its deadline last, those at which it passed, the last event, and the waits
-        self.last_settings = [0, 0]
+        # of both sides: what its deadline is due to, the steps at which that passed, the last event, the last readiness that was taken or
+        # thrown away, and the waits
+        self.dues: list[Optional[Due]] = [None, None]
         self.passings: tuple[list[Passing], ...] = ([], [])
         self.last_events = [0, 0]
+        self.taken: list[Optional[Taking]] = [None, None]
         self.waits: tuple[list[Wait], ...] = ([], [])
-
-    def passes(self, side: str, is_late: bool) -> None:
-        """The deadline of a side has passed, or it has one that hasn't."""
-        others = self.late.replace(side, "")
-        self.late = "rw" if is_late and others else others or side * is_late
 
     def last_event(self, side: str) -> int:
         """The step of the last event of a side; 0 where none came."""
         return self.last_events[AT[side]]
 
-    def settings_since(self, side: str, step: int) -> list[Setting]:
-        """The last setting of a side before a step, and those of the other side alone that came between."""
-        last = bisect_left(self.settings, (step,))
-        first = next(at for at in range(last - 1, -1, -1) if side in self.settings[at].mode)
-        return self.settings[first:last]
+    def setting(self, step: int) -> Setting:
+        """That of a step."""
+        return self.settings[bisect_left(self.settings, (step,))]
 
-    def passing(self, side: str, position: int) -> Optional[Passing]:
-        """When a side's deadline passed last, up to a position."""
-        passings = self.passings[AT[side]]
-        at = bisect_right(passings, position, key=lambda one: one.step)
-        return passings[at - 1] if at else None
+    def setting_behind(self, side: str, step: int) -> Optional[Setting]:
+        """The first setting of a side behind a step."""
+        later = range(bisect_left(self.settings, (step + 1,)), len(self.settings))
+        return next((self.settings[at] for at in later if side in self.settings[at].mode), None)
 
 
 def code_of(info: int, side: str) -> int:

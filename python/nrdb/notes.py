@@ -63,6 +63,7 @@ class Notes:
         self.closer: dict[int, By] = {}
         self.shut: dict[int, By] = {}
         self.arrived: dict[int, int] = {}
+        self.again: dict[str, dict[int, int]] = {"r": {}, "w": {}}  # of each side the last try that was answered EAGAIN
         self.peer: dict[int, int] = {}
         self.evicted: dict[int, int] = {}
         # of descriptors: their tags and what is told of them, all uses, the tags of those that are open, which are ready for reading, and the last event that was
@@ -74,7 +75,7 @@ class Notes:
         self.socket_before: dict[Use, int] = {}  # the socket of the use before
         self.open_tags: dict[int, int] = {}
         self.free: list[int] = []  # the one that was freed last at the end
-        self.ready: set[int] = set()
+        self.ready: dict[str, set[int]] = {"r": set(), "w": set()}  # of each side
         self.stale: dict[int, tuple[int, int]] = {}
         self.timeouts: list[Timeout] = []
         # those behind a CloseWrite: the step, by whom, and the socket
@@ -171,7 +172,10 @@ class Notes:
         info = self.infos[d]
         self.code = code_of(info, side) if info else 0
         if self.code == TIMED_OUT:
-            self.timeouts.append(Timeout(step, g, d, side, self.use_of[d].passings[AT[side]][-1]))
+            use, at = self.use_of[d], AT[side]
+            due = use.dues[at]
+            assert due  # (it has passed)
+            self.timeouts.append(Timeout(step, g, d, side, use.passings[at][-1], due))
         return self.code > 0
 
     # what is there behind the last step

@@ -5,7 +5,7 @@ from __future__ import annotations
 from functools import lru_cache
 from typing import TYPE_CHECKING
 
-from .noted import AT, CLOSING, SIDES, ErrorEvent, Passing, Setting, Taking, Use, Wait, new
+from .noted import AT, CLOSING, SIDES, Due, ErrorEvent, Passing, Setting, Taking, Use, Wait, new
 from .noting_goroutines import Note, stepped, waking
 
 if TYPE_CHECKING:
@@ -28,7 +28,8 @@ def opened(notes: Notes, g: int, s: int) -> Note:
         notes.uses.append(use)
         notes.use_of[d] = use
         notes.open_tags[d] = use.tag
-        notes.ready.discard(d)
+        for ready in notes.ready.values():
+            ready.discard(d)
 
     return note
 
@@ -47,15 +48,17 @@ def closed(notes: Notes, g: int, d: int) -> Note:
 
 
 def reset(notes: Notes, g: int, d: int, side: str) -> Note:
-    goroutine, infos, ready = notes.goroutine(g), notes.infos, notes.ready
+    goroutine, infos, ready = notes.goroutine(g), notes.infos, notes.ready[side]
 
     def note(step: int, number: str) -> None:
         notes.code = 0
         if infos[d] and notes.ends(step, g, d, side):
             return
         goroutine.reset = step
-        if d in ready and side == "r":
-            notes.use_of[d].thrown.append(taken(notes, step, number, g, d))
+        if d in ready:
+            taking = taken(notes, step, number, g, d, side)
+            if side == "r":
+                notes.use_of[d].thrown.append(taking)
 
     return note
 
@@ -80,20 +83,21 @@ def took(notes: Notes, g: int) -> Note:
 
     def note(step: int, number: str) -> None:
         before = goroutine.status
-        if before.number in ready and before.side == "r":
-            taken(notes, step, number, g, before.number)
+        if before.number in ready[before.side]:
+            taken(notes, step, number, g, before.number, before.side)
         if status := told(number + own):
             moves(goroutine, step, status)
 
     return note
 
 
-def taken(notes: Notes, step: int, number: str, g: int, d: int) -> Taking:
-    """A goroutine takes a descriptor's readiness for reading."""
-    if f"{number} rg {d}" in notes.told:
-        notes.ready.discard(d)
-    use = notes.use_of[d]
-    taking = use.taken = new(Taking, (step, g, use.last_events[AT["r"]]))
+def taken(notes: Notes, step: int, number: str, g: int, d: int, side: str) -> Taking:
+    """A goroutine takes a descriptor's readiness."""
+    if f"{number} {side}g {d}" in notes.told:
+        notes.ready[side].discard(d)
+    use, at = notes.use_of[d], AT[side]
+    taking: Taking = new(Taking, (step, g, use.last_events[at]))
+    use.taken[at] = taking
     return taking
 
 
@@ -109,26 +113,26 @@ def looked(notes: Notes, g: int) -> Note:
 
 
 def set_deadline(notes: Notes, g: int, d: int, mode: str, time: int) -> Note:
-    told, sides, wakes = notes.told.get, SIDES[mode], waking(notes, d)
-    infos, use_of = notes.infos, notes.use_of
+    sides, wakes, infos, use_of = SIDES[mode], waking(notes, d), notes.infos, notes.use_of
+    other = SIDES["w" if mode == "r" else "r"] if mode != "rw" else ()
 
     def note(step: int, number: str) -> None:
         if infos[d] & CLOSING:
             return
         use = use_of[d]
-        use.settings.append(new(Setting, (step, g, mode, time, use.late)))
+        setting = new(Setting, (step, g, mode, time))
+        use.settings.append(setting)
+        due = new(Due, (setting, None))
         for at in sides:
-            use.last_settings[at] = step
-        if time < 0 or use.late:
-            passes(use, step, number)
-            wakes(step, number)
-
-    def passes(use: Use, step: int, number: str) -> None:
-        for side, at in zip(mode, sides):
+            use.dues[at] = due
             if time < 0:
-                use.passings[at].append(Passing(step, "setdeadline"))
-            if shown := told(f"{number} {side}d {d}"):
-                use.passes(side, shown[0] == "-")
+                use.passings[at].append(Passing(step, "setdeadline", due))
+        for at in other:
+            before = use.dues[at]
+            if before and before.moved is None:
+                use.dues[at] = Due(before.setting, setting)
+        if time < 0 or infos[d]:  # (or one that has passed is moved)
+            wakes(step, number)
 
     return note
 
@@ -165,8 +169,8 @@ def coming(notes: Notes, d: int, mode: str, error: int) -> Note:
 
 
 def _coming(notes: Notes, d: int, mode: str, error: int) -> Note:
-    wakes, told, cell, sides = waking(notes, d), notes.told.get, f" rg {d}", SIDES[mode]
-    use_of, ready = notes.use_of, notes.ready
+    wakes, told, sides, use_of = waking(notes, d), notes.told.get, SIDES[mode], notes.use_of
+    words = [(f" {side}g {d}", notes.ready[side]) for side in mode]
 
     def note(step: int, number: str) -> None:
         use = use_of[d]
@@ -174,8 +178,9 @@ def _coming(notes: Notes, d: int, mode: str, error: int) -> Note:
             use.errors.append(ErrorEvent(step, mode))
         for at in sides:
             use.last_events[at] = step
-        if told(number + cell) == "ready":
-            ready.add(d)
+        for word, ready in words:
+            if told(number + word) == "ready":
+                ready.add(d)
         wakes(step, number)
 
     return note
@@ -200,8 +205,7 @@ def fired(notes: Notes, i: int) -> Note:
             elif name == "gor":
                 notes.is_woken(notes.goroutines[which], step, value)
             elif name in ("rd", "wd"):
-                use = notes.use_of[which]
-                use.passings[AT[name[0]]].append(new(Passing, (step, "fire")))
-                use.passes(name[0], value[0] == "-")
+                use, at = notes.use_of[which], AT[name[0]]
+                use.passings[at].append(new(Passing, (step, "fire", use.dues[at])))
 
     return note

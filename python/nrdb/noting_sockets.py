@@ -45,6 +45,7 @@ def peer_closed(notes: Notes, s: int) -> Note:
 
 def read(notes: Notes, g: int, s: int, most: int) -> Note:
     goroutine, inputs, told, cell = notes.goroutine(g), notes.inputs, notes.told.get, f" in {s}"
+    again, peer = notes.again["r"], notes.peer
 
     def note(step: int, number: str) -> None:
         goroutine.tried = step
@@ -52,12 +53,15 @@ def read(notes: Notes, g: int, s: int, most: int) -> Note:
         if shown := told(number + cell):
             notes.moved = inputs[s] - int(shown)
             inputs[s] = int(shown)
+        elif s not in peer:
+            again[s] = step
 
     return note
 
 
 def written(notes: Notes, g: int, s: int, digits: str) -> Note:
     goroutine, outputs, told, cell = notes.goroutine(g), notes.outputs, notes.told.get, f" out {s}"
+    again = notes.again["w"]
 
     def note(step: int, number: str) -> None:
         goroutine.tried = step
@@ -67,6 +71,8 @@ def written(notes: Notes, g: int, s: int, digits: str) -> Note:
             outputs[s] = int(shown)
         if s in notes.shut:
             notes.refused_writes.append((step, g, s))
+        elif not notes.moved:
+            again[s] = step
 
     return note
 

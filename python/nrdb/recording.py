@@ -16,6 +16,7 @@ from netrev_words.vocabulary import KINDS
 
 from .line_starts import LineStarts
 from .recorded_changes import RecordedChanges
+from .suspect_list import SuspectList
 from .where import Lines
 
 BEFORE_BLANKS = (b"\n\n", b"\n ", b"\n\t", b"\n\r")  # one of these is in a text that has a blank line behind the first
@@ -93,6 +94,7 @@ class Recording:
         self.header_line = self._numbers[0] if self._numbers else 1
         self.lines = Lines()
         self.changes: Optional[RecordedChanges] = None  # that its steps make, as netrev says them, where that was asked
+        self.suspects: Optional[SuspectList] = None  # netrev's list, for a recording in a file
 
     def _are_arrays(self, end: int) -> bool:
         """Whether each line up to that place begins as an array does, but for the first: none is blank then."""

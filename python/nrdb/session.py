@@ -33,13 +33,12 @@ from .shapes import (
     position_of,
 )
 from .text_files import lines_of_script
+from .waits import Name
 from .words import absent_words, dump_words, in_words
 from .world import World
 
 STOPPING = ("continue", "reverse-continue", "resume")
 NESTED = 8
-
-
 Answering = Callable[["Session", list[str]], Optional[bool]]  # False where the session has ended
 
 
@@ -63,6 +62,7 @@ class Session:
     breaks: Breaks = field(default_factory=Breaks)  # at places of the program
     frame: Optional[int] = None  # of the stack, from the innermost; None for the program's own line
     is_before: bool = False  # a place of the program: the stack is that of the next step
+    goroutine: Optional[Name] = None  # that was chosen, until the session moves
     recorded: Optional[RecordedChanges] = None  # where the recording is there
     errors: int = 0  # of nrdb's own
     conditions: dict[str, Condition] = field(default_factory=dict)  # of marks, by their numbers
@@ -249,7 +249,7 @@ class Session:
 
     def arrive(self, position: int, numbers: Sequence[str] = (), stood: Sequence[Listed] = ()) -> None:
         """Says where the session is after a move, which marks hit, of those that stood before it, and what the last step changed."""
-        self.stood, self.frame, self.is_before = position, None, False
+        self.stood, self.frame, self.is_before, self.goroutine = position, None, False, None
         self.attached.hits(numbers)
         self.printer.place(self.place(position))
         if self.recorded and self.recording:
@@ -282,8 +282,7 @@ class Session:
         return go_to(position, self.ask)
 
     def source(self, path: str) -> bool:
-        """Answers the lines of a file, each shown first; an OSError where it can't be read. False where the session has
-        ended."""
+        """Answers the lines of a file, each shown first; an OSError if it can't be read. False where the session has ended."""
         if self.depth == NESTED:
             raise Misused(f"files are {NESTED} deep in each other already")
         lines = lines_of_script(path)

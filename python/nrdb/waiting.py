@@ -1,5 +1,5 @@
-"""`info goroutines`: what each goroutine does that is neither idle nor gone, and what it waits for. It is the first
-look where something hangs, so a thousand that wait for one lock ask for that lock once."""
+"""`info goroutines`: what each goroutine does that is neither idle nor gone, and what it waits for, in the poller or elsewhere. It is the
+first look if something hangs, so a thousand that wait for one lock ask for that lock once."""
 
 from functools import cached_property
 from typing import Iterable, Mapping, Optional
@@ -11,6 +11,8 @@ from .backwards import Lock, last_steps, takings
 from .groups import grouped
 from .output import Row, Table
 from .recording import Step
+from .waits import Name, Waiting, waits_of
+from .where import Stack
 from .words import SIDES, LockWord, status_words
 from .world import World
 
@@ -136,16 +138,28 @@ class Waits:
 
 
 def goroutines_table(world: World, numbers: Optional[Iterable[int]] = None, is_all: bool = False) -> Table:
-    """The goroutines that do something, or all, or those of these numbers."""
+    """The goroutines that do something or wait for something, or all, or those of these numbers. Those without a step in the recording come
+    last, if they wait."""
     every = list(range(world.made(Of.GOROUTINE)) if numbers is None else numbers)
     statuses = {number: status for number, (status,) in world.of_each(every, "gor").items()}
-    shown = [number for number in every if is_all or numbers is not None or statuses[number] not in QUIET]
+    elsewhere = {wait.name: wait for wait in waits_of(world.recording).all_at(world.position)}
+    shown = [
+        number for number in every
+        if is_all or numbers is not None or statuses[number] not in QUIET or Name(number) in elsewhere
+    ]  # fmt: skip
     waits = Waits(world, statuses)
     rows = [_row(number, statuses[number], waits.of(number)) for number in shown]
     if world.recording.lines:
         busy = [number for number in shown if statuses[number] not in QUIET]
         steps = last_steps(world.recording, world.position, busy)
-        rows = [_with_line(world, row, steps.get(row.values["goroutine"], 0)) for row in rows]
+        rows = [
+            _with_wait(row, elsewhere[Name(row.values["goroutine"])])
+            if row.values["status"] == QUIET[0] and Name(row.values["goroutine"]) in elsewhere
+            else _with_line(row, world.recording.lines.of(step := steps.get(row.values["goroutine"], 0)), step)
+            for row in rows
+        ]
+    if numbers is None:
+        rows += [row_of_wait(wait) for name, wait in sorted(elsewhere.items()) if name.is_goid]
     if not is_all and numbers is None:
         rows = grouped(rows, waits.of_queue)
     left = len(statuses) - len(shown)
@@ -157,9 +171,20 @@ def _row(number: int, status: str, why: str) -> Row:
     return Row(values, f"gor {number:<4} {status:<16} {why}".rstrip())
 
 
-def _with_line(world: World, row: Row, step: int) -> Row:
+def _with_wait(row: Row, wait: Waiting) -> Row:
+    """The row of a goroutine that is idle for netrev, and waits outside of the poller."""
+    values = row.values | {"waits_for": wait.does, "elsewhere": True}
+    return _with_line(Row(values, f"{row.text:<25} {wait.does}"), wait.stack, wait.first)
+
+
+def row_of_wait(wait: Waiting) -> Row:
+    """The row of a goroutine that has no step in the recording, and waits."""
+    values = {**wait.name.values, "status": QUIET[0], "waits_for": wait.does, "elsewhere": True}
+    return _with_line(Row(values, f"{str(wait.name):<25} {wait.does}"), wait.stack, wait.first)
+
+
+def _with_line(row: Row, stack: Stack, step: int) -> Row:
     """The row with where the program stands: its line, since which step, and where the goroutine was started."""
-    stack = world.recording.lines.of(step)
     if not stack.calls:
         return row
     started = f"; started at {stack.made.place()}" if stack.made else ""

@@ -9,10 +9,14 @@ from itertools import accumulate
 from pathlib import Path
 from typing import Any, Iterable, NamedTuple, Optional
 
+from .all_goroutines import OF_GOROUTINES, AllGoroutines, typed
+
 OF_GO, OF_THE_PROGRAM, OF_A_LIBRARY = "go", "program", "library"
+OF_SOCKETS = frozenset(("peers", "ends", "addresses", "sent", "errors"))  # lines of the file
 OF_CALL = {"function": str, "file": str, "line": int, "of": str}
 MOST_BYTES, MOST_LINE = 2**26, 2**24  # of the file, and of one of its lines
 SHOWN = 12  # calls of a stack
+FORMS = (1, 2)  # of the file; the second has all goroutines
 
 
 class Call(NamedTuple):
@@ -73,7 +77,7 @@ class Unusable(Exception):
     """A file of lines that can't be used: why."""
 
 
-class Lines:
+class Lines(AllGoroutines):
     """The lines of a recording's steps, and why there are none where NAME.where can't be used. One that isn't there is no fault."""
 
     def __init__(self, text: str = "", steps: int = 0) -> None:
@@ -120,12 +124,16 @@ class Lines:
         ] = None  # as which a read or a write counts at most; None where each has all of its own
         self.tests: list[tuple[int, int, str]] = []  # the first and the last step while each test ran, package and name
         self.peers: dict[int, int] = {}  # of a socket the one at the connection's other end
+        self.ends: dict[int, tuple[int, int]] = {}  # of a socket the numbers of its own name and of the other end's
+        self.addresses: dict[int, tuple[str, str]] = {}  # of sockets for datagrams, and to which they are connected
+        self.sent: dict[int, str] = {}  # to which address a datagram went, by a step of the call
         self.errors: dict[int, str] = {}  # of the system, by the step behind which a goroutine's call had them
         self.waits: dict[int, list[Wait]] = {}  # outside of the poller, by goroutine
         self.times = array(
             "q"
         )  # of the steps, nanoseconds from the recorder's begin; empty where the recorder had none
         self._calls: dict[int, Call] = {}
+        self.begin_goroutines()
 
     def _take(self, lines: Iterable[str], steps: int) -> None:
         """Takes the lines of the file, or none of them."""
@@ -151,36 +159,51 @@ class Lines:
     def _add(self, line: dict[str, Any]) -> None:
         """Adds what a line behind the first says."""
         if "call" in line:
-            self._calls[line["call"]] = Call(*(_typed(line[name], sort) for name, sort in OF_CALL.items()))
+            self._calls[line["call"]] = Call(*(typed(line[name], sort) for name, sort in OF_CALL.items()))
         elif "stack" in line:
             made = self._calls[line["made"]] if "made" in line else None
             self.stacks[line["stack"]] = Stack(tuple(self._calls[number] for number in line["calls"]), made)
         elif "orders" in line:
             self.orders = [] if self.orders is None else self.orders
-            self.orders += [(_typed(first, int), _typed(second, int)) for first, second in line["orders"]]
+            self.orders += [(typed(first, int), typed(second, int)) for first, second in line["orders"]]
         elif "bytes" in line:
-            self.bytes = _typed(line["bytes"], int)
+            self.bytes = typed(line["bytes"], int)
         elif "test" in line:
             first, last = line["steps"]
-            name = f"{_typed(line['package'], str)} {_typed(line['test'], str)}"
-            self.tests.append((_typed(first, int), _typed(last, int), name))
-        elif "peers" in line:
-            for one, other in line["peers"]:
-                self.peers[_typed(one, int)], self.peers[_typed(other, int)] = other, one
+            name = f"{typed(line['package'], str)} {typed(line['test'], str)}"
+            self.tests.append((typed(first, int), typed(last, int), name))
+        elif not OF_SOCKETS.isdisjoint(line):
+            self._add_of_sockets(line)
         elif "times" in line:
             self.times.extend(accumulate(_later(line["times"]), initial=self.times[-1] if self.times else 0))
             del self.times[-len(line["times"]) - 1]  # (that from which it is counted)
         elif "waits" in line:
             for values in line["waits"]:
-                wait = Wait(*map(_typed, values, (int, int, int, str, int, int)))
+                wait = Wait(*map(typed, values, (int, int, int, str, int, int)))
                 known = wait if wait.stack in self.stacks else wait._replace(stack=0)
                 self.waits.setdefault(wait.goroutine, []).append(known)
-        elif "errors" in line:
-            self.errors.update((_typed(step, int), _typed(name, str)) for step, name in line["errors"])
+        elif not OF_GOROUTINES.isdisjoint(line):
+            self.add_goroutines(line, self._calls, self.stacks)
         elif line["step"] == len(self.steps) + 1:
             numbers = line["stacks"]
             are_known = self.stacks.keys() >= set(numbers)  # (mostly all of the thousand are)
             self.steps.extend(numbers if are_known else (one if one in self.stacks else 0 for one in numbers))
+
+    def _add_of_sockets(self, line: dict[str, Any]) -> None:
+        """Adds what a line says of sockets: which are two ends of a connection, their names and addresses, and errors of the system."""
+        if "ends" in line:
+            for one, own, other in line["ends"]:
+                self.ends[typed(one, int)] = typed(own, int), typed(other, int)
+        elif "addresses" in line:
+            for socket, name, peer in line["addresses"]:
+                self.addresses[typed(socket, int)] = typed(name, str), typed(peer, str)
+        elif "sent" in line:
+            self.sent.update((typed(step, int), typed(address, str)) for step, address in line["sent"])
+        elif "peers" in line:
+            for one, other in line["peers"]:
+                self.peers[typed(one, int)], self.peers[typed(other, int)] = other, one
+        else:
+            self.errors.update((typed(step, int), typed(name, str)) for step, name in line["errors"])
 
     def __bool__(self) -> bool:
         return len(self.steps) > 0
@@ -205,10 +228,10 @@ class Lines:
 
 def of_steps(first: Any, steps: int) -> None:
     """Unusable where the file's first line says that it is of another recording."""
-    if first["where"] != 1:
+    if first["where"] not in FORMS:
         raise Unusable("it is of another version")
     if first["steps"] != steps:
-        raise Unusable(f"it is of a recording of {_typed(first['steps'], int)} steps, and this one has {steps}")
+        raise Unusable(f"it is of a recording of {typed(first['steps'], int)} steps, and this one has {steps}")
 
 
 def _later(values: Any) -> Any:
@@ -218,13 +241,6 @@ def _later(values: Any) -> Any:
     if min(values, default=0) < 0:
         raise ValueError
     return values
-
-
-def _typed(value: Any, sort: type) -> Any:
-    """The value; a TypeError where it isn't of this type."""
-    if type(value) is not sort:
-        raise TypeError
-    return value
 
 
 def stack_lines(stack: Stack) -> list[str]:

@@ -9,6 +9,7 @@ from netrev_words.vocabulary import CELLS, Of
 
 DUMPED = 80  # digits of a dump that are shown as text
 FIELD = 0xFFFFF  # references and waiters are counted in 20 bits each
+UNITS = ((1_000_000_000, "s"), (1_000_000, "ms"), (1_000, "µs"), (1, "ns"))
 SIDES = {"r": "read", "w": "write"}
 DOING = {"r": "reading", "w": "writing"}
 
@@ -131,3 +132,10 @@ def absent_words(cell: str, limits: Mapping[str, Any]) -> str:
     if isinstance(room, int) and int(number[0]) >= room:
         return f"the recording has room for {counted(room, of.value)}, from 0 to {room - 1}"
     return f"{of.value} {number[0]} isn't made yet"
+
+
+def duration(nanoseconds: int) -> str:
+    """A time in the largest unit of which it has one, rounded to three digits: `200 ms`, and `1 s` for 999.9 ms."""
+    size, unit = next((each for each in UNITS if nanoseconds >= 0.9995 * each[0]), UNITS[-1])
+    count = nanoseconds / size
+    return f"{count:.3g} {unit}" if count < 100 else f"{count:.0f} {unit}"

@@ -2,8 +2,17 @@
 reckoned from the recording's steps and from NAME.where, and is nrdb's own, unproved; each sentence names steps to look at."""
 
 from .failing import causes_of
-from .first import first_words
-from .hanging import hangs_at
-from .tables import errors_table, hangs_table
+from .first import first_words, opening_words, root_sentence
+from .tables import errors_table, hangs_table, requests_table
+from .wait_graph import graph_at
 
-__all__ = ["causes_of", "errors_table", "first_words", "hangs_at", "hangs_table"]
+__all__ = [
+    "causes_of",
+    "errors_table",
+    "first_words",
+    "graph_at",
+    "hangs_table",
+    "opening_words",
+    "requests_table",
+    "root_sentence",
+]

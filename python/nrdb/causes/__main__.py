@@ -2,8 +2,10 @@
 
 import sys
 
+from netrev_words.built import netrev_program
 from netrev_words.plain import plain
 
+from ..printed_changes import printed_changes
 from ..recording import NoRecording, Recording
 from .first import first_words
 
@@ -18,6 +20,8 @@ def main(words: list[str]) -> int:
     except (OSError, NoRecording) as fault:
         print(plain(f"{words[0]}: {fault}"), file=sys.stderr)
         return 3
+    if netrev := netrev_program():
+        recording.changes = printed_changes(netrev, words[0], recording)
     for line in first_words(recording, words[0]):
         print(plain(line))
     return 0

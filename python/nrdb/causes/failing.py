@@ -1,16 +1,32 @@
 """Each call that failed, with what brought that about: of a timeout the deadline, of a closed descriptor who closed it, of an end
 or a broken connection who closed the other end."""
 
-from typing import Optional
+import re
+from typing import NamedTuple, Optional
 
 from netrev_words.plurals import counted
 
 from ..one_call import CLOSE, Call, Outcome
 from ..recording import Recording
-from .hanging import who_could
+from ..waits import Name, waits_of
+from ..where import Stack
+from .cancels import cancel_before, cancel_says, deferred_says, under_way
+from .datagrams import dropped_datagram
+from .exchanges import is_client
+from .http_requests import cancelled_requests
 from .index import READING, Cause, Index, index_of, went_well
-from .words import duration, name_of, place_of_step, told
+from .late_answers import is_of_write_timeout
+from .needs import Needs
+from .words import duration, name_of, place_of_step, told, waits_words
 
+PAST = {
+    "sleeps": "slept", "waits": "waited", "it is now in": "it was then in", "is itself under way": "was itself under way", "It needs": "It needed",
+    "has no room": "had no room", "isn't being": "wasn't being", "is being": "was being", "it is in no call": "it was in no call",
+    "now it reads on": "then it read on", "has written": "had written", "has closed": "had closed", "haven't all come": "hadn't all come",
+}  # fmt: skip
+OF_A_SERVER = ("net/http.(*conn).readRequest", "net/http.(*conn).serve")
+OF_CONNECTIONS = ("internal/poll.", "net.", "crypto/tls.")
+OF_A_FILE = "os.(*File)."
 DEEP = 3  # causes of causes that are told
 ENDED = {
     Outcome.TIMED_OUT: "ended with a timeout",
@@ -64,12 +80,44 @@ def of_timeout(index: Index, call: Call, begins: str) -> Cause:
         says.append(f"Its deadline was set{at}, while it waited, {duration(time)} ahead.")
     else:
         says.append(f"Its deadline was set{at}, {duration(time)} ahead{under(well, late, name_of(recording, call))}")
-    could = None
-    fresh = call.cause < call.first and not well and not late
-    if fresh and time > 0 and (could := who_could(index, call, call.last)):
-        says += could.says
+    need = None
+    if call.cause < call.first and not well and not late and time > 0 and not index.is_listening(call):
+        if 0 < call.passed < call.first:
+            says.append(f"It had passed before the {name_of(recording, call)} began.{between(index, call)}")
+        else:
+            need = Needs(index, {}, call.last).of_call(call)
+            dropped = dropped_datagram(index, call)
+            says += [*map(in_the_past, [*need.says, *([] if dropped else need.more)]), *dropped]
+    if is_of_write_timeout(index, call):
+        says.append("That is the WriteTimeout of its http.Server.")
+    elif is_of_a_server(recording.lines.of(call.cause)):
+        says.append("That is a ReadTimeout, ReadHeaderTimeout, WriteTimeout or IdleTimeout of its http.Server.")
     looks = [f"goto {call.cause}", f"history {side}d {call.descriptor}"]
-    return Cause(call, says, [call.first, call.cause], looks, could.stopped if could else 0)
+    return Cause(call, says, [call.first, call.cause], looks, need.stopped if need else 0)
+
+
+def is_of_a_server(stack: Stack) -> bool:
+    """Whether a server of net/http itself set a deadline. The innermost function outside of connections did: a handler may, by its
+    http.ResponseController too, and the server is below each of them."""
+    outside = (one.function for one in stack.calls if not one.function.startswith(OF_CONNECTIONS))
+    return next(outside, "").startswith(OF_A_SERVER)
+
+
+def between(index: Index, call: Call) -> str:
+    """What a call's goroutine waited for last outside of the poller, between the setting of a deadline and the call."""
+    waits = waits_of(index.recording).of.get(Name(call.goroutine), [])
+    some = [wait for wait in waits if wait.last is not None and call.cause <= wait.first and wait.last <= call.first]
+    if not some:
+        return ""
+    last = some[-1]
+    return f" Before that, its goroutine {in_the_past(waits_words(last))}."
+
+
+def in_the_past(words: str) -> str:
+    """A sentence of what is, as one of what was."""
+    for now, then in PAST.items():
+        words = re.sub(rf"\b{now}\b", then, words)
+    return words
 
 
 def under(well: list[Call], late: list[Call], name: str) -> str:
@@ -87,14 +135,40 @@ def of_close(index: Index, call: Call, begins: str, deep: int) -> Cause:
     what = "Its write side was closed" if call.outcome is Outcome.BROKEN_PIPE else "It was closed"
     when = ", while the call was under way" if call.first < call.cause else ", before the call began"
     says = [f"{begins}.", f"{what}{place_of_step(recording, call.cause, goroutine)}{when}."]
+    ended = context_says(index, call, by)
+    says += ended
     others = [
-        one for one in index.by_socket[call.socket]
-        if one is not call and one.first < call.cause < one.last and one.name != CLOSE and one.goroutine != goroutine
+        one for one in index.under_way(call.socket, call.cause)
+        if one is not call and one.name != CLOSE and one.goroutine != goroutine
     ]  # fmt: skip
     if others:
         says.append(f"{told(recording, others[0])} was inside too.")
-    says += why(index, by, deep)
-    return Cause(call, says, [call.first, call.cause], [f"goto {call.cause}", f"calls sock {call.socket}"])
+    before = Before([], []) if ended else why(index, by, deep)
+    looks = [f"goto {call.cause}", f"calls sock {call.socket}"]
+    return Cause(call, [*says, *before.says], [call.first, call.cause], looks, 0, before.calls)
+
+
+def context_says(index: Index, call: Call, by: Optional[Call]) -> list[str]:
+    """Of a descriptor that was closed because a request's context had ended, or a channel was closed: who did that, or which limit had passed;
+    and what the goroutine did that served the request."""
+    request = next((one for one in cancelled_requests(index) if by and one.closed.first == by.first), None)
+    cancel = None if request else cancel_before(index, call.cause)
+    if request is None and cancel is None:
+        return []
+    says = (
+        request.says(index.recording)
+        if request
+        else [cancel_says(index, cancel), *deferred_says(index, cancel)]
+        if cancel
+        else []
+    )
+    return [*says, *served_says(index, call, call.cause)]
+
+
+def served_says(index: Index, call: Call, step: int) -> list[str]:
+    """What the goroutine did at a step that served the request of a call's connection; nothing if that isn't known."""
+    served = under_way(index, call, step)
+    return [in_the_past(served)] if served else []
 
 
 def of_the_other_end(index: Index, call: Call, begins: str, deep: int) -> Cause:
@@ -110,16 +184,52 @@ def of_the_other_end(index: Index, call: Call, begins: str, deep: int) -> Cause:
         f"{begins}.",
         f"The other end, socket {other}, was {what}{place_of_step(recording, by.first, by.goroutine)}.",
     ]
-    looks = [f"goto {by.first}", f"calls sock {other}"]
-    return Cause(call, [*says, *why(index, by, deep)], [call.first, by.first], looks)
+    looks, before = [f"goto {by.first}", f"calls sock {other}"], why(index, by, deep)
+    says += before.says
+    if (late := late_write(index, call, by)) is not None:
+        says.append(
+            f"{told(recording, late)} came after the other end was closed, in step {late.first}: nobody read it."
+        )
+    return Cause(call, says, [call.first, by.first], looks, 0, before.calls)
 
 
-def why(index: Index, by: Optional[Call], deep: int) -> list[str]:
-    """What failed just before somebody closed, with its own cause."""
+def late_write(index: Index, call: Call, by: Call) -> Optional[Call]:
+    """The last Write of a call's goroutine at its socket, if that came after the other end was closed as a whole."""
+    wrote = index.last_use(call.socket, call.first, ("Write",))
+    return (
+        wrote
+        if wrote and wrote.goroutine == call.goroutine and by.name == CLOSE and wrote.first > by.last > 0
+        else None
+    )
+
+
+def is_late(index: Index, call: Call) -> bool:
+    """Whether a Read met the end of a stream for which its goroutine, a client, had sent a request after the other end was closed."""
+    if call.outcome is not Outcome.EOF or not is_client(index, call.goroutine, call.socket):
+        return False
+    other = index.other_end(call.socket)
+    by = index.closing(other, call.last) if other is not None else None
+    return by is not None and late_write(index, call, by) is not None
+
+
+class Before(NamedTuple):
+    """What failed before something: sentences, and the calls."""
+
+    says: list[str]
+    calls: list[Call]
+
+
+def why(index: Index, by: Optional[Call], deep: int) -> Before:
+    """What failed just before somebody closed, with its own cause. The end of a file is no failure."""
     before = index.before(by) if by else None
     if before is None or deep >= DEEP or not (before.outcome.is_error or before.outcome is Outcome.EOF):
-        return []
-    if not before.last or (by and before.last > by.first):
-        return []
-    first, *rest = cause_of(index, before, deep + 1).says
-    return [f"Before that, {first}", *rest]
+        return Before([], [])
+    if not before.last or (by and before.last > by.first) or is_of_a_file(index, before):
+        return Before([], [])
+    cause = cause_of(index, before, deep + 1)
+    return Before([f"Before that, {cause.says[0]}", *cause.says[1:]], [before, *cause.chain])
+
+
+def is_of_a_file(index: Index, call: Call) -> bool:
+    """Whether a call is one of a file, not of a connection."""
+    return any(one.function.startswith(OF_A_FILE) for one in index.recording.lines.of(call.first).calls)

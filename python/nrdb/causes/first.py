@@ -1,18 +1,30 @@
-"""What is said first of a recording of a program that failed: each failed call of the program's with its cause, who hangs, and
-where there is neither, what may be the matter; with the line to type next."""
+"""What is said first of a recording of a program that failed: each failed call of the program's with its cause, what all that hangs waits
+for, and if there is neither, what may be the matter; with the line to type next."""
 
-from typing import Callable
+from collections import defaultdict
+from typing import Callable, Hashable, Union
 
 from netrev_words.command_lines import command_line, file_word
+from netrev_words.plurals import counted
 
-from ..one_call import Outcome
+from ..all_goroutines import FOR_VALUE
+from ..one_call import CLOSE, Call, Outcome
 from ..recording import Recording
-from .failing import causes_of
-from .hanging import hangs_at, wait_words, waits_elsewhere
-from .index import READING, WRITING, Cause, index_of
+from ..waits import Name
+from .failed_dials import failed_dials
+from .failing import cause_of, failed_at, is_late, served_says
+from .hang_words import hang_looks, hang_says, tree_lines
+from .gone_readers import ended_behind
+from .http_requests import CancelledRequest, cancelled_requests
+from .index import READING, WRITING, Cause, Index, index_of
+from .joins import Topic, joined
+from .late_answers import late_answers
 from .leftovers import leftovers_of
-from .source import text_behind
-from .words import is_of_go
+from .source import text_after
+from .unpassed_ends import unpassed_ends
+from .unsent_requests import causes_of_unsent
+from .wait_graph import Hang, WaitGraph, graph_at, is_at_mutex, waiters_of
+from .words import is_of_go, place_in, waits_words
 
 MOST_FAILED, MOST_HANGS, MOST_PERHAPS = 4, 3, 2
 CAUSE, INDENT, NEXT = "cause:  ", "        ", "next:   "
@@ -20,51 +32,253 @@ CAUSE, INDENT, NEXT = "cause:  ", "        ", "next:   "
 
 def first_words(recording: Recording, name: str) -> list[str]:
     """The lines, ready to be shown but for what `plain` does; none where there is nothing to say."""
-    failed = once(recording, [one for one in causes_of(recording, recording.length) if is_telling(recording, one)])
-    hangs = [one for one in hangs_at(recording, recording.length) if not is_of_go(recording, one.call)]
-    shown = [*failed[:MOST_FAILED], *hangs[:MOST_HANGS]]
-    lines = [line for cause in shown for line in paragraph(recording, cause)]
-    rest = len(failed) + len(hangs) - len(shown)
-    if rest:
+    failed = failures_of(recording)
+    graph = graph_at(recording, recording.length)
+    hangs = hangs_of(graph, bool(failed))
+    shown, looks, lines = set[int](), list[list[str]](), list[str]()
+    topics = topics_of(graph, failed[:MOST_FAILED], hangs[:MOST_HANGS])
+    for topic in topics:
+        looks.append(topic_looks(topic))
+        lines += paragraph(topic_lines(graph, topic, shown))
+    if rest := len(failed) + len(hangs) - len([one for one in topics if one.cause]) - count_in(hangs, topics):
         lines.append(f"{INDENT}({rest} more: info errors, info hangs)")
-    lines += [
-        f"{CAUSE}{wait_words(recording, wait)}" for wait in waits_elsewhere(recording, recording.length)[:MOST_HANGS]
-    ]
-    if not failed:
-        perhaps = once(recording, leftovers_of(recording))[:MOST_PERHAPS]
-        shown += perhaps
-        lines += [line for cause in perhaps for line in paragraph(recording, cause)]
-    if shown:
-        words = [file_word(name), *(word for look in shown[0].looks for word in ("-ex", look))]
+    if not failed and all(hang.is_quiet for hang in hangs):
+        left = list(failed_dials(index_of(recording))) or leftovers_of(recording)
+        cancelled = requests_that_ended(recording, False)
+        late = list(late_answers(index_of(recording)))
+        perhaps = [*cancelled, *once(recording, [*late, *left], [1] * len([*late, *left]))][:MOST_PERHAPS]
+        looks += [one.looks for one in perhaps]
+        lines += [line for one in perhaps for line in paragraph([*one.says, *text_after(recording, one.stopped)])]
+    if looks:
+        words = [file_word(name), *(word for look in looks[0] for word in ("-ex", look))]
         lines.append(f"{NEXT}{command_line('nrdb', *words)}")
     return lines
 
 
-def paragraph(recording: Recording, cause: Cause) -> list[str]:
-    """A cause in lines: a sentence each, and the source behind the line where somebody stopped, if it is there."""
-    first, *rest = cause.says
-    return [f"{CAUSE}{first}", *(f"{INDENT}{line}" for line in (*rest, *text_behind(recording, cause)))]
+def topics_of(graph: WaitGraph, failed: list[Cause], hangs: list[Hang]) -> list[Topic]:
+    """The causes in their order, each hang with the failed call that it explains or comes of."""
+    order = [Topic(None, one) if isinstance(one, Hang) else Topic(one) for one in in_order(graph, failed, hangs)]
+    return joined(graph, order)
 
 
-def is_telling(recording: Recording, cause: Cause) -> bool:
+def count_in(hangs: list[Hang], topics: list[Topic]) -> int:
+    """How many of some hangs are in topics."""
+    return sum(any(topic.hang is hang for topic in topics) for hang in hangs)
+
+
+def topic_looks(topic: Topic) -> list[str]:
+    """What to type next for a cause."""
+    return topic.cause.looks if topic.cause else hang_looks(topic.hang) if topic.hang else []
+
+
+def topic_lines(graph: WaitGraph, topic: Topic, shown: set[int]) -> list[str]:
+    """A cause in lines: a hang that is joined to a failed call is indented below that."""
+    cause, left = topic.cause, left_by(graph, topic.cause.call) if topic.cause else []
+    source = text_after(graph.recording, cause.stopped) if cause else []
+    if cause:
+        shown.add(cause.stopped)
+    of_hang = hang_lines(graph, topic.hang, shown) if topic.hang else []
+    if cause is None or not of_hang:
+        return [*(cause.says if cause else []), *left, *source, *of_hang]
+    return [*cause.says, *source, *(left or [topic.because]), *(f"  {line}" for line in of_hang)]
+
+
+def in_order(graph: WaitGraph, failed: list[Cause], hangs: list[Hang]) -> list[Union[Cause, Hang]]:
+    """The causes in their order. Failures come first, but for those that a hang of the main goroutine has nothing to do with, if it is known why
+    that hangs: the program went on after them."""
+    first = next(iter(hangs), None)
+    if first is None or not is_of_main(graph, first):
+        return [*failed, *hangs]
+    of_hang = [one for one in failed if has_to_do_with(graph, first, one.call)]
+    return [*of_hang, *hangs, *(one for one in failed if not any(one is other for other in of_hang))]
+
+
+def is_of_main(graph: WaitGraph, hang: Hang) -> bool:
+    """Whether the main goroutine hangs with others, and it is known why."""
+    is_explained = hang.is_deadlock or bool(hang.needs[0].says or hang.needs[0].more)
+    return is_explained and any(waiter.name == graph.main for waiter in waiters_of(hang))
+
+
+def has_to_do_with(graph: WaitGraph, hang: Hang, call: Call) -> bool:
+    """Whether a failed call may have to do with a hang: its goroutine hangs, or ended without what another needs, or its connection is open and
+    used by one that hangs."""
+    index, names = index_of(graph.recording), {waiter.name for waiter in waiters_of(hang)}
+    needs = [graph.needs[name] for name in names]
+    of_needs = {name for need in needs for name in (need.gone, *need.ended)}
+    if Name(call.goroutine) in names | of_needs or left_by(graph, call):
+        return True
+    ends = [end for end in (call.socket, index.other_end(call.socket)) if end is not None]
+    if any(index.closing(end, graph.position, whole=True) for end in ends):
+        return False
+    return any(Name(one.goroutine) in names for end in ends for one in index.by_socket.get(end, ()))
+
+
+def left_by(graph: WaitGraph, call: Call) -> list[str]:
+    """That the goroutine of a failed call, which was its last, has ended since, and which one waits for that."""
+    name, index = Name(call.goroutine), index_of(graph.recording)
+    left = next((waiter for waiter in graph.waiters.values() if graph.needs[waiter.name].gone == name), None)
+    ended = ended_behind(index, call.goroutine, graph.position)
+    later = [one for one in index.by_goroutine[call.goroutine] if one.first > call.last and one.name != CLOSE]
+    if left is None or not left.wait or ended is None or later:
+        return []
+    did = "put a value" if left.wait.objects[0].use == FOR_VALUE else "take one"
+    waits = f"{left.name} {waits_words(left.wait)}, at which {name} was the last to {did}"
+    return [f"{str(name).capitalize()} ended after that, at step {ended}; {waits}."]
+
+
+def hangs_of(graph: WaitGraph, has_failures: bool) -> list[Hang]:
+    """The hangs that are said first. A read, a select and the like that nobody waits for may have nothing to do: they are said if nothing else
+    is, and not of a program that ended by itself; of that a mutex that was left locked is, if nothing else. If the main goroutine is one of those,
+    it alone is said: the program ends when that does.
+    """
+    hangs = [hang for hang in graph.shown if not hang.is_quiet]
+    if graph.has_ended:
+        hangs = [hang for hang in hangs if not hang.root.is_of_go or hang.is_deadlock]
+        left = [hang for hang in hangs if hang.waiting or hang.is_deadlock or hang.needs[0].is_odd]
+        return left or [hang for hang in hangs if is_at_mutex(hang.root) and hang.has_reason and not has_failures]
+    if hangs or has_failures:
+        return hangs
+    of_main = [hang for hang in graph.shown if any(one.name == graph.main for one in waiters_of(hang))]
+    return of_main or graph.shown
+
+
+def failures_of(recording: Recording) -> list[Cause]:
+    """What is said of a program that failed besides of what hangs: ends of streams that weren't passed on, the calls that failed, and requests
+    of net/http whose deadlines passed."""
+    index = index_of(recording)
+    ends = [
+        Cause(
+            one.met,
+            one.says(recording),
+            [one.met.first, one.waits.first],
+            [f"goto {one.met.last}", f"calls gor {one.met.goroutine}"],
+        )
+        for one in unpassed_ends(index)
+    ]
+    unsent = causes_of_unsent(index)
+    return [
+        *once(recording, ends, [1] * len(ends)),
+        *once(recording, unsent, [1] * len(unsent)),
+        *telling_failures(recording),
+        *requests_that_ended(recording, True),
+    ]
+
+
+def requests_that_ended(recording: Recording, is_late: bool) -> list[Cause]:
+    """The requests of net/http's client that ended because a deadline of their context passed, or because somebody cancelled it; those of the
+    same lines are one."""
+    alike: dict[Hashable, list[CancelledRequest]] = defaultdict(list)
+    for one in cancelled_requests(index_of(recording)):
+        if one.is_late is is_late:
+            alike[one.places(recording)].append(one)
+    return [with_others(of_request(recording, first), len(others)) for first, *others in alike.values()]
+
+
+def of_request(recording: Recording, ended: CancelledRequest) -> Cause:
+    """A request that ended because its context did."""
+    steps, looks = [ended.request.last, ended.step], [f"goto {ended.step}", f"calls sock {ended.request.socket}"]
+    served = served_says(index_of(recording), ended.closed, ended.closed.first)
+    return Cause(ended.closed, [*ended.says(recording), *served], steps, looks)
+
+
+def telling_failures(recording: Recording) -> list[Cause]:
+    """The failed calls that tell something of a program, with their causes. Those of one stack that one step brought about have one cause: it
+    is looked for once, since a program may spin at a closed descriptor."""
+    index, alike = index_of(recording), dict[Hashable, list[Call]]()
+    stacks = recording.lines.steps
+    for call in [*late_reads(index), *failed_at(index, recording.length)]:
+        if is_telling(recording, call):
+            same = call.name, call.outcome, call.cause, stacks[call.first - 1] if recording.lines else 0
+            alike.setdefault(same if recording.lines and call.cause else call.first, []).append(call)
+    causes = [cause_of(index, calls[0]) for calls in alike.values()]
+    told = [call for cause in causes for call in cause.chain]
+    apart = [
+        (cause, len(calls))
+        for cause, calls in zip(causes, alike.values())
+        if not any(cause.call is one for one in told)
+    ]
+    return once(recording, [cause for cause, _ in apart], [many for _, many in apart])
+
+
+def late_reads(index: Index) -> list[Call]:
+    """The Reads that met the end of a stream in place of an answer to what was written after the other end was closed."""
+    return [call for call in index.book.calls if call.outcome is Outcome.EOF and call.last and is_late(index, call)]
+
+
+def opening_words(recording: Recording) -> list[str]:
+    """What a session opens with: the first call that failed, else what hangs first, and what to type next. What nobody waits for is only
+    counted, if it may have nothing to do (a read, a select and the like) or the program ended by itself."""
+    failed = failures_of(recording)
+    graph = graph_at(recording, recording.length)
+    hangs = hangs_of(graph, True)
+    if not failed and not hangs:
+        return quiet_words(graph.shown)
+    first = topics_of(graph, failed, hangs)[0]
+    says = first.cause.says if first.cause and not first.hang else topic_lines(graph, first, set())
+    lines, looks = paragraph(says), topic_looks(first)
+    rest = [(len(failed) - bool(first.cause), "info errors"), (len(hangs) - count_in(hangs, [first]), "info hangs")]
+    more = [f"{count} more: {command}" for count, command in rest if count > 0]
+    return [*lines, f"{NEXT}{'; '.join(looks)}" + (f"   ({'; '.join(more)})" if more else "")]
+
+
+def root_sentence(recording: Recording) -> str:
+    """The first sentence of what a session opens with; empty if nothing failed and nothing hangs that others wait for."""
+    first = next(iter(opening_words(recording)), "")
+    return first.removeprefix(CAUSE) if first.startswith(CAUSE) else ""
+
+
+def quiet_words(hangs: list[Hang]) -> list[str]:
+    """That goroutines wait which may have nothing to do, and where; nothing if there are none."""
+    count = sum(1 + len(hang.alike) for hang in hangs)
+    places = [place.strip() for hang in hangs if (place := place_in(hang.root.stack))]
+    at = f", {'; '.join(places[:MOST_HANGS])}{' ..' if places[MOST_HANGS:] else ''}" if places else ""
+    return (
+        [f"{counted(count, 'goroutine')} wait{'s' if count == 1 else ''} at the end{at}: info hangs"] if count else []
+    )
+
+
+def hang_lines(graph: WaitGraph, hang: Hang, shown: set[int]) -> list[str]:
+    """A hang's sentences, the source behind the line where a goroutine that could have gone on stopped, if that isn't shown yet, and who
+    waits."""
+    stopped = 0 if hang.is_deadlock else hang.needs[0].stopped
+    source = (
+        text_after(graph.recording, stopped) if not any(alike(graph.recording, stopped, one) for one in shown) else []
+    )
+    shown.add(stopped)
+    return [*hang_says(graph, hang), *source, *tree_lines(graph, hang)]
+
+
+def alike(recording: Recording, step: int, other: int) -> bool:
+    """Whether two steps are of one line of the program."""
+    return recording.lines.of(step).own() == recording.lines.of(other).own()
+
+
+def paragraph(says: list[str]) -> list[str]:
+    """A cause in lines, a sentence each."""
+    first, *rest = says
+    return [f"{CAUSE}{first}", *(f"{INDENT}{line}" for line in rest)]
+
+
+def is_telling(recording: Recording, call: Call) -> bool:
     """Whether a failed call tells something of a program: not one of Go's own code alone, no listener's end, and none of a
     descriptor that was known to be closed."""
-    call = cause.call
     if is_of_go(recording, call) or call.name not in READING + WRITING:
         return False
     return not (call.outcome is Outcome.CLOSED and index_of(recording).is_listening(call))
 
 
-def once(recording: Recording, causes: list[Cause]) -> list[Cause]:
-    """One of those that are of the same lines, which says how many are like it."""
-    kept: dict[object, list[Cause]] = {}
+def once(recording: Recording, causes: list[Cause], counts: list[int]) -> list[Cause]:
+    """One of those that are of the same lines, which says how many calls are like it; each cause is of so many calls."""
+    kept: dict[object, Cause] = {}
+    many: dict[object, int] = {}
     at: Callable[[int], object] = recording.lines.words
-    for cause in causes:
-        key = cause.call.name, cause.call.outcome, *map(at, cause.steps)
-        kept.setdefault(key if recording.lines else id(cause), []).append(cause)
-    return [with_others(alike) for alike in kept.values()]
+    for cause, count in zip(causes, counts, strict=True):
+        lines = cause.call.name, cause.call.outcome, *map(at, cause.steps)
+        key: Hashable = lines if recording.lines else id(cause)
+        kept.setdefault(key, cause)
+        many[key] = many.get(key, 0) + count
+    return [with_others(cause, many[key] - 1) for key, cause in kept.items()]
 
 
-def with_others(alike: list[Cause]) -> Cause:
-    first, *others = alike
-    return first._replace(says=[*first.says, f"{len(others)} more like it."]) if others else first
+def with_others(cause: Cause, others: int) -> Cause:
+    return cause._replace(says=[*cause.says, f"{others} more like it."]) if others else cause

@@ -4,7 +4,7 @@ from bisect import bisect_right
 from collections import defaultdict
 from functools import lru_cache
 from operator import attrgetter
-from typing import Iterable, NamedTuple, Optional
+from typing import Iterable, Iterator, NamedTuple, Optional, Sequence
 
 from ..calls import book_of
 from ..one_call import CLOSE, CLOSE_WRITE, Call, Outcome
@@ -24,6 +24,7 @@ class Cause(NamedTuple):
     steps: list[int]
     looks: list[str]
     stopped: int = 0  # the step behind which a goroutine that could have woken it did nothing any more
+    chain: list[Call] = []  # the failed calls that the sentences give as its causes
 
 
 class Index:
@@ -39,6 +40,8 @@ class Index:
         self._ended: dict[
             tuple[int, str], list[Call]
         ] = {}  # of each side that was asked for, in the order of their ends
+        self._closing: dict[tuple[int, bool], Optional[Call]] = {}
+        self._under_way: dict[tuple[int, int], list[Call]] = {}
 
     def other_end(self, socket: int) -> Optional[int]:
         """The socket at the other end of a socket's connection, where that is known."""
@@ -46,34 +49,44 @@ class Index:
 
     def at(self, step: int) -> Optional[Call]:
         """The innermost call that a step is part of."""
-        goroutine = self.recording.step(step).argument("g")
-        calls = self.by_goroutine.get(goroutine, ())
-        return next((one for one in reversed(calls) if one.first <= step and (not one.last or one.last >= step)), None)
+        begun = back(self.by_goroutine.get(self.recording.step(step).argument("g"), ()), step)
+        return next((one for one in begun if not one.last or one.last >= step), None)
 
     def closing(self, socket: int, until: int, whole: bool = False) -> Optional[Call]:
         """The first call up to a step that closed a socket, or its write side where not the whole of it is meant."""
-        names = (CLOSE,) if whole else (CLOSE, CLOSE_WRITE)
-        calls = self.by_socket.get(socket, ())
-        return next(
-            (one for one in calls if one.name in names and not one.outcome.is_error and one.first <= until), None
-        )
+        if (socket, whole) not in self._closing:
+            names = (CLOSE,) if whole else (CLOSE, CLOSE_WRITE)
+            closing = (one for one in self.by_socket.get(socket, ()) if one.name in names and not one.outcome.is_error)
+            self._closing[socket, whole] = next(closing, None)
+        found = self._closing[socket, whole]
+        return found if found and found.first <= until else None
+
+    def under_way(self, socket: int, step: int) -> list[Call]:
+        """The calls at a socket that began before a step and ended behind it."""
+        if (socket, step) not in self._under_way:
+            begun = (one for one in self.by_socket.get(socket, ()) if one.first < step < one.last)
+            self._under_way[socket, step] = list(begun)
+        return self._under_way[socket, step]
 
     def last_use(self, socket: int, until: int, names: Iterable[str] = MOVING) -> Optional[Call]:
         """The call of these names on a socket that began last, up to a step."""
-        calls = self.by_socket.get(socket, ())
-        return next((one for one in reversed(calls) if one.name in names and one.first <= until), None)
+        return next((one for one in back(self.by_socket.get(socket, ()), until) if one.name in names), None)
 
     def before(self, call: Call) -> Optional[Call]:
         """The call by which its goroutine last read, wrote or waited before this one."""
+        begun = back(self.by_goroutine[call.goroutine], call.first - 1)
+        return next((one for one in begun if one.name in READING + WRITING), None)
+
+    def next_of(self, call: Call) -> Optional[Call]:
+        """The next call of the same name by the same goroutine."""
         calls = self.by_goroutine[call.goroutine]
-        fits = (one for one in reversed(calls) if one.first < call.first and one.name in READING + WRITING)
-        return next(fits, None)
+        begin = bisect_right(calls, call.first, key=FIRST)
+        return next((calls[at] for at in range(begin, len(calls)) if calls[at].name == call.name), None)
 
     def inside(self, goroutine: int, position: int) -> Optional[Call]:
         """The innermost call that a goroutine is in at a position."""
-        calls = self.by_goroutine.get(goroutine, ())
-        fits = (one for one in reversed(calls) if one.first <= position and (not one.last or one.last > position))
-        return next(fits, None)
+        begun = back(self.by_goroutine.get(goroutine, ()), position)
+        return next((one for one in begun if not one.last or one.last > position), None)
 
     def is_listening(self, call: Call) -> bool:
         """Whether a call takes connections: for that nobody has to come."""
@@ -98,6 +111,11 @@ class Index:
     def failed(self, position: int) -> list[Call]:
         """The calls that had failed at a position."""
         return [one for one in self.book.calls if 0 < one.last <= position and one.outcome.is_error]
+
+
+def back(calls: Sequence[Call], step: int) -> Iterator[Call]:
+    """The calls that began up to a step, the last one first."""
+    return (calls[at] for at in range(bisect_right(calls, step, key=FIRST) - 1, -1, -1))
 
 
 def went_well(call: Call) -> bool:

@@ -1,4 +1,4 @@
-"""What may be the matter where no call failed and none hangs: bytes that nobody read before their connection was closed, the end of
+"""What may be the matter where no call failed and none hangs: a reader that has ended, bytes that nobody read before their connection was closed, the end of
 a stream that came early, sockets that are left open, and writes that came between two of another goroutine's. None of it is a fault by
 itself, so each is said with `Perhaps`."""
 
@@ -10,8 +10,9 @@ from ..one_call import CLOSE, Call, Outcome
 from ..recording import Recording
 from ..where import OF_THE_PROGRAM
 from .failing import cause_of
-from .index import Cause, Index, index_of, went_well
-from .words import is_of_go, place_of_step, told
+from .gone_readers import without_reader
+from .index import MOVING, Cause, Index, index_of, went_well
+from .words import came_of, is_of_go, place_of_step, told
 
 
 class Place(NamedTuple):
@@ -24,7 +25,7 @@ class Place(NamedTuple):
 def leftovers_of(recording: Recording) -> list[Cause]:
     """All that is left over at the end of a recording, of each sort in the order of its steps. Of Go's own code alone nothing is."""
     index = index_of(recording)
-    found = [*never_read(index), *left_open(index), *early_ends(index), *mixed_writes(index)]
+    found = [*without_reader(index), *never_read(index), *left_open(index), *early_ends(index), *mixed_writes(index)]
     return [one._replace(says=[f"Perhaps: {one.says[0]}", *one.says[1:]]) for one in found]
 
 
@@ -47,7 +48,7 @@ def never_read(index: Index) -> Iterator[Cause]:
         says = [
             f"{counted(missing, 'byte')} that {told(recording, wrote)} wrote in {wrote.steps()} were never read.",
             f"The other end, socket {other}, was closed{place_of_step(recording, by.first, by.goroutine)}.",
-            f"Its last read was {told(recording, last)}, {last.steps()}, {last.came() or 'which got nothing'}.",
+            f"Its last read was {told(recording, last)}, {last.steps()}, {came_of(recording, last) or 'which got nothing'}.",
         ]
         looks = [f"goto {last.last or last.first}", f"calls sock {other}"]
         yield Cause(last, says, [wrote.first, last.first, by.first], looks)
@@ -82,14 +83,22 @@ def left_open(index: Index) -> Iterator[Cause]:
 
 
 def early_ends(index: Index) -> Iterator[Cause]:
-    """Reads of the program that met the end of a stream which the other end closed as a whole."""
+    """Reads of the program that met the end of a stream which the other end closed as a whole, in place of an answer."""
     for call in index.book.calls:
         other = index.other_end(call.socket)
         if call.outcome is not Outcome.EOF or other is None or is_of_go(index.recording, call):
             continue
         by = index.closing(other, call.last)
-        if by and by.name == CLOSE:
+        if by and by.name == CLOSE and is_asking(index, call):
             yield cause_of(index, call)
+
+
+def is_asking(index: Index, call: Call) -> bool:
+    """Whether a Read waits for an answer: its goroutine has written there, and nothing came since."""
+    moved = [one for one in index.by_socket[call.socket] if one.name in MOVING and one.moved and one.first < call.first]
+    return (
+        bool(moved) and moved[-1].name == "Write" and moved[-1].goroutine == call.goroutine and moved[0].name == "Write"
+    )
 
 
 def mixed_writes(index: Index) -> Iterator[Cause]:

@@ -7,16 +7,15 @@ from pathlib import Path
 from ..recording import Recording
 from ..text_files import lines_of
 from ..where import OF_THE_PROGRAM
-from .index import Cause
 
 SHOWN = 8
 
 
-def text_behind(recording: Recording, cause: Cause) -> list[str]:
-    """The lines behind the one where the goroutine that could have gone on was seen last, up to the end of its function."""
-    if not cause.stopped:
+def text_after(recording: Recording, step: int) -> list[str]:
+    """The lines from the one at which a goroutine was at a step up to the end of its function; none for step 0."""
+    if not step:
         return []
-    found = recording.lines.of(cause.stopped).own()
+    found = recording.lines.of(step).own()
     if not found or found[0].of != OF_THE_PROGRAM:
         return []
     file, line = found[0].file, found[0].line

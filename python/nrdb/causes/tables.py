@@ -1,36 +1,51 @@
-"""The tables of `info errors` and `info hangs`."""
+"""The tables of `info errors`, `info hangs` and `info requests`."""
 
+from collections import defaultdict
 from typing import Optional
+
+from netrev_words.plurals import counted
 
 from ..calls import book_of
 from ..following import call_row
 from ..one_call import Call
 from ..output import Row, Table
 from ..recording import Recording
+from ..waits import Name
 from .failing import cause_of
-from ..where import Wait
-from .hanging import hangs_at, wait_words, waits_elsewhere
-from .index import Cause, index_of
-from .words import is_by_go, is_of_go
+from .http_requests import CancelledRequest, Request, cancelled_requests, requests_of
+from .hang_words import hang_looks, hang_says, tree_lines
+from .index import index_of
+from .wait_graph import Hang, WaitGraph, graph_at
+from .words import is_by_go, place_in
 
 
 def errors_table(recording: Recording, position: int, most: Optional[int]) -> Table:
-    """The calls up to the position that ended with a timeout, a close, a broken pipe or an event error."""
+    """The calls of the whole recording that ended with a timeout, a close, a broken pipe or an event error; those that end after the position
+    are marked. Of more than `most` the last ones up to the position, and as many of those after it as fit in."""
     failed = [call for call in book_of(recording).calls if call.last and call.outcome.is_error]
-    past = [call for call in failed if call.last <= position]
-    found = [call for call in past if not is_by_go(recording, call)]
-    shown = found if most is None else found[-most:]
+    found = [call for call in failed if not is_by_go(recording, call)]
+    past = [call for call in found if call.last <= position]
+    later = [call for call in found if call.last > position]
+    shown = past if most is None else past[-most:]
+    upcoming = later if most is None else later[: most - len(shown)]
     rest = []
-    if len(shown) < len(found):
-        rest.append(f"{len(found) - len(shown)} earlier ones: info errors all")
+    if len(shown) < len(past):
+        rest.append(f"{len(past) - len(shown)} earlier ones: info errors all")
+    if len(upcoming) < len(later):
+        rest.append(f"{len(later) - len(upcoming)} later ones: info errors all")
     if not found:
-        rest.append(f"no call has failed up to position {position}")
-    if len(found) < len(past):
-        rest.append(f"{len(past) - len(found)} more are waits of Go's own code, which it ended itself")
-    if len(past) < len(failed):
-        rest.append(f"{len(failed) - len(past)} later")
+        rest.append("no call failed")
+    if len(found) < len(failed):
+        rest.append(f"{len(failed) - len(found)} more are waits of Go's own code, which it ended itself")
     rows = [row for call in shown for row in error_rows(recording, call, call_row(recording, call, position))]
+    rows += [row for call in upcoming for row in error_rows(recording, call, later_row(recording, call))]
     return Table("errors", rows, "; ".join(rest))
+
+
+def later_row(recording: Recording, call: Call) -> Row:
+    """The row of a call that ends after the position."""
+    row = call_row(recording, call, recording.length)
+    return Row(row.values | {"later": True}, f"{row.text}   (later)")
 
 
 def error_rows(recording: Recording, call: Call, row: Row) -> list[Row]:
@@ -41,30 +56,67 @@ def error_rows(recording: Recording, call: Call, row: Row) -> list[Row]:
 
 
 def hangs_table(recording: Recording, position: int) -> Table:
-    """The calls that wait at a position and don't end in the recording, each with what would wake it."""
-    found = hangs_at(recording, position)
-    own = [one for one in found if not is_of_go(recording, one.call)]
-    left = len(found) - len(own)
-    waits = waits_elsewhere(recording, position)
-    rest = [] if found or waits else [f"no call hangs at position {position}, but for those that wait for connections"]
-    if left:
-        rest.append(f"{left} more in Go's own code alone, as idle connections of net/http are")
-    rows = [row for cause in own for row in rows_of(cause)]
-    return Table("hangs", [*rows, *(row_of(recording, wait) for wait in waits)], "; ".join(rest))
+    """The roots of the waits at a position that don't end in the recording, each with why it doesn't, who waits for it, and what to type
+    next. At the start, where a session opens, they are those at the end."""
+    graph = graph_at(recording, position or recording.length)
+    at = f"at position {position}" if position else "at the end"
+    rest = [] if graph.shown else [f"no call hangs {at}, but for those that wait for connections"]
+    if graph.shown and not position:
+        rest.append(f"that is at the end, position {recording.length}: the session stands at the start")
+    if graph.idle:
+        rest.append(f"{graph.idle} more in Go's own code alone, as idle connections of net/http are")
+    return Table("hangs", [row for hang in graph.shown for row in rows_of(graph, hang)], "; ".join(rest))
 
 
-def row_of(recording: Recording, wait: Wait) -> Row:
-    """The row of a wait outside of the poller."""
-    says = wait_words(recording, wait)
-    return Row({"goroutine": wait.goroutine, "first": wait.first, "reason": wait.reason, "says": [says]}, says)
-
-
-def rows_of(cause: Cause) -> list[Row]:
-    """A hang's rows: what is said, and what to type next."""
-    call = cause.call
+def rows_of(graph: WaitGraph, hang: Hang) -> list[Row]:
+    """A hang's rows: its sentences, who waits for it, and what to type next."""
+    root, (first, *rest), tree, looks = hang.root, hang_says(graph, hang), tree_lines(graph, hang), hang_looks(hang)
     values = {
-        "goroutine": call.goroutine, "call": call.name, "socket": call.socket, "first": call.first,
-        "says": cause.says, "steps": cause.steps, "looks": cause.looks,
-    }  # fmt: skip
-    first, *rest = cause.says
-    return [Row(values, first), *(Row({}, f"     {says}") for says in (*rest, f"next: {'; '.join(cause.looks)}"))]
+        **root.name.values,
+        "call": root.call and root.call.name,
+        "socket": root.call and root.call.socket,
+        "first": root.since,
+        "reason": root.wait and root.wait.kind,
+        "says": [first, *rest],
+        "waiting": hang.waiting,
+        "tree": tree,
+        "looks": looks,
+    }
+    return [Row(values, first), *(Row({}, f"     {line}") for line in (*rest, *tree, f"next: {'; '.join(looks)}"))]
+
+
+def requests_table(recording: Recording) -> Table:
+    """The requests of net/http's client whose connection is certain, those of one line, goroutine and connection together; behind them those
+    that ended because their context did."""
+    index = index_of(recording)
+    alike: dict[tuple[Name, int, str], list[Request]] = defaultdict(list)
+    for request in requests_of(index):
+        alike[request.name, request.socket, place_in(request.stack)].append(request)
+    ended: dict[tuple[Name, int, str], list[CancelledRequest]] = defaultdict(list)
+    for one in cancelled_requests(index):
+        ended[one.request.name, one.request.socket, place_in(one.request.stack)].append(one)
+    rows = [row for key, some in alike.items() for row in request_rows(recording, some, ended[key])]
+    rest = (
+        ""
+        if rows
+        else "no request of net/http's client is known: NAME.where has none, or none whose connection is certain"
+    )
+    return Table("requests", rows, rest)
+
+
+def request_rows(recording: Recording, some: list[Request], ended: list[CancelledRequest]) -> list[Row]:
+    """The row of some requests that are alike, and behind it what ended them."""
+    last, many = some[-1], sum(request.often for request in some)
+    place = place_in(last.stack).strip()
+    steps = f"after step {last.last}" if many == 1 else f"the last after step {last.last}"
+    text = f"socket {last.socket:<4} {counted(many, 'request')} {place} ({last.name}), {steps}"
+    says = [" ".join(one.says(recording)) for one in ended]
+    values = {
+        **last.name.values,
+        "socket": last.socket,
+        "requests": many,
+        "last": last.last,
+        "place": place,
+        "says": says,
+    }
+    return [Row(values, text), *(Row({}, f"     {words}") for words in says)]

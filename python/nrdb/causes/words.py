@@ -2,11 +2,15 @@
 
 from typing import Optional
 
+from netrev_words.plurals import counted
+
 from ..one_call import Call, Outcome
 from ..recording import Recording
 from ..where import OF_GO, OF_THE_PROGRAM
 from ..where import Call as LineCall
 from ..where import Stack
+from ..waits import Waiting
+from ..words import duration as duration
 
 POLL = "internal/poll.(*FD)."
 # What Go's own functions are called by programs, where it isn't the function of internal/poll.
@@ -19,18 +23,8 @@ NAMES = {
     "Writev": "Write",
 }
 OF_TESTS = "_testmain.go"
-OF_SYNC = {
-    "sync.(*Mutex).Lock": "a mutex",
-    "sync.(*Mutex).lockSlow": "a mutex",
-    "internal/sync.(*Mutex).lockSlow": "a mutex",
-    "sync.(*RWMutex).Lock": "a mutex",
-    "sync.(*RWMutex).RLock": "a mutex",
-    "sync.(*WaitGroup).Wait": "a WaitGroup",
-    "sync.(*Cond).Wait": "a condition",
-    "internal/poll.(*FD).Close": "the last who uses the descriptor",
-}
+OF_A_FINALIZER = ("runtime.call", "runtime.runFinalizers", "runtime.runCleanups")
 BELOW = ("internal/poll.", "net.", "os.", "syscall.", "crypto/tls.", "bufio.", "io.")  # packages that hand a call on
-UNITS = ((1_000_000_000, "s"), (1_000_000, "ms"), (1_000, "µs"), (1, "ns"))
 
 
 def name_of(recording: Recording, call: Call) -> str:
@@ -62,6 +56,8 @@ def place_in(stack: Stack) -> str:
     if found := stack.own():
         return f" at {found[0].place()} in {short(found[0].function)}{caller_of(stack, found[0])}"
     outer = next((call for call in stack.calls if not call.function.startswith(BELOW)), None)
+    if outer and outer.function.startswith(OF_A_FINALIZER):
+        return " by Go's garbage collector, since nothing held it any more"
     return f" in {outer.function}" if outer else ""
 
 
@@ -78,11 +74,10 @@ def is_of_a_lock(stack: Stack) -> bool:
     return any(call.function == "internal/poll.(*fdMutex).rwlock" for call in stack.calls)
 
 
-def elsewhere(stack: Stack, reason: str) -> str:
-    """A wait outside of the poller: `at main.go:44 in take for a value from a channel`; of a mutex or a WaitGroup the stack says it."""
-    named = next((OF_SYNC[call.function] for call in stack.calls if call.function in OF_SYNC), "")
-    what = named or reason
-    return f"outside of the poller{place_in(stack)}" + (f", for {what}" if what else "")
+def waits_words(wait: Waiting) -> str:
+    """What a goroutine does that waits outside of the poller: `waits at main.go:44 in take for a value from a channel`."""
+    does, what = wait.does.partition(" for ")[::2]
+    return f"{does}{place_in(wait.stack)}" + (f" for {what}" if what else "")
 
 
 def is_of_the_program(stack: Stack) -> bool:
@@ -114,8 +109,12 @@ def place_of_step(recording: Recording, step: int, goroutine: Optional[int] = No
     return f"{place_of(recording, step)} ({whose}step {step})"
 
 
-def duration(nanoseconds: int) -> str:
-    """A time in the largest unit of which it has one, rounded to three digits: `200 ms`, and `1 s` for 999.9 ms."""
-    size, unit = next((each for each in UNITS if nanoseconds >= 0.9995 * each[0]), UNITS[-1])
-    count = nanoseconds / size
-    return f"{count:.3g} {unit}" if count < 100 else f"{count:.0f} {unit}"
+def came_of(recording: Recording, call: Call) -> str:
+    """What came of a call, in words: where reads and writes count at most so many bytes, `put at least 64 bytes`."""
+    most, words = recording.lines.bytes, call.came()
+    is_cut = bool(most and call.moved and call.moved >= most)
+    return (
+        words.replace(f" {counted(call.moved or 0, 'byte')}", f" at least {counted(call.moved or 0, 'byte')}", 1)
+        if is_cut
+        else words
+    )

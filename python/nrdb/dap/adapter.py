@@ -19,7 +19,7 @@ from .debuggee import debuggee
 from .hearing import CANCEL, Source
 from .looking import maker_of, thread_of
 from .messages import Body, EditorGone, Request, Unanswerable, Wire
-from .moving import Stop
+from .moving import Stop, text_of
 from .numbering import Numbering
 from .target import Launch, Target
 from .working import Work
@@ -169,8 +169,8 @@ class Adapter:
         target.stop = stop
         target.looks.handles.forget()
         body: Body = {"reason": stop.reason, "description": plain(stop.says), "allThreadsStopped": True}
-        if stop.reason == "exception":
-            body["text"] = plain(stop.says)
+        if text := text_of(stop, target.debuggee.recording):
+            body["text"] = plain(text)
         if stop.marks:
             body["hitBreakpointIds"] = list(stop.marks)
         self._console(target.debuggee.printer.take())

@@ -17,6 +17,7 @@ from ..scout import Scout
 from ..errors import Mismatched
 from ..session import Session
 from ..shapes import POSITION
+from ..suspect_list import SuspectList
 from ..collecting import Collecting
 from .messages import Unanswerable
 
@@ -130,6 +131,7 @@ def begun(
     """A session that has begun, while it lasts."""
     scout = Scout(lambda: Own(program, path, interrupts))
     recording.changes = recorded = ArrivingChanges(program, path, interrupts, printer.note)
+    recording.suspects = suspects = SuspectList(program, path, interrupts)
     try:
         session = Session(netrev, recording, scout, printer, interrupts, ANSWERS, recorded=recorded)
         session.program, session.path = program, path
@@ -144,3 +146,4 @@ def begun(
     finally:
         scout.drop()
         recorded.drop()
+        suspects.drop()

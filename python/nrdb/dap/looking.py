@@ -10,7 +10,9 @@ from netrev_words.vocabulary import CELLS, KINDS, Of, cell_of
 from ..backwards import last_steps
 from ..calls import book_of
 from ..following import calls_at
-from ..where import OF_THE_PROGRAM, Call
+from ..goroutine_stacks import stack_of
+from ..waits import Name, waits_of
+from ..where import OF_THE_PROGRAM, Call, Stack
 from ..words import status_words
 from ..world import World
 from .debuggee import Debuggee, Maker
@@ -19,6 +21,7 @@ from .messages import Body, Unanswerable
 from .roots import Roots
 
 NETWORK = 65_536  # the thread's number; a goroutine's is at most 4,096
+GOIDS = 10**6  # the numbers of threads above it are of goroutines without steps, by Go's own numbers
 IN_QUEUES = ("acquiring", "queued", "relock", "owing")  # whose number is a socket's
 
 
@@ -31,6 +34,8 @@ def maker_of(thread: int) -> Maker:
     """Whose thread has that number; Unanswerable where none has."""
     if thread == NETWORK:
         return None
+    if thread > GOIDS:
+        raise Unanswerable(f"goid {thread - GOIDS} makes no step in the recording")
     if not 0 < thread < NETWORK:
         raise Unanswerable("there is no such goroutine")
     return thread - 1
@@ -74,6 +79,12 @@ class Every:
 Thing = Frame | Cells | Every
 
 
+def place_words(stack: Optional[Stack]) -> str:
+    """Where the program is in a stack, in words."""
+    own = stack.own() if stack else None
+    return f" in {plain(own[0].function)} at {plain(own[0].place())}" if own else ""
+
+
 class Handles:
     """Numbers for what the editor may ask about. They hold until the next move, and are never given again."""
 
@@ -109,27 +120,39 @@ class Looks:
         return self._debuggee.session.world()
 
     def threads(self) -> list[Body]:
-        """The goroutines that aren't gone, with the function and the line of the program that each is at, where these are known; and the
-        network with the clock."""
-        world = self._world
+        """The goroutines that aren't gone, with what each does and the function and the line of the program that it is at, where these are known;
+        those without steps that wait; and the network with the clock."""
+        world, recording = self._world, self._debuggee.recording
         statuses = world.of_each(range(world.made(Of.GOROUTINE)), "gor")
         there = [goroutine for goroutine, (status,) in statuses.items() if status != "gone"]
-        places = self._places(there) if self._debuggee.recording.lines else {}
-        goroutines = [
-            {"id": thread_of(one), "name": f"goroutine {one}: {statuses[one][0]}{places.get(one, '')}"} for one in there
-        ]
-        return [*goroutines, {"id": NETWORK, "name": "network and clock"}]
+        waits = {wait.name: wait for wait in waits_of(recording).all_at(self._debuggee.position)}
+        stacks = self._stacks(there) if recording.lines else {}
+        threads = []
+        for one in there:
+            wait = waits.get(Name(one)) if statuses[one][0] == "idle" else None
+            does, stack = (wait.does, wait.stack) if wait else (statuses[one][0], stacks.get(one))
+            threads.append({"id": thread_of(one), "name": f"goroutine {one}: {does}{place_words(stack)}"})
+        for name, wait in sorted(waits.items()):
+            if name.is_goid:
+                threads.append({"id": GOIDS + name.number, "name": f"{name}: {wait.does}{place_words(wait.stack)}"})
+        return [*threads, {"id": NETWORK, "name": "network and clock"}]
 
-    def _places(self, goroutines: Sequence[int]) -> dict[int, str]:
-        """Where the program is in each goroutine, as its last step has it."""
+    def _stacks(self, goroutines: Sequence[int]) -> dict[int, Stack]:
+        """Of each goroutine the stack of its last step."""
         recording = self._debuggee.recording
         steps = last_steps(recording, self._debuggee.position, goroutines)
-        found = {one: recording.lines.of(step).own() for one, step in steps.items()}
-        return {
-            one: f" in {plain(own[0].function)} at {plain(own[0].place())}"
-            for one, own in found.items()
-            if own is not None
-        }
+        return {one: recording.lines.of(step) for one, step in steps.items()}
+
+    def frames_of(self, thread: int) -> list[Body]:
+        """The stack of a thread."""
+        if thread <= GOIDS:
+            return self.frames(maker_of(thread))
+        found = stack_of(self._debuggee.recording, Name(thread - GOIDS, True), self._debuggee.position)
+        if found is None:
+            raise Unanswerable("there is no such goroutine")
+        frame = Frame(None, found.since)
+        calls = [self._call_frame(frame, call) for call in found.stack.calls]
+        return self._ordered(found.stack, calls, [self._label(frame, found.does)])
 
     def frames(self, maker: Maker) -> list[Body]:
         """A stack: the step that is about to be made, or was made last; the call that it is of, as `calls` has it; and the
@@ -140,17 +163,24 @@ class Looks:
         first = self._step_frame(frame, is_next)
         if maker is None:
             return [first]
-        stack = self._debuggee.recording.lines.of(frame.step)
+        stack, labels = self._debuggee.recording.lines.of(frame.step), []
+        wait = None if is_next else waits_of(self._debuggee.recording).at(Name(maker), here)
+        if wait:
+            stack, labels = wait.stack, [self._label(frame, f"{wait.does} since step {wait.first}")]
         inside = calls_at(book_of(self._debuggee.recording), maker, here)
-        labels = [self._label(frame, f"in {call.as_begun().words()}") for call in reversed(inside)]
+        labels += [self._label(frame, f"in {call.as_begun().words()}") for call in reversed(inside)]
         if not stack.calls:
             words = status_words(self._world.value(f"gor {maker}"))
             return [first, *labels, *([self._label(frame, words)] if words else [])]
-        calls = [self._call_frame(frame, call) for call in stack.calls]
+        return self._ordered(stack, [self._call_frame(frame, call) for call in stack.calls], [first, *labels])
+
+    def _ordered(self, stack: Stack, calls: list[Body], others: list[Body]) -> list[Body]:
+        """The frames in the order of calls, behind the others. Where the program's own line comes first, its callers follow it, then the others,
+        and last the calls inside Go."""
         own = next((at for at, call in enumerate(stack.calls) if call.of == OF_THE_PROGRAM), None)
-        if self._goes_first and own is not None:
-            return [calls[own], first, *labels, *calls[:own], *calls[own + 1 :]]
-        return [first, *labels, *calls]
+        if not self._goes_first or own is None:
+            return [*others, *calls]
+        return [*calls[own:], *others, *calls[:own]]
 
     def _step_frame(self, frame: Frame, is_next: bool) -> Body:
         """The frame of a step, in the recording's text."""
@@ -164,6 +194,7 @@ class Looks:
         """The frame of a call of the program's, of a library's or of Go's."""
         path = self._roots.path_of(call.file)
         where = {"path": str(path)} if path else {"origin": plain(call.file)}
+        where |= {} if call.of == OF_THE_PROGRAM else {"presentationHint": "deemphasize"}
         return {
             "id": self.handles.give(frame),
             "name": plain(call.function),

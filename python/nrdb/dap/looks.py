@@ -2,7 +2,6 @@
 
 from ..prompt.completion import candidates
 from . import memory
-from .looking import maker_of
 from .messages import Body, Request, Unanswerable
 from .numbering import Numbering
 from .target import Target
@@ -17,7 +16,7 @@ def threads(target: Target, _: Numbering, __: Request) -> Body:
 
 def stack(target: Target, numbering: Numbering, request: Request) -> Body:
     """The stack of one, or a part of it."""
-    frames = target.looks.frames(maker_of(request.whole_number("threadId")))
+    frames = target.looks.frames_of(request.whole_number("threadId"))
     shown = page(request, frames, "startFrame", "levels")
     placed = [frame | ({"line": numbering.to(frame["line"])} if frame["line"] else {}) for frame in shown]
     return {"stackFrames": placed, "totalFrames": len(frames)}

@@ -2,9 +2,11 @@
 
 from typing import Callable, NamedTuple, Optional, Sequence
 
+from ..causes import root_sentence
 from ..following import Stay, finish_goal
 from ..interrupts import Interrupted, Interrupts
 from ..netrev import Reply
+from ..recording import Recording
 from ..shapes import MARK, Listed, Move, move_of
 from .debuggee import Debuggee, Maker
 from .filters import Filters, Failure
@@ -14,6 +16,8 @@ from .marks import Marks
 from .messages import Unanswerable
 
 PIECE = 100_000  # steps that netrev goes through at a stretch: between two it is looked whether a pause came
+AT_THE_END = "the recording's end"
+MOST_STEPS = 20_000  # of a recording of which an editor is told the root
 
 
 class Stop(NamedTuple):
@@ -22,6 +26,14 @@ class Stop(NamedTuple):
     reason: str
     says: str
     marks: tuple[int, ...] = ()
+
+
+def text_of(stop: Stop, recording: Recording) -> str:
+    """What an editor shows of a stop besides: of an exception what it is; at the end what failed first, or what all wait for. Empty of a long
+    recording, since an editor waits for the answer."""
+    if stop.reason == "exception":
+        return stop.says
+    return root_sentence(recording) if stop.says == AT_THE_END and recording.length <= MOST_STEPS else ""
 
 
 class Moves:
@@ -50,7 +62,7 @@ class Moves:
 
     def goto(self, position: int, reason: str = "goto") -> Stop:
         """To a position."""
-        why = Stop(reason, "the recording's end" if position == self._debuggee.length else f"at {position}")
+        why = Stop(reason, AT_THE_END if position == self._debuggee.length else f"at {position}")
         if position == self._debuggee.position:
             return why
         try:
@@ -180,7 +192,7 @@ class Moves:
         """Stopped at an end of the recording, or for this reason."""
         if not move.is_end:
             return Stop(reason, f"at {move.position}")
-        return Stop("pause", "the recording's end" if move.position else "the recording's start")
+        return Stop("pause", AT_THE_END if move.position else "the recording's start")
 
     def _face_forwards(self) -> None:
         """The editor has names of its own for the two ways, whatever was typed in the console."""

@@ -1,4 +1,4 @@
-// Go's calls, the waits outside of the poller, and the stories: what rules and causes say of the run. Their colours say what they are:
+// Go's calls, and the stories: what rules and causes say of the run. Their colours say what they are:
 // done, failed, hangs, not ended, waits for connections.
 const DONE = 0, FAILED = 1, HANGS = 2, OPEN = 3, LISTENS = 4;
 const ENDS = ["", "failed", "hangs", "hasn't ended", "waits for connections"];
@@ -17,14 +17,14 @@ function numbersOf(told) {
 // The calls, each with its parts by name.
 function decoded() {
   const { count, texts } = D.calls, calls = [];
-  const names = ["g", "s", "first", "long", "name", "came", "line", "state", "waited", "slept"];
-  const { g, s, first, long, name, came, line, state, waited, slept } = Object.fromEntries(names.map((name) => [name, count ? numbersOf(D.calls[name]) : []]));
+  const names = ["g", "s", "first", "long", "name", "came", "line", "state", "stack", "waited", "slept"];
+  const { g, s, first, long, name, came, line, state, stack, waited, slept } = Object.fromEntries(names.map((name) => [name, count ? numbersOf(D.calls[name]) : []]));
   let step = 0;
   for (let at = 0; at < count; at++) {
     step += first[at];
     calls.push({
       g: g[at], s: s[at], first: step, last: long[at] ? step + long[at] - 1 : 0, name: texts[name[at]], came: texts[came[at]],
-      line: texts[line[at]], state: state[at], waited: waited[at], slept: slept[at],
+      line: texts[line[at]], state: state[at], stack: texts[stack[at]], waited: waited[at], slept: slept[at],
     });
   }
   return calls;
@@ -152,19 +152,6 @@ function hatch(x, long, y, colour, free) {
   X.globalAlpha = 0.55;
   for (let at = x + Math.max(free, 8); at < x + long; at += 7) X.fillRect(at, y + 4, 1.5, V.high - 8);
   X.globalAlpha = 1;
-}
-
-// The waits of a goroutine outside of the poller, in its own row.
-function drawWaits(row, y, wide) {
-  X.font = `11px ${SANS}`;
-  for (const [, from, to, reason, line] of row.waits) {
-    const x = Math.max(xOf(from), labels()), right = Math.min(xOf(to || END + 1), wide);
-    if (right < labels() || x > wide) continue;
-    X.strokeStyle = X.fillStyle = to ? ink.soft : ink.due;
-    X.strokeRect(x + 0.5, y + 4.5, Math.max(right - x - 1, 1), V.high - 9);
-    if (!to) hatch(x, right - x, y, ink.due, 9999);
-    if (right - x > 40) X.fillText(fit(`${reason || "waits"} · ${line}`, right - x - 10), x + 5, y + V.high / 2 + 0.5);
-  }
 }
 
 // The steps that the story is made of, with their numbers.

@@ -52,6 +52,15 @@ function fillRow() {
   }
   if (ONLY.s !== null || ONLY.g !== null) buttons.append(pushed("all rows", () => only(null, null), "ends the filter (Esc)"));
   $("panel").append(element("h2", row ? row.title : "filtered"), buttons);
+  const wait = row && waitAt(row, V.chosen);
+  if (wait) $("panel").append(waitLine(wait));
+}
+
+// A wait with the calls of the program in its stack, each in a line.
+function waitLine(wait) {
+  const line = element("p", `${wait.does}, since ${wait.first}`);
+  line.append(...wait.stack.split(", ").filter(Boolean).map((call) => element("small", call)));
+  return line;
 }
 
 // The cells of a position: those that its step changed, and those that say something.

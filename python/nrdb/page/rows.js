@@ -1,6 +1,6 @@
 // The rows: by connection, which is a socket with the calls on it, the sides of descriptors in its uses and the goroutines that have
-// most to do with it. Those in which nothing happens in view are left out, and so are those that a filter or a fold leaves out.
-const RANK = { call: 0, sock: 1, desc: 2, due: 3, gor: 4 };
+// most to do with it; last the goroutines that make no step. Those in which nothing happens in view are left out, and so are those that a filter or a fold leaves out.
+const RANK = { call: 0, sock: 1, desc: 2, due: 3, gor: 4, wait: 5 };
 const STILL = { gor: ["gone", ""], sock: ["closed", ""], desc: ["nil", ""] };
 const FOLDED = new Set(), PINNED = new Set();
 const MANY = 40; // connections from which on they begin folded, but for those of a story
@@ -8,9 +8,14 @@ const ONLY = { s: null, g: null }; // the connection and the goroutine that a fi
 let GROUPS = grouped();
 if (GROUPS.length > MANY) for (const [socket] of GROUPS) if (!ofStories().has(socket)) FOLDED.add(socket);
 
-// The sockets that stories are about.
+// The groups that stories are about: sockets, and the goroutines that make no step.
 function ofStories() {
-  return new Set(STORIES.map((one) => one.s).filter((socket) => socket !== null));
+  return new Set(STORIES.map(groupOf).filter((group) => group !== null));
+}
+
+// The group that a story is about; null if it names none.
+function groupOf(story) {
+  return story.s ?? (story.goid === undefined ? null : OTHERS);
 }
 
 // A row's parts: name, kind, title, runs with a shade each, and of a descriptor's side where its uses begin and end.
@@ -28,6 +33,7 @@ function grouped() {
   for (const { d, socket, uses } of usesBySocket()) {
     for (const side of "rw") addSide(add, named[`desc ${d} ${side}`], socket, d, side, uses);
   }
+  for (const row of otherRows()) add(OTHERS, row);
   for (const rows of groups.values()) rows.sort((one, other) => RANK[one.kind] - RANK[other.kind]);
   const first = ofStories();
   return [...groups].sort((one, other) => first.has(other[0]) - first.has(one[0]) || order(one[0]) - order(other[0]));
@@ -38,7 +44,7 @@ function addRow(add, row) {
   const runs = D.cells[row.cell];
   if (kind === "sock") add(Number(number), { ...row, kind, runs, title: `socket ${number}` });
   if (kind !== "gor") return;
-  const g = Number(number), waits = D.waits.filter((wait) => wait[0] === g);
+  const g = Number(number), waits = WAITS.get(g) || [];
   add(D.groups[number] ?? -1, { ...row, kind, runs, g, waits, title: `goroutine ${number}` });
 }
 
@@ -85,15 +91,15 @@ const keyOf = (row) => (row.begins === undefined ? row.name : `${row.name} ${row
 const rowNow = () => V.rows.find((row) => row.name && keyOf(row) === V.row);
 
 function order(socket) {
-  return socket < 0 ? Infinity : socket;
+  return socket < 0 ? 1e9 - socket : socket;
 }
 
 // Whether something happens in a row between two positions.
 function lives(row, from, to) {
   if (row.kind === "call") return !callsIn(row, from, to).next().done;
+  if (row.waits && waitsIn(row.waits, from, to)) return true;
   if (from > D.last || to < D.first) return false;
   if (row.begins !== undefined && (row.begins > to || row.ends <= from)) return false;
-  if (row.waits?.some(([, first, last]) => first <= to && (!last || last >= from))) return true;
   const still = STILL[row.kind] || [""];
   for (let at = Math.max(place(row.runs, from), 0); at < row.runs.length && row.runs[at][0] <= to; at++) {
     if (row.begins !== undefined && at + 1 < row.runs.length && row.runs[at + 1][0] <= row.begins) continue;
@@ -126,11 +132,17 @@ function rowsBetween(from, to, all) {
 
 // The head of a connection's rows. Folded, it has the calls of all of them.
 function headOf(socket, rows) {
-  const who = new Set(rows.map((row) => row.g).filter((g) => g !== undefined)).size, peer = D.peers[socket];
-  const said = `${who ? ` · ${many(who, "goroutine")}` : ""}${peer === undefined ? "" : ` · other end: connection ${peer}`}`;
-  const isBad = STORIES.some((one) => one.s === socket), isFolded = FOLDED.has(socket);
+  const who = new Set(rows.map((row) => row.g ?? row.name).filter((g) => Number.isInteger(g) || socket === OTHERS)).size, peer = D.peers[socket];
+  const asked = (D.requests[socket] || []).join("; ");
+  const said = `${asked ? ` · request ${asked}` : ""}${who ? ` · ${many(who, "goroutine")}` : ""}${peer === undefined ? "" : ` · other end: connection ${peer}`}`;
+  const isBad = ofStories().has(socket), isFolded = FOLDED.has(socket);
   const calls = isFolded ? rows.filter((row) => row.kind === "call") : [];
-  return { head: socket < 0 ? "no connection" : `connection ${socket}`, socket, said, isBad, isFolded, folded: calls };
+  return { head: nameOf(socket), socket, said: socket === OTHERS ? said + leftOut() : said, isBad, isFolded, folded: calls };
+}
+
+// A group by its name.
+function nameOf(socket) {
+  return { [OTHERS]: "waits outside of sockets", [-1]: "no connection" }[socket] ?? `connection ${socket}`;
 }
 
 function fold(socket) {

@@ -7,7 +7,7 @@ const KEYS = [
   ["a d drag", "to the left, right"],
   ["0", "the whole run"],
   ["t", "by steps or by time"],
-  ["/", "find a step"],
+  ["/", "find a line, a function, sock 8, gor 14, a step"],
   ["n N", "next match, one before"],
   ["[ ]", "change of the row before, next"],
   ["↑ ↓", "other rows"],
@@ -43,8 +43,8 @@ function hover(event) {
 
 // What is told of a run of a row's cell.
 function tellRun(row, position) {
-  const at = place(row.runs, position), wait = row.waits?.find(([, from, to]) => from <= position && (!to || position < to));
-  if (wait) return [element("b", `${row.title} waits outside of the poller: ${wait[3]}`), element("div", wait[4], "line")];
+  const at = place(row.runs, position), wait = waitAt(row, position);
+  if (wait) return tellWait(row, wait);
   if (at < 0 || (row.kind !== "clock" && !isHere(position))) return null;
   if (row.begins !== undefined && (position < row.begins || position >= row.ends)) return null;
   const [from, value] = row.runs[at], until = at + 1 < row.runs.length ? row.runs[at + 1][0] : null;
@@ -57,6 +57,11 @@ function tellRun(row, position) {
   told.push(element("div", `${many(long, "step")}, ${time(timeAt(until ?? D.last) - timeAt(from))}`));
   if (from > D.first && lineAt(from)) told.push(element("div", lineAt(from), "line"));
   return told;
+}
+
+function tellWait(row, wait) {
+  const told = [element("b", `${row.title}: ${wait.does}`), element("div", wait.last ? `from ${wait.first} to ${wait.last}` : `since ${wait.first}, to the end`)];
+  return [...told, ...wait.stack.split(", ").filter(Boolean).map((call) => element("div", call, "line"))];
 }
 
 function tellCall(row, position) {

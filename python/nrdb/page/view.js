@@ -61,10 +61,10 @@ function showStory(at) {
   V.story = at;
   const story = STORIES[at], first = story.steps[0], last = story.steps[story.steps.length - 1];
   const span = Math.min(COUNT, Math.max((last - first) * 1.3, 44));
-  FOLDED.delete(story.s);
+  FOLDED.delete(groupOf(story));
   show((first + last) / 2 - span / 2, span);
   takeStory(at);
-  const head = V.rows.findIndex((row) => row.head && row.socket === story.s);
+  const head = V.rows.findIndex((row) => row.head && row.socket === groupOf(story));
   if (head >= 0) scroll(head * V.high);
   choose(story.step, true);
 }
@@ -93,26 +93,6 @@ function begin() {
   else fillPanel();
 }
 
-// Marks the steps that have this text, or are of the goroutine that is named.
-function find(text) {
-  const wanted = text.trim(), of = /^(?:gor|goroutine) (\d+)$/.exec(wanted);
-  const others = /^(?:sockopen|arrive|peerclose|drain|pollevent|tick|pop|fire|spawn)\b/;
-  const isHit = of ? (step) => !others.test(step) && step.split(" ")[1] === of[1] : (step) => step.includes(wanted);
-  V.hits = [];
-  if (wanted) for (let p = Math.max(D.first, 1); p <= D.last; p++) if (isHit(stepAt(p))) V.hits.push(p);
-  const where = D.last - D.first + 1 < COUNT ? ` from ${D.first} to ${D.last}` : "";
-  $("said").textContent = wanted ? `${many(V.hits.length, "step")}${where} · n, N` : "";
-  draw();
-}
-
-// Goes to the next match, or with -1 to the one before.
-function match(way) {
-  if (!V.hits.length) return;
-  const ahead = () => V.hits.find((p) => p > V.chosen) ?? V.hits[0];
-  const before = () => V.hits.filter((p) => p < V.chosen).pop() ?? V.hits[V.hits.length - 1];
-  choose(way > 0 ? ahead() : before(), true);
-}
-
 // Goes to the next step of the story, or to the one before.
 function alongStory(way) {
   const steps = storyNow()?.steps ?? [];
@@ -126,9 +106,10 @@ function change(way) {
   const row = rowNow() || V.rows.find((one) => one.kind === "gor");
   if (!row) return;
   const isIn = ([from]) => row.begins === undefined || (row.begins <= from && from <= row.ends);
-  const changes = row.kind === "call" ? edgesOf(row) : row.runs.filter(isIn), at = place(changes, V.chosen);
+  const changes = row.kind === "call" ? edgesOf(row) : row.kind === "wait" ? waitEdges(row) : row.runs.filter(isIn), at = place(changes, V.chosen);
   const next = changes[way > 0 ? at + 1 : at >= 0 && changes[at][0] === V.chosen ? at - 1 : at];
   if (next) choose(next[0], true);
 }
 
+const waitEdges = (row) => row.waits.flatMap(({ first, last }) => (last ? [[first], [last]] : [[first]]));
 const edgesOf = (row) => row.calls.flatMap((call) => (call.last ? [[call.first], [call.last]] : [[call.first]])).sort((one, other) => one[0] - other[0]);

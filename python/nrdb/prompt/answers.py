@@ -14,13 +14,13 @@ from ..commands import ALL_TOPICS, COMMANDS, FORMS, OF_NETREV, OF_NRDB, TOPICS, 
 from ..holders import holders_table
 from ..output import Row, Table
 from ..places import descriptors_table, sockets_table, timers_table
-from .answers_of_program import OF_FRAMES, OF_PLACES, of_place, stack_at
+from .answers_of_goroutines import OF_GOROUTINES
+from .answers_of_program import OF_FRAMES, OF_PLACES, of_place
 from .saving import answer_save
 from ..recorded_answers import spelled
 from ..session import Answering, Misused, Session
 from ..timers import timer_words
 from ..waiting import goroutines_table
-from ..where import stack_lines
 
 ROUND = 5
 TIME = re.compile(r"(\d+(?:\.\d+)?)(ns|us|ms|s)")
@@ -108,16 +108,6 @@ def described() -> Iterator[str]:
     yield from (f"info {topic.usage}: {topic.says}" for topic in TOPICS.values())
     yield from (f"step {kind.usage}: {kind.says}" for kind in KINDS.values())
     yield from (f"cell {cell.name}: {cell.says}" for cell in CELLS.values())
-
-
-def answer_where(session: Session, words: list[str]) -> None:
-    position, length, direction = session.stands()
-    session.printer.note(f"at {position} of {length} {direction}")
-    session.printer.place(session.place(position))
-    if session.recording and (lines := stack_lines(stack_at(session))):
-        session.printer.note("\n".join(lines))
-    if session.recording and (tests := session.recording.lines.tests_at(position)):
-        session.printer.note(f"while these tests ran: {', '.join(tests)}")
 
 
 def answer_list(session: Session, words: list[str]) -> None:
@@ -258,6 +248,10 @@ def answer_info(session: Session, words: list[str]) -> None:
         from ..causes import hangs_table
 
         return session.printer.table(hangs_table(session.text(), session.stands().position))
+    if topic == "requests" and not rest:
+        from ..causes import requests_table
+
+        return session.printer.table(requests_table(session.text()))
     if topic == "errors":
         return answer_errors(session, rest)
     number = number_of(rest[0]) if len(rest) == 1 else None
@@ -274,7 +268,6 @@ TABLES = {"goroutines": goroutines_table, "sockets": sockets_table, "descriptors
 ANSWERS: dict[str, Answering] = {
     "help": answer_help,
     "apropos": answer_apropos,
-    "where": answer_where,
     "list": of_place("list", answer_list),
     "goto": of_place("goto", answer_goto),
     "until": of_place("until", answer_until),
@@ -295,5 +288,6 @@ ANSWERS: dict[str, Answering] = {
     "tbreak": OF_PLACES["tbreak"],
     "delete": OF_PLACES["delete"],
     **OF_FRAMES,
+    **OF_GOROUTINES,
     **OF_CALLS,
 }

@@ -3,6 +3,7 @@
 from typing import Optional
 
 from .answers_of_calls import arrive
+from ..goroutine_stacks import stack_of
 from ..output import Row, Table
 from ..recording import Recording
 from ..session import Answering, Misused, Session
@@ -119,7 +120,10 @@ def calls_of(recording: Recording) -> list[Call]:
 
 
 def stack_at(session: Session) -> Stack:
-    """The program's stack where the session stands: that of the last step, and before a place of the program that of the next."""
+    """The stack of the chosen goroutine, else that of the last step, and before a place of the program that of the next."""
+    if session.goroutine:
+        found = stack_of(session.text(), session.goroutine, session.stands().position)
+        return found.stack if found else Stack((), None)
     return session.text().lines.of(session.stands().position + session.is_before)
 
 
@@ -127,21 +131,32 @@ def frame_by(move: int) -> Answering:
     """The answer of `frame [N]`, `up` and `down`: a call of the stack, and the source round it."""
 
     def answer(session: Session, words: list[str]) -> None:
-        stack = stack_at(session).calls
-        if not stack:
-            raise Misused("no call of the program is known here: where")
-        own = next((at for at, call in enumerate(stack) if call.of == OF_THE_PROGRAM), 0)
-        wanted: Optional[int] = (own if session.frame is None else session.frame) + move
+        stack = stack_at(session)
+        if not stack.calls:
+            raise Misused("no call of the program is known here: where, goroutine N")
+        wanted: Optional[int] = own_frame(stack) if session.frame is None else session.frame
         if not move and words:
             wanted = int(words[0]) if words[0].isdecimal() and len(words[0]) < 6 else None
-        if wanted is None or not 0 <= wanted < len(stack):
-            raise Misused(f"the stack has frames from 0, the innermost, to {len(stack) - 1}")
-        session.frame = wanted
-        call = stack[wanted]
-        session.printer.note(f"frame {wanted}: {call.function} at {call.place()}")
-        show_source(session, call.file, call.line)
+        elif wanted is not None:
+            wanted += move
+        if wanted is None or not 0 <= wanted < len(stack.calls):
+            raise Misused(f"the stack has frames from 0, the innermost, to {len(stack.calls) - 1}")
+        show_frame(session, stack, wanted)
 
     return answer
+
+
+def own_frame(stack: Stack) -> int:
+    """The innermost frame of the program; 0 if there is none."""
+    return next((at for at, call in enumerate(stack.calls) if call.of == OF_THE_PROGRAM), 0)
+
+
+def show_frame(session: Session, stack: Stack, wanted: Optional[int]) -> None:
+    """Chooses a frame, the program's own if none is named, and shows it with the source round it."""
+    session.frame = own_frame(stack) if wanted is None else wanted
+    call = stack.calls[session.frame]
+    session.printer.note(f"frame {session.frame}: {call.function} at {call.place()}")
+    show_source(session, call.file, call.line)
 
 
 OF_PLACES: dict[str, Answering] = {

@@ -17,7 +17,7 @@ OF_A_PLACE = (*OF_A_KIND, "goto", "list", "until", "reverse-until", "history")
 BEHIND_A_FILE = ("reduce", "report")
 STATUSES = "idle gone acquiring queued relock owing entering armed parking parked swapping checking".split()
 FOLLOWED = {"gor": Of.GOROUTINE, "sock": Of.SOCKET, "desc": Of.DESCRIPTOR}
-OF_A_GOROUTINE = ("next", "finish", "reverse-next", "reverse-finish")
+OF_A_GOROUTINE = ("goroutine", "next", "finish", "reverse-next", "reverse-finish")
 MOST_NUMBERS = 200
 VALUES = {"gor": STATUSES, "rg": ["nil", "ready", "wait"], "wg": ["nil", "ready", "wait"]}
 

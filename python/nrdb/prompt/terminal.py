@@ -10,10 +10,14 @@ from netrev_words.vocabulary import Of
 from ..commands import COMMANDS, Ambiguous, whole_words
 from .completion import candidates, numbers_in, places_in
 from .paging import Paged
+from ..errors import Mismatched
 from ..interrupts import Interrupted
 from ..netrev import Ended
 from ..output import TextPrinter
+from ..recording import NoRecording
+from ..scout import Lost
 from ..session import Session
+from ..shapes import Strange
 
 try:
     import readline
@@ -21,7 +25,8 @@ except ImportError:  # a Python without it has no line editing
     readline = None  # type: ignore[assignment]
 
 PROMPT, TAKING = "(netrev) ", "> "  # the second for the lines of `commands`
-FIRST = "what went wrong: info suspects; what hangs: continue, info goroutines; what failed: info errors; all commands: help"
+FIRST = "what went wrong: info suspects; what hangs: info hangs; what failed: info errors; all commands: help"
+MOST_STEPS = 200_000  # of a recording, of which the causes are there within seconds
 KEPT = 1000
 
 
@@ -42,6 +47,7 @@ class Terminal:
     def run(self) -> None:
         """Reads and answers lines until quit, or the end of the input."""
         self._load()
+        self._open()
         self.session.printer.note(FIRST)
         self._page()
         try:
@@ -49,6 +55,21 @@ class Terminal:
                 pass
         finally:
             self._save()
+
+    def _open(self) -> None:
+        """Says what failed or hangs in the whole recording, wherever the session stands."""
+        recording = self.session.recording
+        if recording is None or recording.length > MOST_STEPS:
+            return
+        from ..causes import opening_words
+
+        try:
+            with self.session.interrupts.held():
+                lines = opening_words(recording)
+        except (Interrupted, Lost, Mismatched, NoRecording, Strange):
+            return  # (a command that needs it says why)
+        if lines:
+            self.session.printer.note("\n".join(lines))
 
     def _page(self) -> None:
         """Answers stop from now on where the screen is full, if the output is a terminal's that can stop."""

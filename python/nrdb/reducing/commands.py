@@ -6,6 +6,7 @@ from ..files import written
 from ..recording import Recording
 from ..session import Misused, Session
 from ..suspects.ranking import suspects_of
+from .hang_report import Story, hang_report, story_of
 from .reduced import reduced, wanted_by
 from .report import report_of
 
@@ -29,6 +30,9 @@ def answer_reduce(session: Session, words: list[str]) -> None:
 def answer_report(session: Session, words: list[str]) -> None:
     if not words or not words[0].endswith(".md"):
         raise Misused("report OUT.md [N | CELL VALUE]: the file's name ends with .md")
+    story = None if words[1:] or has_suspects(session) else story_of(session)
+    if story:
+        return report_hang(session, words[0], story)
     wanted = wanted_by(session, words[1:])
     made = reduced(session, str(Path(words[0]).with_suffix(".jsonl")), wanted)
     text, picture = report_of(session, wanted, made)
@@ -36,3 +40,18 @@ def answer_report(session: Session, words: list[str]) -> None:
     written(drawn, session.path, picture.encode())
     written(words[0], session.path, text.encode())
     session.printer.note(f"{words[0]} with {Path(drawn).name}, and {made.words(session.text().length)}")
+
+
+def has_suspects(session: Session) -> bool:
+    """Whether a rule that goes by cells finds a suspect, to which a recording can be reduced."""
+    return any(suspect.is_shown for suspect in suspects_of(session.text()).suspects)
+
+
+def report_hang(session: Session, name: str, story: Story) -> None:
+    """Writes the report of what hangs or failed."""
+    drawn = Path(name).with_suffix(".svg")
+    text, picture = hang_report(session, story, drawn)
+    if picture:
+        written(str(drawn), session.path, picture.encode())
+    written(name, session.path, text.encode())
+    session.printer.note(f"{name}{f' with {drawn.name}' if picture else ''}: {story.says[0]}")

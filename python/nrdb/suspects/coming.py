@@ -34,7 +34,9 @@ class Waiting(NamedTuple):
         """A suspect for whom it hangs."""
         shown = Evidence(run.end, f"gor {self.goroutine}", run.notes.now[f"gor {self.goroutine}"])
         d, s = self.use.descriptor, self.use.socket
-        return Suspect(step, weight, says, goroutine=self.goroutine, descriptor=d, socket=s, evidence=[shown])
+        suspect = Suspect(step, weight, says, goroutine=self.goroutine, descriptor=d, socket=s, evidence=[shown])
+        suspect.has_line(run.asleep(self.goroutine, d, "r"))
+        return suspect
 
 
 def waiting_for_what_came(run: Run) -> Iterator[Waiting]:

@@ -38,6 +38,7 @@ class Suspect:
     goroutine: Optional[int] = None
     descriptor: Optional[int] = None
     socket: Optional[int] = None
+    listed: list[str] = field(default_factory=list)  # the lines of `netrev suspects` that say so
     evidence: list[Evidence] = field(default_factory=list)
     looks: list[str] = field(default_factory=list)
     steps: list[int] = field(default_factory=list)  # those that it tells of, in the order of the story
@@ -52,6 +53,10 @@ class Suspect:
     def subject(self) -> tuple[object, ...]:
         """The rule and whom it is about: of several suspects with the same subject one is shown."""
         return self.rule, self.goroutine, self.descriptor, self.socket
+
+    def has_line(self, line: str) -> None:
+        """A line of netrev's says so; empty where netrev printed none."""
+        self.listed += [line] if line else []
 
     def sentence(self) -> str:
         """All that is said of it."""

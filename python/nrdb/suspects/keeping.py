@@ -33,6 +33,7 @@ class Kept(NamedTuple):
         lock = f" {NAMES[side]}" if side else ""
         says = [f"goroutine {g} holds a reference of socket {s} since step {step} ({kind}{lock}) {how}"]
         closer = notes.closer.get(s)
+        held = run.facts.held_references.get((s, g))
         if closer and closer != (step, g):
             says.append(f"goroutine {closer.goroutine} closed it at step {closer.step}, and it can't be freed")
         return Suspect(
@@ -41,6 +42,7 @@ class Kept(NamedTuple):
             says,
             goroutine=g,
             socket=s,
+            listed=[held.line] if held else [],
             evidence=[Evidence(run.end, cell, notes.now[cell]) for cell in (f"gor {g}", f"lock {s}")],
             looks=[f"goto {run.end}", f"info holders {s}"],
             steps=[step, *([closer.step] if closer else [])],

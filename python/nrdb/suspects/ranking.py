@@ -7,7 +7,7 @@ from ..noted import Timeout
 from ..notes import Notes
 from ..recording import Recording
 from .found import Suspect
-from .loading import EARLIER_DEADLINE, LEFT_BEHIND, RULES, RULES_OF_CALLS, Rule
+from .loading import RULES, RULES_OF_CALLS, Rule
 from .run import Run
 
 
@@ -20,16 +20,22 @@ class Ranked(NamedTuple):
 
 def suspects_of(recording: Recording) -> Ranked:
     """What the rules find that look at cells: all but those of calls."""
+    prepare(recording)
     return by_cells(Run(Notes(recording)))
 
 
 def all_suspects_of(recording: Recording) -> Ranked:
-    """What all rules find: those of calls come last. A deadline of an earlier call isn't one where another rule names its descriptor."""
+    """What all rules find: those of calls come last."""
+    prepare(recording)
     run = Run(book_of(recording).notes)
     ranked = by_cells(run)
-    named = {one.descriptor for one in ranked.suspects if one.is_shown and one.rule == LEFT_BEHIND}
-    others = [one for one in found(RULES_OF_CALLS, run) if one.rule != EARLIER_DEADLINE or one.descriptor not in named]
-    return Ranked([*ranked.suspects, *one_of_each(others)], ranked.timeouts)
+    return Ranked([*ranked.suspects, *one_of_each(found(RULES_OF_CALLS, run))], ranked.timeouts)
+
+
+def prepare(recording: Recording) -> None:
+    """Has netrev begin its own list, where it is asked for one."""
+    if recording.suspects:
+        recording.suspects.prepare()
 
 
 def by_cells(run: Run) -> Ranked:

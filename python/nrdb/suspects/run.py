@@ -1,5 +1,7 @@
 """What rules look at: a recording's changes, the notes beside them, and Go's calls; with what several rules ask of these."""
 
+from bisect import bisect_right
+from collections import defaultdict
 from functools import cached_property
 from typing import Optional
 
@@ -11,6 +13,8 @@ from ..causes.index import Index, index_of
 from ..noted import AT, Use
 from ..noted_goroutines import MANY
 from ..notes import Notes
+from ..suspect_list import Listed
+from .reckoned import by_the_notes
 
 SIDES = {"Read": "r", "Write": "w"}  # of the calls that a deadline ends
 SHORT = 10  # a pause of so few steps says nothing, however long others were
@@ -25,9 +29,32 @@ class Run:
         self.end = notes.step  # the last position
 
     @cached_property
+    def facts(self) -> Listed:
+        """What `netrev suspects` lists, or the same by the notes: if no netrev is asked, or an older one."""
+        listed = self.recording.suspects.of(self.end) if self.recording.suspects else None
+        return listed or by_the_notes(self.notes)
+
+    def asleep(self, g: int, d: int, side: str) -> str:
+        """netrev's line that a goroutine sleeps at a side that has to be answered; empty where it printed none."""
+        return self.facts.asleep.get((g, d, side), "")
+
+    @cached_property
     def calls(self) -> Index:
         """Go's calls."""
         return index_of(self.recording)
+
+    @cached_property
+    def _uses(self) -> dict[int, list[Use]]:
+        """The uses of each descriptor."""
+        uses = defaultdict[int, list[Use]](list)
+        for use in self.notes.uses:
+            uses[use.descriptor].append(use)
+        return uses
+
+    def use_at(self, d: int, step: int) -> Use:
+        """The use of a descriptor that a step is of."""
+        uses = self._uses[d]
+        return uses[bisect_right(uses, step, key=lambda use: use.opened) - 1]
 
     def number(self, cell: str, position: int) -> int:
         """What a cell shows that holds a number."""

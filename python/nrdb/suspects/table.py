@@ -38,9 +38,10 @@ def is_by_go(recording: Recording, timeout: Timeout) -> bool:
 
 
 def _rows(scout: Scout, recording: Recording, at: int, suspect: Suspect) -> list[Row]:
-    """A suspect's rows: its sentence, netrev's answers, where they aren't what the rule expects, the program's lines, and the command
-    to type next. Only netrev's own answers follow `netrev:`."""
-    evidence, doubts = _evidence(scout, suspect)
+    """A suspect's rows: its sentence, netrev's lines and answers, where these aren't what the rule expects, the program's lines, and the
+    command to type next. Only what netrev printed follows `netrev:`."""
+    answers, doubts = _evidence(scout, suspect)
+    evidence = [*suspect.listed, *answers]
     lines = _lines(recording, suspect)
     values: Values = {
         "rule": suspect.rule,

@@ -3,6 +3,7 @@
 from netrev_machine.machine import INSIDE
 
 from ..recording import Recording
+from ..suspect_list import OfDeadline
 from .found import HANGS, STILL_THERE, TIMED_OUT, WENT_ON, Suspect, Weight
 from .run import Run
 
@@ -16,6 +17,8 @@ CONTROLS = frozenset(
     f"internal/poll.(*FD).{name}" for name in ("Shutdown", "SetsockoptInt", "SetsockoptLinger", "Fstat")
 )
 OF_THE_PROGRAM = frozenset(f"internal/poll.(*FD).Raw{name}" for name in ("Read", "Write", "Control"))
+ACCEPT = "internal/poll.(*FD).Accept"
+UNSHOWN = OF_THE_PROGRAM | {ACCEPT}  # those whose tries aren't in a recording, or not all
 
 
 def of_a_holder(run: Run, suspect: Suspect) -> Suspect:
@@ -48,7 +51,12 @@ def is_about_to_try(run: Run, took: int, g: int) -> bool:
 
 def is_accepting(recording: Recording, suspect: Suspect) -> bool:
     """Whether a listener waits in Go's own Accept, which tries again behind each pollreset: no wake-up is lost in it."""
-    return call_of_poll(recording, suspect.steps[-1]) == "internal/poll.(*FD).Accept"
+    return call_of_poll(recording, suspect.steps[-1]) == ACCEPT
+
+
+def is_without_tries(recording: Recording, suspect: Suspect) -> bool:
+    """Whether a goroutine waits in a call whose tries no step shows: a function of the program's makes them, or they are Accept's."""
+    return call_of_poll(recording, suspect.steps[-1]) in UNSHOWN
 
 
 def call_of_poll(recording: Recording, step: int) -> str:
@@ -84,12 +92,14 @@ def hangs(run: Run, g: int, d: int) -> str:
     return "" if run.notes.now[f"{at[1]}d {d}"] != "0" else f"parked since step {run.since(g)} without a deadline"
 
 
-def of_a_deadline(run: Run, suspect: Suspect) -> Suspect:
+def of_a_deadline(run: Run, passed: OfDeadline, suspect: Suspect) -> Suspect:
     """Of a deadline that passed: whether a call ended with that timeout."""
-    for timeout in run.notes.timeouts:
-        if timeout.descriptor == suspect.descriptor and timeout.passing.step == suspect.step:
+    due = passed.descriptor, passed.side, passed.setting
+    for timeout in run.facts.timeouts.values():
+        if (timeout.descriptor, timeout.side, timeout.setting) == due:
             suspect.weight += TIMED_OUT
             suspect.says.append(f"step {timeout.step} by goroutine {timeout.goroutine} ends with that timeout")
             suspect.steps.append(timeout.step)
+            suspect.has_line(timeout.line)
             break
     return suspect

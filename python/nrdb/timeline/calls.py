@@ -9,8 +9,8 @@ from math import inf
 from operator import sub
 from typing import Any, Optional
 
-from ..causes.hanging import is_waiting
 from ..causes.index import Index, index_of
+from ..causes.waiters import is_waiting
 from ..causes.words import is_by_go, name_of, short
 from ..one_call import Call, Outcome
 from ..recording import Recording
@@ -51,12 +51,12 @@ WIDTHS = (
     ("I", 4, 2**32),
     ("d", 8, inf),
 )  # kinds of arrays, the bytes of a number, and the first one too great
-COLUMNS = ("g", "s", "first", "long", "name", "came", "line", "state", "waited", "slept")
+COLUMNS = ("g", "s", "first", "long", "name", "came", "line", "state", "stack", "waited", "slept")
 
 
 def calls_data(recording: Recording, window: Window) -> Data:
     """The calls of the window, in packed columns. `first` counts from the call before; `long` is a call's steps, 0 where it hasn't ended;
-    `name`, `came` and `line` are places in `texts`."""
+    `name`, `came`, `line` and `stack` are places in `texts`."""
     telling, calls = Telling(recording), shown_calls(recording, window)
     firsts = [call.first for call in calls]
     columns = [
@@ -89,16 +89,17 @@ def packed(column: list[int]) -> Any:
 
 
 class Telling:
-    """What is told of calls beside their numbers: name, what came of them, and line, each as its place in `texts`; and the state."""
+    """What is told of calls beside their numbers: name, what came of them, line and stack, each as its place in `texts`; and the state."""
 
     def __init__(self, recording: Recording) -> None:
         self.texts = Texts({"": 0})
         self._recording, self._index = recording, index_of(recording)
         self._lines: dict[int, int] = {}  # of stacks
+        self._stacks: dict[int, int] = {}
         self._known: dict[tuple[str, Optional[int], int], tuple[int, ...]] = {}
 
     def of(self, call: Call) -> tuple[int, ...]:
-        """The name, what came, the line and the state. Of calls that went well, which most did, many are alike."""
+        """The name, what came, the line, the state and the stack. Of calls that went well, which most did, many are alike."""
         stack = self._stack(call.first)
         if not call.last or call.outcome is not Outcome.DONE:
             return self._told(call, stack)
@@ -109,7 +110,8 @@ class Telling:
 
     def _told(self, call: Call, stack: int) -> tuple[int, ...]:
         name = name_of(self._recording, call) if self._recording.lines else call.name
-        return self.texts[name], self.texts[self._came(call)], self._line(stack), state_of(self._index, call)
+        came, state = self.texts[self._came(call)], state_of(self._index, call)
+        return self.texts[name], came, self._line(stack), state, self._calls_of(stack)
 
     def _came(self, call: Call) -> str:
         """What came of a call, in words: of one that takes a connection that is no byte."""
@@ -127,6 +129,17 @@ class Telling:
         if stack not in self._lines:
             self._lines[stack] = self.texts[self._recording.lines.stacks[stack].words()]
         return self._lines[stack]
+
+    def _calls_of(self, stack: int) -> int:
+        """The place of the text of a stack's calls of the program."""
+        if stack not in self._stacks:
+            self._stacks[stack] = self.texts[program_calls(self._recording.lines.stacks[stack])]
+        return self._stacks[stack]
+
+
+def program_calls(stack: Stack) -> str:
+    """The calls of the program in a stack, the innermost first: `(*room).say main.go:63, (*room).serve main.go:71`."""
+    return ", ".join(f"{short(call.function)} {call.place()}" for call in stack.calls if call.of == OF_THE_PROGRAM)
 
 
 def names_data(recording: Recording, window: Window) -> dict[int, str]:
@@ -148,15 +161,3 @@ def runs_in(stack: Stack, of: Optional[str] = None) -> Optional[str]:
     """The outermost function in a stack, or the outermost that is of the program, but for what the compiler wraps a `go` or a `defer` in."""
     functions = (call.function for call in reversed(stack.calls) if of in (None, call.of))
     return next((one for one in functions if not WRAPPER.search(one)), None)
-
-
-def waits_data(recording: Recording, window: Window) -> list[list[Any]]:
-    """The waits outside of the poller in the window: whose, behind which step, up to which one (0: it doesn't end), what for, and at
-    which line."""
-    lines = recording.lines
-    return [
-        [wait.goroutine, wait.first, wait.last, wait.reason, lines.stacks[wait.stack].words()]
-        for waits in lines.waits.values()
-        for wait in waits
-        if wait.first <= window.last and (not wait.last or wait.last >= window.first)
-    ]

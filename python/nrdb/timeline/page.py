@@ -20,9 +20,11 @@ NUMBERS = frozenset((int, float, bool, type(None)))
 SCRIPTS = (
     "data",
     "calls",
+    "waits",
     "rows",
     "axis",
     "view",
+    "finding",
     "draw",
     "above",
     "standing",

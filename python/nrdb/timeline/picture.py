@@ -11,11 +11,12 @@ from ..scout import Scout
 from ..session import Session
 from ..shapes import Listed
 from ..words import in_words
-from .calls import Data, calls_data, names_data, waits_data
+from .calls import Data, calls_data, names_data
 from .runs import Runs, Window, runs_of
 from .shades import SHADES, shade
 from .stories import stories_data
 from .story import MOST_TIMES, Connections, lines_data, marks_of, ticks_of, times_of, wakes_of
+from .waits import requests_data, waits_data
 
 MOST = 20_000  # steps of a part
 AT_ONCE = 8_000  # of which a longer recording's part has these, where nobody names another
@@ -87,7 +88,8 @@ def whole_of(shown: Shown) -> Data:
         "position": shown.position,
         "calls": calls_data(recording, every),
         "names": names_data(recording, every),
-        "waits": waits_data(recording, every),
+        "waits": waits_data(recording),
+        "requests": requests_data(recording),
         "peers": recording.lines.peers,
         "ticks": ticks_of(shown.changes),
         "times": times_of(recording, every, MOST_TIMES),

@@ -5,9 +5,11 @@ from itertools import islice
 from typing import Iterator
 
 from ..causes.failing import cause_of, failed_at
-from ..causes.hanging import hangs_at
+from ..causes.first import failures_of
+from ..causes.hang_words import hang_looks, hang_says
 from ..causes.index import Cause, index_of
-from ..causes.words import is_by_go, is_of_go
+from ..causes.wait_graph import Hang, WaitGraph, graph_at
+from ..causes.words import is_by_go
 from ..recording import Recording
 from ..scout import Scout
 from ..suspects.ranking import all_suspects_of
@@ -34,38 +36,56 @@ def suspects_data(scout: Scout, recording: Recording) -> Iterator[Data]:
 
 
 def causes_data(recording: Recording) -> Iterator[Data]:
-    """The calls of the program that hang in the end, and those that failed, with what `info hangs` and `info errors` say of them."""
-    hangs = [one for one in hangs_at(recording, recording.length) if not is_of_go(recording, one.call)]
+    """What failed first, the roots of what hangs in the end, and the other calls of the program that failed, with what `info hangs` and
+    `info errors` say of them; in the order of what is printed first of a program that failed."""
+    graph = graph_at(recording, recording.length)
+    hangs = graph.shown[:MOST_CAUSES]
     index = index_of(recording)
-    failed = (call for call in failed_at(index, recording.length) if not is_by_go(recording, call))
-    every = {step for cause in hangs for step in cause.steps}  # (those that hang are one story)
-    for cause in hangs[:MOST_CAUSES]:
-        yield cause_data(recording, HANGS, cause, every)
-    for call in islice(failed, MOST_CAUSES):
+    first = failures_of(recording)[:MOST_CAUSES]
+    said = {cause.call.first for cause in first}
+    quiet = {hang.root.since for hang in hangs if hang.is_quiet} - {
+        0
+    }  # (those that may have nothing to do are one story)
+    for cause in first:
+        yield cause_data(recording, cause, {*cause.steps, cause.call.last})
+    for hang in hangs:
+        own = {waiter.since for waiter in hang.roots} - {0}
+        yield hang_data(graph, hang, (quiet if hang.is_quiet else own) or {1})
+    others = (call for call in failed_at(index, recording.length) if not is_by_go(recording, call))
+    for call in islice((call for call in others if call.first not in said), MOST_CAUSES):
         cause = cause_of(index, call)
-        yield cause_data(recording, FAILED, cause, {*cause.steps, call.last})
+        yield cause_data(recording, cause, {*cause.steps, call.last})
 
 
-def cause_data(recording: Recording, rule: str, cause: Cause, of: set[int]) -> Data:
-    """What is told of a call that hangs or failed, with these steps."""
-    call, steps = cause.call, steps_data(recording, of)
-    lines = [
-        f"step {step}, {recording.step(step).kind}: {words}"
-        for step in steps["steps"]
-        if (words := recording.lines.words(step))
-    ]
-    return {
-        "rule": rule,
-        "step": call.last or call.first,
-        "says": " ".join(cause.says),
-        "netrev": [],
-        "lines": lines,
-        "looks": cause.looks,
-        "g": call.goroutine,
-        "s": call.socket,
-        "d": call.descriptor,
-        **steps,
+def hang_data(graph: WaitGraph, hang: Hang, of: set[int]) -> Data:
+    """What is said of a hang, with these steps."""
+    root = hang.root
+    about = {
+        "g": None if root.name.is_goid else root.name.number,
+        **({"goid": root.name.number} if root.name.is_goid else {}),
+        "s": root.call and root.call.socket,
+        "d": root.call and root.call.descriptor,
     }
+    return story_data(graph.recording, HANGS, root.since, hang_says(graph, hang), hang_looks(hang), of) | about
+
+
+def cause_data(recording: Recording, cause: Cause, of: set[int]) -> Data:
+    """What is said of a call that failed, with these steps."""
+    call = cause.call
+    about = {"g": call.goroutine, "s": call.socket, "d": call.descriptor}
+    return story_data(recording, FAILED, call.last or call.first, cause.says, cause.looks, of) | about
+
+
+def story_data(recording: Recording, rule: str, step: int, says: list[str], looks: list[str], of: set[int]) -> Data:
+    """A story with these steps."""
+    steps = steps_data(recording, of)
+    lines = [
+        f"step {number}, {recording.step(number).kind}: {words}"
+        for number in steps["steps"]
+        if (words := recording.lines.words(number))
+    ]
+    told = {"rule": rule, "step": step, "says": " ".join(says), "netrev": [], "lines": lines, "looks": looks}
+    return {**told, **steps}
 
 
 def steps_data(recording: Recording, steps: set[int]) -> Data:

@@ -18,6 +18,7 @@ from ..recording import NoRecording, Recording
 from ..scout import Lost, Scout
 from ..session import Misused
 from ..shapes import Refused
+from ..suspect_list import SuspectList
 from ..timeline.page import plain_json
 from ..timeline.picture import Shown, collected, part_of
 from ..timeline.runs import Window
@@ -109,10 +110,11 @@ def paint(program: str, path: str) -> None:
     interrupts = Interrupts()
     scout = Scout(lambda: Own(program, path, interrupts))
     changes = ArrivingChanges(program, path, interrupts, lambda _: None)
+    suspects = SuspectList(program, path, interrupts)
     try:
         changes.prepare()
         recording = Recording.read(path)
-        recording.changes = changes
+        recording.changes, recording.suspects = changes, suspects
         shown = Shown(recording, path, scout, changes, 0, [], lambda text: say(TELLS, text))
         for line in sys.stdin:
             answer(shown, line)
@@ -123,6 +125,7 @@ def paint(program: str, path: str) -> None:
     finally:
         scout.drop()
         changes.drop()
+        suspects.drop()
 
 
 def answer(shown: Shown, line: str) -> None:

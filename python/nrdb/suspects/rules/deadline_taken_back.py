@@ -2,7 +2,7 @@
 
 from typing import Iterator, Optional
 
-from ...noted import Setting, Use
+from ...noted import Passing, Setting, Use
 from ...words import SIDES as NAMES
 from ..found import Evidence, Suspect, Weight
 from ..run import Run
@@ -13,11 +13,13 @@ NOT_LOOKED = ("armed", "parking", "swapping", "checking")  # inside a wait, and 
 
 def rule(run: Run) -> Iterator[Suspect]:
     for use in run.notes.uses:
-        for setting in use.settings:
-            for side in setting.late if setting.time >= 0 else "":
-                who = not_looked(run, use, side, setting.step - 1)
-                if side in setting.mode and who is not None:
-                    yield of_a_goroutine(run, suspect_of(run, use, side, setting, who))
+        for side, passings in zip("rw", use.passings):
+            for passing in passings:
+                setting = use.setting_behind(side, passing.step)
+                if setting and setting.time >= 0:
+                    who = not_looked(run, use, side, setting.step - 1)
+                    if who is not None:
+                        yield of_a_goroutine(run, suspect_of(run, use, side, passing, setting, who))
 
 
 def not_looked(run: Run, use: Use, side: str, position: int) -> Optional[int]:
@@ -28,14 +30,14 @@ def not_looked(run: Run, use: Use, side: str, position: int) -> Optional[int]:
     return who if place in NOT_LOOKED and is_woken and word != "ready" else None
 
 
-def suspect_of(run: Run, use: Use, side: str, setting: Setting, who: int) -> Suspect:
-    d, step, passing = use.descriptor, setting.step, use.passing(side, setting.step - 1)
-    assert passing  # (the deadline is negative)
+def suspect_of(run: Run, use: Use, side: str, passing: Passing, setting: Setting, who: int) -> Suspect:
+    d, step = use.descriptor, setting.step
     status, how = run.changes.value(f"gor {who}", step - 1), "took it back" if setting.time == 0 else "moved it"
     says = (
         f"the {NAMES[side]} deadline of descriptor {d} passed at step {passing.step} ({passing.kind}), and step {step} by goroutine "
         f"{setting.goroutine} {how} before goroutine {who}, {status.split()[0]}, had looked why it was woken"
     )
+    listed = run.facts.taken_back.get((step, d, side))
     return Suspect(
         step,
         Weight.POSSIBLE,
@@ -43,6 +45,7 @@ def suspect_of(run: Run, use: Use, side: str, setting: Setting, who: int) -> Sus
         goroutine=who,
         descriptor=d,
         socket=use.socket,
+        listed=[listed.line] if listed else [],
         evidence=[Evidence(step - 1, f"gor {who}", status), Evidence(step - 1, f"{side}d {d}")],
         looks=[f"goto {step - 1}", f"history info {d}"],
         steps=[passing.step, step],

@@ -1,25 +1,85 @@
-"""Lost wake-up: a `pollreset` threw an event away, and the goroutine waits for reading without a read in between; or the event was taken,
-and it waits again though bytes are unread. It weighs more where the goroutine hangs for it."""
+"""Lost wake-up: a goroutine is parked at a side, the readiness of the side's last event was taken, and no try was answered EAGAIN since: netrev
+lists all of these. Or a `pollreset` threw an event away, and the goroutine is about to park for reading without a read in between. It weighs more
+where the goroutine hangs for it, and less where it has read or written since or where no step shows its tries."""
 
-from typing import Iterator
+from typing import Iterator, Optional
 
 from ...noted import AT, Taking, Use, Wait
+from ...suspect_list import LostWakeUp
 from ..coming import waiting_for_what_came
 from ..found import Evidence, Suspect, Weight
 from ..run import Run
-from ..weighing import is_accepting, of_a_goroutine
+from ..weighing import is_accepting, is_without_tries, of_a_goroutine
+
+# who waits, at which descriptor, the step that took the readiness, and the side
+Taken = tuple[Optional[int], Optional[int], int, str]
+BUFFERS, WAITS = {"r": "in", "w": "out"}, {"r": "reading", "w": "writing"}
 
 
 def rule(run: Run) -> Iterator[Suspect]:
     throwing = (use for use in run.notes.uses if use.thrown)
-    found = [thrown_away(run, use, *both) for use in throwing for both in waits_behind_a_throw(use)]
-    named = {suspect.goroutine for suspect in found}
-    found += [suspect for suspect in taken_for_nothing(run) if suspect.goroutine not in named]
-    for suspect in found:
+    throws: dict[Taken, list[Suspect]] = {}
+    for suspect in (thrown_away(run, use, *both) for use in throwing for both in waits_behind_a_throw(use)):
+        throws.setdefault((suspect.goroutine, suspect.descriptor, suspect.step, "r"), []).append(suspect)
+    lost: dict[Taken, LostWakeUp] = {
+        (one.goroutine, one.descriptor, one.taken, one.side): one for one in run.facts.lost_wake_ups
+    }
+    for throw, suspects in throws.items():
+        about = lost.pop(throw, None)
+        for suspect in suspects:
+            of_a_goroutine(run, suspect)
+            # (Go's own Accept tries again behind each pollreset)
+            if is_accepting(run.recording, suspect) or is_parked(run, suspect) and about is None:
+                suspect.weight = Weight.DOUBTFUL
+            if about:
+                has_lines(run, suspect, about)
+            yield suspect
+    for about in lost.values():
+        yield taken_and_parked(run, about)
+
+
+def is_parked(run: Run, suspect: Suspect) -> bool:
+    """Whether the goroutine is parked at that descriptor in the end. If no wake-up is lost there, it waits behind a try."""
+    return run.notes.now[f"gor {suspect.goroutine}"].startswith(f"parked {suspect.descriptor} ")
+
+
+def has_lines(run: Run, suspect: Suspect, lost: LostWakeUp) -> None:
+    """netrev's lines of a lost wake-up: that one, and that what came is still there."""
+    suspect.has_line(lost.line)
+    suspect.has_line(run.asleep(lost.goroutine, lost.descriptor, lost.side))
+
+
+def taken_and_parked(run: Run, lost: LostWakeUp) -> Suspect:
+    """The suspect of a lost wake-up that no `pollreset` of the goroutine's threw away. The goroutine hangs for that event if what came with it
+    is unread, or if nothing is unread and the goroutine hasn't read or written since."""
+    g, d, side, use = lost.goroutine, lost.descriptor, lost.side, run.notes.use_of[lost.descriptor]
+    entered, _, tried = use.waits[AT[side]][-1]
+    coming = next((waits for waits in waiting_for_what_came(run) if (waits.goroutine, side) == (g, "r")), None)
+    hangs_for_it = coming.has_event if coming else tried < lost.event
+    begins = coming.begins if coming else f"goroutine {g} is parked for {WAITS[side]} since step {run.since(g)}"
+    how = (
+        f"the event of step {lost.event} was taken at step {lost.taken} by goroutine {lost.by}, and goroutine {g} began its wait at step "
+        f"{entered} without {WAITS[side]} until EAGAIN"
+    )
+    suspect = Suspect(
+        lost.taken,
+        Weight.DOUBTFUL if coming is None else Weight.POSSIBLE if hangs_for_it else Weight.SHOWN,
+        [begins, how],
+        goroutine=g,
+        descriptor=d,
+        socket=use.socket,
+        evidence=[
+            Evidence(run.end, cell, run.notes.now[cell]) for cell in (f"gor {g}", f"{BUFFERS[side]} {use.socket}")
+        ],
+        looks=[f"goto {entered - 1}", f"history {side}g {d}"],
+        steps=[lost.event, lost.taken, entered],
+    )
+    has_lines(run, suspect, lost)
+    if hangs_for_it:
         of_a_goroutine(run, suspect)
-        if is_accepting(run.recording, suspect):  # (Go's own Accept tries again behind each pollreset)
-            suspect.weight = Weight.DOUBTFUL
-        yield suspect
+    if is_accepting(run.recording, suspect) or coming is None and is_without_tries(run.recording, suspect):
+        suspect.weight = Weight.DOUBTFUL
+    return suspect
 
 
 def waits_behind_a_throw(use: Use) -> Iterator[tuple[Taking, Wait]]:
@@ -47,24 +107,3 @@ def thrown_away(run: Run, use: Use, thrown: Taking, wait: Wait) -> Suspect:
         looks=[f"goto {step - 1}", f"history rg {d}"],
         steps=[event, step, wait.step],
     )
-
-
-def taken_for_nothing(run: Run) -> Iterator[Suspect]:
-    """Those for whom the event came and was taken, and who wait again without having read all."""
-    for waits in waiting_for_what_came(run):
-        use, g, taken = waits.use, waits.goroutine, waits.use.taken
-        if not waits.has_event or taken is None or taken.step <= taken.event:
-            continue
-        entered = use.waits[AT["r"]][-1].step
-        how = (
-            f"the event of step {taken.event} was taken at step {taken.step} by goroutine {taken.goroutine}, and goroutine {g} "
-            f"began its wait at step {entered} without reading until EAGAIN"
-        )
-        suspect = waits.suspect(run, taken.step, Weight.POSSIBLE, [waits.begins, how])
-        suspect.evidence.append(Evidence(run.end, f"in {use.socket}", run.notes.now[f"in {use.socket}"]))
-        suspect.looks, suspect.steps = [f"goto {entered - 1}", f"history rg {use.descriptor}"], [
-            taken.event,
-            taken.step,
-            entered,
-        ]
-        yield suspect

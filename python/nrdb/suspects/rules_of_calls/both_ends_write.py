@@ -3,32 +3,36 @@ end makes; and who would read there waits too, so nobody reads."""
 
 from typing import Iterator
 
-from ...causes.hanging import chain_of, is_waiting
+from ...causes.wait_graph import Certainty, Hang, graph_at
 from ...causes.words import told
+from ...one_call import Call
 from ..found import Evidence, Suspect, Weight
 from ..run import Run
 
 
 def rule(run: Run) -> Iterator[Suspect]:
-    index, length, known = run.calls, run.end, set[frozenset[int]]()
-    for call in index.book.calls:
-        if call.last or call.name != "Write" or not is_waiting(index, call):
+    recording, length = run.recording, run.end
+    for hang in graph_at(recording, length).hangs:
+        if not (calls := writing_first(hang)):
             continue
-        ring = chain_of(index, call, length)
-        members = frozenset(one.first for one in ring)
-        if len(ring) < 3 or ring[-1] is not call or members in known:
-            continue
-        known.add(members)
-        says = [
-            f"{told(index.recording, one)} waits on socket {one.socket} since step {one.first}" for one in ring[:-1]
-        ]
+        says = [f"{told(recording, one)} waits on socket {one.socket} since step {one.first}" for one in calls]
         yield Suspect(
-            max(members),
+            max(one.first for one in calls),
             Weight.STRONG,
             [*says, "each for what the next would do"],
-            goroutine=call.goroutine,
-            socket=call.socket,
-            evidence=[Evidence(length, f"gor {one.goroutine}") for one in ring[:-1]],
+            goroutine=calls[0].goroutine,
+            socket=calls[0].socket,
+            evidence=[Evidence(length, f"gor {one.goroutine}") for one in calls],
             looks=[f"goto {length}", "info hangs"],
-            steps=[one.first for one in ring[:-1]],
+            steps=[one.first for one in calls],
         )
+
+
+def writing_first(hang: Hang) -> list[Call]:
+    """The calls of a deadlock of calls alone, from its first Write on; none if there is no Write, or an edge is a guess."""
+    calls = [root.call for root in hang.roots if root.call]
+    writes = [call for call in calls if call.name == "Write"]
+    if not hang.is_deadlock or len(calls) < len(hang.roots) or not writes or hang.certainty == Certainty.PERHAPS:
+        return []
+    at = calls.index(min(writes, key=lambda call: call.first))
+    return calls[at:] + calls[:at]

@@ -1,0 +1,204 @@
+"""All goroutines of a log, as NAME.where has them (docs/use/RECORDING.md has its form): also those that never touch a socket, by Go's own
+names, with each wait outside of the poller and the objects at which they wait."""
+
+from typing import TYPE_CHECKING, Any, Container, Iterator, NamedTuple, Optional, Sequence
+
+if TYPE_CHECKING:
+    from .where import Call
+
+OF_GOROUTINES = frozenset(("goroutines", "parks", "objects", "uses", "timers", "left_out"))  # lines of the file
+STILL = -1  # of a wait, in place of its end
+# What goroutines wait for outside of the poller.
+A_RECEIVER = "a receiver at a channel"  # in place of room, if it has none of its own
+A_VALUE, ROOM, A_SELECT, A_CONDITION = "a value from a channel", "room in a channel", "a select", "a condition"
+A_SLEEP, A_MUTEX, A_READ_LOCK, A_WRITE_LOCK = "time.Sleep", "a mutex", "a read lock", "a write lock"
+A_WAIT_GROUP, A_SEMAPHORE, A_NIL_CHANNEL, NO_CASES = (
+    "a WaitGroup",
+    "a semaphore",
+    "a nil channel",
+    "a select without cases",
+)
+MUTEXES = (A_MUTEX, A_READ_LOCK, A_WRITE_LOCK)
+FOR_VALUE, FOR_ROOM = "value", "room"  # at a channel
+PUT, TOOK, CLOSED, ENDED = "put", "took", "closed", "ended"  # what goroutines do there
+ADDED, DONE = "added", "done"  # at a WaitGroup
+
+
+class GoGoroutine(NamedTuple):
+    """A goroutine by Go's own name, as in a stack dump: its number in the recording (-1: it made no step), the call of the `go` statement
+    that made it, and whose that was (0: not known); behind which step it was made and behind which it ended, and the times of both. Where
+    the begin isn't known, or it hasn't ended, both are -1."""
+
+    goid: int
+    number: int
+    made: "Optional[Call]"
+    maker: int
+    first: int
+    last: int
+    begin: int
+    end: int
+
+
+class At(NamedTuple):
+    """The number of an object at which a goroutine waits, and for what there: FOR_VALUE, FOR_ROOM, or empty."""
+
+    object: int
+    use: str
+
+
+class Park(NamedTuple):
+    """A wait outside of the poller of any goroutine, named as Go does it: behind which step it begins and behind which it ends, the times of
+    both (-1: it waits still), what for in words, its stack, which goroutine made it ready (0: none known), the objects: of a select one
+    for each case; and until when a sleep is to last (0: not known)."""
+
+    goid: int
+    first: int
+    last: int
+    begin: int
+    end: int
+    reason: str
+    stack: int
+    by: int
+    objects: tuple[At, ...]
+    due: int = 0
+
+    def is_at(self, position: int) -> bool:
+        """Whether it is under way at a position. Where it begins and ends between two steps it never is."""
+        return self.first <= position and (self.last == STILL or position < self.last)
+
+
+class Object(NamedTuple):
+    """What goroutines wait at: a channel, with how many values it has room for (-1: not known), or what else `sort` says."""
+
+    object: int
+    sort: str
+    room: int
+
+
+class Use(NamedTuple):
+    """What a goroutine did from one stack, at a channel PUT, TOOK, CLOSED or ENDED, and at a WaitGroup ADDED or DONE: how often, behind which
+    steps first and last, and when."""
+
+    object: int
+    goid: int
+    what: str
+    stack: int
+    often: int
+    first: int
+    last: int
+    begin: int
+    end: int
+
+
+class Timer(NamedTuple):
+    """A timer that a goroutine made, set anew or stopped: its channel (0: it calls a function), from which stack, behind which step, when, and
+    when it was to go off: -1 if it was stopped. (Of a timer without a channel only the making is seen.)"""
+
+    object: int
+    goid: int
+    stack: int
+    step: int
+    time: int
+    due: int
+
+    @property
+    def is_stopped(self) -> bool:
+        """Whether it was stopped."""
+        return self.due < 0
+
+
+class LeftOut(NamedTuple):
+    """How many waits of a reason and a stack there was no room for, by whether they last to the end."""
+
+    reason: str
+    stack: int
+    waiting: int
+    ended: int
+
+
+# The types of the values in the rows of each line.
+OF_GOROUTINE: tuple[type, ...] = (int,) * 8
+OF_PARK: tuple[type, ...] = (int, int, int, int, int, str, int, int, list, int)
+OF_AT: tuple[type, ...] = (int, str)
+OF_OBJECT: tuple[type, ...] = (int, str, int)
+OF_USE: tuple[type, ...] = (int, int, str, int, int, int, int, int, int)
+OF_TIMER: tuple[type, ...] = (int,) * 6
+OF_LEFT_OUT: tuple[type, ...] = (str, int, int, int)
+
+
+class AllGoroutines:
+    """What the file says of all goroutines. It is empty for a file of the first form."""
+
+    def begin_goroutines(self) -> None:
+        """No goroutine is known by Go's name."""
+        self.goroutines: dict[int, GoGoroutine] = {}
+        self.parks: dict[int, list[Park]] = {}  # by goroutine, in the order in which they begin
+        self.objects: dict[int, Object] = {}
+        self.uses: dict[int, list[Use]] = {}  # by object
+        self.timers: dict[int, list[Timer]] = {}  # by channel
+        self.left_out: list[LeftOut] = []
+        self._goids: dict[int, int] = {}  # by the recording's numbers
+
+    def add_goroutines(self, line: dict[str, Any], calls: dict[int, "Call"], stacks: Container[int]) -> None:
+        """Adds what a line says of all goroutines, or of the objects at which they wait."""
+
+        def known(numbers: Sequence[int]) -> Iterator[int]:
+            """Of stacks their numbers; 0 for one that isn't in the file."""
+            return (number if number in stacks else 0 for number in numbers)
+
+        if "goroutines" in line:
+            goids, numbers, made, *rest = columns(line["goroutines"], OF_GOROUTINE)
+            of_calls = (calls[number] if number else None for number in made)
+            self.goroutines.update(zip(goids, map(GoGoroutine._make, zip(goids, numbers, of_calls, *rest))))
+            self._goids.update((number, goid) for goid, number in zip(goids, numbers) if number >= 0)
+        elif "parks" in line:
+            whole = [wait if len(wait) == len(OF_PARK) else (*wait, 0) for wait in line["parks"]]
+            *before, of_stacks, by, objects, due = columns(whole, OF_PARK)
+            for park in map(Park._make, zip(*before, known(of_stacks), by, map(ats, objects), due)):
+                self.parks.setdefault(park.goid, []).append(park)
+        elif "objects" in line:
+            for made_of in map(Object._make, zip(*columns(line["objects"], OF_OBJECT))):
+                self.objects[made_of.object] = made_of
+        elif "uses" in line:
+            objects, goids, what, of_stacks, *rest = columns(line["uses"], OF_USE)
+            for use in map(Use._make, zip(objects, goids, what, known(of_stacks), *rest)):
+                self.uses.setdefault(use.object, []).append(use)
+        elif "timers" in line:
+            objects, goids, of_stacks, *rest = columns(line["timers"], OF_TIMER)
+            for timer in map(Timer._make, zip(objects, goids, known(of_stacks), *rest)):
+                self.timers.setdefault(timer.object, []).append(timer)
+        else:
+            reasons, of_stacks, *rest = columns(line["left_out"], OF_LEFT_OUT)
+            self.left_out += map(LeftOut._make, zip(reasons, known(of_stacks), *rest))
+
+    def goid_of(self, number: int) -> int:
+        """Go's name of a goroutine of the recording; 0 where it isn't known."""
+        return self._goids.get(number, 0)
+
+    def park_of(self, goid: int, position: int) -> Optional[Park]:
+        """The wait outside of the poller in which a goroutine is at a position, by Go's name of it."""
+        return next((one for one in self.parks.get(goid, ()) if one.is_at(position)), None)
+
+
+def typed(value: Any, sort: type) -> Any:
+    """The value; a TypeError where it isn't of this type."""
+    if type(value) is not sort:
+        raise TypeError
+    return value
+
+
+def columns(rows: Any, sorts: Sequence[type]) -> list[Any]:
+    """The columns of some rows, of these types; a TypeError or a ValueError where one isn't. (There may be 65,536 rows, so no loop of Python's
+    goes over all values.)"""
+    if set(map(len, rows)) - {len(sorts)}:
+        raise ValueError
+    found = list(zip(*rows)) or [()] * len(sorts)
+    for column, sort in zip(found, sorts):
+        if set(map(type, column)) - {sort}:
+            raise TypeError
+    return found
+
+
+def ats(pairs: Any) -> tuple[At, ...]:
+    """The objects of a wait."""
+    return tuple(map(At._make, zip(*columns(pairs, OF_AT))))

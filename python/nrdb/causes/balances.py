@@ -1,0 +1,185 @@
+"""Channels from which goroutines take something and give it back in the same function: a pool of connections, or a semaphore. How often each
+goroutine did either, what it has now, and which calls gave back twice or never."""
+
+from collections import Counter, defaultdict
+from operator import attrgetter
+from typing import NamedTuple, Optional
+
+from netrev_words.plurals import counted
+
+from ..all_goroutines import PUT, TOOK, Use
+from ..recording import Recording
+from ..waits import Name, name_of_goid
+from ..where import OF_THE_PROGRAM, Call, Stack
+from .words import short
+
+DEFERRED = ".deferwrap"  # in the names of functions that run as another ends
+BEGIN = attrgetter("begin")
+TAKEN_WORDS = {TOOK: ("took", "put", "back"), PUT: ("put", "took", "out again")}
+Frames = tuple[Call, ...]
+Path = tuple[tuple[str, int], ...]  # the functions and lines outside of the one that takes and gives back
+
+
+class Place(NamedTuple):
+    """Where a use stands in the function that takes and gives back: its line there, and from where that was called."""
+
+    line: Call
+    path: Path
+
+
+class Form(NamedTuple):
+    """The function that takes and gives back, with what it takes, and at which lines it does either."""
+
+    function: str
+    takes: str
+    taking: set[Call]
+    giving: set[Call]
+
+    def has_at(self, line: Call) -> bool:
+        """Whether a call that is at a line has taken and not yet given back: it does so later, or in a deferred function."""
+        deferred = any(one.function != self.function for one in self.giving)
+        is_behind = any(one.line < line.line for one in self.taking)
+        return is_behind and (deferred or any(line.line < one.line for one in self.giving))
+
+
+class Balance(NamedTuple):
+    """What a goroutine did at a channel by calls from one place: with what it takes (PUT for a semaphore), how often at which lines it took and
+    gave back, whether a call under way has one, and whether it waits to take one or to give one back."""
+
+    name: Name
+    takes: str
+    taken: Counter[Call]
+    given: Counter[Call]
+    has_one: bool = False
+    is_taking: bool = False
+    is_giving: bool = False
+
+    @property
+    def missing(self) -> int:
+        """How many it took and hasn't given back by calls that are over."""
+        return self.taken.total() - self.given.total() - (self.has_one or self.is_giving)
+
+    @property
+    def says(self) -> str:
+        """It in words: `goroutine 3 took 9 values there at a.go:52 and put 10 back: 9 at a.go:53, 1 at a.go:60`."""
+        did, gave, back = TAKEN_WORDS[self.takes]
+        many, given = self.taken.total(), self.given.total()
+        words = f"{self.name} {did} {counted(many, 'value')} there{at_lines(self.taken)} and {gave} "
+        words += f"{given} {back}{at_lines(self.given)}" if given else f"none {back}"
+        now = "it waits to give one more back" if self.is_giving else "it has one now" if self.has_one else ""
+        return words + (f"; {now}" if now else "")
+
+
+def at_lines(often: Counter[Call]) -> str:
+    """At which lines something was done: ` at a.go:3 in take`, or how often at each of several: ` (9 at a.go:3 in give, 1 at a.go:7 in give)`."""
+    places = Counter[str]()
+    for line, count in often.items():
+        places[f"{line.place()} in {short(line.function).partition(DEFERRED)[0]}"] += count
+    if len(places) < 2:
+        return "".join(f" at {place}" for place in places)
+    return f" ({', '.join(f'{count} at {place}' for place, count in places.most_common())})"
+
+
+def balances_of(recording: Recording, number: int, now: dict[Name, Stack]) -> list[Balance]:
+    """The balances at a channel, if a function takes there and gives back; none if that isn't how it is used. `now` are the stacks of the
+    goroutines that wait."""
+    lines = recording.lines
+    uses = [use for use in lines.uses.get(number, ()) if use.what in (PUT, TOOK)]
+    takes, function = takes_of(recording, uses)
+    if not function:
+        return []
+    found: dict[tuple[Name, Path], list[Use]] = defaultdict(list)
+    for use in uses:
+        if place := place_in(function, program_frames(lines.stacks[use.stack])):
+            found[name_of_goid(lines, use.goid), place.path].append(use)
+    form = Form(function, takes, *lines_of_form(recording, uses, takes, function))
+    made = (balance_of(recording, name, path, some, form, now) for (name, path), some in found.items())
+    balances = [one for one in made if one.taken]
+    given, taken = (sum(one.total() for one in some) for some in zip(*((b.given, b.taken) for b in balances)))
+    return balances if 2 * given >= taken else []
+
+
+def lines_of_form(recording: Recording, uses: list[Use], takes: str, function: str) -> tuple[set[Call], set[Call]]:
+    """The lines at which a function takes, and at which it gives back."""
+    taking, giving = set[Call](), set[Call]()
+    for use in uses:
+        if place := place_in(function, program_frames(recording.lines.stacks[use.stack])):
+            (taking if use.what == takes else giving).add(place.line)
+    return taking, giving
+
+
+def takes_of(recording: Recording, uses: list[Use]) -> tuple[str, str]:
+    """With what goroutines take at a channel, PUT or TOOK, and the innermost function of the program that does both; empty if there is none. It
+    takes first, and gives back after that."""
+    stacks, functions = recording.lines.stacks, Counter[str]()
+    frames: dict[tuple[int, str], set[Frames]] = defaultdict(set)
+    for use in uses:
+        frames[use.goid, use.what].add(program_frames(stacks[use.stack]))
+    for goid in {use.goid for use in uses}:
+        given = {call.function for some in frames[goid, PUT] for call in some}
+        for some in frames[goid, TOOK]:
+            if function := next((call.function for call in some if call.function in given), ""):
+                functions[function] += 1
+    if not functions:
+        return "", ""
+    function = functions.most_common(1)[0][0]
+    return first_of(recording, uses, function), function
+
+
+def first_of(recording: Recording, uses: list[Use], function: str) -> str:
+    """Whether most goroutines first put something there in a function, or took it."""
+    inside = [use for use in uses if place_in(function, program_frames(recording.lines.stacks[use.stack]))]
+    first: dict[int, str] = {}
+    for use in sorted(inside, key=BEGIN):
+        first.setdefault(use.goid, use.what)
+    return Counter(first.values()).most_common(1)[0][0]
+
+
+def program_frames(stack: Stack) -> Frames:
+    return tuple(call for call in stack.calls if call.of == OF_THE_PROGRAM)
+
+
+def place_in(function: str, frames: Frames) -> Optional[Place]:
+    """The innermost call of a function in a stack. The line of what it defers is that of the `defer` statement."""
+    for at, call in enumerate(frames):
+        if call.function == function:
+            inner = frames[at - 1] if at and frames[at - 1].function.startswith(f"{function}.") else call
+            return Place(inner, tuple((outer.function, outer.line) for outer in frames[at + 1 :]))
+    return None
+
+
+def balance_of(
+    recording: Recording, name: Name, path: Path, uses: list[Use], form: Form, now: dict[Name, Stack]
+) -> Balance:
+    """The balance of a goroutine's calls of the function from one place."""
+    taken, given, stacks = Counter[Call](), Counter[Call](), recording.lines.stacks
+    for use in uses:
+        if place := place_in(form.function, program_frames(stacks[use.stack])):
+            (taken if use.what == form.takes else given)[place.line] += use.often
+    balance = Balance(name, form.takes, taken, given)
+    if name not in now:
+        return balance._replace(has_one=not has_ended(recording, name))
+    current = current_in(form.function, path, now[name])
+    if current is None:
+        return balance
+    line, frames = current
+    if frames in (program_frames(stacks[use.stack]) for use in uses if use.what == form.takes):
+        return balance._replace(is_taking=True)
+    return balance._replace(is_giving=line in form.giving, has_one=line not in form.giving and form.has_at(line))
+
+
+def has_ended(recording: Recording, name: Name) -> bool:
+    """Whether a goroutine is known to have ended."""
+    lines = recording.lines
+    known = lines.goroutines.get(name.number if name.is_goid else lines.goid_of(name.number))
+    return known is not None and known.last >= 0
+
+
+def current_in(function: str, path: Path, stack: Optional[Stack]) -> Optional[tuple[Call, Frames]]:
+    """Where a goroutine stands now in a call of the function from the same place, and its whole stack."""
+    frames = program_frames(stack) if stack else ()
+    for at, call in enumerate(frames):
+        if call.function == function and tuple((outer.function, outer.line) for outer in frames[at + 1 :]) == path:
+            inner = frames[at - 1] if at and frames[at - 1].function.startswith(f"{function}.") else call
+            return inner, frames
+    return None

@@ -1,0 +1,40 @@
+"""What calls kept of a channel from which goroutines take and give back, or gave back too often, in words."""
+
+from netrev_words.plurals import counted
+
+from ..recording import Recording
+from .balances import Balance
+from .kept_ways import ways_that_keep
+from .siblings import lines_words
+
+MOST_BALANCES = 3  # that are said
+
+
+def kept_says(recording: Recording, balances: list[Balance]) -> list[str]:
+    """Which goroutines' calls kept what they took, and the lines that only those passed of the ones that one `go` statement made."""
+    kept = [one for one in balances if one.missing > 0]
+    if not kept:
+        return []
+    says = f"Calls that are over have kept what they took: {balances_words(kept)}."
+    goids = [one.name.number if one.name.is_goid else recording.lines.goid_of(one.name.number) for one in kept]
+    made = {goid: known.made for goid, known in recording.lines.goroutines.items()}
+    gave = {one.name for one in balances if one.missing == 0} - {one.name for one in kept}
+    others = [
+        goid for name in gave if made.get(goid := name.number if name.is_goid else recording.lines.goid_of(name.number))
+    ]  # fmt: skip
+    others = [goid for goid in others if made[goid] in map(made.get, goids)]
+    lines = lines_words(recording, goids, others)
+    many = counted(len(others), "other")
+    differ = [f"Of the goroutines of one go statement{lines.removeprefix(';')}; {many} kept nothing."] if lines else []
+    return [says, *differ, *ways_that_keep(recording, balances)]
+
+
+def excess_says(balances: list[Balance]) -> list[str]:
+    """Which goroutines' calls gave back more than they took."""
+    found = [one for one in balances if one.missing < 0]
+    return [f"Calls gave back more than they took: {balances_words(found)}."] if found else []
+
+
+def balances_words(balances: list[Balance]) -> str:
+    """Balances in words, the worst first."""
+    return "; ".join(one.says for one in sorted(balances, key=lambda one: -abs(one.missing))[:MOST_BALANCES])

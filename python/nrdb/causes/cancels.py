@@ -1,0 +1,171 @@
+"""Why a goroutine closed a connection that found a channel closed just before, as net/http does if the context of a request has ended: which
+goroutine cancelled that, from which line, or which limit of time had passed."""
+
+import re
+from collections import defaultdict
+from functools import lru_cache
+from operator import attrgetter
+from typing import Iterator, NamedTuple, Optional
+
+from ..all_goroutines import CLOSED, ENDED, Timer, Use
+from ..one_call import Call
+from ..recording import Recording
+from ..waits import name_of_goid, waits_of
+from ..where import Stack
+from ..words import duration
+from .index import Index
+from .responses import has, server_of
+from .source_functions import found_in, text_at
+from .words import place_in, waits_words
+
+OF_A_CONTEXT = "context.(*cancelCtx).cancel"
+OF_CONTEXTS = ("context.", "runtime.")
+OF_A_LIMIT = "context.WithDeadlineCause"
+OF_A_CLIENT = "net/http.setRequestCancel"
+DEFERRED = ".deferwrap"
+DEFERS, MAKES = re.compile(r"defer (\w+)\("), re.compile(r", (\w+) :?= context\.With\w+\(")
+LATE = 1_000_000_000  # nanoseconds by which a timer may be late
+
+
+class Found(NamedTuple):
+    """A channel that was found closed, when, and by which function."""
+
+    object: int
+    time: int
+    looker: str
+
+
+class Cancel(NamedTuple):
+    """That a goroutine had found a channel closed, by which use that was; and the timers one of which did it, if that was one's doing."""
+
+    goroutine: int
+    use: Use
+    timers: list[Timer]
+
+    @property
+    def is_of_a_limit(self) -> bool:
+        return bool(self.timers)
+
+
+def cancel_before(index: Index, step: int) -> Optional[Cancel]:
+    """Why the goroutine of a step went on to make it: in a function that it is in it had found a channel closed, and done nothing at a socket
+    since."""
+    recording = index.recording
+    lines, goroutine = recording.lines, recording.step(step).argument("g")
+    goid = lines.goid_of(goroutine)
+    since = last_step_before(index, goroutine, step)
+    inside = {call.function for call in lines.of(step).calls}
+    found = [one for one in found_closed(recording, goid, since, step) if one.looker in inside]
+    for one in sorted(found, key=attrgetter("time"), reverse=True):
+        closes = [use for use in lines.uses.get(one.object, ()) if use.what == CLOSED and use.last < step]
+        if closes and (has(lines.stacks[closes[-1].stack], OF_A_CONTEXT) or lines.stacks[closes[-1].stack].own()):
+            return Cancel(goroutine, closes[-1], limits_of(recording, closes[-1], goid))
+    return None
+
+
+def found_closed(recording: Recording, goid: int, since: int, until: int) -> Iterator[Found]:
+    """The channels that a goroutine found closed between two steps: as it looked, or as one who closed it woke it there."""
+    lines = recording.lines
+    for use in looks_of(recording).get(goid, ()):
+        if any(since <= at < until for at in (use.first, use.last)):
+            yield Found(use.object, use.begin, looker_of(lines.stacks[use.stack]))
+    for park in lines.parks.get(goid, ()):
+        if since <= park.last < until and park.by:
+            for at in park.objects:
+                if any(use.goid == park.by and use.what == CLOSED for use in lines.uses.get(at.object, ())):
+                    yield Found(at.object, park.end, looker_of(lines.stacks[park.stack]))
+
+
+@lru_cache(maxsize=2)
+def looks_of(recording: Recording) -> dict[int, list[Use]]:
+    """The channels that each goroutine found closed as it looked."""
+    found: dict[int, list[Use]] = defaultdict(list)
+    for uses in recording.lines.uses.values():
+        for use in uses:
+            if use.what == ENDED:
+                found[use.goid].append(use)
+    return found
+
+
+def looker_of(stack: Stack) -> str:
+    """The function that looked at a channel."""
+    return next((call.function for call in stack.calls if not call.function.startswith(OF_CONTEXTS)), "")
+
+
+def last_step_before(index: Index, goroutine: int, step: int) -> int:
+    """The last step of a goroutine's calls before the one that a step is in."""
+    calls = [one for one in index.by_goroutine.get(goroutine, ()) if 0 < one.last < step]
+    return max((one.last for one in calls), default=0)
+
+
+def limits_of(recording: Recording, use: Use, goid: int) -> list[Timer]:
+    """The timers of contexts one of which closed a channel; none if something else did. That of the goroutine which found it is meant, if it has
+    one."""
+    stack = recording.lines.stacks[use.stack]
+    if stack.own() or not any(call.function.startswith(OF_A_LIMIT) for call in stack.calls):
+        return []
+    timers = [
+        timer for timer in recording.lines.timers.get(0, ())
+        if has(recording.lines.stacks[timer.stack], OF_A_LIMIT) and timer.due <= use.begin < timer.due + LATE
+    ]  # fmt: skip
+    mine = [timer for timer in timers if timer.goid == goid] or timers
+    return sorted(mine, key=attrgetter("due"), reverse=True)
+
+
+def cancel_says(index: Index, cancel: Cancel) -> str:
+    """Who cancelled, or whose limit had passed."""
+    lines, found = index.recording.lines, f"Goroutine {cancel.goroutine} had found"
+    if not cancel.timers:
+        stack, name = lines.stacks[cancel.use.stack], name_of_goid(lines, cancel.use.goid)
+        what = "a context cancelled" if has(stack, OF_A_CONTEXT) else "a channel closed"
+        own = stack.own()
+        leaves = (
+            own
+            and text_at(index.recording, own[0]).strip().startswith(("return", "}"))
+            and DEFERRED not in own[0].function
+        )
+        where = f"{place_in(stack) if own else ''} ({name}, step {cancel.use.last})"
+        return f"{found} {what}{where}{', as that function returned' if leaves else ''}."
+    timer = cancel.timers[0]
+    stack, name = lines.stacks[timer.stack], name_of_goid(lines, timer.goid)
+    perhaps = "perhaps " if len({place_in(lines.stacks[one.stack]) for one in cancel.timers}) > 1 else ""
+    if has(stack, OF_A_CLIENT):
+        earlier = f" ({name}, step {timer.step}), {duration(timer.due - timer.time)} earlier"
+        when = f" ({name})" if is_of_a_rest(index.recording, timer) else earlier
+        return (
+            f"{found} that the Timeout of an http.Client had passed; {perhaps}the request began{place_in(stack)}{when}."
+        )
+    return (
+        f"{found} that the limit of a context, {perhaps}{duration(timer.due - timer.time)}, had passed since that was made{place_in(stack)} "
+        f"({name}, step {timer.step})."
+    )
+
+
+def is_of_a_rest(recording: Recording, timer: Timer) -> bool:
+    """Whether a timer may be of what a redirect left of a limit: the same goroutine made one there earlier that is due at nearly the same
+    time. (Timers of two requests are as far apart when they are due as when they were made.)"""
+    return any(
+        (one.goid, one.stack) == (timer.goid, timer.stack) and 2 * abs(one.due - timer.due) < timer.time - one.time
+        for one in recording.lines.timers.get(0, ())
+    )
+
+
+def deferred_says(index: Index, cancel: Cancel) -> list[str]:
+    """Of a context that was cancelled as a function returned: the line that defers that, and the one that makes the context, by the source if it
+    is here and there is one such alone."""
+    own = index.recording.lines.stacks[cancel.use.stack].own()
+    if cancel.timers or not own or not text_at(index.recording, own[0]).strip().startswith(("return", "}")):
+        return []
+    makes = {found[1]: number for number, found in found_in(index.recording, own[0], MAKES)}
+    defers = [(number, found[1]) for number, found in found_in(index.recording, own[0], DEFERS) if found[1] in makes]
+    if len(defers) != 1:
+        return []
+    (number, name), file = defers[0], own[0].file
+    return [f"{file}:{number} defers that, of the context that {file}:{makes[name]} makes."]
+
+
+def under_way(index: Index, call: Call, step: int) -> str:
+    """What the goroutine did at a step that serves the other end of a connection of net/http; empty if that isn't known."""
+    server = server_of(index, call.socket, step)
+    wait = waits_of(index.recording).at(server, step) if server else None
+    return f"{str(server).capitalize()}, which serves the request, {waits_words(wait)}." if wait else ""

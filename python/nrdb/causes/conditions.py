@@ -1,0 +1,106 @@
+"""What may have to wake a goroutine that waits for a sync.Cond, by the program's source if that is here: a function that changes what the loop
+round the Wait looks at, and calls neither Signal nor Broadcast."""
+
+import re
+from typing import NamedTuple, Optional
+
+from ..recording import Recording
+from ..waits import Waiting
+from ..where import Call
+from .locks import owner
+from .source_functions import Lines, indent_of, range_of, source_of
+
+WAIT = re.compile(r"([\w.\[\]]+)\.Wait\(\)")
+FIELD = re.compile(r"\.(\w+)\b(?!\()")
+FUNCTION = re.compile(r"func (?:\(\w+ (\*?)(\w+)(?:\[[^\]]*\])?\) )?(\w+)")
+FLAG = re.compile(r"= (true|false|nil)\b")
+MOST = 2
+
+
+class Waking(NamedTuple):
+    """A function that changes what a Wait's loop looks at: where, which field, and the line that wakes somebody there, if one does."""
+
+    function: str
+    changes: int
+    field: str
+    signal: int = 0
+    is_for_all: bool = False
+
+
+def unsignalled(recording: Recording, wait: Waiting) -> list[str]:
+    """What is said of functions that change what a Wait's loop looks at, and wake nobody."""
+    own = wait.stack.own()
+    return [
+        f"Perhaps {own[0].file}:{one.changes} in {one.function} should have woken it: it changes {one.field}, at which the loop round the Wait "
+        "looks, and that function calls neither Signal nor Broadcast."
+        for one in wakings_of(recording, wait)
+        if own and not one.signal
+    ][:MOST]
+
+
+def one_alone(recording: Recording, wait: Waiting, waiting: int) -> list[str]:
+    """What is said of a function that sets what all wait for, and wakes one alone."""
+    own = wait.stack.own()
+    lines = source_of(recording, own[0].file) if own else None
+    return [
+        f"Perhaps {own[0].file}:{one.signal} in {one.function} should wake all: Signal wakes one goroutine alone, and {waiting} still wait."
+        for one in wakings_of(recording, wait)
+        if own and lines and one.signal and not one.is_for_all and waiting > 1 and FLAG.search(lines[one.changes - 1])
+    ][:MOST]
+
+
+def wakings_of(recording: Recording, wait: Waiting) -> list[Waking]:
+    """The functions of the waiting one's type, or package, that change what the loop round the Wait looks at."""
+    own = wait.stack.own()
+    lines = source_of(recording, own[0].file) if own else None
+    name = WAIT.search(lines[own[0].line - 1]) if own and lines and own[0].line <= len(lines) else None
+    fields = fields_of(lines, own[0]) if own and lines and name else set()
+    if not own or not lines or not name or not fields:
+        return []
+    wakes = re.compile(rf"{re.escape(name[1].partition('.')[2] or name[1])}\.(Signal|Broadcast)\(\)")
+    of_type = owner(own[0].function).rpartition("/")[2].partition(".")[2]
+    found = []
+    for function, within in functions_of(lines):
+        text = {number: lines[number - 1].partition("//")[0] for number in within}
+        changes = next((number for number, line in text.items() if changed_in(line, fields)), 0)
+        if not changes or not function.startswith(of_type or function) or any(map(WAIT.search, text.values())):
+            continue
+        signals = [(number, signal[1]) for number, line in text.items() if (signal := wakes.search(line))]
+        field = changed_in(lines[changes - 1], fields) or ""
+        is_for_all = any(what == "Broadcast" for _, what in signals)
+        found.append(Waking(function, changes, field, signals[0][0] if signals else 0, is_for_all))
+    return found
+
+
+def fields_of(lines: Lines, call: Call) -> set[str]:
+    """The fields in the condition of the loop in which a call is."""
+    margin = indent_of(lines[call.line - 1])
+    within = range_of(lines, call)
+    for number in range(call.line - 1, within.start if within else call.line, -1):
+        text = lines[number - 1].partition("//")[0]
+        if indent_of(text) < margin:
+            margin = indent_of(text)
+            if text.lstrip().startswith(("for ", "if ")):
+                return set(FIELD.findall(text))
+    return set()
+
+
+def functions_of(lines: Lines) -> list[tuple[str, range]]:
+    """The functions of a file, by their names as in a stack, and their lines."""
+    found = []
+    for number, text in enumerate(lines, 1):
+        if named := FUNCTION.match(text):
+            pointer, of_type, function = named.groups()
+            name = f"({pointer}{of_type}).{function}" if pointer else f"{of_type}.{function}" if of_type else function
+            within = range_of(lines, Call(name, "", number, ""))
+            if within:
+                found.append((name, within))
+    return found
+
+
+def changed_in(text: str, fields: set[str]) -> Optional[str]:
+    """The field that a line of the source changes."""
+    for field in sorted(fields):
+        if re.search(rf"\.{field}(\[[^\]]*\])?\s*(=(?!=)|\+=|-=|\+\+|--|:=)|delete\([\w.]*\.{field}\b", text):
+            return field
+    return None

@@ -1,0 +1,56 @@
+"""The deadlines under which calls wait that haven't passed yet: such a call ends by itself."""
+
+from collections import defaultdict
+from functools import lru_cache
+from typing import NamedTuple, Optional
+
+from ..one_call import Call
+from ..recording import Recording
+from ..words import duration
+from .index import READING, Index
+from .words import name_of, place_of_step
+
+
+class Setting(NamedTuple):
+    """A `setdeadline` of a descriptor: its step, its goroutine, for which sides, and how far ahead: 0 for none, below 0 for the past."""
+
+    step: int
+    goroutine: int
+    sides: str
+    time: int
+
+
+@lru_cache(maxsize=2)
+def settings_of(recording: Recording) -> dict[int, list[Setting]]:
+    """The settings of each descriptor, in their order."""
+    found: dict[int, list[Setting]] = defaultdict(list)
+    for step in recording.steps_of(("setdeadline",), recording.length):
+        named = (step.argument(name) for name in ("d", "g", "mode", "time"))
+        descriptor, goroutine, sides, time = named
+        found[descriptor].append(Setting(step.number, goroutine, sides, time))
+    return found
+
+
+def deadline_ahead(index: Index, call: Call, position: int) -> Optional[Setting]:
+    """The deadline of a call that waits at a position; None if it has none."""
+    side, begin = "r" if call.name in READING else "w", index.by_socket[call.socket][0].first
+    settings = (
+        one
+        for one in reversed(settings_of(index.recording).get(call.descriptor, []))
+        if begin <= one.step <= position and side in one.sides
+    )
+    last = next(settings, None)
+    return last if last and last.time > 0 else None
+
+
+def until_words(index: Index, call: Call) -> str:
+    """Until when a call with a deadline waits: `until the deadline of the Read at a.go:3 passes`."""
+    place = index.recording.lines.of(call.first).place()
+    at = f" at {place}" if place and not place.startswith("in ") else f" {place}".rstrip()
+    return f"until the deadline of the {name_of(index.recording, call)}{at} passes"
+
+
+def setting_says(index: Index, setting: Setting) -> str:
+    """Where a deadline was set, and how far ahead."""
+    at = place_of_step(index.recording, setting.step, setting.goroutine)
+    return f"Its deadline was set{at}, {duration(setting.time)} ahead, and hasn't passed."

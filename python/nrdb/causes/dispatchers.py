@@ -1,0 +1,33 @@
+"""Goroutines that read for others and hand on what they read: of one that got bytes after a request, and handed nothing on since."""
+
+from netrev_words.plurals import counted
+
+from ..all_goroutines import PUT
+from ..recording import Recording
+from ..waits import Name, Waiting
+from .index import index_of
+from .waiters import Waiter
+from .words import told
+
+
+def perhaps_dropped(recording: Recording, wait: Waiting, by: Waiter) -> list[str]:
+    """Of a goroutine that wrote a request, and waits for another to hand the answer on: that this one has got bytes since, and gave none."""
+    reader = by.call
+    if reader is None or reader.name != "Read" or wait.name.is_goid or len(wait.objects) != 1:
+        return []
+    calls = [one for one in index_of(recording).by_socket[reader.socket] if one.last and one.moved]
+    wrote = [
+        one for one in calls if one.name == "Write" and Name(one.goroutine) == wait.name and one.first <= wait.first
+    ]
+    read = [
+        one
+        for one in calls
+        if one.name == "Read" and Name(one.goroutine) == by.name and wrote and one.last > wrote[-1].first
+    ]
+    uses = recording.lines.uses.get(wait.objects[0].object, ())
+    if not read or any(use.what == PUT and use.last >= read[-1].first for use in uses):
+        return []
+    return [
+        f"{told(recording, wrote[-1])} in {wrote[-1].steps()} was perhaps its request. {told(recording, read[-1])} got "
+        f"{counted(read[-1].moved or 0, 'byte')} after that, in step {read[-1].last}, and nothing was put there since."
+    ]

@@ -1,0 +1,196 @@
+"""Answers that a goroutine read whole and handed to nobody: of a goroutine that wrote a request, and waits at a channel for another to hand the
+answer on, as the clients of many RPC protocols do."""
+
+import re
+from typing import Mapping, NamedTuple, Optional
+
+from netrev_words.plurals import counted
+
+from ..all_goroutines import FOR_VALUE, PUT, TOOK
+from ..one_call import Call
+from ..recording import Recording
+from ..waits import Name, Waiting, name_of_goid
+from ..where import OF_THE_PROGRAM, Call as LineCall, Stack
+from .handed_over import written_for
+from .index import MOVING, Index
+from .need import Need
+from .senders import PUTS, givings_of
+from .source_functions import Lines, indent_of, range_of, source_of, text_at
+from .unclosed import RECEIVE
+from .waiters import Waiter
+from .words import told
+
+GOES_ON = re.compile(r"\s*(continue\b|default:)")
+CONDITION = re.compile(r"\s*(?:\} else )?if\b")
+MOST_WAYS = 2
+
+
+class Hand(NamedTuple):
+    """A goroutine that reads at a socket and hands on what it read, by a line that puts values into channels."""
+
+    reader: Waiter
+    call: Call
+    line: LineCall
+
+
+def is_for_values(wait: Waiting) -> bool:
+    """Whether a goroutine waits for values from channels alone."""
+    return bool(wait.objects) and all(at.use == FOR_VALUE for at in wait.objects)
+
+
+def dropped_answer(index: Index, wait: Waiting, hands: list[Hand]) -> Optional[Need]:
+    """The need of a goroutine that waits for an answer which one of some goroutines read and handed to nobody; None if that isn't known to be
+    so."""
+    for hand in hands:
+        wrote = request_of(index, wait, hand.call.socket)
+        read = read_since(index, hand, wrote) if wrote else None
+        if wrote and read and not has_put(index.recording, wait, read) and is_answered(index, wrote):
+            return Need(says_of(index, wait, hand, wrote, read), stopped=read.first, is_odd=True)
+    return None
+
+
+def hands_of(recording: Recording, wait: Waiting, waiters: Mapping[Name, Waiter]) -> list[Hand]:
+    """The goroutines that wait to read, and that put values into channels from which others took them at the line of the waiting one; else, if
+    none ever has, those that are in a function which does so by the source."""
+    readers = {name: waiter for name, waiter in waiters.items() if waiter.call and waiter.call.name == "Read"}
+    lines, own = recording.lines, wait.stack.own()
+    taken = {
+        number
+        for number, uses in lines.uses.items()
+        if any(use.what == TOOK and lines.stacks[use.stack].own() == own for use in uses)
+    }
+    found = dict[Name, Hand]()
+    for number in taken:
+        for use in lines.uses[number]:
+            name, line = name_of_goid(lines, use.goid), lines.stacks[use.stack].own()
+            if use.what == PUT and name in readers and line and line[0].of == OF_THE_PROGRAM:
+                found.setdefault(name, hand_of(readers[name], line[0]))
+    return list(found.values()) or by_source(recording, wait, readers)
+
+
+def hand_of(reader: Waiter, line: LineCall) -> Hand:
+    assert reader.call is not None
+    return Hand(reader, reader.call, line)
+
+
+def by_source(recording: Recording, wait: Waiting, readers: Mapping[Name, Waiter]) -> list[Hand]:
+    """The goroutines that read in a function with a line that puts a value into a channel of the name at which the other waits."""
+    own = wait.stack.own()
+    name = RECEIVE.search(text_at(recording, own[0])) if own and own[0].of == OF_THE_PROGRAM else None
+    source = source_of(recording, own[0].file) if own and name else None
+    if not own or not name or not source:
+        return []
+    found = []
+    for reader in readers.values():
+        for call in reader.stack.calls:
+            for giving in givings_of(source, own[0], name[1], PUTS):
+                if call.file == own[0].file and call.line in giving.within and call.line < giving.number:
+                    found.append(hand_of(reader, call._replace(line=giving.number)))
+    return found
+
+
+def request_of(index: Index, wait: Waiting, socket: int) -> Optional[Call]:
+    """The last Write of a goroutine at a socket before it waits; else the one of another, to which it handed its request."""
+    calls = [] if wait.name.is_goid else index.by_goroutine.get(wait.name.number, [])
+    writes = [one for one in calls if one.name == "Write" and one.socket == socket and one.moved and one.last]
+    own = next((one for one in reversed(writes) if one.first <= wait.first), None)
+    return own or written_for(index, wait, socket)
+
+
+def read_since(index: Index, hand: Hand, wrote: Call) -> Optional[Call]:
+    """The last Read of a goroutine that got something after a Write, before the one in which it waits now."""
+    calls = [one for one in index.by_goroutine.get(hand.call.goroutine, []) if one.socket == hand.call.socket]
+    reads = [one for one in calls if one.name == "Read" and one.moved and one.last]
+    return next((one for one in reversed(reads) if wrote.first < one.last < hand.call.first), None)
+
+
+def has_put(recording: Recording, wait: Waiting, read: Call) -> bool:
+    """Whether a value was put at one of a wait's channels after a Read."""
+    uses = (use for at in wait.objects for use in recording.lines.uses.get(at.object, ()))
+    return any(use.what == PUT and use.last >= read.last for use in uses)
+
+
+def is_answered(index: Index, wrote: Call) -> bool:
+    """Whether all requests at a socket were answered, as far as that is known: a goroutine of the other end read after the request, wrote after
+    that, and reads on; or there are as many Writes at the other end."""
+    other = index.other_end(wrote.socket)
+    if other is None:
+        return False
+    moved = [one for one in index.by_socket.get(other, ()) if one.name in MOVING and one.moved and one.last]
+    read = next((one for one in moved if one.name == "Read" and one.last > wrote.first), None)
+    answers = [one for one in moved if one.name == "Write" and read and one.first > read.last]
+    if not answers:
+        return False
+    writers = {one.goroutine for one in moved if one.name == "Write"}
+    asked = [one for one in index.by_socket[wrote.socket] if one.name == "Write" and one.moved]
+    is_serial = len(writers) == 1 and moved[-1].name == "Write" and reads_on(index, moved[-1].goroutine, other)
+    return is_serial or sum(one.name == "Write" for one in moved) >= len(asked)
+
+
+def reads_on(index: Index, goroutine: int, socket: int) -> bool:
+    """Whether a goroutine is in a Read at a socket at the recording's end."""
+    now = index.inside(goroutine, index.recording.length)
+    return now is not None and now.name == "Read" and now.socket == socket
+
+
+def says_of(index: Index, wait: Waiting, hand: Hand, wrote: Call, read: Call) -> list[str]:
+    """It in sentences: the request, who read after that, and by which lines it goes on without handing anything on."""
+    recording, name = index.recording, hand.reader.name
+    was = "was" if Name(wrote.goroutine) == wait.name else "was perhaps"
+    says = [
+        f"{told(recording, wrote)} in {wrote.steps()} {was} its request. {told(recording, read)} got {counted(read.moved or 0, 'byte')} after "
+        f"that, in step {read.last}, and reads on since step {hand.call.first}: it handed that to nobody who waits there."
+    ]
+    ways, place = ways_past(recording, hand.reader.stack, hand.line.file, hand.line.line), hand.line.place()
+    by = ways_words(hand.line.file, ways)
+    goes = f"{by} without {place}, where it hands values on" if ways else f"it hands values on at {place}"
+    return [*says, f"Perhaps {name} dropped the answer: {goes}."]
+
+
+def ways_words(file: str, ways: list[int]) -> str:
+    """The lines by which a goroutine goes on: `a.go:3 goes on`."""
+    return f"{' and '.join(f'{file}:{number}' for number in ways)} {'go' if len(ways) > 1 else 'goes'} on"
+
+
+def ways_past(recording: Recording, stack: Stack, file: str, number: int) -> list[int]:
+    """The lines by which a goroutine goes on from where it waits without passing a line that puts a value: `continue`, `default:`, or the
+    condition of that line."""
+    lines = source_of(recording, file)
+    calls = (
+        [call for call in stack.calls if call.file == file and call.of == OF_THE_PROGRAM and call.line < number]
+        if lines
+        else []
+    )
+    within = next((range_of(lines, call) for call in calls if lines and number in (range_of(lines, call) or ())), None)
+    if not lines or not within:
+        return []
+    begin = max((call.line for call in calls if call.line in within), default=within.start)
+    found = [at for at in range(begin + 1, number) if GOES_ON.match(lines[at - 1])]
+    found += conditions_round(lines, begin, number) + defaults_behind(lines, number)
+    return sorted(found)[-MOST_WAYS:]
+
+
+def defaults_behind(lines: Lines, number: int) -> list[int]:
+    """The `default:` of the select whose case a line is."""
+    if not lines[number - 1].lstrip().startswith("case "):
+        return []
+    margin = indent_of(lines[number - 1])
+    for at in range(number + 1, len(lines) + 1):
+        if lines[at - 1].strip() and indent_of(lines[at - 1]) < margin:
+            return []
+        if lines[at - 1].strip() == "}" and indent_of(lines[at - 1]) == margin:
+            return []
+        if indent_of(lines[at - 1]) == margin and lines[at - 1].lstrip().startswith("default:"):
+            return [at]
+    return []
+
+
+def conditions_round(lines: Lines, begin: int, number: int) -> list[int]:
+    """The innermost condition that a line is in, behind another line."""
+    margin = indent_of(lines[number - 1])
+    for at in range(number - 1, begin, -1):
+        if lines[at - 1].strip() and indent_of(lines[at - 1]) < margin:
+            margin = indent_of(lines[at - 1])
+            if CONDITION.match(lines[at - 1]):
+                return [at]
+    return []

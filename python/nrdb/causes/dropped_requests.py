@@ -1,0 +1,101 @@
+"""Requests that went through a channel to a goroutine which took them, and that goes on to the next one without an answer: of a goroutine that
+put a request there and waits at another channel for the answer."""
+
+from typing import Mapping, NamedTuple, Optional
+
+from ..all_goroutines import FOR_VALUE, PUT, TOOK, Use
+from ..recording import Recording
+from ..waits import Name, Waiting, name_of_goid
+from ..where import OF_THE_PROGRAM
+from .dropped_answers import ways_past, ways_words
+from .handed_over import put_before
+from .need import Need
+from .senders import givings_at
+from .source_functions import range_of, source_of
+from .stopped_timers import timers_of_select, ways_past_reset
+from .waiters import Waiter
+from .words import place_in
+
+
+class Taken(NamedTuple):
+    """A goroutine that took a request and waits for the next one, and the line at which it would put an answer."""
+
+    taker: Waiter
+    use: Use
+    file: str
+    line: int
+
+
+def dropped_request(recording: Recording, wait: Waiting, waiters: Mapping[Name, Waiter]) -> Optional[Need]:
+    """The need of a goroutine whose request another took without an answer; None if that isn't known to be so."""
+    if not wait.objects or any(at.use != FOR_VALUE for at in wait.objects):
+        return None
+    request = put_before(recording, wait)
+    taken = taker_of(recording, wait, request, waiters) if request else None
+    if not request or not taken or has_answer(recording, wait, request):
+        return None
+    lines, name = recording.lines, taken.taker.name
+    says = (
+        f"It put its request into a channel{place_in(lines.stacks[request.stack])} (step {request.last}). "
+        f"{str(name).capitalize()} took the last value there{place_in(lines.stacks[taken.use.stack])} (step {taken.use.last}), and waits for the "
+        f"next one since step {taken.taker.since}."
+    )
+    if left := left_to_a_timer(recording, taken.taker):
+        return Need([says, left], is_odd=True)
+    ways, place = ways_past(recording, taken.taker.stack, taken.file, taken.line), f"{taken.file}:{taken.line}"
+    goes = f"{ways_words(taken.file, ways)} without {place}, where it answers" if ways else f"it answers at {place}"
+    return Need([says, f"Perhaps {name} left it without an answer: {goes}."], is_odd=True)
+
+
+def left_to_a_timer(recording: Recording, taker: Waiter) -> str:
+    """Of a goroutine that took a request and waits in a select: that it perhaps answers when a timer goes off that nobody has set anew; empty
+    if that isn't so by the program's source."""
+    says = timers_of_select(recording, taker.wait) if taker.wait else []
+    is_skipped = taker.wait is not None and bool(says) and ways_past_reset(recording, taker.wait)
+    return f"Perhaps {taker.name} keeps it until a timer goes off. {says[0]}" if is_skipped else ""
+
+
+def has_answer(recording: Recording, wait: Waiting, request: Use) -> bool:
+    """Whether somebody put a value at one of a wait's channels after a request."""
+    uses = (use for at in wait.objects for use in recording.lines.uses.get(at.object, ()))
+    return any(use.what == PUT and use.end >= request.end for use in uses)
+
+
+def taker_of(recording: Recording, wait: Waiting, request: Use, waiters: Mapping[Name, Waiter]) -> Optional[Taken]:
+    """The goroutine that took a request, if all were taken, and all that took some have ended or wait for the next one."""
+    lines, number = recording.lines, request.object
+    uses = lines.uses[number]
+    put, took = (sum(use.often for use in uses if use.what == what) for what in (PUT, TOOK))
+    takers = [use for use in uses if use.what == TOOK]
+    own = wait.stack.own()
+    if put != took or own is None or any(not is_free(recording, use, number, waiters) for use in takers):
+        return None
+    for use in sorted(takers, key=lambda one: -one.end):
+        waiter = waiters.get(name_of_goid(lines, use.goid))
+        line = answer_line(recording, wait, waiter) if waiter else 0
+        if waiter and line:
+            return Taken(waiter, use, own[0].file, line)
+    return None
+
+
+def is_free(recording: Recording, use: Use, number: int, waiters: Mapping[Name, Waiter]) -> bool:
+    """Whether a goroutine has ended, or waits for a value at a channel."""
+    known = recording.lines.goroutines.get(use.goid)
+    waiter = waiters.get(name_of_goid(recording.lines, use.goid))
+    waits = waiter is not None and waiter.wait is not None and number in {at.object for at in waiter.wait.objects}
+    return waits or known is not None and known.last >= 0
+
+
+def answer_line(recording: Recording, wait: Waiting, taker: Waiter) -> int:
+    """The line of a function that a goroutine is in, or of a literal in it, behind the line where it waits, that puts a value into a channel of the
+    name at which the other waits; 0 if there is none."""
+    own = wait.stack.own()
+    numbers = [giving.number for giving in givings_at(recording, wait)]
+    for call in taker.stack.calls:
+        source = (
+            source_of(recording, call.file) if own and call.of == OF_THE_PROGRAM and call.file == own[0].file else None
+        )
+        within = range_of(source, call) if source else None
+        if found := [number for number in numbers if within and number in within and call.line < number]:
+            return found[0]
+    return 0

@@ -1,0 +1,85 @@
+"""Goroutines that have ended without what another waits for at a channel, by the program's source if that is here: they were in, or started, a function
+with a line that puts a value there, or takes one, and didn't come to it."""
+
+import re
+from typing import Iterator, Optional
+
+from ..recording import Recording
+from ..waits import Waiting, name_of_goid, of_names
+from ..where import OF_THE_PROGRAM, Call
+from .ended_goroutines import ended_where, goid_of
+from .index import Index
+from .need import Need
+from .senders import WORDS, Giving, givings_at
+from .siblings import lines_of
+from .source_functions import text_at
+
+STARTS = re.compile(r"\bgo (?:[\w.]+\.)?(\w+)\(")
+FUNCTION = re.compile(r"func (?:\([^)]*\) )?(\w+)[(\[]")
+MOST = 50  # goroutines that are looked at
+
+
+def ended_giver(index: Index, wait: Waiting) -> Optional[Need]:
+    """The goroutines that perhaps should have given what is waited for, and ended; None if none is found."""
+    own = wait.stack.own()
+    if not own or own[0].of != OF_THE_PROGRAM or len(wait.objects) != 1 or wait.objects[0].use not in WORDS:
+        return None
+    givings, recording = givings_at(index.recording, wait), index.recording
+    if not givings:
+        return None
+    found = dict[int, list[int]]()  # the goroutines, by the line that they should have come to
+    for goid in ended_before(recording, wait, own[0].file, givings):
+        number = upcoming(recording, goid, own[0].file, givings)
+        if number:
+            found.setdefault(number, []).append(goid)
+    first = next(iter(found), 0)
+    return need_of(index, wait, found[first], own[0], first) if first else None
+
+
+def need_of(index: Index, wait: Waiting, found: list[int], own: Call, number: int) -> Need:
+    """The need of those that ended before a line."""
+    lines, names = index.recording.lines, [name_of_goid(index.recording.lines, goid) for goid in found]
+    known = lines.goroutines[found[0]]
+    made = f", started at {known.made.place()}," if known.made else ","
+    does = WORDS[wait.objects[0].use][0]
+    if len(names) == 1:
+        ended = f"{names[0]}{made} which has ended after step {known.last}{ended_where(index, names[0])}"
+    else:
+        ended = f"{of_names(names)}{made} which have all ended"
+    says = f"Perhaps it waited for {ended}, without passing {own.file}:{number}, which {does}."
+    return Need([says], gone=names[0] if len(names) == 1 else None, is_odd=True, ended=tuple(names))
+
+
+def ended_before(recording: Recording, wait: Waiting, file: str, givings: list[Giving]) -> Iterator[int]:
+    """The goroutines that have ended and didn't pass a line that gives, the last ones first: those that the waiting one started, if it started
+    any that have ended."""
+    waiter, passed, numbers = goid_of(recording, wait.name), lines_of(recording), {one.number for one in givings}
+    ended = [goid for goid, known in recording.lines.goroutines.items() if known.last >= 0 and known.made]
+    mine = [goid for goid in ended if recording.lines.goroutines[goid].maker == waiter] or ended
+    for goid in sorted(mine[-MOST:], key=lambda one: -recording.lines.goroutines[one].begin):
+        if not any(call.file == file and call.line in numbers for call in passed.of(goid)):
+            yield goid
+
+
+def upcoming(recording: Recording, goid: int, file: str, givings: list[Giving]) -> int:
+    """The line that gives in a function that a goroutine was in, behind the last line of it that it passed, or in one that it was started as; 0
+    if there is none."""
+    made, passed = recording.lines.goroutines[goid].made, lines_of(recording).of(goid)
+    for giving in givings:
+        last = max((call.line for call in passed if call.file == file and call.line in giving.within), default=0)
+        if 0 < last < giving.number or not last and made and starts(recording, made, file, giving):
+            return giving.number
+    return 0
+
+
+def starts(recording: Recording, made: Call, file: str, giving: Giving) -> bool:
+    """Whether a `go` statement starts the function that a line is in."""
+    if made.file != file:
+        return False
+    text = text_at(recording, made)
+    if "func(" in text:
+        return giving.within.start <= made.line <= giving.number or made.line == giving.within.start
+    named = STARTS.search(text)
+    head = text_at(recording, made._replace(line=giving.within.start)) if giving.within else ""
+    function = FUNCTION.match(head)
+    return bool(named and function and named[1] == function[1])

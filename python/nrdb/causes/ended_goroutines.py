@@ -1,0 +1,155 @@
+"""Goroutines that have ended, and from which others wait for something: where each was last, and by which lines it may have left its loop."""
+
+import re
+from functools import lru_cache
+from typing import Iterator, NamedTuple, Optional
+
+from ..recording import Recording
+from ..waits import Name
+from ..where import OF_THE_PROGRAM, Call, Stack
+from .index import Index
+from .source_functions import Lines, indent_of, range_of, source_of
+from .words import place_in, short
+
+DEFERRED, WRAPPED = ".deferwrap", ".gowrap"
+LOOP, LEAVES = re.compile(r"\s*for\b"), re.compile(r"\s*(return|break|panic\(|runtime\.Goexit\()")
+MOST_LEAVES = 2
+
+
+class Passed(NamedTuple):
+    """That a goroutine was in a stack: after which step, when, and its place among the goroutine's calls."""
+
+    step: int
+    time: int
+    stack: Stack
+
+
+def goid_of(recording: Recording, name: Name) -> int:
+    """Go's own number of a goroutine."""
+    return name.number if name.is_goid else recording.lines.goid_of(name.number)
+
+
+@lru_cache(maxsize=1024)
+def last_stack(index: Index, name: Name) -> Optional[Stack]:
+    """The last stack in which a goroutine is known to have been, but for those of what it deferred."""
+    last = max(passed_by(index, name), key=lambda one: (one.step, one.time), default=None)
+    return last.stack if last else None
+
+
+def passed_by(index: Index, name: Name) -> Iterator[Passed]:
+    """The stacks in which a goroutine was, with a line of the program."""
+    recording, goid = index.recording, goid_of(index.recording, name)
+    lines, calls = recording.lines, index.by_goroutine.get(name.number, []) if not name.is_goid else []
+    found = [Passed(call.first, time_of(recording, call.first), lines.of(call.first)) for call in calls[-3:]]
+    found += [Passed(park.last, park.end, lines.stacks[park.stack]) for park in lines.parks.get(goid, ())[-3:]]
+    for uses in lines.uses.values():
+        found += [Passed(use.last, use.end, lines.stacks[use.stack]) for use in uses if use.goid == goid]
+    for passed in found:
+        calls_of = [call for call in passed.stack.calls if call.of == OF_THE_PROGRAM]
+        if calls_of and DEFERRED not in calls_of[0].function:
+            yield passed
+
+
+def time_of(recording: Recording, step: int) -> int:
+    """The time of a step; 0 if it isn't known."""
+    times = recording.lines.times
+    return times[step - 1] if 0 < step <= len(times) else 0
+
+
+def ended_where(index: Index, name: Name, known: Optional[Stack] = None) -> str:
+    """Where a goroutine was last that has ended, if that isn't the line that is known: `, last known at a.go:15 in parse, from whose loop only
+    a.go:18 leads`; empty if it isn't known."""
+    stack = last_stack(index, name)
+    own = [call for call in stack.calls if call.of == OF_THE_PROGRAM and WRAPPED not in call.function] if stack else []
+    if not own:
+        return ""
+    is_known = known is not None and known.own() is not None and place_in(known) == place_in(stack or known)
+    last = "" if is_known else f", last known at {own[0].place()} in {short(own[0].function)}"
+    return f"{last}{ways_out(index.recording, own[-1])}"
+
+
+def loop_words(recording: Recording, stack: Stack) -> str:
+    """The lines that leave the loop in which a goroutine did something in a function that isn't its outermost: as `ended_where` has them."""
+    own = [call for call in stack.calls if call.of == OF_THE_PROGRAM and WRAPPED not in call.function]
+    return ways_out(recording, own[0]) if len(own) > 1 else ""
+
+
+def ways_out(recording: Recording, call: Call) -> str:
+    """The lines that leave the loop round a line, in words; empty if they aren't few."""
+    leaves, over = leaves_of(recording, call), ranged_over(recording, call)
+    ways = " and ".join(f"{call.file}:{number}" for number in leaves)
+    lead = f"lead{'s' if len(leaves) == 1 else ''}"
+    if leaves and over:
+        return f", from whose loop {ways} {lead}, or the end of its range over {over}"
+    return f", from whose loop only {ways} {lead}" if leaves else ""
+
+
+def ranged_over(recording: Recording, call: Call) -> str:
+    """What the innermost loop round a line of a function ranges over; empty if it has no end of its own."""
+    lines = source_of(recording, call.file)
+    within = range_of(lines, call) if lines else None
+    head = loop_round(lines, within, call.line) if lines and within else 0
+    found = re.search(r"\brange ([\w.]+) \{", lines[head - 1]) if lines and head else None
+    return found[1] if found else ""
+
+
+def leaves_of(recording: Recording, call: Call) -> list[int]:
+    """The lines that leave the innermost loop round a line of a function, if they are few and the loop doesn't end by itself: it is over
+    a channel or has no condition."""
+    lines = source_of(recording, call.file)
+    within = range_of(lines, call) if lines else None
+    head = loop_round(lines, within, call.line) if lines and within else 0
+    if not lines or not head or not is_endless(lines[head - 1]):
+        return []
+    found = [number for number in body_of(lines, head) if LEAVES.match(lines[number - 1].partition("//")[0])]
+    found = [number for number in found if not is_inner_break(lines, head, number)]
+    return found if len(found) <= MOST_LEAVES else []
+
+
+def loop_round(lines: Lines, within: range, line: int) -> int:
+    """The line at which the innermost loop begins that a line is in; 0 if it is in none."""
+    margin = indent_of(lines[line - 1])
+    if LOOP.match(lines[line - 1]):
+        return line
+    for number in range(line, within.start, -1):
+        text = lines[number - 1]
+        if text.strip() and indent_of(text) < margin:
+            margin = indent_of(text)
+            if "func(" in text:
+                return 0
+            if LOOP.match(text):
+                return number
+    return 0
+
+
+def is_endless(text: str) -> bool:
+    """Whether a loop has no condition, or is over what may be a channel's values."""
+    head = text.partition("//")[0].strip()
+    return head == "for {" or re.match(r"for (\w+ :?= )?range [\w.]+ \{\Z", head) is not None
+
+
+def body_of(lines: Lines, head: int) -> Iterator[int]:
+    """The lines of a loop's body, but for those of function literals."""
+    margin, number = indent_of(lines[head - 1]), head + 1
+    while number <= len(lines) and (indent_of(lines[number - 1]) > margin or not lines[number - 1].strip()):
+        text, inner = lines[number - 1].partition("//")[0].rstrip(), indent_of(lines[number - 1])
+        if "func(" in text and text.endswith("{"):
+            while number < len(lines) and not (indent_of(lines[number]) <= inner and lines[number].strip()):
+                number += 1
+        else:
+            yield number
+        number += 1
+
+
+def is_inner_break(lines: Lines, head: int, number: int) -> bool:
+    """Whether a `break` is one of a loop, a switch or a select inside of the loop."""
+    text, margin = lines[number - 1].strip(), indent_of(lines[number - 1])
+    if not text.startswith("break") or text.partition("//")[0].strip() != "break":
+        return False
+    for at in range(number - 1, head, -1):
+        if lines[at - 1].strip() and indent_of(lines[at - 1]) < margin:
+            margin = indent_of(lines[at - 1])
+            if re.match(r"\s*(for|switch|select)\b", lines[at - 1]):
+                return True
+            margin += lines[at - 1].lstrip().startswith(("case ", "default:"))
+    return False

@@ -1,0 +1,51 @@
+"""What a Read that waits looks for, by the functions that it is called in: the end of the stream, the end of a line, or anything at all."""
+
+from typing import Optional
+
+from ..one_call import Call
+from .index import Index
+from .words import is_of_go
+
+TO_THE_END = ("io.ReadAll", "io.copyBuffer", "io.Copy", "net.genericReadFrom", "internal/poll.Splice")
+OF_A_BODY = ("net/http.(*body).Read",)
+OF_A_COUNT = ("io.CopyN", "io.(*LimitedReader).Read")
+SPLICE = "internal/poll.Splice"  # an io.LimitedReader's limit may end it, which no stack shows
+OF_A_LINE = {
+    "bufio.(*Reader).ReadString": "bufio.(*Reader).ReadString", "bufio.(*Reader).ReadBytes": "bufio.(*Reader).ReadBytes",
+    "bufio.(*Reader).ReadLine": "bufio.(*Reader).ReadLine", "bufio.(*Scanner).Scan": "bufio.(*Scanner).Scan",
+    "net/textproto.(*Reader).readLineSlice": "net/textproto.(*Reader).ReadLine",
+}  # fmt: skip
+
+
+def end_says(index: Index, call: Call, other: int, position: int) -> list[str]:
+    """What is said of it; nothing of Go's own code alone."""
+    if call.name != "Read" or is_of_go(index.recording, call):
+        return []
+    functions = {one.function for one in index.recording.lines.of(call.first).calls}
+    if says := bound_says(functions, other):
+        return [says]
+    if not index.moved(call.socket, "Write", position) and not index.moved(other, "Write", position):
+        return ["Nobody has written anything on this connection."]
+    return []
+
+
+def bound_says(functions: set[str], other: int) -> str:
+    """Up to where the functions read in which a Read is called: the length of a body, a number of bytes, or the end of the stream."""
+    if functions.intersection(OF_A_BODY):
+        return "It reads a body of net/http: perhaps fewer bytes came than the header says."
+    if "io.CopyN" in functions:
+        return "io.CopyN reads a number of bytes, which haven't all come."
+    if functions.intersection(OF_A_COUNT):
+        return ""
+    if "io.ReadAll" in functions:
+        return f"io.ReadAll reads to the end of the stream: nobody has closed socket {other} for writing."
+    if functions.intersection(TO_THE_END):
+        copies = "has met no end of the stream" if SPLICE in functions else "reads to the end of the stream"
+        return f"io.Copy {copies}: nobody has closed socket {other} for writing."
+    return ""
+
+
+def line_reader_of(index: Index, call: Call) -> Optional[str]:
+    """The function in which a Read looks for the end of a line."""
+    functions = (one.function for one in index.recording.lines.of(call.first).calls)
+    return next((OF_A_LINE[name] for name in functions if name in OF_A_LINE), None)

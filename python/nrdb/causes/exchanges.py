@@ -1,0 +1,196 @@
+"""Requests and answers on a connection, by the order of its Writes and Reads: a Read that waits for an answer without a request, a request that
+was read and not answered, and a Read that asks for more bytes than the other end wrote."""
+
+from typing import Iterator, NamedTuple, Optional
+
+from netrev_words.plurals import counted
+
+from ..one_call import Call
+from ..recording import Recording
+from .asked import Asked, asked_of
+from .ends_of_reads import line_reader_of
+from .flushes import ways_round_a_flush, ways_without_an_answer, writes_through_a_buffer
+from .index import MOVING, Index, back
+from .words import place_of, told
+
+MOST_ASKED = 65_536  # bytes, as which a Read counts that asks for more
+FEWEST = 2  # exchanges before, by which a habit is known
+READ_FULL = "io.ReadAtLeast"
+
+
+class Exchange(NamedTuple):
+    """Writes of a goroutine at a socket, and the Reads after them that got something."""
+
+    writes: list[Call]
+    reads: list[Call]
+
+
+def exchanges_of(index: Index, goroutine: int, socket: int, until: int) -> list[Exchange]:
+    """The exchanges of a goroutine at a socket, up to a step."""
+    found: list[Exchange] = []
+    for call in index.by_socket.get(socket, ()):
+        if (
+            call.goroutine != goroutine
+            or call.name not in MOVING
+            or call.first > until
+            or not call.moved
+            or not call.last
+        ):
+            continue
+        if call.name == "Write":
+            if not found or found[-1].reads:
+                found.append(Exchange([], []))
+            found[-1].writes.append(call)
+        elif found:
+            found[-1].reads.append(call)
+    return found
+
+
+def is_client(index: Index, goroutine: int, socket: int) -> bool:
+    """Whether a goroutine alone reads and writes at a socket, and wrote before it got anything there."""
+    moved = [call for call in index.by_socket.get(socket, ()) if call.name in MOVING and call.moved]
+    return bool(moved) and moved[0].name == "Write" and all(call.goroutine == goroutine for call in moved)
+
+
+def unasked(index: Index, call: Call) -> list[str]:
+    """Of a Read that waits: that its goroutine wrote no request before, as it did before each of its answers."""
+    found = exchanges_of(index, call.goroutine, call.socket, call.first)
+    *before, last = found or [Exchange([], [])]
+    if not is_client(index, call.goroutine, call.socket):
+        return []
+    if len(before) < FEWEST or not last.reads or any(not one.reads for one in before):
+        return []
+    if len(last.reads) < max(len(one.reads) for one in before):
+        return []
+    wrote = last.writes[-1]
+    return [
+        f"Before each of its {len(found)} answers there goroutine {call.goroutine} wrote; since the last of them it has written nothing: its last "
+        f"Write was{place_of(index.recording, wrote.first)} (step {wrote.first}). Perhaps the request is still in a buffer that wasn't flushed."
+    ]
+
+
+def unanswered(index: Index, call: Call, other: int, position: int) -> list[str]:
+    """Of a Read that waits for an answer: that the request was read at the other end by a goroutine that answered those before, and that then
+    read on, or did something else, without a Write."""
+    wrote = index.last_use(call.socket, call.first, ("Write",))
+    if wrote is None or wrote.goroutine != call.goroutine or not wrote.moved:
+        return []
+    if not is_client(index, call.goroutine, call.socket):
+        return []
+    read = reader_of(index, other, wrote, position)
+    if read is None:
+        return []
+    written = [
+        one for one in index.by_goroutine[read.goroutine] if one.name == "Write" and read.first < one.first <= position
+    ]
+    answers = [
+        one for one in index.by_socket[other] if one.goroutine == read.goroutine and one.name == "Write" and one.moved
+    ]
+    now = index.inside(read.goroutine, position)
+    if any(one.socket == other for one in written) or not answers:
+        return []
+    if now is None or now.name != "Read" or now.socket != other or now.first <= read.first:
+        return []
+    if len(answers) < FEWEST and not ways_round_a_flush(index.recording, index.recording.lines.of(now.first)):
+        return []
+    return [
+        f"The request, {told(index.recording, wrote)} in {wrote.steps()}, was read by {told(index.recording, read)} in step {read.last}. "
+        f"That goroutine has written there {counted(len(answers), 'time')} before; now it reads on since step {now.first}, without an answer."
+        + perhaps_why(index, call, now)
+    ]
+
+
+def perhaps_why(index: Index, call: Call, now: Call) -> str:
+    """Why a goroutine that looks for the end of a line perhaps reads on. The answer is meant first if its function writes through a buffer, or,
+    where that isn't known, if requests in as many Writes were answered before; else the request."""
+    line = line_reader_of(index, now)
+    if not line:
+        return ""
+    *before, last = exchanges_of(index, call.goroutine, call.socket, call.first)
+    stack = index.recording.lines.of(now.first)
+    is_buffered = writes_through_a_buffer(index.recording, stack)
+    if is_buffered is None:
+        is_buffered = any(one.reads and len(one.writes) == len(last.writes) for one in before)
+    lacks = f"the request lacks what ends it, for which {line} reads on"
+    ways = ways_round_a_flush(index.recording, stack)
+    kept = f"the answer is in a buffer that wasn't flushed{ways}"
+    skips = "" if ways else skips_an_answer(index, now)
+    if ways or skips:
+        is_whole = any(one.reads and are_alike(index, one.writes, last.writes) for one in before)
+        return f" Perhaps {skips or kept}." if is_whole else f" Perhaps {skips or kept}; or {lacks}."
+    return f" Perhaps {kept}; or {lacks}." if is_buffered else f" Perhaps {lacks}; or {kept}."
+
+
+def skips_an_answer(index: Index, now: Call) -> str:
+    """That a goroutine perhaps reads on without an answer on one of its ways; empty if it has none by the source."""
+    calls = (one for one in index.by_socket[now.socket] if one.goroutine == now.goroutine and one.name == "Write")
+    stacks = {index.recording.lines.of(one.first) for one in calls}
+    ways = ways_without_an_answer(index.recording, index.recording.lines.of(now.first), stacks)
+    return f"it gives no answer there: {ways}" if ways else ""
+
+
+def are_alike(index: Index, writes: list[Call], others: list[Call]) -> bool:
+    """Whether requests were written by the same lines."""
+    places = [[index.recording.lines.of(one.first).own() for one in some] for some in (writes, others)]
+    return places[0] == places[1]
+
+
+def reader_of(index: Index, other: int, wrote: Call, position: int) -> Optional[Call]:
+    """The last Read at the other end that got something of a Write."""
+    reads = (one for one in back(index.by_socket.get(other, ()), position) if one.name == "Read")
+    read = next((one for one in reads if one.moved and one.last and one.last > wrote.first), None)
+    return read if read and read.goroutine != wrote.goroutine else None
+
+
+def lacking(index: Index, call: Call, other: int) -> list[str]:
+    """Of a Read in an io.ReadFull that waits: how many bytes it asked for and has, and that the other end wrote no more."""
+    recording = index.recording
+    stack = recording.lines.of(call.first)
+    if call.name != "Read" or not any(one.function == READ_FULL for one in stack.calls):
+        return []
+    asked, wrote = asked_of(recording), index.last_use(other, recording.length, ("Write",))
+    rest, begin = asked.of(call), begin_of_full(index, asked, call)
+    whole = asked.of(begin)
+    if not rest or not whole or not wrote or not wrote.last or (begin is call and rest < MOST_ASKED):
+        return []
+    if is_cut(recording, index, (call.socket, other)):
+        return (
+            []
+            if begin is call
+            else [
+                f"Perhaps fewer bytes were sent than it was told to read: it asked for {whole} and has {whole - rest}, so {rest} more must come. "
+                f"{told(recording, wrote)}, the last there, ended in step {wrote.last}, and nobody writes there now."
+            ]
+        )
+    if index.moved(call.socket, "Read", recording.length) != index.moved(other, "Write", recording.length):
+        return []
+    if begin is call:
+        return [
+            f"It asks for at least {counted(rest, 'byte')}: {told(recording, wrote)}, the last there, put {counted(wrote.moved or 0, 'byte')}, and all "
+            "of them are read."
+        ]
+    return [
+        f"It asked for {counted(whole, 'byte')} and has {whole - rest}: {told(recording, wrote)}, the last there, put {counted(wrote.moved or 0, 'byte')}, and all of them are read. "
+        f"{counted(rest, 'byte')} more must come."
+    ]
+
+
+def begin_of_full(index: Index, asked: Asked, call: Call) -> Call:
+    """The first Read of the io.ReadFull that a Read is a part of. Of a Read whose bytes are counted only in part the next one says how many
+    it got: that asks for the rest."""
+    lines, most = index.recording.lines, index.recording.lines.bytes
+    begin = asked.begin_of(call)
+    while (before := asked.before(begin)) and lines.of(before.first) == lines.of(begin.first):
+        whole, rest = asked.of(before), asked.of(begin)
+        is_part = most is not None and (before.moved or 0) >= most and whole and rest and whole - rest >= most
+        if not is_part:
+            break
+        begin = asked.begin_of(before)
+    return begin
+
+
+def is_cut(recording: Recording, index: Index, sockets: tuple[int, ...]) -> bool:
+    """Whether reads or writes at these sockets count fewer bytes than they moved."""
+    most = recording.lines.bytes
+    calls: Iterator[Call] = (call for socket in sockets for call in index.by_socket.get(socket, ()))
+    return most is not None and any((call.moved or 0) >= most for call in calls)

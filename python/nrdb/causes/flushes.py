@@ -1,0 +1,70 @@
+"""Ways round a Flush, by the program's source if that is here: a loop that reads a request, writes its answer into a buffer, and goes on or
+ends before the line that flushes."""
+
+import re
+from typing import Iterable, Optional
+
+from ..recording import Recording
+from ..where import OF_THE_PROGRAM, Stack
+from .skipped_ways import Test, has, is_text, skipped_ways, that_stay, ways_words
+from .source_functions import Lines, range_of, source_of
+
+FLUSH = re.compile(r"([\w.]+)\.Flush\(\)")
+CALLED = re.compile(r"[\w.]+\(")
+WRITES = r"\bFprint\w*\(|\.Write\w*\(|\.Encode\(|\bio\.Copy\w*\("
+BUFFERED = re.compile(r"bufio\.NewWriter|bufio\.NewReadWriter|\.Flush\(\)")
+
+
+def ways_round_a_flush(recording: Recording, stack: Stack) -> str:
+    """Those of the function in which a goroutine reads: ` (main.go:57 goes on without main.go:66, which flushes)`; empty if there is none."""
+    own = stack.own()
+    lines = source_of(recording, own[0].file) if own and own[0].of == OF_THE_PROGRAM else None
+    within = range_of(lines, own[0]) if lines and own else None
+    if not own or not lines or not within:
+        return ""
+    flushes = [(number, found[1]) for number in within if (found := FLUSH.search(code(lines, number)))]
+    flush, writer = next(((number, name) for number, name in flushes if number > own[0].line), (0, ""))
+    if not flush or any("defer" in code(lines, number) for number, _ in flushes):
+        return ""
+    text = " ".join(code(lines, number).strip() for number in within)
+    flush_of = has(rf"(?<![\w.]){re.escape(writer)}\.Flush\(")
+    ways = that_stay(skipped_ways(lines, within, writes_to(writer, text), flush_of, has(r"\.Buffered\(\)")))
+    return f" ({ways_words(own[0].file, ways)} without {own[0].file}:{flush}, which flushes)" if ways else ""
+
+
+def ways_without_an_answer(recording: Recording, stack: Stack, writes: Iterable[Stack]) -> str:
+    """The ways of the function in which a goroutine reads, from there on to its next read, that pass none of the lines by which it has written:
+    `main.go:58 goes on without main.go:60, which answers`; empty if there is none."""
+    own = stack.own()
+    lines = source_of(recording, own[0].file) if own and own[0].of == OF_THE_PROGRAM else None
+    within = range_of(lines, own[0]) if lines and own else None
+    if not own or not lines or not within:
+        return ""
+    found = {call for one in writes for call in one.calls if call.function == own[0].function and call.line in within}
+    names = {re.escape(called[0]) for call in found if (called := CALLED.search(code(lines, call.line)))}
+    if not names:
+        return ""
+    ends = has("|".join([WRITES, *sorted(names)]))
+    ways = that_stay(skipped_ways(lines, within, is_text(code(lines, own[0].line).strip()), ends))
+    place = f"{own[0].file}:{max(call.line for call in found)}"
+    return f"{ways_words(own[0].file, ways)} without {place}, which answers" if ways else ""
+
+
+def writes_to(writer: str, function: str) -> Test:
+    """Whether a statement writes into a buffer, or by an encoder that a function has for it."""
+    name = re.escape(writer)
+    made = re.findall(rf"\b(\w+) :?= \w+\.NewEncoder\({name}\)", function)
+    encoders = "|".join([rf"NewEncoder\({name}\)", *made])
+    return has(rf"\bFprint\w*\({name},|(?<![\w.]){name}\.Write\w*\(|\b(?:{encoders})\.Encode\(")
+
+
+def writes_through_a_buffer(recording: Recording, stack: Stack) -> Optional[bool]:
+    """Whether the function in which a goroutine reads has a buffer for what it writes; None where the source isn't here."""
+    own = stack.own()
+    lines = source_of(recording, own[0].file) if own and own[0].of == OF_THE_PROGRAM else None
+    within = range_of(lines, own[0]) if lines and own else None
+    return any(BUFFERED.search(code(lines, number)) for number in within) if lines and within else None
+
+
+def code(lines: Lines, number: int) -> str:
+    return lines[number - 1].partition("//")[0]

@@ -1,0 +1,55 @@
+"""Goroutines that alone read at a connection and have ended, while it is open and bytes came after that: nobody reads them."""
+
+from typing import Iterator, NamedTuple, Optional
+
+from ..one_call import CLOSE, Call, Outcome
+from .index import Cause, Index
+from .words import came_of, is_of_go, told
+
+
+class GoneReader(NamedTuple):
+    """The last Read at a socket, behind which step its goroutine ended, and the first Write at the other end since, if there was one."""
+
+    read: Call
+    ended: int
+    wrote: Optional[Call]
+
+    def says(self, index: Index) -> list[str]:
+        """It in sentences."""
+        recording, read = index.recording, self.read
+        says = [
+            f"nobody reads on socket {read.socket} any more: goroutine {read.goroutine}, which alone had read there, ended after step {self.ended}.",
+            f"Its last was {told(recording, read)}, {read.steps()}, {came_of(recording, read)}.",
+        ]
+        if self.wrote:
+            says.append(f"{told(recording, self.wrote)} came after that, in {self.wrote.steps()}: nobody has read it.")
+        return says
+
+
+def gone_readers(index: Index, position: int) -> Iterator[GoneReader]:
+    """Those at a position. One of a connection that was closed at this end isn't among them."""
+    for socket, other in sorted(index.recording.lines.peers.items()):
+        calls = [one for one in index.by_socket.get(socket, ()) if one.first <= position]
+        reads = [one for one in calls if one.name == "Read"]
+        if not reads or len({one.goroutine for one in reads}) > 1 or any(one.name == CLOSE for one in calls):
+            continue
+        last, ended = reads[-1], ended_behind(index, reads[-1].goroutine, position)
+        if ended is not None and not is_of_go(index.recording, last):
+            writes = (one for one in index.by_socket.get(other, ()) if one.name == "Write" and one.moved and one.last)
+            yield GoneReader(last, ended, next((one for one in writes if ended < one.first <= position), None))
+
+
+def ended_behind(index: Index, goroutine: int, position: int) -> Optional[int]:
+    """The step behind which a goroutine had ended at a position; None if it hadn't, or that isn't known."""
+    lines = index.recording.lines
+    known = lines.goroutines.get(lines.goid_of(goroutine))
+    return known.last if known is not None and 0 <= known.last <= position else None
+
+
+def without_reader(index: Index) -> Iterator[Cause]:
+    """They as what may be the matter at the end: those after which bytes came, and that didn't end with an error or at the end of the stream."""
+    for one in gone_readers(index, index.recording.length):
+        if not one.wrote or not one.read.moved or one.read.outcome is not Outcome.DONE:
+            continue
+        looks = [f"goto {one.read.last}", f"calls sock {one.read.socket}"]
+        yield Cause(one.read, one.says(index), [one.read.first, one.wrote.first], looks, one.read.last)

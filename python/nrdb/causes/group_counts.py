@@ -1,0 +1,125 @@
+"""What goroutines added to a WaitGroup, and which of them called Done: how many calls of Done are missing, and which goroutines ended without
+one."""
+
+from collections import Counter
+from typing import NamedTuple, Optional
+
+from ..all_goroutines import ADDED, DONE, Use
+from ..recording import Recording
+from ..waits import Name, name_of_goid, of_names
+from ..where import OF_THE_PROGRAM, Call
+from .siblings import DEFERRED, Kind, lines_in, lines_words
+from .words import place_in
+
+MOST_PLACES, MOST_KINDS = 2, 2
+
+
+class Count(NamedTuple):
+    """What was added to a WaitGroup, and what was taken off it."""
+
+    added: list[Use]
+    done: list[Use]
+
+    @property
+    def missing(self) -> int:
+        """How many calls of Done are missing."""
+        return total(self.added) - total(self.done)
+
+    @property
+    def done_by(self) -> set[int]:
+        """The goroutines that called Done, by Go's own numbers."""
+        return {use.goid for use in self.done}
+
+    @property
+    def is_once(self) -> bool:
+        """Whether each goroutine called Done once, as one that is started for that does."""
+        return total(self.done) == len(self.done_by)
+
+
+def total(uses: list[Use]) -> int:
+    return sum(use.often for use in uses)
+
+
+def count_of(recording: Recording, number: int) -> Optional[Count]:
+    """The count of a WaitGroup for which calls of Done are missing; None if that isn't known."""
+    uses = recording.lines.uses.get(number, ())
+    count = Count(*([use for use in uses if use.what == what] for what in (ADDED, DONE)))
+    return count if count.added and count.missing > 0 else None
+
+
+def count_says(recording: Recording, count: Count) -> str:
+    """How many calls of Done are missing."""
+    missing = f"{count.missing} calls of Done are" if count.missing > 1 else "1 call of Done is"
+    done = f"{total(count.done)} done{places_of(recording, count.done)}" if count.done else "none done"
+    were = "were" if total(count.added) > 1 else "was"
+    return f"{missing} missing: {total(count.added)} {were} added{places_of(recording, count.added)}, and {done}."
+
+
+def places_of(recording: Recording, uses: list[Use]) -> str:
+    """Where goroutines added or called Done: the lines that did most."""
+    often = Counter[str]()
+    for use in uses:
+        if place := place_in(recording.lines.stacks[use.stack]).partition(", called")[0]:
+            often[place.partition(DEFERRED)[0]] += use.often
+    shown = [place for place, _ in often.most_common(MOST_PLACES)]
+    return " and".join(shown) + (" and elsewhere" if len(often) > MOST_PLACES else "")
+
+
+def started_by(recording: Recording, count: Count) -> set[int]:
+    """The goroutines that were started by those which added, after the first Add."""
+    adders, begin = {use.goid for use in count.added}, min(use.begin for use in count.added)
+    goroutines = recording.lines.goroutines
+    return {goid for goid, known in goroutines.items() if known.maker in adders and known.begin >= begin}
+
+
+def kinds_at(recording: Recording, count: Count) -> list[Kind]:
+    """The go statements whose goroutines should call Done: those of which one did, or, if none has, the one behind the line that added."""
+    found, goroutines = dict[Call, Kind](), recording.lines.goroutines
+    for goid in sorted(started_by(recording, count)):
+        made = goroutines[goid].made
+        if made and made.of == OF_THE_PROGRAM:
+            kind = found.setdefault(made, Kind(made, [], [], []))
+            has_ended = goroutines[goid].last >= 0
+            (kind.did if goid in count.done_by else kind.ended if has_ended else kind.alive).append(goid)
+    did = [kind for kind in found.values() if kind.did]
+    return did if count.done else next_behind(recording, count, list(found.values()))
+
+
+def next_behind(recording: Recording, count: Count, kinds: list[Kind]) -> list[Kind]:
+    """The go statement next behind the line that added, in the same function."""
+    own = recording.lines.stacks[count.added[0].stack].own()
+    near = [kind for kind in kinds if own and kind.made.function == own[0].function and kind.made.line >= own[0].line]
+    return sorted(near, key=lambda kind: kind.made.line)[:1]
+
+
+def ended_says(recording: Recording, count: Count) -> list[str]:
+    """Of the goroutines that should call Done those that ended without it, and by which lines they differ from the others; else that all
+    have called it."""
+    kinds = kinds_at(recording, count)
+    says = [kind_says(recording, count, kind) for kind in kinds if kind.ended][:MOST_KINDS]
+    if says or not kinds or not count.is_once or any(kind.alive for kind in kinds):
+        return says
+    number, made = sum(len(kind.did) for kind in kinds), " and ".join(kind.made.place() for kind in kinds[:MOST_KINDS])
+    if number != total(count.done):
+        return []
+    every = f"The goroutine started at {made} has" if number == 1 else f"All {number} goroutines started at {made} have"
+    return [f"{every} called Done: more was added than that."]
+
+
+def ended_names(recording: Recording, count: Count) -> tuple[Name, ...]:
+    """The goroutines that should have called Done, and ended without it."""
+    goids = (goid for kind in kinds_at(recording, count) for goid in kind.ended)
+    return tuple(name_of_goid(recording.lines, goid) for goid in goids)
+
+
+def kind_says(recording: Recording, count: Count, kind: Kind) -> str:
+    """That goroutines of a go statement ended without Done."""
+    lines, every = recording.lines, [*kind.did, *kind.ended, *kind.alive]
+    names = of_names(name_of_goid(lines, goid) for goid in kind.ended)
+    if len(every) == 1:
+        return f"The goroutine started at {kind.made.place()}, {names}, ended without Done."
+    of_done = {call for use in count.done for call in lines_in(lines.stacks[use.stack])}
+    differs = lines_words(recording, kind.ended, kind.did, of_done)
+    did = f"{len(kind.did)} called Done" if kind.did else "none called Done"
+    alive = f"{len(kind.alive)} may yet do so, " if kind.alive else ""
+    return f"Of the {len(every)} goroutines started at {kind.made.place()} {did}, {alive}and {names} ended without it{differs}."

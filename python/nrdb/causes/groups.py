@@ -1,0 +1,176 @@
+"""What a goroutine needs that waits for a WaitGroup: the goroutines that may still call Done, by the source or by which function started them;
+and of those that have ended, which differs from the others."""
+
+import re
+from typing import Callable, Container, NamedTuple, Optional
+
+from ..waits import Name, Waits, name_of_goid, of_names
+from ..where import OF_THE_PROGRAM, Call, Stack
+from .failed_dials import failed_dial
+from .group_counts import Count, count_of, count_says, ended_names, ended_says, started_by
+from .index import Index
+from .need import Certainty, Need
+from .skipped_done import skipped_done
+from .siblings import lines_words, odd_ones
+from .source_functions import found_in, is_last_line, is_same_variable, text_at
+from .waiters import Waiter
+
+LITERAL = re.compile(r"\.(?:func\d+|gowrap\d+|deferwrap\d+)(?:\..*)?\Z")
+WAIT, DONE = re.compile(r"([\w.\[\]]+)\.Wait\(\)"), re.compile(r"(defer )?(?:func\(\) \{ )?([\w.\[\]]+)\.Done\(\)")
+MOST_MEMBERS = 50  # that are looked at
+STARTED_BY_GROUP = "sync.(*WaitGroup).Go"
+
+
+class Member(NamedTuple):
+    """A goroutine that may call Done, and the line at which it does so, if that is known, else the one that started it."""
+
+    name: Name
+    line: Call
+    number: int = 0
+
+
+def outermost(function: str) -> str:
+    """The function that a function literal is written in: `main.serve` of `main.serve.func1.2`."""
+    return LITERAL.sub("", function)
+
+
+class Groups:
+    """The goroutines that those which wait for a WaitGroup wait for. `stacks` are those of all that wait or sleep."""
+
+    def __init__(self, index: Index, waits: Waits, stacks: list[tuple[Name, Stack]], position: int) -> None:
+        self._index, self._recording, self._waits = index, index.recording, waits
+        self._stacks, self._position = stacks, position
+        self._members: dict[tuple[Call, ...], list[Member]] = {}  # of those that wait, by the calls of the program
+
+    def of(self, waiter: Waiter, waiters: Container[Name], does: Callable[[Name], str]) -> Optional[Need]:
+        """The need of a goroutine that waits for a WaitGroup; None if nothing is found."""
+        calls = tuple(call for call in waiter.stack.calls if call.of == OF_THE_PROGRAM)
+        if calls not in self._members:
+            self._members[calls] = [*self._by_source(waiter), *self._started(waiter)]
+        count = self._count(waiter)
+        itself = next((one for one in self._members[calls] if one.name == waiter.name and one.number), None)
+        if itself and count and self._goid(itself) in started_by(self._recording, count):
+            at = f"{itself.line.file}:{itself.number}"
+            when = self._when(itself) or " after that"
+            return Need([f"It waits for itself: it calls Done at {at} only{when}.", count_says(self._recording, count)])
+        skipped = skipped_done(self._recording, self._waits, count, self._position) if count else []
+        if skipped:
+            return Need(skipped)
+        members = self._in_order([one for one in self._members[calls] if one.name != waiter.name], count)
+        ended = self._without_done(count)
+        member = next((one for one in members if one.name in waiters), None)
+        names = ended_names(self._recording, count) if count else ()
+        if member and not (ended and count and self._has_done(member, count)):
+            how = f"perhaps for {{by}}, {self._how(waiter, member)}"
+            return Need(ended, member.name, how, Certainty.PERHAPS, ended=names)
+        if ended:
+            return Need(ended, ended=names)
+        for member in members[:MOST_MEMBERS]:
+            if words := does(member.name):
+                return Need([f"Perhaps it waits for {member.name}, {self._how(waiter, member)}, and which {words}."])
+        says = self._of_ended(waiter)
+        return Need(says) if says else None
+
+    def _count(self, waiter: Waiter) -> Optional[Count]:
+        """What was added to the WaitGroup, and who called Done, if the recording has that."""
+        at = waiter.wait.objects[:1] if waiter.wait else ()
+        return count_of(self._recording, at[0].object) if at else None
+
+    def _without_done(self, count: Optional[Count]) -> list[str]:
+        """How many calls of Done are missing, and which goroutines ended without one; nothing if none is known to have."""
+        ended = ended_says(self._recording, count) if count else []
+        return [count_says(self._recording, count), *ended] if count and ended else []
+
+    def _in_order(self, members: list[Member], count: Optional[Count]) -> list[Member]:
+        """The goroutines that may call Done, those first that haven't yet. If one was started by a goroutine that added, after it did so, all
+        others are left out."""
+        if count is None:
+            return members
+        started = started_by(self._recording, count)
+        mine = [one for one in members if self._goid(one) in started]
+        others = [] if count.done_by and count.done_by <= started else members
+        done = count.done_by if count.is_once else set()
+        return sorted(mine or others, key=lambda one: self._goid(one) in done)
+
+    def _goid(self, member: Member) -> int:
+        return member.name.number if member.name.is_goid else self._recording.lines.goid_of(member.name.number)
+
+    def _has_done(self, member: Member, count: Count) -> bool:
+        """Whether a goroutine has called Done, and each calls it once alone."""
+        return count.is_once and self._goid(member) in count.done_by
+
+    def _by_source(self, waiter: Waiter) -> list[Member]:
+        """The goroutines that are in a function whose source calls Done of a WaitGroup of that name later: deferred, or at a line behind."""
+        own = waiter.stack.own()
+        name = WAIT.search(text_at(self._recording, own[0])) if own else None
+        if not own or not name:
+            return []
+        calls = [
+            (goroutine, call)
+            for goroutine, stack in self._stacks
+            for call in stack.calls
+            if call.of == OF_THE_PROGRAM and call.file == own[0].file
+        ]
+        return [
+            Member(goroutine, call, number)
+            for goroutine, call in calls
+            for number, done in found_in(self._recording, call, DONE)
+            if (done[1] or number > call.line)
+            and is_same_variable(name[1], done[2], outermost(call.function) == outermost(own[0].function))
+        ]
+
+    def _started(self, waiter: Waiter) -> list[Member]:
+        """Goroutines that wait or sleep and were started by a function that the waiter is in, or by one that this is a literal of; then those of
+        another literal of that; then those that a WaitGroup started."""
+        inside = {call.function for call in waiter.stack.calls if call.of == OF_THE_PROGRAM}
+        outer = set(map(outermost, inside))
+        made = [(name, stack.made) for name, stack in self._stacks if stack.made]
+        near = [one for one in made if one[1].function in inside | outer]
+        others = [one for one in made if outermost(one[1].function) in outer or one[1].function == STARTED_BY_GROUP]
+        return [Member(name, at) for name, at in near or others]
+
+    def _how(self, waiter: Waiter, member: Member) -> str:
+        """Where a goroutine calls Done; else that the waiter started it, if that is known, or where somebody did."""
+        if member.number:
+            return f"which calls Done at {member.line.file}:{member.number}{self._when(member)}"
+        lines = self._recording.lines
+        goid, starter = (one.number if one.is_goid else lines.goid_of(one.number) for one in (member.name, waiter.name))
+        known = lines.goroutines.get(goid)
+        return "which it started" if known and known.maker == starter > 0 else f"started at {member.line.place()}"
+
+    def _when(self, member: Member) -> str:
+        """Whether a goroutine calls Done as it ends, and not for each round of a loop, or before it does something else."""
+        done = [one for number, one in found_in(self._recording, member.line, DONE) if number == member.number]
+        is_last = is_last_line(self._recording, member.line, member.number)
+        return " as it ends" if is_last or any(one[1] for one in done) else ""
+
+    def _of_ended(self, waiter: Waiter) -> list[str]:
+        """What is said if all that the waiter's functions started have ended: which of them did otherwise than the others."""
+        inside = {call.function for call in waiter.stack.calls if call.of == OF_THE_PROGRAM}
+        started: dict[Call, list[int]] = {}
+        lines = self._recording.lines
+        for goid, known in lines.goroutines.items():
+            if known.made and known.made.function in inside and 0 <= known.first <= waiter.since:
+                started.setdefault(known.made, []).append(goid)
+        for made, goids in reversed(started.items()):
+            if all(0 <= lines.goroutines[goid].last <= self._position for goid in goids):
+                return self._ended_words(made, goids)
+        return []
+
+    def _ended_words(self, made: Call, goids: list[int]) -> list[str]:
+        lines, failed = self._recording.lines, [goid for goid in goids if self._failed_dial(goid)]
+        many = "The goroutine" if len(goids) == 1 else f"All {len(goids)} goroutines"
+        says = [f"{many} started at {made.place()} ha{'s' if len(goids) == 1 else 've'} ended."]
+        found = odd_ones(self._recording, goids)
+        odd = found[0] if found else failed if len(failed) < len(goids) else goids[:1] if len(goids) == 1 else []
+        if not odd:
+            return says
+        names = of_names(name_of_goid(lines, goid) for goid in odd)
+        dials = [words for goid in odd[:1] if (words := self._failed_dial(goid))]
+        differs = lines_words(self._recording, odd, [goid for goid in goids if goid not in odd])
+        return [*says, f"Perhaps {names} ended without Done{differs}{''.join(f'; {one}' for one in dials)}."]
+
+    def _failed_dial(self, goid: int) -> str:
+        """That a goroutine's Dial failed; empty if none did."""
+        dial = failed_dial(self._index, self._recording.lines.goroutines[goid].number)
+        return f"its {dial.words(self._recording)}" if dial else ""

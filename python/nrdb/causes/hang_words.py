@@ -1,0 +1,268 @@
+"""Hangs in words, the same on every surface: a first sentence that says what everybody waits for, why that doesn't end, and a tree of who
+waits for whom."""
+
+from collections import defaultdict
+from typing import Sequence
+
+from netrev_words.plurals import counted
+
+from ..all_goroutines import FOR_VALUE
+from ..recording import Recording
+from ..waits import Name, listed, of_names
+from ..words import SIDES
+from .deadlines_ahead import deadline_ahead, setting_says, until_words
+from .gone_readers import gone_readers
+from .index import READING, Index, index_of
+from .missing_cases import missing_case_says
+from .unread import unread_says
+from .wait_graph import Branch, Certainty, Hang, WaitGraph, kind_of, waiters_of
+from .waiters import Waiter
+from .words import name_of, place_in, told, waits_words
+
+NUMBERS = {2: "two", 3: "three", 4: "four"}
+VERBS = {
+    "serves": "serve",
+    "holds": "hold",
+    "has": "have",
+    "hasn't": "haven't",
+    "writes": "write",
+    "takes": "take",
+    "puts": "put",
+    "answers": "answer",
+    "reads": "read",
+}
+SEVERAL = {"{by}, which calls": "{by}, which call", "as it ends": "as they end", "what it reads": "what they read"}
+MOST_LINES = 20  # of a tree
+MOST_LOOSE = 4  # goroutines that are named of those that hold mutexes for one another, it isn't known which
+INDENT = "  "
+
+
+def hang_says(graph: WaitGraph, hang: Hang) -> list[str]:
+    """A hang in sentences, without its tree: the first says the whole, the others why it doesn't end."""
+    recording = graph.recording
+    if hang.is_deadlock:
+        members = zip(members_words(recording, hang), hang.needs, ahead_says(graph, hang))
+        said = [[f"{words}.", *ahead, *need.more] for words, need, ahead in members]
+        shown = said[:MOST_LOOSE] if hang.is_loose else said
+        left = [f"{counted(len(said) - len(shown), 'goroutine')} more like these."] if len(said) > len(shown) else []
+        return [
+            deadlock_words(graph, hang),
+            *(line for some in shown for line in some),
+            *left,
+            *unread_words(graph, hang),
+        ]
+    says = [*hang.needs[0].says, *hang.needs[0].more]
+    of_first = (
+        [f"Of socket {hang.root.call.socket}: {says[0]}", *says[1:]] if hang.alike and hang.root.call and says else says
+    )
+    cases = missing_case_says(recording, hang)
+    return [first_sentence(graph, hang), *of_first, *cases, *beside_words(graph, hang), *unread_words(graph, hang)]
+
+
+def ahead_says(graph: WaitGraph, hang: Hang) -> list[list[str]]:
+    """Of each root the deadline that its call has yet."""
+    index = index_of(graph.recording)
+    found = (deadline_ahead(index, root.call, graph.position) if root.call else None for root in hang.roots)
+    return [[setting_says(index, one)] if one else [] for one in found]
+
+
+def beside_words(graph: WaitGraph, hang: Hang) -> list[str]:
+    """The other roots that wait for the same goroutine, which has ended, a sentence for those that wait alike."""
+    alike: dict[object, list[Waiter]] = defaultdict(list)
+    for waiter in hang.beside:
+        alike[kind_of(graph.recording, waiter)].append(waiter)
+    gone = hang.needs[0].gone
+    return [
+        f"{capital(of_names(waiter.name for waiter in some))} {waits(some[0]).replace('waits', 'wait' if some[1:] else 'waits', 1)} "
+        f"{since(some)}, and need{'' if some[1:] else 's'} {gone} for that too."
+        for some in alike.values()
+    ]
+
+
+def unread_words(graph: WaitGraph, hang: Hang) -> list[str]:
+    """What is said of bytes that a goroutine of a hang wrote and nobody reads; nothing if its root waits for room, which says that."""
+    call, index, names = hang.root.call, index_of(graph.recording), {waiter.name for waiter in waiters_of(hang)}
+    if any(root.call and root.call.name == "Write" for root in hang.roots) or (call and call.is_asking):
+        return []
+    is_one = not hang.waiting and not hang.is_deadlock
+    says = [] if is_one else unread_says(index, names, graph.position)
+    return says or reader_words(index, {one.name for one in waiters_of(hang) if wants_value(one)}, graph.position)
+
+
+def wants_value(waiter: Waiter) -> bool:
+    """Whether a goroutine waits for a value from a channel, alone or in a select."""
+    return waiter.wait is not None and any(at.use == FOR_VALUE for at in waiter.wait.objects)
+
+
+def reader_words(index: Index, names: set[Name], position: int) -> list[str]:
+    """That the goroutine has ended which read at a socket to which one of these goroutines, which wait for values from channels, wrote last."""
+    for gone in gone_readers(index, position):
+        wrote = index.last_use(gone.read.socket, position, ("Write",))
+        if wrote and Name(wrote.goroutine) in names:
+            begins, *rest = gone.says(index)
+            return [capital(begins), *rest]
+    return []
+
+
+def first_sentence(graph: WaitGraph, hang: Hang) -> str:
+    """What those that wait for a root wait for."""
+    recording, root, many = graph.recording, hang.root, len(hang.alike) + 1
+    if not hang.waiting:
+        return f"{root_words(recording, hang)}." if hang.alike else f"{waiter_words(recording, root)}."
+    begins = waiting_words(graph, hang)
+    if root.call:
+        return f"{begins} for {'one call' if many == 1 else f'{many} calls'}: {call_words(recording, hang)}."
+    if many > 1:
+        words = root_words(recording, hang)
+        return f"{begins} for {many} goroutines: {words[0].lower()}{words[1:]}."
+    return f"{begins} for {root.name}, which {waits(root)} since step {root.since}."
+
+
+def waiting_words(graph: WaitGraph, hang: Hang) -> str:
+    """How many wait for a root: `All 8 wait`."""
+    others, only = graph.count - len(hang.every_root), hang.branches[0].waiters[0].name
+    every = (
+        f"{hang.waiting} of {graph.count} wait"
+        if others != hang.waiting
+        else f"{counted(hang.waiting, 'goroutine')} wait"
+    )
+    every = f"All {others} wait" if len(graph.shown) == 1 else every
+    many = f"{capital(str(only))} waits" if hang.waiting == 1 else every
+    perhaps = f", {hang.perhaps} of them perhaps," if 0 < hang.perhaps < hang.waiting else ""
+    return f"{many}{' perhaps' if hang.perhaps == hang.waiting else perhaps}"
+
+
+def root_words(recording: Recording, hang: Hang) -> str:
+    """Roots that are alike."""
+    if hang.root.call:
+        return f"{len(hang.alike) + 1} calls wait: {call_words(recording, hang)}"
+    names = of_names(waiter.name for waiter in (hang.root, *hang.alike))
+    return f"{capital(names)} {waits(hang.root).replace('waits', 'wait', 1)} {since((hang.root, *hang.alike))}"
+
+
+def call_words(recording: Recording, hang: Hang) -> str:
+    """The calls of roots that are alike, with their goroutines and sockets."""
+    root, every = hang.root, [hang.root, *hang.alike]
+    names = of_names(waiter.name for waiter in every)
+    what = name_of(recording, root.call) if root.call else ""
+    return f"{what}{place_in(root.stack)} ({names}), on {of_sockets(every)} {since(every)}"
+
+
+def since(waiters: Sequence[Waiter]) -> str:
+    """Since which steps they wait: `since step 9`, `since steps 9 to 17`."""
+    steps = sorted({waiter.since for waiter in waiters})
+    return f"since steps {steps[0]} to {steps[-1]}" if len(steps) > 1 else f"since step {steps[0]}"
+
+
+def waits(waiter: Waiter) -> str:
+    """What a waiter does outside of the poller."""
+    return waits_words(waiter.wait) if waiter.wait else ""
+
+
+def capital(words: str) -> str:
+    return words[0].upper() + words[1:]
+
+
+def deadlock_words(graph: WaitGraph, hang: Hang) -> str:
+    """That goroutines wait for one another; of calls of which one has a deadline, until when."""
+    many = NUMBERS.get(len(hang.roots), str(len(hang.roots)))
+    what = "calls" if all(root.call for root in hang.roots) else "goroutines"
+    is_perhaps = hang.certainty == Certainty.PERHAPS
+    if hang.until:
+        until, perhaps = until_words(index_of(graph.recording), hang.until), "perhaps " if is_perhaps else ""
+        return f"{capital(perhaps + many)} {what} wait for one another{behind_it(hang)} {until}."
+    begins = "Perhaps a deadlock" if is_perhaps else "Deadlock"
+    if hang.is_of_mutexes and hang.is_loose:
+        names = of_names(root.name for root in hang.roots)
+        return f"{begins}: {names} hold mutexes for which others of them wait{behind_it(hang)}."
+    if hang.is_of_mutexes:
+        return f"{begins}: {many} goroutines each hold a mutex for which another of them waits{behind_it(hang)}."
+    return f"{begins}: {many} {what} wait for one another{behind_it(hang)}."
+
+
+def behind_it(hang: Hang) -> str:
+    if not hang.waiting:
+        return ""
+    return f", and {counted(hang.waiting, 'goroutine')} more {'wait ' if hang.is_of_mutexes else ''}for them"
+
+
+def members_words(recording: Recording, hang: Hang) -> list[str]:
+    """Each of those that wait for one another, and what for."""
+    found = []
+    for waiter, need in zip(hang.roots, hang.needs):
+        by = f"; {need.how.format(by=need.by)}" if need.how else ""
+        found.append(f"{waiter_words(recording, waiter)}{for_what(recording, waiter)}{by}")
+    return found
+
+
+def for_what(recording: Recording, waiter: Waiter) -> str:
+    """What a call waits for that waits for another: bytes, room or a lock."""
+    call = waiter.call
+    if call is None:
+        return ""
+    if call.is_asking:
+        return f", for socket {call.socket}'s {SIDES[call.side]} lock"
+    needs, other = "bytes from" if call.name in READING else "room, which a read makes at", index_of(
+        recording
+    ).other_end(call.socket)
+    return f", for {needs} the other end, socket {other}" if other is not None else ""
+
+
+def waiter_words(recording: Recording, waiter: Waiter) -> str:
+    """A waiter as a sentence without its end: `Read at a.go:3 in ask (goroutine 0) waits on socket 2 since step 9`."""
+    if waiter.call:
+        return f"{told(recording, waiter.call)} waits on socket {waiter.call.socket} since step {waiter.since}"
+    return f"{capital(str(waiter.name))} {waits(waiter)} since step {waiter.since}"
+
+
+def tree_lines(graph: WaitGraph, hang: Hang) -> list[str]:
+    """Who waits for a root, a line for those that wait alike; of many lines the first."""
+    lines = [line for branch in hang.branches for line in branch_lines(graph.recording, branch, 1)]
+    left = len(lines) - MOST_LINES
+    return [*lines[:MOST_LINES], *([f"{INDENT}and {counted(left, 'line')} more"] if left > 0 else [])]
+
+
+def branch_lines(recording: Recording, branch: Branch, depth: int) -> list[str]:
+    """A branch and what is below it."""
+    lines = [f"{INDENT * depth}- {branch_words(recording, branch)}"]
+    return lines + [line for one in branch.branches for line in branch_lines(recording, one, depth + 1)]
+
+
+def branch_words(recording: Recording, branch: Branch) -> str:
+    """The goroutines of a branch, what they wait for, and for which goroutines."""
+    first = branch.waiters[0]
+    names = of_names(waiter.name for waiter in branch.waiters)
+    if first.call:
+        what = f"{name_of(recording, first.call)}{place_in(first.stack)} ({names})"
+        what += f" on {of_sockets(branch.waiters)}"
+    else:
+        reason = first.wait.kind if first.wait else ""
+        what = f"{reason or 'a wait'}{place_in(first.stack)} ({names})"
+    return f"{what}; {how_words(branch)}"
+
+
+def how_words(branch: Branch) -> str:
+    """What is said of the goroutines for which a branch waits."""
+    words = branch.need.how
+    if len(set(branch.on)) > 1:
+        for one, several in [
+            *((f"{{by}} {one}", f"{{by}} {several}") for one, several in VERBS.items()),
+            *SEVERAL.items(),
+        ]:
+            words = words.replace(one, several)
+    return words.format(by=of_names(branch.on))
+
+
+def of_sockets(waiters: list[Waiter]) -> str:
+    """The sockets that calls wait at."""
+    numbers = sorted({waiter.call.socket for waiter in waiters if waiter.call})
+    if len(numbers) == 1:
+        return f"socket {numbers[0]}"
+    return f"sockets {listed(numbers)}"
+
+
+def hang_looks(hang: Hang) -> list[str]:
+    """What to type next: the root's goroutine, and where it began to wait."""
+    root = hang.root
+    goes = [f"goto {max(waiter.since for waiter in hang.roots)}"]
+    return [*goes, f"calls sock {root.call.socket}" if root.call and not hang.is_deadlock else "info goroutines"]

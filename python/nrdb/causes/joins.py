@@ -1,0 +1,81 @@
+"""Hangs that explain a failed call, or come of one: those of the goroutine at the other end, or of the one that waited for the failed one."""
+
+from typing import Iterator, NamedTuple, Optional
+
+from ..one_call import CLOSE, Call
+from ..waits import Name
+from .index import READING, WRITING, Cause, index_of
+from .responses import server_of
+from .wait_graph import Hang, WaitGraph, waiters_of
+from .waiters import Waiter
+from .words import name_of
+
+
+class Topic(NamedTuple):
+    """What one cause is about: a failed call, a hang, or both; and what joins the hang to the call, in a sentence."""
+
+    cause: Optional[Cause]
+    hang: Optional[Hang] = None
+    because: str = ""
+
+
+def joined(graph: WaitGraph, order: list[Topic]) -> list[Topic]:
+    """The topics in their order: each hang with the first failed call that it has to do with. A hang that wouldn't be among them, as of a program that
+    ended by itself, is if it explains a failed call."""
+    hangs = [one.hang for one in order if one.hang]
+    left = [*hangs, *(hang for hang in graph.shown if not any(hang is one for one in hangs))]
+    of_failures: dict[int, Topic] = {}
+    for number, topic in enumerate(order):
+        found = next(((hang, because) for hang in left if (because := because_of(graph, hang, topic.cause))), None)
+        if found:
+            of_failures[number] = Topic(topic.cause, *found)
+            left = [one for one in left if one is not found[0]]
+    every = (of_failures.get(number, topic) for number, topic in enumerate(order))
+    return [one for one in every if one.cause or any(one.hang is hang for hang in left)]
+
+
+def because_of(graph: WaitGraph, hang: Hang, cause: Optional[Cause]) -> str:
+    """What joins a hang to a failed call; empty if nothing does, or it isn't known why that hangs."""
+    is_write = hang.root.call is not None and hang.root.call.name in WRITING  # (which says who doesn't read)
+    if cause is None or hang.is_quiet or hang.is_of_go or not (hang.has_reason or hang.is_deadlock or is_write):
+        return ""
+    call, waiters = cause.call, {waiter.name: waiter for waiter in waiters_of(hang)}
+    if named := next((one for one in waiters.values() if one.call and one.since in cause.steps), None):
+        return f"{str(named.name).capitalize()} waits yet."
+    name = Name(call.goroutine)
+    if name in waiters and has_stopped(graph, waiters[name], call):
+        return f"{str(name).capitalize()} waits since then."
+    if any(name in (need.gone, *need.ended) for need in hang.needs):
+        return f"{str(name).capitalize()} has ended since, and others wait for that."
+    other = next((waiters[one] for one in others_of(graph, call) if one in waiters), None)
+    if other and other.since <= call.last:
+        return f"{str(other.name).capitalize()}, at the other end, waited then, and waits yet."
+    twin = next((root for root in hang.roots if is_twin(graph, root, call)), None)
+    return f"{str(twin.name).capitalize()} waits in such a call yet." if twin and hang.has_reason else ""
+
+
+def has_stopped(graph: WaitGraph, waiter: Waiter, call: Call) -> bool:
+    """Whether the goroutine of a failed call began to wait after that, outside of the poller, and has used no socket since but to close it."""
+    calls = index_of(graph.recording).by_goroutine[call.goroutine]
+    later = [one for one in calls if one.first > call.last and one.name != CLOSE]
+    return waiter.wait is not None and waiter.since >= call.last and not later
+
+
+def others_of(graph: WaitGraph, call: Call) -> Iterator[Name]:
+    """The goroutines at the other end of a call's connection: which served a request there, and which used that last before the call ended."""
+    index = index_of(graph.recording)
+    if server := server_of(index, call.socket, call.first):
+        yield server
+    other = index.other_end(call.socket)
+    last = index.last_use(other, call.last) if other is not None else None
+    if last:
+        yield Name(last.goroutine)
+
+
+def is_twin(graph: WaitGraph, root: Waiter, call: Call) -> bool:
+    """Whether a root waits in a call of the same name and line as one that failed."""
+    recording, own = graph.recording, root.stack.own()
+    if root.call is None or own is None or root.call.name not in READING:
+        return False
+    same = recording.lines.of(call.first).own()
+    return same is not None and same[0] == own[0] and name_of(recording, root.call) == name_of(recording, call)

@@ -1,0 +1,89 @@
+"""Ways on which a call keeps what it took, by the program's source if that is here: of a pool or a semaphore whose calls gave back less than they
+took, and of the body of a response of net/http that isn't closed."""
+
+import re
+from typing import Iterable, Optional
+
+from ..recording import Recording
+from ..where import OF_THE_PROGRAM, Call, Stack
+from .balances import Balance
+from .skipped_ways import Test, Way, has, is_text, nothing, skipped_ways, ways_are, ways_words
+from .source_functions import found_in, range_of, source_of, text_at
+
+SEND, RECEIVE, CALLED = re.compile(r"([\w.\[\]]+) <- "), re.compile(r"<-([\w.\[\]]+)"), re.compile(r"(\w+)\(")
+LITERAL = re.compile(r"(?:defer |go )?func\(.*?\{")
+TAKEN = re.compile(r"(?:if )?(\w+)(?:, \w+)* :?= ")
+HANDS_ON = (
+    r"\breturn\b.*\b{name}\b(?!\.)|[^=!<>:]:?= *&?{name}\s*$|[(\[{{,] *{name} *[,}}\]]|<- *{name}\b|\bgo\b.*\b{name}\b"
+    r"|\b\w*(?i:put|release|return|free|give|recycle|done)\w*\(.*\b{name}\b"
+)
+TO_OTHERS = (
+    r"\breturn\b.*\b{name}(?:\.Body)?\b(?!\.)|=\s*{name}(?:\.Body)?\s*$|\bgo\b.*\b{name}\b|[({{,] *{name} *[,)}}]"
+    r"|(?<![.\w])\w+\([^()]*\b{name}\.Body"
+)
+CLOSES = r"\b{name}\.Body\.Close\b|\bio\.(?:ReadAll|Copy)\(.*\b{name}\.Body\b"
+MOST_PLACES = 2
+
+
+def ways_that_keep(recording: Recording, balances: Iterable[Balance]) -> list[str]:
+    """The ways of the function that takes and gives back on which its calls have kept what they took."""
+    taken = {line for one in balances if one.missing > 0 for line in one.taken}
+    given = {line for one in balances for line in one.given}
+    says = []
+    for line in sorted(taken, key=lambda one: (one.file, one.line))[:MOST_PLACES]:
+        ends, text = gives_back(recording, given), text_at(recording, line).strip()
+        ways = ways_of(recording, line, text, ends, value_of(text, HANDS_ON)) if ends else []
+        back = sorted(one.line for one in given if one.file == line.file)
+        if ways and back:
+            does = f"{ways_words(line.file, ways)} without {line.file}:{back[-1]}, which gives it back"
+            says.append(f"Perhaps they kept it {ways_are(ways)}: {does}.")
+    return says
+
+
+def gives_back(recording: Recording, given: Iterable[Call]) -> Optional[Test]:
+    """Whether a statement gives something back, by those that did so; None if their text isn't known."""
+    patterns = {pattern for line in given if (pattern := pattern_of(text_at(recording, line)))}
+    return has("|".join(sorted(patterns))) if patterns else None
+
+
+def pattern_of(text: str) -> str:
+    """A pattern of statements that do what one does at a channel, or by the function that it calls; empty if it does neither."""
+    code = LITERAL.sub("", text.strip())
+    if found := SEND.search(code):
+        return rf"{re.escape(found[1])} <- "
+    if found := RECEIVE.search(code):
+        return rf"<-{re.escape(found[1])}(?![\w.])"
+    found = CALLED.search(code)
+    return rf"\b{found[1]}\(" if found else ""
+
+
+def value_of(text: str, form: str) -> Test:
+    """Whether a statement hands on the value that another one takes."""
+    found = TAKEN.match(text)
+    return has(form.format(name=found[1])) if found else nothing
+
+
+def ways_of(recording: Recording, line: Call, text: str, ends: Test, keeps: Test) -> list[Way]:
+    """The ways of the function of a line that skip what `ends`."""
+    lines = source_of(recording, line.file) if line.of == OF_THE_PROGRAM else None
+    within = range_of(lines, line) if lines else None
+    is_whole = text[-1:] not in ("(", "{", ",")
+    begins = is_text(text) if is_whole else has(re.escape(text))
+    return skipped_ways(lines, within, begins, ends, keeps) if lines and within and text else []
+
+
+def ways_past_close(recording: Recording, stacks: Iterable[Stack]) -> list[str]:
+    """Of requests, by the stacks in which they were made: the ways of their functions on which the response's body isn't closed."""
+    says = dict[str, None]()
+    for stack in stacks:
+        for call in stack.calls:
+            text = text_at(recording, call).strip() if call.of == OF_THE_PROGRAM else ""
+            found = TAKEN.match(text)
+            closes = CLOSES.format(name=found[1]) if found else ""
+            ways = ways_of(recording, call, text, has(closes), value_of(text, TO_OTHERS)) if found else []
+            if ways:
+                does = ways_words(call.file, ways)
+                says[f"Perhaps it was left open {ways_are(ways)}: {does} without a Close of the body."] = None
+            if ways or (found and found_in(recording, call, re.compile(closes))):
+                break
+    return list(says)[:MOST_PLACES]

@@ -1,0 +1,63 @@
+"""What goroutines did at the channels and mutexes at which others wait, by the objects of NAME.where."""
+
+from collections import defaultdict
+from operator import attrgetter
+from typing import Iterator, NamedTuple, Optional
+
+from ..all_goroutines import FOR_ROOM, FOR_VALUE, PUT, TOOK, At, Use
+from ..recording import Recording
+from ..waits import Name, Waiting, Waits, name_of_goid
+from ..where import Call, Stack
+
+GIVES = {FOR_VALUE: PUT, FOR_ROOM: TOOK}  # what ends a wait at a channel
+GIVES_WORDS = {PUT: "put the last value there", TOOK: "took the last value there"}
+END = attrgetter("end")
+
+
+class Given(NamedTuple):
+    """What a goroutine did at a channel, and from which stack."""
+
+    name: Name
+    what: str
+    stack: Stack
+    last: int  # the step behind which it did so last
+
+
+class Ledger:
+    """The ledger of a recording's objects."""
+
+    def __init__(self, recording: Recording, waits: Waits) -> None:
+        self._lines = recording.lines
+        self._locked: dict[int, list[Waiting]] = defaultdict(
+            list
+        )  # of each object that isn't a channel the waits, by their ends
+        for some in waits.of.values():
+            for wait in some:
+                for at in wait.objects:
+                    if not at.use:
+                        self._locked[at.object].append(wait)
+
+    def given(self, at: At) -> Iterator[Given]:
+        """What goroutines did at a channel that ends a wait there, the last one first."""
+        what = GIVES.get(at.use, "")
+        uses = (use for use in self._lines.uses.get(at.object, ()) if use.what == what)
+        for use in sorted(uses, key=END, reverse=True):
+            yield self._given(use)
+
+    def _given(self, use: Use) -> Given:
+        return Given(name_of_goid(self._lines, use.goid), use.what, self._lines.stacks[use.stack], use.last)
+
+    def lines_of(self, number: int) -> set[Call]:
+        """The calls of the program in which goroutines have waited for a mutex: each of them locks it."""
+        return {found[0] for wait in self._locked[number] if (found := wait.stack.own())}
+
+    def last_holder(self, number: int) -> Optional[Waiting]:
+        """The wait for a mutex that ended last, whose goroutine got it then; None if that has unlocked it for another since."""
+        ended = [wait for wait in self._locked[number] if wait.last is not None]
+        last = max(ended, key=attrgetter("last", "begin"), default=None)
+        return last
+
+    def had(self, number: int) -> set[Name]:
+        """The goroutines that have had a mutex: those that waited for it and got it, and those that unlocked it for another."""
+        ended = [wait for wait in self._locked[number] if wait.last is not None]
+        return {wait.name for wait in ended} | {wait.by for wait in ended if wait.by}

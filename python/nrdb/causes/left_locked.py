@@ -1,0 +1,137 @@
+"""Functions that return with a mutex locked on one of their ways, by the program's source if that is here: of a mutex for which a goroutine waits,
+and which nobody is known to hold."""
+
+import re
+from typing import Iterator, NamedTuple, Optional
+
+from ..recording import Recording
+from ..where import Call
+from .locks import LEAVES, LOCK, UNLOCK, end_of_literal
+from .source_functions import Lines, indent_of, range_of, source_of, text_at
+
+METHOD = re.compile(r"func \((\w+) (\*?\w+)(?:\[[^\]]*\])?\) (\w+)\(")
+FUNCTION = re.compile(r"func (\w+)[(\[]")
+RETURNS = re.compile(r"return\b")
+OTHERS = re.compile(r"[uU]nlock|defer .*func\(|defer .*Lock\(")
+KEEPS = re.compile(r"lock|acquire|begin|enter", re.IGNORECASE)  # names of functions that may lock for their callers
+MOST = 2
+
+
+class Function(NamedTuple):
+    """A function of the source: its name, the name of its receiver, if it has one, whose it is, and its lines."""
+
+    name: str
+    receiver: str
+    owner: str
+    within: range
+
+
+class Leak(NamedTuple):
+    """A function that locks a mutex at a line, and returns at another without unlocking it (0: it never unlocks it)."""
+
+    function: str
+    locked: int
+    returns: int
+
+
+def left_locked(recording: Recording, lock: Call) -> list[str]:
+    """What is said of functions which may have left the mutex locked that a goroutine waits for in the call `lock`."""
+    lines, name = source_of(recording, lock.file), LOCK.search(text_at(recording, lock))
+    if not lines or not name:
+        return []
+    every = list(functions_of(lines, lock))
+    own = next((one for one in every if lock.line in one.within), None)
+    field = own and field_of(own, name[1])
+    if not own or not field:
+        return []
+    leaks = leaks_of(lines, [one for one in every if one.owner == own.owner], field)
+    return [
+        f"Perhaps nobody unlocked it: {one.function} locks it at {lock.file}:{one.locked}, and "
+        + (f"returns at {lock.file}:{one.returns} without an Unlock." if one.returns else "never unlocks it.")
+        for one in leaks[:MOST]
+    ]
+
+
+def functions_of(lines: Lines, near: Call) -> Iterator[Function]:
+    """The functions of a file, in which a call is."""
+    for number, text in enumerate(lines, 1):
+        method, function = METHOD.match(text), FUNCTION.match(text)
+        within = range_of(lines, near._replace(function="", line=number)) if method or function else None
+        if within and method:
+            receiver, kind, name = method.groups()
+            full = f"({kind}).{name}" if kind.startswith("*") else f"{kind}.{name}"
+            yield Function(full, receiver, kind.lstrip("*"), within)
+        elif within and function:
+            yield Function(function[1], "", "", within)
+
+
+def field_of(function: Function, name: str) -> Optional[str]:
+    """Which mutex an expression names: that of the receiver's field, or one of the package; None if it is another variable's."""
+    first, dot, rest = name.partition(".")
+    if function.receiver:
+        return f".{rest}" if dot and first == function.receiver else None
+    return None if dot else name
+
+
+def leaks_of(lines: Lines, functions: list[Function], field: str) -> list[Leak]:
+    """The functions that return with the mutex locked. One that never unlocks it locks it for its callers if another only unlocks it."""
+    helps = any(has(UNLOCK, lines, one, field) and not has(LOCK, lines, one, field) for one in functions)
+    return [
+        leak
+        for one in functions
+        if not KEEPS.search(one.name)
+        if (leak := leak_of(lines, one, field)) and (not helps or has(UNLOCK, lines, one, field))
+    ]
+
+
+def leak_of(lines: Lines, function: Function, field: str) -> Optional[Leak]:
+    """The first way on which a function returns with the mutex locked. None where that isn't known: it defers something that unlocks, has
+    another do it, unlocks it first or in a block that goes on, or locks it in a block that ends."""
+    locked, released, number = 0, 0, function.within.start + 1
+    while number in function.within:
+        text = lines[number - 1].partition("//")[0]
+        indent = indent_of(text)
+        released = 0 if indent < released else released
+        if is_unknown(text) or (locked and indent < indent_of(lines[locked - 1]) and text != "}"):
+            return None
+        if end := end_of_literal(lines, number):
+            number = end
+        elif is_of(LOCK, text, function, field):
+            locked, released = locked or number, 0
+        elif is_of(UNLOCK, text, function, field):
+            if locked and indent == indent_of(lines[locked - 1]):
+                return leak_of(lines, function._replace(within=range(number, function.within.stop)), field)
+            if not locked or not leaves_block(lines, number):
+                return None
+            released = indent
+        elif locked and not released and RETURNS.match(text.lstrip()):
+            return Leak(function.name, locked, number)
+        number += 1
+    return Leak(function.name, locked, 0) if locked and not has(UNLOCK, lines, function, field) else None
+
+
+def is_unknown(text: str) -> bool:
+    """Whether a line may unlock a mutex in another way: deferred, or by a function of another name."""
+    found = UNLOCK.search(text)
+    return OTHERS.search(text) is not None and (found is None or text.strip() != found[0])
+
+
+def leaves_block(lines: Lines, number: int) -> bool:
+    """Whether the block that a line is in ends with a `return` or the like."""
+    margin, last = indent_of(lines[number - 1]), ""
+    for text in lines[number:]:
+        if indent_of(text) < margin:
+            return last.lstrip().startswith(LEAVES)
+        last = text if indent_of(text) == margin and text.strip() else last
+    return False
+
+
+def has(pattern: "re.Pattern[str]", lines: Lines, function: Function, field: str) -> bool:
+    """Whether a function locks, or unlocks, the mutex that is meant."""
+    return any(is_of(pattern, lines[number - 1].partition("//")[0], function, field) for number in function.within)
+
+
+def is_of(pattern: "re.Pattern[str]", text: str, function: Function, field: str) -> bool:
+    """Whether a line does that alone."""
+    found = pattern.search(text)
+    return found is not None and text.strip() == found[0] and field_of(function, found[1]) == field

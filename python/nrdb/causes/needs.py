@@ -1,0 +1,207 @@
+"""What each goroutine that waits needs, and which goroutine could give that: by the recording's steps, by which goroutine did so before,
+or by stacks alone."""
+
+from operator import attrgetter
+from typing import Optional
+
+from ..one_call import CLOSE, Call
+from ..waits import Name, Waits, name_of_goid, waits_of
+from ..words import SIDES
+from .datagrams import unanswered_datagram
+from .ends_of_reads import end_says
+from .exchanges import lacking, unanswered, unasked
+from .index import READING, Index
+from .need import Certainty, Need
+from .new_readers import left_reader, thrown_away
+from .needs_elsewhere import NeedsElsewhere
+from .unaccepted import unaccepted
+from .unfinished_replies import unfinished_reply
+from .unheard import unheard
+from .waiters import Waiter
+from .words import came_of, place_of_step, told, waits_words
+
+DID = {"Write": "wrote to", "Read": "read at"}
+
+
+class Needs:
+    """The needs of those that wait at a position."""
+
+    def __init__(self, index: Index, waiters: dict[Name, Waiter], position: int) -> None:
+        self._index, self._recording, self._position = index, index.recording, position
+        self._waits, self._waiters = waits_of(index.recording), waiters
+        self._elsewhere = NeedsElsewhere(index, self._waits, waiters, position)
+
+    def of(self, waiter: Waiter) -> Need:
+        """The need of a waiter."""
+        if waiter.call:
+            return self.of_call(waiter.call)
+        return self._elsewhere.of(waiter, waiter.wait) if waiter.wait else Need([])
+
+    def of_call(self, call: Call) -> Need:
+        """The need of a call that waits."""
+        if call.is_asking:
+            return self._of_lock(call)
+        index, is_reading = self._index, call.name in READING
+        other = index.other_end(call.socket)
+        if other is None:
+            need = unheard(index, call, self._position) if is_reading else None
+            need = need or unaccepted(index, call, self._position)
+            return need or Need([], more=unanswered_datagram(index, call, self._position))
+        if by := index.closing(other, self._position, whole=not is_reading):
+            how = "closed" if by.name == CLOSE else "closed for writing"
+            where = place_of_step(self._recording, by.first, by.goroutine)
+            return Need([f"Its other end, socket {other}, was {how}{where}."])
+        need = self._of_other_end(call, other, is_reading)
+        return need._replace(more=self._of_exchange(call, other)) if is_reading else need
+
+    def _of_exchange(self, call: Call, other: int) -> list[str]:
+        """Of a Read that waits: what its Writes before, the other end's Reads and the counts of bytes say."""
+        index = self._index
+        found = left_reader(index, call, other, self._position) or lacking(index, call, other)
+        found = found or unasked(index, call) or unanswered(index, call, other, self._position)
+        found = found or thrown_away(index, call, other, self._position)
+        found = found or unfinished_reply(index, call, other, self._position)
+        return found or end_says(index, call, other, self._position)
+
+    def _of_lock(self, call: Call) -> Need:
+        """Of a call that waits for the lock of a socket's side: which call has that."""
+        holders = [
+            one for one in self._index.by_socket[call.socket]
+            if one.side == call.side and not one.is_asking and one.first <= self._position and self._is_under_way(one)
+        ]  # fmt: skip
+        if not holders or not call.side:
+            return Need([])
+        holder, lock = holders[-1], f"socket {call.socket}'s {SIDES[call.side]} lock"
+        says = f"It waits for {lock}, which {told(self._recording, holder)} has since step {holder.first}."
+        names = {Name(holder.goroutine), Name(call.goroutine)}
+        return Need([says], Name(holder.goroutine), "{by} has the lock", more=self._elsewhere.excess_of(names))
+
+    def _is_under_way(self, call: Call) -> bool:
+        return not call.last or call.last > self._position
+
+    def _of_other_end(self, call: Call, other: int, is_reading: bool) -> Need:
+        """Of a read that needs bytes, or a write that needs room: which goroutine used the other end last."""
+        index, wanted = self._index, "Write" if is_reading else "Read"
+        did = index.last_use(other, self._position, (wanted,))
+        last = did or index.last_use(other, self._position)
+        says = self._needed(call, other, did)
+        if last is None:
+            opened = index.last_use(other, self._position, ("Open",))
+            made = place_of_step(self._recording, opened.first, opened.goroutine) if opened else ""
+            says.append(f"Nobody has read or written there since it was opened{made}.")
+            if opened and (started := self._started_for(opened)):
+                return Need(says, started, "perhaps {by} should use the other end", Certainty.PERHAPS)
+            by = Name(opened.goroutine) if opened else None
+            return Need(says, by, "perhaps {by} should use the other end, which it opened", Certainty.PERHAPS)
+        if did and index.inside(last.goroutine, self._position) is did and not did.is_asking:
+            return Need([*says, f"There {told(self._recording, last)} is itself under way since step {last.first}."])
+        if is_reading and not did and (relay := self._relay_back(last)):
+            return Need(
+                [*says, *self._since_then(last)],
+                relay,
+                "perhaps {by} writes what it reads to the other end",
+                Certainty.PERHAPS,
+            )
+        if is_reading and not did and (worker := self._started_by(last)):
+            how = "perhaps {by} answers what was read there last"
+            return Need([*says, *self._since_then(last)], worker, how, Certainty.PERHAPS)
+        if did and is_reading and (sibling := self._sibling_of(did)):
+            how = f"perhaps {{by}} writes to the other end, as goroutine {did.goroutine} of the same go statement did"
+            return Need([*says, *self._since_then(last)], sibling, how, Certainty.PERHAPS)
+        how = f"{{by}} {DID[wanted] if did else 'used'} the other end last"
+        return Need([*says, *self._since_then(last)], Name(last.goroutine), how, Certainty.LIKELY, self._stopped(last))
+
+    def _sibling_of(self, wrote: Call) -> Optional[Name]:
+        """Of a goroutine that has ended, and was started for an answer by the one that reads the requests: another of that go statement that
+        waits yet."""
+        lines = self._recording.lines
+        known = lines.goroutines.get(lines.goid_of(wrote.goroutine))
+        if known is None or known.made is None or known.last < 0 or not known.maker:
+            return None
+        maker = name_of_goid(lines, known.maker)
+        if maker.is_goid or not any(
+            call.name == "Read" and call.socket == wrote.socket
+            for call in self._index.by_goroutine.get(maker.number, ())
+        ):
+            return None
+        alike = (one for one in lines.goroutines.values() if (one.made, one.maker) == (known.made, known.maker))
+        waiters = [self._waiters[name] for one in alike if (name := name_of_goid(lines, one.goid)) in self._waiters]
+        first = min(waiters, key=attrgetter("since"), default=None)
+        return first.name if first else None
+
+    def _started_by(self, last: Call) -> Optional[Name]:
+        """Of the other end of a read, to which nobody has written yet: a goroutine that its reader started after the last request that it got, and
+        that waits elsewhere while that reads on."""
+        lines, reads = self._recording.lines, self._index.by_socket[last.socket]
+        got = [
+            one for one in reads if one.goroutine == last.goroutine and one.name == "Read" and one.moved and one.last
+        ]
+        maker = lines.goid_of(last.goroutine)
+        if last.name != "Read" or not self._is_under_way(last) or not got or not maker:
+            return None
+        started = [one for one in lines.goroutines.values() if one.maker == maker and one.first >= got[-1].last]
+        waiters = [self._waiters[name] for one in started if (name := name_of_goid(lines, one.goid)) in self._waiters]
+        first = min(waiters, key=attrgetter("since"), default=None)
+        return first.name if first else None
+
+    def _relay_back(self, last: Call) -> Optional[Name]:
+        """Of the other end of a read, to which nobody has written, and whose reader passes on what it reads: the goroutine that waits to read where
+        that writes, as the other half of a relay does."""
+        if last.name != "Read" or Name(last.goroutine) in self._waiters:
+            return None
+        wrote = {
+            one.socket for one in self._index.by_goroutine[last.goroutine] if one.name == "Write" and one.moved
+        } - {last.socket}
+        readers = (
+            one for one in self._waiters.values() if one.call and one.call.name in READING and one.call.socket in wrote
+        )
+        found = next(readers, None)
+        return found.name if found else None
+
+    def _needed(self, call: Call, other: int, did: Optional[Call]) -> list[str]:
+        """What a call needs from the other end, whose last read or write is `did`."""
+        if call.name in READING:
+            return [f"It needs bytes from its other end, socket {other}."]
+        is_read = did and self._is_under_way(did) and not did.is_asking
+        ended = "was never read" if not did else "is being read" if is_read else "isn't being read"
+        return [f"Socket {call.socket} has no room: its other end, socket {other}, {ended}."]
+
+    def _started_for(self, opened: Call) -> Optional[Name]:
+        """The goroutine that was started next by the one that opened a socket, before it opened another: as a server starts one for each
+        connection."""
+        lines, following = self._recording.lines, self._index.next_of(opened)
+        until = following.first if following else self._recording.length + 1
+        maker = lines.goid_of(opened.goroutine)
+        started = [
+            one
+            for one in lines.goroutines.values()
+            if maker and one.maker == maker and opened.first <= one.first < until
+        ]
+        first = min(started, key=attrgetter("begin"), default=None)
+        return name_of_goid(lines, first.goid) if first else None
+
+    def _stopped(self, last: Call) -> int:
+        """The last step of a goroutine that is in no call any more; 0 where it waits for something else."""
+        is_busy = self._index.inside(last.goroutine, self._position) or self._waits.at(
+            Name(last.goroutine), self._position
+        )
+        return 0 if is_busy else last.first
+
+    def _since_then(self, last: Call) -> list[str]:
+        """What is said of the goroutine that used the other end last, and what it does now."""
+        recording, now = self._recording, self._index.inside(last.goroutine, self._position)
+        if now is last:
+            return [f"There {told(recording, last)} is itself under way since step {last.first}."]
+        came = f", {came_of(recording, last)}" if last.came() and last.last <= self._position else ""
+        did = f"There {told(recording, last)} was the last, {last.steps() if last.last <= self._position else ''}{came}"
+        if now:
+            return [f"{did}; it is now in {told(recording, now)}, since step {now.first}."]
+        return [f"{did}; {doing(self._index, self._waits, last.goroutine, self._position)}."]
+
+
+def doing(index: Index, waits: Waits, goroutine: int, position: int) -> str:
+    """What a goroutine does that is in no call: `it sleeps at a.go:63 in client since step 9`."""
+    if wait := waits.at(Name(goroutine), position):
+        return f"it {waits_words(wait)} since step {wait.first}"
+    last = [one for one in index.by_goroutine[goroutine] if one.first <= position][-1]
+    return f"since step {last.last} it is in no call of a socket"

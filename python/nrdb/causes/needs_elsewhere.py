@@ -1,0 +1,200 @@
+"""What each goroutine needs that waits outside of the poller: for a mutex, a channel, a WaitGroup, a descriptor that others use, or a
+connection of net/http; and which goroutine could give that."""
+
+from typing import Hashable, Iterator, Optional
+
+from ..all_goroutines import A_CONDITION, A_WAIT_GROUP, MUTEXES
+from ..waits import A_CONNECTION, A_RESPONSE, ALL_REQUESTS, LAST_USE, Name, Waiting, Waits
+from ..where import OF_THE_PROGRAM, Stack
+from .bodies_left_open import open_bodies
+from .conditions import one_alone, unsignalled
+from .dropped_answers import Hand, dropped_answer, hands_of, is_for_values
+from .dropped_requests import dropped_request
+from .ended_goroutines import ended_where
+from .index import READING, Index, back
+from .groups import Groups
+from .ledger import Ledger
+from .need import Certainty, Need
+from .needs_of_channels import NeedsOfChannels
+from .needs_of_mutexes import NeedsOfMutexes
+from .responses import SERVE, has, server_of, socket_of
+from .stopped_timers import of_timers, timers_of_select
+from .unaccepted import is_dialed
+from .waiters import Waiter
+from .words import told, waits_words
+
+
+class NeedsElsewhere:
+    """The needs of those that wait outside of the poller at a position."""
+
+    def __init__(self, index: Index, waits: Waits, waiters: dict[Name, Waiter], position: int) -> None:
+        self._index, self._recording, self._position = index, index.recording, position
+        self._waiters, self._waits, self._ledger = waiters, waits, Ledger(index.recording, waits)
+        stacks = list(self._stacks())
+        self._groups = Groups(index, waits, stacks, position)
+        self._channels = NeedsOfChannels(self._recording, waits, self._ledger, waiters, dict(stacks), self._does)
+        self._hands: dict[Hashable, list[Hand]] = {}  # that hand values on to those that wait at a line
+        self._conditions: dict[Hashable, list[str]] = {}  # what is said of waits, by their lines and objects
+        self._mutexes = NeedsOfMutexes(self._recording, self._ledger, waiters, stacks, self._does)
+
+    def _stacks(self) -> Iterator[tuple[Name, Stack]]:
+        """The goroutines that wait or sleep, with their stacks."""
+        yield from ((name, waiter.stack) for name, waiter in self._waiters.items())
+        for wait in self._waits.left(self._position):
+            if wait.is_asleep and wait.name not in self._waiters:
+                yield wait.name, wait.stack
+
+    def of(self, waiter: Waiter, wait: Waiting) -> Need:
+        """The need of a waiter."""
+        need = self._of(waiter, wait)
+        more = timers_of_select(self._recording, wait)
+        return need._replace(more=[*need.more, *more]) if more else need
+
+    def _of(self, waiter: Waiter, wait: Waiting) -> Need:
+        kind = wait.kind
+        if kind == LAST_USE:
+            return self._of_close(waiter)
+        if certain := of_timers(self._recording, wait) or self._of_answer(wait):
+            return certain
+        if kind in MUTEXES and (need := self._mutexes.of(waiter, wait)):
+            return need
+        if kind == A_CONNECTION and (bodies := open_bodies(self._recording, self._ledger, self._waits, self._position)):
+            return Need(bodies)
+        if kind == A_CONNECTION:
+            return self._of_connection()
+        if kind == ALL_REQUESTS:
+            return self._of_requests(waiter)
+        if kind == A_RESPONSE and (answer := self._of_response(wait)):
+            return answer
+        if len(wait.objects) == 1 and (balance := self._channels.of_balance(wait)):
+            return balance
+        more = self._of_condition(wait) if kind == A_CONDITION else []
+        if by := self._ended_before(wait):
+            more = more or self._channels.more_of(wait, by)
+            return Need([], by, "{by} ended its wait there before", Certainty.LIKELY, more=more)
+        if kind == A_CONDITION:
+            return Need([], more=more)
+        if kind == A_WAIT_GROUP and (need := self._groups.of(waiter, self._waiters, self._does)):
+            return need
+        if self._channels.is_new(wait) and (by := self._ended_before(wait, elsewhere=True)):
+            how = "perhaps {by} ends it, as it ended a wait at that line before"
+            return Need([], by, how, Certainty.PERHAPS, more=self._channels.more_of(wait, by))
+        need = self._channels.of(wait)
+        if need == Need([]) and (by := self._reader_for(wait)):
+            how = "perhaps {by} reads the answer"
+            return Need([], by, how, Certainty.PERHAPS, more=self._channels.more_of(wait, by))
+        return need
+
+    def _reader_for(self, wait: Waiting) -> Optional[Name]:
+        """Of a goroutine that wrote, and waits for a value from a channel into which nobody has put one yet: the goroutine that waits to read at
+        that connection, as a client's does that reads for all."""
+        if wait.name.is_goid or not self._channels.is_new(wait) or not is_for_values(wait):
+            return None
+        wrote = next(back(self._index.by_goroutine[wait.name.number], wait.first), None)
+        if wrote is None or wrote.name != "Write" or not wrote.last or not is_dialed(self._index, wrote.socket):
+            return None
+        readers = (
+            one.name
+            for one in self._waiters.values()
+            if one.call and one.call.name in READING and one.call.socket == wrote.socket and not one.call.is_asking
+        )
+        return next(readers, None)
+
+    def _of_answer(self, wait: Waiting) -> Optional[Need]:
+        """Of a goroutine that waits for an answer: that another read it and handed it to nobody."""
+        if not is_for_values(wait):
+            return None
+        own = wait.stack.own()
+        if own not in self._hands:
+            self._hands[own] = hands_of(self._recording, wait, self._waiters)
+        found = dropped_answer(self._index, wait, self._hands[own])
+        return found or dropped_request(self._recording, wait, self._waiters)
+
+    def excess_of(self, names: set[Name]) -> list[str]:
+        """Which calls of these goroutines gave something back to a channel more often than they took it."""
+        return self._channels.excess_of(names)
+
+    def _of_close(self, waiter: Waiter) -> Need:
+        """Of a Close that waits until nobody uses the descriptor: which call does."""
+        closes = None if waiter.name.is_goid else self._index.inside(waiter.name.number, self._position)
+        if closes is None:
+            return Need([])
+        users = [
+            one for one in self._index.by_socket[closes.socket]
+            if one.goroutine != closes.goroutine and one.first <= self._position < (one.last or self._position + 1)
+        ]  # fmt: skip
+        if not users:
+            return Need([])
+        says = f"{told(self._recording, users[-1])} uses socket {closes.socket} since step {users[-1].first}."
+        return Need([says], Name(users[-1].goroutine), "{by} uses the descriptor")
+
+    def _of_condition(self, wait: Waiting) -> list[str]:
+        """Of a condition: which function should have woken the goroutine, or all that wait for it."""
+        key = wait.stack.own(), wait.objects
+        if key not in self._conditions:
+            alike = [one for one in self._waiters.values() if one.wait and one.wait.objects == wait.objects]
+            self._conditions[key] = unsignalled(self._recording, wait) or one_alone(self._recording, wait, len(alike))
+        return self._conditions[key]
+
+    def _of_connection(self) -> Need:
+        """Of a request of net/http that waits for a connection: which one perhaps has it."""
+        asking = (name for name, one in self._waiters.items() if one.wait and one.wait.kind == A_RESPONSE)
+        by = next(asking, None)
+        how = "perhaps {by} has the connection, and waits for the response"
+        return Need([], by, how, Certainty.PERHAPS) if by else Need([])
+
+    def _of_requests(self, waiter: Waiter) -> Need:
+        """Of a Shutdown of net/http: that its goroutine serves a request itself, or which one perhaps does."""
+        if has(waiter.stack, SERVE):
+            return Need([], more=["It serves a request itself, for whose end Shutdown waits."])
+        serving = [
+            name
+            for name, stack in self._stacks()
+            if has(stack, SERVE) and any(call.of == OF_THE_PROGRAM for call in stack.calls)
+        ]
+        by = next((name for name in serving if name in self._waiters), None)
+        if by:
+            return Need([], by, "perhaps for {by}, which serves a request", Certainty.PERHAPS)
+        says = [
+            f"Perhaps it waits for {name}, which serves a request, and which {self._does(name)}."
+            for name in serving[:1]
+        ]
+        return Need(says)
+
+    def _of_response(self, wait: Waiting) -> Optional[Need]:
+        """Of a response of net/http: the goroutine that serves the request, if that is in this recording."""
+        socket = socket_of(self._index, wait, self._position)
+        server = None if socket is None else server_of(self._index, socket, self._position)
+        if server is None or self._reads_on(server):
+            return None
+        does = "" if server in self._waiters else self._does(server)
+        says = [f"{str(server).capitalize()} serves the request on socket {socket}; it {does}."] if does else []
+        return Need(says, server, "{by} serves the request", Certainty.LIKELY)
+
+    def _reads_on(self, server: Name) -> bool:
+        """Whether a goroutine of a server waits for the next request, so that it serves none."""
+        now = self._waiters.get(server)
+        return now is not None and now.is_of_go and now.call is not None and now.call.name in READING
+
+    def _ended_before(self, wait: Waiting, elsewhere: bool = False) -> Optional[Name]:
+        """The goroutine that ended the last wait of the same goroutine at the same line, and that itself waits now: at the same channel or
+        mutex, or at whichever."""
+        earlier = (one for one in reversed(self._waits.of[wait.name]) if one.last is not None and one.by is not None)
+        same = (
+            one.by
+            for one in earlier
+            if one.reason == wait.reason
+            and one.stack.own() == wait.stack.own()
+            and (elsewhere or one.objects == wait.objects)
+        )
+        return next((by for by in same if by in self._waiters), None)
+
+    def _does(self, name: Name, stack: Optional[Stack] = None) -> str:
+        """What a goroutine does now, or that it has ended, and where it was last, but for a stack that is known; empty if that isn't known."""
+        if wait := self._waits.at(name, self._position):
+            return f"{waits_words(wait)} since step {wait.first}"
+        lines = self._recording.lines
+        known = lines.goroutines.get(name.number if name.is_goid else lines.goid_of(name.number))
+        if known is None or not 0 <= known.last <= self._position:
+            return ""
+        return f"ended after step {known.last}{ended_where(self._index, name, stack)}"

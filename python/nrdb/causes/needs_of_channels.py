@@ -1,0 +1,277 @@
+"""What a goroutine needs that waits at a channel: by how often each goroutine took and gave there, by which did last what it waits for, and by
+which ended without that."""
+
+from itertools import islice
+from typing import Any, Callable, Hashable, Iterable, Iterator, Mapping, Optional, TypeVar
+
+
+from ..all_goroutines import CLOSED, FOR_ROOM, FOR_VALUE, PUT, TOOK, At
+from ..recording import Recording
+from ..waits import Name, Waiting, Waits, name_of_goid
+from ..where import OF_THE_PROGRAM, Call, Stack
+from .balances import Balance, balances_of, has_ended
+from .balances_in_words import excess_says, kept_says
+from .index import index_of
+from .dispatchers import perhaps_dropped
+from .ended_givers import ended_giver
+from .ended_goroutines import loop_words
+from .groups import outermost
+from .ledger import GIVES, GIVES_WORDS, Given, Ledger
+from .need import Certainty, Need
+from .siblings import Kind, ended_words, kinds_of
+from .senders import later_giver
+from .slots import of_slots
+from .uncancelled import uncancelled
+from .unclosed import unclosed
+from .waiters import Waiter
+from .words import place_in
+
+DID = {PUT: "putting a value there", TOOK: "taking one there"}
+MOST_GIVEN = 50  # goroutines that are looked at for each that waits
+NOBODY = Name(-1)
+Found = TypeVar("Found")
+Rule = Callable[[Recording, Waiting, Iterable[tuple[Name, Stack]]], Optional[Need]]
+
+
+class NeedsOfChannels:
+    """The needs of those that wait at channels. `stacks` are those of all that wait or sleep."""
+
+    def __init__(
+        self, recording: Recording, waits: Waits, ledger: Ledger, waiters: Mapping[Name, Waiter],
+        stacks: dict[Name, Stack], does: Callable[..., str],
+    ) -> None:  # fmt: skip
+        self._recording, self._waits, self._ledger = recording, waits, ledger
+        self._waiters, self._stacks, self._does = waiters, stacks, does
+        self._memo: dict[Hashable, Any] = {}  # what is found of a channel once, since many may wait there
+
+    def _once(self, key: Hashable, find: Callable[[], Found]) -> Found:
+        if key not in self._memo:
+            self._memo[key] = find()
+        found: Found = self._memo[key]
+        return found
+
+    def _balances(self, number: int) -> list[Balance]:
+        return self._once(("balances", number), lambda: balances_of(self._recording, number, self._stacks))
+
+    def of_balance(self, wait: Waiting) -> Optional[Need]:
+        """Of a channel from which goroutines take and give back: which calls kept something or gave it back twice; else a goroutine that has
+        something and waits. None if it isn't used so."""
+        at, wanted = wait.objects[0], GIVES.get(wait.objects[0].use, "")
+        balances = self._balances(at.object) if self.is_buffered(at) else []
+        if not balances:
+            return self._of_slots(wait) or self._of_nested(wait) if self.is_buffered(at) else None
+        takes = balances[0].takes
+        if takes == wanted:  # it waits to give back: too much was
+            return Need(excess_says(balances)) if any(one.missing < 0 for one in balances) else None
+        by = next((one.name for one in balances if self._is_holder(one, wait)), None)
+        says = self._once(("kept", at.object), lambda: kept_says(self._recording, balances))
+        if by is None:
+            return Need(says, is_kept=True) if says else None
+        return Need(
+            says,
+            by,
+            f"{{by}} {'put a value there' if takes == PUT else 'took a value there'}, and has that yet",
+            Certainty.LIKELY,
+        )
+
+    def _of_slots(self, wait: Waiting) -> Optional[Need]:
+        """Of a semaphore whose slots nobody has given back yet: who has one."""
+        key = "slots", wait.stack.own(), wait.objects
+        need = self._once(
+            key, lambda: of_slots(self._recording, wait._replace(name=NOBODY), self._stacks, self._waiters)
+        )
+        if need and need.by == wait.name:
+            return of_slots(self._recording, wait, self._stacks, self._waiters)
+        return need
+
+    def _of_nested(self, wait: Waiting) -> Optional[Need]:
+        """Of a channel that was filled once: a goroutine that took from it in a call which it is still in, and waits there for another."""
+        at = wait.objects[0]
+        found = self._once(("nested", at), lambda: list(islice(self._nested(at), MOST_GIVEN)))
+        return next((need for need in found if need.by != wait.name), None)
+
+    def _nested(self, at: At) -> Iterator[Need]:
+        lines = self._recording.lines
+        uses = lines.uses.get(at.object, ())
+        put = sum(use.often for use in uses if use.what == PUT)
+        takers, putters = ({use.goid for use in uses if use.what == what} for what in (TOOK, PUT))
+        if at.use != FOR_VALUE or put > lines.objects[at.object].room or takers & putters:
+            return
+        for use in uses:
+            name = name_of_goid(lines, use.goid)
+            other = self._waiters.get(name)
+            is_there = other is not None and other.wait is not None and at in other.wait.objects
+            taken = lines.stacks[use.stack].own() if use.what == TOOK else None
+            if other and is_there and taken and is_in(other.stack, taken[0]):
+                how = f"{{by}} took a value there{place_in(lines.stacks[use.stack])}, hasn't put it back, and waits for another"
+                yield Need([], name, f"perhaps {how}", Certainty.PERHAPS)
+
+    def excess_of(self, names: set[Name]) -> list[str]:
+        """Which calls of these goroutines gave something back to a channel more often than they took it: so two may have it."""
+        for number in self._recording.lines.objects:
+            if self.is_buffered(At(number, "")) and (balances := self._balances(number)):
+                mine = [one for one in balances if one.name in names and one.takes == TOOK]
+                if says := excess_says(mine):
+                    return [f"{says[0]} So perhaps two goroutines have the same."]
+        return []
+
+    def is_buffered(self, at: At) -> bool:
+        known = self._recording.lines.objects.get(at.object)
+        return known is not None and known.room > 0
+
+    def _is_holder(self, balance: Balance, wait: Waiting) -> bool:
+        """Whether a goroutine has something that another waits for, and waits itself, elsewhere."""
+        return balance.name in self._waiters and balance.name != wait.name and balance.has_one
+
+    def is_new(self, wait: Waiting) -> bool:
+        """Whether a goroutine waits at channels at which nobody has done yet what it waits for, as at one that is made for each request."""
+        return bool(wait.objects) and all(at.use and not self._given(at) for at in wait.objects)
+
+    def of(self, wait: Waiting) -> Need:
+        """Of channels: the goroutine that last did there what the waiter waits for; else what became of it."""
+        is_one = len(wait.objects) == 1
+        given = [one for at in wait.objects for one in self._given(at) if one.name != wait.name]
+        closing = self._closing(wait)
+        if closing and (closing.by or not given):
+            return closing
+        if one := next((one for one in given if one.name in self._waiters), None):
+            words = f"{GIVES_WORDS[one.what]}{place_in(one.stack)}"
+            if not is_one:
+                return Need([], one.name, f"perhaps for {{by}}: it {words}", Certainty.PERHAPS)
+            is_over = has_left(self._waiters[one.name].stack, one.stack)
+            siblings, more = self._of_siblings(wait), self.more_of(wait, one.name)
+            ended = self._ended_siblings(wait)
+            begins, certainty = ("perhaps for {by}: it", Certainty.PERHAPS) if is_over else ("{by}", Certainty.LIKELY)
+            return Need(
+                siblings, one.name, f"{begins} {words}", certainty, more=more, is_odd=bool(siblings), ended=ended
+            )
+        if not is_one:
+            return Need([])
+        if says := self._of_siblings(wait):
+            return Need(says, is_odd=True, ended=self._ended_siblings(wait))
+        return self._of_the_past(wait, given[:1], closing)
+
+    def _of_the_past(self, wait: Waiting, given: list[Given], closing: Optional[Need]) -> Need:
+        """Of a channel at which nobody that waits did what is waited for: who did last, else what became of it."""
+        for one in given:
+            loop = loop_words(self._recording, one.stack) if has_ended(self._recording, one.name) else ""
+            did = f"{str(one.name).capitalize()} {GIVES_WORDS[one.what]}{place_in(one.stack)} (step {one.last}{loop})"
+            ended = f"{did}; it {does}." if (does := self._does(one.name, one.stack)) else f"{did}."
+            gone = one.name if has_ended(self._recording, one.name) else None
+            return Need([ended, *((closing.more if closing else []) or self._have_ended(wait))], gone=gone)
+        if itself := self._only_itself(wait):
+            return Need([itself])
+        if left := self._once(("gone", wait.objects), lambda: self._gone(wait)):
+            return Need(left)
+        if context := self._by_source("context", uncancelled, wait):
+            return context
+        later = self._by_source("later", later_giver, wait)
+        if later is None or not later.by:
+            return ended_giver(index_of(self._recording), wait) or later or Need([], more=self._untouched(wait))
+        return later
+
+    def _untouched(self, wait: Waiting) -> list[str]:
+        """Of a channel at which nobody has done yet what is waited for: that."""
+        uses = self._recording.lines.uses.get(wait.objects[0].object, ()) if len(wait.objects) == 1 else ()
+        if wait.objects[0].use != FOR_ROOM or any(use.what == TOOK for use in uses):
+            return []
+        return ["Nobody has taken a value from that channel so far."]
+
+    def _given(self, at: At) -> list[Given]:
+        """The first goroutines of those that did at a channel what is waited for: those first that wait."""
+
+        def find() -> list[Given]:
+            every = list(self._ledger.given(at))
+            return sorted(every, key=lambda one: one.name not in self._waiters)[:MOST_GIVEN]
+
+        return self._once(("given", at), find)
+
+    def _closing(self, wait: Waiting) -> Optional[Need]:
+        """What should close a channel, by the source."""
+        return self._by_source("closing", unclosed, wait)
+
+    def _by_source(self, key: str, rule: Rule, wait: Waiting) -> Optional[Need]:
+        """What a rule finds that looks at the source, for those that wait at the same line: for each if it is that goroutine itself."""
+        nobody = wait._replace(name=NOBODY)
+        place = wait.stack.own(), wait.objects, key
+        need = self._once(place, lambda: rule(self._recording, nobody, self._stacks.items()))
+        return rule(self._recording, wait, self._stacks.items()) if need and need.by == wait.name else need
+
+    def more_of(self, wait: Waiting, by: Name) -> list[str]:
+        """What is said besides of a wait for what a goroutine gave before: that a channel isn't closed, or that an answer came and wasn't handed
+        on."""
+        closing = self._closing(wait)
+        return [*(closing.more if closing else []), *perhaps_dropped(self._recording, wait, self._waiters[by])]
+
+    def _of_siblings(self, wait: Waiting) -> list[str]:
+        """Of goroutines that a function of the waiting one started by one `go` statement, and some of which did what is waited for: those that
+        ended without it."""
+        what = GIVES.get(wait.objects[0].use, "")
+        return [ended_words(self._recording, kind, DID[what]) for kind in self._kinds_of(wait)]
+
+    def _ended_siblings(self, wait: Waiting) -> tuple[Name, ...]:
+        """The goroutines of that `go` statement that ended without what is waited for."""
+        return tuple(name_of_goid(self._recording.lines, goid) for kind in self._kinds_of(wait) for goid in kind.ended)
+
+    def _kinds_of(self, wait: Waiting) -> list[Kind]:
+        """The first `go` statement of a function of the waiting one that made some which did what is waited for, and some which ended without."""
+        what = GIVES.get(wait.objects[0].use, "")
+        if len(wait.objects) != 1 or not what:
+            return []
+        kinds = self._once(("kinds", wait.objects), lambda: self._kinds(wait.objects[0], what))
+        inside = {outermost(call.function) for call in wait.stack.calls if call.of == OF_THE_PROGRAM}
+        return [kind for kind in kinds if kind.ended and outermost(kind.made.function) in inside][:1]
+
+    def _kinds(self, at: At, what: str) -> list[Kind]:
+        did = {use.goid for use in self._recording.lines.uses.get(at.object, ()) if use.what == what}
+        return kinds_of(self._recording, did)
+
+    def _have_ended(self, wait: Waiting) -> list[str]:
+        """Of a channel at which only goroutines that have ended did what is waited for: that, and that nobody closed it."""
+        at, lines = wait.objects[0], self._recording.lines
+        uses, what = lines.uses.get(at.object, ()), GIVES.get(at.use, "")
+        goids = {use.goid for use in uses if use.what == what}
+        if not goids or any(use.what == CLOSED for use in uses) or not all(
+            goid in lines.goroutines and lines.goroutines[goid].last >= 0 for goid in goids
+        ):
+            return []
+        did, unclosed_too = ("put", ", and nobody has closed it") if at.use == FOR_VALUE else ("took", "")
+        many = f"All {len(goids)} goroutines that {did}" if len(goids) > 1 else f"The goroutine that {did}"
+        return [f"{many} values there ha{'ve' if len(goids) > 1 else 's'} ended{unclosed_too}."]
+
+    def _only_itself(self, wait: Waiting) -> str:
+        """That only the goroutine which waits has done so far what it waits for."""
+        at, lines = wait.objects[0], self._recording.lines
+        uses = [use for use in lines.uses.get(at.object, ())[:MOST_GIVEN] if use.what == GIVES.get(at.use, "")]
+        if not uses or any(name_of_goid(lines, use.goid) != wait.name for use in uses):
+            return ""
+        did = "put" if at.use == FOR_VALUE else "taken"
+        return f"Only {wait.name} itself has {did} values there so far,{place_in(lines.stacks[uses[-1].stack])}."
+
+    def _gone(self, wait: Waiting) -> list[str]:
+        """Of a value that nobody ever took: which goroutine waited for it and went on without."""
+        at = wait.objects[0]
+        if at.use != FOR_ROOM:
+            return []
+        left = [
+            one for some in self._waits.of.values() for one in some
+            if one.last is not None and any(other.object == at.object and other.use != FOR_ROOM for other in one.objects)
+        ]  # fmt: skip
+        if not left:
+            return []
+        last = max(left, key=lambda one: (one.first, one.begin))
+        name = str(last.name).capitalize()
+        return [
+            f"{name} waited for that{place_in(last.stack)} from step {last.first} to {last.last}, and went on without."
+        ]
+
+
+def is_in(stack: Stack, call: Call) -> bool:
+    """Whether a goroutine is in a function behind a line of it."""
+    return any(one.function == call.function and one.line > call.line for one in stack.calls)
+
+
+def has_left(stack: Stack, earlier: Stack) -> bool:
+    """Whether a goroutine has returned from the program's function in which it was."""
+    own = earlier.own()
+    return own is not None and all(call.function != own[0].function for call in stack.calls)

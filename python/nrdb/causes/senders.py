@@ -1,0 +1,68 @@
+"""Who may give later what a goroutine waits for at a channel, by the program's source if that is here: a goroutine that is in a function before a
+line which puts a value there, or takes one."""
+
+import re
+from typing import Iterable, NamedTuple, Optional
+
+from ..all_goroutines import FOR_ROOM, FOR_VALUE
+from ..recording import Recording
+from ..waits import Name, Waiting
+from ..where import OF_THE_PROGRAM, Call, Stack
+from .locks import owner
+from .need import Certainty, Need
+from .source_functions import Lines, is_same_variable, range_of, source_of, text_at
+
+PUTS = re.compile(r"([\w.]+(?:\[[^\]]*\])?) ?<- ?(?=\S)")
+TAKES = re.compile(r"(?:<- ?|\brange )([\w.]+)(?![\w.(])")
+WORDS = {FOR_VALUE: ("puts a value there", "puts a value into"), FOR_ROOM: ("takes from it", "takes one from")}
+
+
+class Giving(NamedTuple):
+    """A line that does at a channel what is waited for, and the lines of the function that it is in."""
+
+    number: int
+    within: range
+
+
+def later_giver(recording: Recording, wait: Waiting, stacks: Iterable[tuple[Name, Stack]]) -> Optional[Need]:
+    """The goroutine that may do later what is waited for; else, if nothing in the file does, that. None where the source isn't here."""
+    own = wait.stack.own()
+    if not own or own[0].of != OF_THE_PROGRAM or len(wait.objects) != 1 or wait.objects[0].use not in WORDS:
+        return None
+    use = wait.objects[0].use
+    mine, others = (TAKES, PUTS) if use == FOR_VALUE else (PUTS, TAKES)
+    name, source = mine.search(text_at(recording, own[0])), source_of(recording, own[0].file)
+    if not name or not source:
+        return None
+    givings = givings_of(source, own[0], name[1], others)
+    does, nothing = WORDS[use]
+    if not givings and "." in name[1]:
+        return Need([], more=[f"No line of {own[0].file} {nothing} a channel named {name[1].rpartition('.')[2]}."])
+    for goroutine, stack in stacks:
+        for call in stack.calls if goroutine != wait.name else ():
+            for giving in givings:
+                if call.file == own[0].file and call.line in giving.within and call.line < giving.number:
+                    how = f"perhaps {{by}} {does} later, at {own[0].file}:{giving.number}"
+                    return Need([], goroutine, how, Certainty.PERHAPS)
+    return None
+
+
+def givings_at(recording: Recording, wait: Waiting) -> list[Giving]:
+    """The lines that give what is waited for at a channel, by the source."""
+    own = wait.stack.own()
+    mine, others = (TAKES, PUTS) if wait.objects[0].use == FOR_VALUE else (PUTS, TAKES)
+    name = mine.search(text_at(recording, own[0])) if own else None
+    source = source_of(recording, own[0].file) if own else None
+    return givings_of(source, own[0], name[1], others) if own and name and source else []
+
+
+def givings_of(source: Lines, call: Call, name: str, pattern: "re.Pattern[str]") -> list[Giving]:
+    """The lines that do something at a channel which may be the one of this name."""
+    found = []
+    for number, text in enumerate(source, 1):
+        gives = pattern.search(text.partition("//")[0])
+        if gives and number != call.line and is_same_variable(name, gives[1], True):
+            within = range_of(source, Call(f"{owner(call.function)}.func1", call.file, number, call.of))
+            whole = range_of(source, Call(owner(call.function), call.file, number, call.of))
+            found.append(Giving(number, within or whole or range(0)))
+    return found

@@ -1,0 +1,118 @@
+"""Calls of Done that a loop skips: of a WaitGroup whose Done a goroutine calls once for each value that its loop takes from a channel, the rounds
+without it, and by the program's source, if that is here, the ways that skip it."""
+
+import re
+
+from typing import NamedTuple, Optional
+
+from netrev_words.plurals import counted
+
+from ..all_goroutines import TOOK, Use
+from ..recording import Recording
+from ..waits import Waits, name_of_goid
+from ..where import OF_THE_PROGRAM, Call, Stack
+from .ended_goroutines import body_of, loop_round
+from .group_counts import Count, count_says, total
+from .skipped_ways import has, is_text, skipped_ways, that_stay, ways_words
+from .source_functions import Lines, range_of, source_of, text_at
+
+OVER = re.compile(r"for \w+ :?= range [\w.]+ \{$")
+TAKES = re.compile(r"(?:case )?\w+(?:, \w+)? :?= <-[\w.]+:?$")
+DONE_OF = re.compile(r"^([\w.\[\]]+)\.Done\(\)$")
+MOST_CALLS = 3  # between a loop and Done
+
+
+class Rounds(NamedTuple):
+    """A loop that takes values from a channel at a line, and calls Done at another, or a function that does (0: none)."""
+
+    line: Call
+    head: int
+    takes: int
+    done: Call
+
+
+def skipped_done(recording: Recording, waits: Waits, count: Count, position: int) -> list[str]:
+    """How many rounds of a loop were over without Done, if that is what is missing; nothing if that isn't known."""
+    lines = recording.lines
+    for rounds in {found for use in count.done if (found := rounds_of(recording, lines.stacks[use.stack]))}:
+        for uses in lines.uses.values():
+            took = [use for use in uses if use.what == TOOK and is_at(recording, use, rounds)]
+            done = [use for use in count.done if is_by(recording, use, rounds)]
+            missing = total(took) - total(done)
+            if missing == count.missing and all(is_free(recording, waits, use, position) for use in took):
+                return [count_says(recording, count), *rounds_say(recording, rounds, took, done)]
+    return []
+
+
+def rounds_of(recording: Recording, stack: Stack) -> Optional[Rounds]:
+    """The loop round a line that calls Done, or round the call of its function, if it takes its values from a channel."""
+    calls = [call for call in stack.calls if call.of == OF_THE_PROGRAM]
+    if not calls or not DONE_OF.match(text_at(recording, calls[0]).strip()):
+        return None
+    for call in calls[:MOST_CALLS]:
+        lines = source_of(recording, call.file)
+        within = range_of(lines, call) if lines else None
+        head = loop_round(lines, within, call.line) if lines and within else 0
+        if lines and head:
+            takes = takes_at(lines, head, call.line)
+            return Rounds(call, head, takes, calls[0]) if takes else None
+    return None
+
+
+def takes_at(lines: Lines, head: int, line: int) -> int:
+    """The line of a loop, up to one of its lines, that takes a value from a channel; 0 if there isn't one alone."""
+    if OVER.match(code(lines, head)):
+        return head
+    found = [number for number in body_of(lines, head) if number < line and TAKES.match(code(lines, number))]
+    return found[0] if len(found) == 1 else 0
+
+
+def code(lines: Lines, number: int) -> str:
+    return lines[number - 1].partition("//")[0].strip()
+
+
+def is_at(recording: Recording, use: Use, rounds: Rounds) -> bool:
+    """Whether a value was taken by a loop: at its line that does, or in the `select` that this is a case of."""
+    own = recording.lines.stacks[use.stack].own()
+    return own is not None and own[0].function == rounds.line.function and rounds.head <= own[0].line <= rounds.takes
+
+
+def is_by(recording: Recording, use: Use, rounds: Rounds) -> bool:
+    """Whether Done was called by a loop."""
+    return rounds.line in recording.lines.stacks[use.stack].calls
+
+
+def is_free(recording: Recording, waits: Waits, use: Use, position: int) -> bool:
+    """Whether the goroutine that took a value has ended, or waits for the next one."""
+    wait = waits.at(name_of_goid(recording.lines, use.goid), position)
+    waits_there = wait is not None and any(at.object == use.object for at in wait.objects)
+    return waits_there or has_ended(recording, use)
+
+
+def has_ended(recording: Recording, use: Use) -> bool:
+    known = recording.lines.goroutines.get(use.goid)
+    return known is not None and known.last >= 0
+
+
+def rounds_say(recording: Recording, rounds: Rounds, took: list[Use], done: list[Use]) -> list[str]:
+    """How often a loop took a value and called Done, and the ways that skip it."""
+    file, place = rounds.line.file, rounds.done.place()
+    many = f"{counted(total(took), 'value')} from a channel and called Done at {place} {counted(total(done), 'time')}"
+    says = f"The loop at {file}:{rounds.head} took {many}"
+    ways = words_of_ways(recording, rounds, any(has_ended(recording, use) for use in took))
+    return [f"{says}: {ways} without it." if ways else f"{says}."]
+
+
+def words_of_ways(recording: Recording, rounds: Rounds, has_left: bool) -> str:
+    """The ways of a loop, and of the function that it calls, by which Done is skipped, in words; empty if none is found."""
+    lines, inner = source_of(recording, rounds.line.file), source_of(recording, rounds.done.file)
+    within = range_of(lines, rounds.line) if lines else None
+    if not lines or not inner or not within:
+        return ""
+    ends = has(re.escape(text_at(recording, rounds.line).strip().partition("(")[0]) + r"\(")
+    ways = skipped_ways(lines, within, is_text(code(lines, rounds.takes)), ends)
+    words = [ways_words(rounds.line.file, ways if has_left else that_stay(ways))]
+    function = range_of(inner, rounds.done) if rounds.done != rounds.line else None
+    if function:
+        words.append(ways_words(rounds.done.file, skipped_ways(inner, function, None, has(r"\.Done\(\)"))))
+    return " and ".join(some for some in words if some)

@@ -1,0 +1,101 @@
+"""Functions of the program's source, where that is here and hasn't changed since it was recorded: their lines, and what they call there."""
+
+import os
+import re
+from functools import lru_cache
+from pathlib import Path
+from typing import Optional
+
+from ..recording import Recording
+from ..text_files import lines_of
+from ..where import Call
+
+Lines = tuple[str, ...]
+LITERAL = re.compile(r"\.(?:func|gowrap|deferwrap)\d+")
+
+
+def source_of(recording: Recording, file: str) -> Optional[Lines]:
+    """The lines of a file of the program's source, if it is here and hasn't changed since it was recorded."""
+    return source(os.path.abspath(file), recording.lines.written)
+
+
+@lru_cache(maxsize=64)
+def source(file: str, written: float) -> Optional[Lines]:
+    """The lines of a file, if it is here and was last changed before that time."""
+    lines = lines_of(Path(file))
+    return None if lines is None or os.stat(file).st_mtime > written else tuple(lines)
+
+
+def range_of(lines: Lines, call: Call) -> Optional[range]:
+    """The numbers of the lines of the function that a call is in; of a function literal its own alone."""
+    if not 0 < call.line <= len(lines):
+        return None
+    begin = begin_of_literal(lines, call.line) if LITERAL.search(call.function) else 0
+    begin = begin or next((number for number in range(call.line, 0, -1) if lines[number - 1].startswith("func ")), 0)
+    if not begin:
+        return None
+    if is_of_one_line(lines[begin - 1]):
+        return range(begin, begin + 1) if begin == call.line else None
+    margin = indent_of(lines[begin - 1])
+    ends = (number for number in range(begin + 1, len(lines) + 1) if is_end(lines[number - 1], margin))
+    end = next(ends, None)
+    return range(begin, end + 1) if end and end >= call.line else None
+
+
+def is_last_line(recording: Recording, call: Call, number: int) -> bool:
+    """Whether a line is the last one of the function that a call is in, or of its only line."""
+    lines = source_of(recording, call.file)
+    within = range_of(lines, call) if lines else None
+    return within is not None and (number == within[-1] - 1 or len(within) == 1)
+
+
+def is_of_one_line(text: str) -> bool:
+    """Whether a function begins and ends in a line."""
+    code = text.partition("//")[0].rstrip()
+    return code.startswith("func ") and code.endswith("}") and code.count("{") == code.count("}")
+
+
+def begin_of_literal(lines: Lines, line: int) -> int:
+    """The line at which the function literal begins that a line is in; 0 if none is found."""
+    margin = indent_of(lines[line - 1])
+    for number in range(line, 0, -1):
+        text = lines[number - 1]
+        if text.strip() and indent_of(text) < margin:
+            margin = indent_of(text)
+            if "func(" in text and text.rstrip().endswith("{"):
+                return number
+    return 0
+
+
+def is_end(text: str, margin: int) -> bool:
+    return indent_of(text) == margin and text.lstrip().startswith("}")
+
+
+def indent_of(text: str) -> int:
+    return len(text) - len(text.lstrip()) if text.strip() else 1_000
+
+
+def found_in(recording: Recording, call: Call, pattern: "re.Pattern[str]") -> list[tuple[int, "re.Match[str]"]]:
+    """Where a pattern fits in the function that a call is in."""
+    return _found_in(os.path.abspath(call.file), recording.lines.written, call, pattern)
+
+
+@lru_cache(maxsize=4_096)
+def _found_in(file: str, written: float, call: Call, pattern: "re.Pattern[str]") -> list[tuple[int, "re.Match[str]"]]:
+    lines = source(file, written)
+    within = range_of(lines, call) if lines else None
+    texts = [(number, lines[number - 1].partition("//")[0]) for number in within or () if lines]
+    return [(number, found) for number, text in texts if (found := pattern.search(text))]
+
+
+def text_at(recording: Recording, call: Call) -> str:
+    """The text of a call's line, without its comment; empty where the source isn't here."""
+    lines = source_of(recording, call.file)
+    return lines[call.line - 1].partition("//")[0] if lines and 0 < call.line <= len(lines) else ""
+
+
+def is_same_variable(one: str, other: str, is_near: bool) -> bool:
+    """Whether two expressions may name the same variable: `r.sessions` and `s.sessions` do, and those that are equal if both are in one
+    function and its literals."""
+    dot, other_dot = one.partition(".")[1:], other.partition(".")[1:]
+    return bool(dot[1]) and dot == other_dot or (is_near and one == other)

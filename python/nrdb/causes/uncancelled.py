@@ -1,0 +1,68 @@
+"""Contexts that nobody has cancelled: of a goroutine that waits for a context's Done, which goroutine cancels that later, by the program's source if
+that is here."""
+
+import re
+from typing import Iterable, NamedTuple, Optional
+
+from ..all_goroutines import CLOSED
+from ..recording import Recording
+from ..waits import Name, Waiting
+from ..where import OF_THE_PROGRAM, Call, Stack
+from .locks import owner
+from .need import Certainty, Need
+from .source_functions import Lines, begin_of_literal, is_same_variable, range_of, source_of, text_at
+
+DONE = re.compile(r"<-\s*[\w.]+\.Done\(\)")
+MAKES = re.compile(r"[\w.]+, ([\w.]+) :?= context\.With(?:Cancel|Timeout|Deadline)\w*\(")
+
+
+class Cancelling(NamedTuple):
+    """A line that cancels a context, whether it runs as its function ends, and the lines of that."""
+
+    number: int
+    is_deferred: bool
+    within: range
+
+
+def uncancelled(recording: Recording, wait: Waiting, stacks: Iterable[tuple[Name, Stack]]) -> Optional[Need]:
+    """The need of a goroutine that waits for a context alone; None if it doesn't, or the source has no context of that sort."""
+    own, lines = wait.stack.own(), recording.lines
+    if not own or own[0].of != OF_THE_PROGRAM or len(wait.objects) != 1 or not DONE.search(text_at(recording, own[0])):
+        return None
+    source = source_of(recording, own[0].file)
+    if not source or any(use.what == CLOSED for use in lines.uses.get(wait.objects[0].object, ())):
+        return None
+    cancels = cancels_of(source, own[0])
+    for name, stack in stacks:
+        if name != wait.name and (cancel := cancel_in(stack, own[0].file, cancels)):
+            how = f"perhaps {{by}} cancels its context later, at {own[0].file}:{cancel.number}"
+            return Need([], name, how, Certainty.PERHAPS)
+    if len(cancels) != 1:
+        return None
+    at = f"{own[0].file}:{cancels[0].number}"
+    return Need(
+        [], more=[f"Perhaps {at} should have cancelled its context: no goroutine that waits is in that function."]
+    )
+
+
+def cancels_of(source: Lines, call: Call) -> list[Cancelling]:
+    """The lines that cancel a context which the file makes."""
+    names = {made[1] for text in source if (made := MAKES.search(text.partition("//")[0]))} - {"_"}
+    found = []
+    for number, text in enumerate(source, 1):
+        called = re.search(r"(defer )?(?<![\w.])([\w.]+)\(\)", text.partition("//")[0])
+        if called and any(is_same_variable(name, called[2], True) for name in names):
+            of_literal = Call(f"{owner(call.function)}.func1", call.file, number, call.of)
+            within = range_of(source, of_literal) or range(0)
+            begin = begin_of_literal(source, number)
+            found.append(Cancelling(number, bool(called[1]) or bool(begin and "defer " in source[begin - 1]), within))
+    return found
+
+
+def cancel_in(stack: Stack, file: str, cancels: list[Cancelling]) -> Optional[Cancelling]:
+    """The line at which a goroutine cancels later: behind one where it is, or as a function ends that it is in."""
+    for call in stack.calls:
+        for cancel in cancels if call.file == file else ():
+            if call.line in cancel.within and (cancel.is_deferred or call.line < cancel.number):
+                return cancel
+    return None

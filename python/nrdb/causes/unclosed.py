@@ -1,0 +1,95 @@
+"""What may have to close a channel, by the program's source if that is here: of a goroutine that waits until a channel is closed."""
+
+import re
+from typing import Iterable, NamedTuple, Optional
+
+from ..all_goroutines import CLOSED, FOR_VALUE, PUT
+from ..recording import Recording
+from ..waits import Name, Waiting
+from ..where import OF_THE_PROGRAM, Call, Stack
+from .locks import owner
+from .need import Certainty, Need
+from .source_functions import Lines, is_same_variable, range_of, source_of, text_at
+from .words import short
+
+WRAPPED = ".gowrap"  # in the names of functions that only start another
+RANGE = re.compile(r"\brange ([\w.]+) \{")
+RECEIVE = re.compile(r"<-\s*([\w.]+)(?![\w.(])")
+CLOSE = re.compile(r"(defer )?\bclose\(([\w.]+)\)")
+
+
+class Closing(NamedTuple):
+    """A line that closes a channel, and the lines of the function that it is in."""
+
+    number: int
+    is_deferred: bool
+    within: range
+
+
+def unclosed(recording: Recording, wait: Waiting, stacks: Iterable[tuple[Name, Stack]]) -> Optional[Need]:
+    """Of a goroutine that waits for a value where nobody ever put one, or over all values until there are no more: what should close the
+    channel. None where the source isn't here."""
+    own, lines = wait.stack.own(), recording.lines
+    if not own or own[0].of != OF_THE_PROGRAM or len(wait.objects) != 1 or wait.objects[0].use != FOR_VALUE:
+        return None
+    what, text = {use.what for use in lines.uses.get(wait.objects[0].object, ())}, text_at(recording, own[0])
+    ranges = RANGE.search(text)
+    name = ranges or (RECEIVE.search(text) if PUT not in what else None)
+    source = source_of(recording, own[0].file)
+    if CLOSED in what or not name or not source:
+        return None
+    closings = closings_of(source, own[0], name[1])
+    loop = (
+        f"The loop at {own[0].place()} ends when {name[1]} is closed"
+        if ranges
+        else f"Nobody has put a value into {name[1]}, or closed it"
+    )
+    if not closings:
+        return Need([], more=[f"{loop}: no line of {own[0].file} closes one of that name."]) if ranges else None
+    for goroutine, stack in stacks:
+        if goroutine != wait.name and (closing := inside(stack, own[0].file, closings)):
+            how = f"perhaps {{by}} closes that later, at {own[0].file}:{closing.number}"
+            return Need([], goroutine, how, Certainty.PERHAPS)
+    closing = closings[0]
+    where = f"{own[0].file}:{closing.number}"
+    nobody = f"no goroutine that waits is in that function{ended_in(recording, own[0].file, closing)}"
+    return Need([], more=[f"{loop}. Perhaps {where} should have closed it: {nobody}."], is_odd=True)
+
+
+def closings_of(source: Lines, call: Call, name: str) -> list[Closing]:
+    """The lines that close a channel which may be the one of this name."""
+    found = []
+    for number, text in enumerate(source, 1):
+        closes = CLOSE.search(text.partition("//")[0])
+        if closes and is_same_variable(name, closes[2], True):
+            within = range_of(source, Call(f"{owner(call.function)}.func1", call.file, number, call.of))
+            found.append(Closing(number, bool(closes[1]), within or range(0)))
+    return found
+
+
+def inside(stack: Stack, file: str, closings: list[Closing]) -> Optional[Closing]:
+    """The line at which a goroutine closes a channel later, if it is in that function before the line, or the closing is deferred."""
+    for call in stack.calls:
+        for closing in closings:
+            if (
+                call.file == file
+                and call.line in closing.within
+                and (closing.is_deferred or call.line < closing.number)
+            ):
+                return closing
+    return None
+
+
+def ended_in(recording: Recording, file: str, closing: Closing) -> str:
+    """Which goroutine that was started in that function has ended, and where it was last."""
+    passed = {
+        call
+        for stack in recording.lines.stacks.values()
+        for call in stack.calls
+        if call.file == file
+        and call.line in closing.within
+        and call.line < closing.number
+        and WRAPPED not in call.function
+    }
+    last = max(passed, key=lambda call: call.line, default=None)
+    return f"; the last line before that which one passed is {last.place()} in {short(last.function)}" if last else ""

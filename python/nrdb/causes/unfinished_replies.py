@@ -1,0 +1,92 @@
+"""Replies of which perhaps a part is missing: of a Read that got something of an answer and waits for more, while the goroutine that wrote that reads
+on. By the program's source, if that is here: the loop that writes the reply, and the ways of it that write nothing."""
+
+import re
+from typing import Iterator, NamedTuple
+
+from ..one_call import Call
+from ..where import OF_THE_PROGRAM
+from ..where import Call as LineCall
+from .ended_goroutines import body_of
+from .exchanges import reader_of
+from .index import Index
+from .skipped_ways import Way, is_text, skipped_ways, ways_words
+from .source_functions import Lines, range_of, source_of
+from .words import place_of
+
+WRITES = re.compile(r"\bFprint\w*\((\w+),|\b([\w.]+)\.Write\w*\(")
+LOOP = re.compile(r"for .*\{$")
+
+
+class Part(NamedTuple):
+    """A loop that writes: its line, the line that does, the ways that don't, and whether a call is inside of it."""
+
+    file: str
+    loop: int
+    writes: int
+    ways: list[Way]
+    is_inside: bool
+
+
+def unfinished_reply(index: Index, call: Call, other: int, position: int) -> list[str]:
+    """What is said of a Read that waits; nothing if that isn't known to be so."""
+    wrote, asked = (index.last_use(socket, position, ("Write",)) for socket in (other, call.socket))
+    if (
+        not wrote
+        or not wrote.moved
+        or not asked
+        or asked.goroutine != call.goroutine
+        or not has_part(index, call, wrote)
+    ):
+        return []
+    read, now = reader_of(index, other, asked, position), index.inside(wrote.goroutine, position)
+    if not read or read.goroutine != wrote.goroutine or not read.last < wrote.first:
+        return []
+    if not now or now.name != "Read" or now.socket != other or now.first < wrote.last:
+        return []
+    part = next(parts_of(index, wrote, now), None)
+    if part is None:
+        return []
+    place = place_of(index.recording, wrote.first).partition(", called")[0]
+    return [
+        f"Perhaps the reply isn't whole: its last Write was{place}, {'in' if part.is_inside else 'after'} the loop at {part.file}:{part.loop}, "
+        f"where {ways_words(part.file, part.ways)} without {part.file}:{part.writes}, which writes."
+    ]
+
+
+def has_part(index: Index, call: Call, wrote: Call) -> bool:
+    """Whether a goroutine that waits to read got something of what another wrote last, in the same function."""
+    reads = [one for one in index.by_socket[call.socket] if one.name == "Read" and one.moved and one.last]
+    last = reads[-1] if reads else None
+    if last is None or last.goroutine != call.goroutine or not wrote.first < last.last < call.first:
+        return False
+    return index.recording.lines.of(last.first).own() == index.recording.lines.of(call.first).own()
+
+
+def parts_of(index: Index, wrote: Call, now: Call) -> Iterator[Part]:
+    """The loops of the functions in which a Write was made, but for those that are still running."""
+    lines = index.recording.lines
+    running = {call.function for call in lines.of(now.first).calls}
+    for call in lines.of(wrote.first).calls:
+        source = source_of(index.recording, call.file) if call.of == OF_THE_PROGRAM else None
+        if source and call.function not in running:
+            yield from loops_of(source, call)
+
+
+def loops_of(lines: Lines, call: LineCall) -> Iterator[Part]:
+    """The loops of a function up to a line that write on some of their ways alone, and after which nothing is written: that would end the reply."""
+    within = range_of(lines, call) or range(0)
+    for head in (number for number in within if number < call.line and LOOP.match(code(lines, number))):
+        body = list(body_of(lines, head))
+        writes = [number for number in within if number >= head and is_write(code(lines, number))]
+        if writes and writes[0] in body and writes[-1] in body:
+            if ways := skipped_ways(lines, within, is_text(code(lines, head)), is_write):
+                yield Part(call.file, head, writes[0], ways, call.line in body)
+
+
+def is_write(text: str) -> bool:
+    return WRITES.search(text) is not None
+
+
+def code(lines: Lines, number: int) -> str:
+    return lines[number - 1].partition("//")[0].strip()

@@ -1,0 +1,67 @@
+"""Datagrams that a connected socket never gets, since they were sent to it from another address than the one to which it is connected."""
+
+from typing import Iterator, NamedTuple, Optional
+
+from ..one_call import Call
+from .index import Index
+from .need import Need
+from .words import told
+
+UNSPECIFIED = ("0.0.0.0:", "[::]:")
+
+
+class Sent(NamedTuple):
+    """A datagram: the Write, from which address it came, and to which one it went."""
+
+    wrote: Call
+    source: str
+    target: str
+
+
+def unheard(index: Index, call: Call, position: int) -> Optional[Need]:
+    """The need of a Read at a connected socket to which something was sent from elsewhere; None if nothing was."""
+    own, peer = index.recording.lines.addresses.get(call.socket, ("", ""))
+    if not own or not peer:
+        return None
+    since = max(
+        (
+            one.last
+            for one in index.by_socket[call.socket]
+            if one.name == "Read" and one.moved and one.last < call.first
+        ),
+        default=0,
+    )
+    found = (
+        one
+        for one in sent_at(index)
+        if since < one.wrote.first <= position and is_same(one.target, own) and not is_same(one.source, peer)
+    )
+    sent = min(found, key=lambda one: one.wrote.first, default=None)
+    if sent is None:
+        return None
+    says = [
+        f"{told(index.recording, sent.wrote)} sent a datagram to its address, {own}, in {sent.wrote.steps()}, from socket {sent.wrote.socket}, "
+        f"{sent.source}.",
+        f"Socket {call.socket} is connected to {peer}: the system drops what comes from any other address.",
+    ]
+    return Need(says, is_odd=True)
+
+
+def is_same(one: str, other: str) -> bool:
+    """Whether two addresses may be the same: of one that isn't specified only the port is known."""
+    if one.startswith(UNSPECIFIED) or other.startswith(UNSPECIFIED):
+        return one.rpartition(":")[2] == other.rpartition(":")[2]
+    return one == other
+
+
+def sent_at(index: Index) -> Iterator[Sent]:
+    """The datagrams that went to a known address from a known one: by sockets that are connected, or by Writes that name it."""
+    lines = index.recording.lines
+    for socket, (own, peer) in lines.addresses.items():
+        for call in index.by_socket.get(socket, ()) if peer else ():
+            if call.name == "Write" and call.moved:
+                yield Sent(call, own, peer)
+    for step, target in lines.sent.items():
+        wrote = index.at(step) if 0 < step <= index.recording.length else None
+        if wrote and wrote.name == "Write" and wrote.moved and wrote.socket in lines.addresses:
+            yield Sent(wrote, lines.addresses[wrote.socket][0], target)

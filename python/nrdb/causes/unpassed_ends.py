@@ -1,0 +1,69 @@
+"""An end of a stream that a relay didn't pass on: a goroutine that only read at one socket and only wrote to another met the end, had written
+all, and never closed the other one for writing; and the reader at its other end hangs."""
+
+from typing import Iterator, NamedTuple, Optional
+
+from ..one_call import Call, Outcome
+from ..recording import Recording
+from ..waits import Name
+from .balances import has_ended
+from .index import MOVING, Index
+from .waiters import is_waiting
+from .words import is_of_go, told
+
+SETTLED = 16  # steps behind the end of the stream, in which a relay would have closed
+
+
+class UnpassedEnd(NamedTuple):
+    """The Read that met the end of a stream, the relay's last Write, and the Read at the other end of that socket which hangs."""
+
+    met: Call
+    wrote: Call
+    waits: Call
+
+    def says(self, recording: Recording) -> list[str]:
+        """It in sentences."""
+        socket, reader = self.wrote.socket, told(recording, self.waits)
+        ended = " The goroutine has ended." if has_ended(recording, Name(self.met.goroutine)) else ""
+        return [
+            f"The end of a stream isn't passed on: {told(recording, self.met)} met it on socket {self.met.socket} in step {self.met.last}, and "
+            f"socket {socket}, to which that goroutine wrote, is never closed for writing.{ended}",
+            f"{reader} waits for it at the other end, socket {self.waits.socket}, since step {self.waits.first}.",
+        ]
+
+
+def unpassed_ends(index: Index) -> Iterator[UnpassedEnd]:
+    """The ends of streams that relays didn't pass on."""
+    for call in index.book.calls:
+        if call.outcome is not Outcome.EOF or call.name != "Read" or is_of_go(index.recording, call):
+            continue
+        wrote = last_write_of_relay(index, call)
+        if wrote is None or index.closing(wrote.socket, index.recording.length):
+            continue
+        if waits := reader_of(index, wrote.socket):
+            yield UnpassedEnd(call, wrote, waits)
+
+
+def last_write_of_relay(index: Index, met: Call) -> Optional[Call]:
+    """The last Write of a goroutine whose last call is this Read, whose Reads are all at one socket, and whose Writes are all at another,
+    behind the last Read that got something; None if it is no such goroutine."""
+    calls = [one for one in index.by_goroutine[met.goroutine] if one.name in MOVING]
+    reads, writes = ([one for one in calls if one.name == name] for name in MOVING)
+    if not writes or calls[-1] is not met or len({one.socket for one in reads}) > 1 or not is_over(index, met):
+        return None
+    if len({one.socket for one in writes}) > 1 or writes[-1].socket == met.socket:
+        return None
+    got = [one for one in reads if one.moved]
+    return writes[-1] if not got or got[-1].first < writes[-1].first else None
+
+
+def is_over(index: Index, met: Call) -> bool:
+    """Whether a goroutine would have closed the other socket by now: it has ended, or there are enough steps behind."""
+    return index.recording.length - met.last >= SETTLED or has_ended(index.recording, Name(met.goroutine))
+
+
+def reader_of(index: Index, socket: int) -> Optional[Call]:
+    """The Read at a socket's other end that waits in the end."""
+    other = index.other_end(socket)
+    calls = () if other is None else index.by_socket.get(other, ())
+    return next((one for one in calls if one.name == "Read" and not one.last and is_waiting(index, one)), None)

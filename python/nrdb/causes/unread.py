@@ -1,0 +1,49 @@
+"""Bytes that were written and that nobody reads: those of sockets whose other end is open, with no Read under way there."""
+
+from typing import Iterable, Iterator, NamedTuple
+
+from netrev_words.plurals import counted
+
+from ..one_call import CLOSE, Call
+from ..waits import Name
+from .exchanges import is_cut
+from .index import Index
+from .words import is_of_go, told
+
+
+class Unread(NamedTuple):
+    """The last Write of bytes that nobody reads, how many there are, and the socket where they wait."""
+
+    wrote: Call
+    bytes: int
+    socket: int
+
+
+def unread(index: Index, position: int) -> Iterator[Unread]:
+    """The bytes that nobody reads at a position. Where reads or writes count fewer bytes than they moved it isn't known."""
+    for socket, other in sorted(index.recording.lines.peers.items()):
+        count = index.moved(socket, "Write", position) - index.moved(other, "Read", position)
+        wrote = index.last_use(socket, position, ("Write",))
+        calls = [
+            one for one in (*index.by_socket.get(socket, ()), *index.by_socket.get(other, ())) if one.first <= position
+        ]
+        is_read = any(one.socket == other and one.name == "Read" and not 0 < one.last <= position for one in calls)
+        if count > 0 and wrote and not is_read and not any(one.name == CLOSE for one in calls):
+            if (
+                wrote.last
+                and not is_of_go(index.recording, wrote)
+                and not is_cut(index.recording, index, (socket, other))
+            ):
+                yield Unread(wrote, count, other)
+
+
+def unread_says(index: Index, names: Iterable[Name], position: int) -> list[str]:
+    """What is said of the first such bytes that one of these goroutines wrote."""
+    every = set(names)
+    for found in unread(index, position):
+        if Name(found.wrote.goroutine) in every:
+            many, is_one = counted(found.bytes, "byte"), found.bytes == 1
+            return [
+                f"{many} of {told(index.recording, found.wrote)} {'is' if is_one else 'are'} unread: nobody reads on socket {found.socket}."
+            ]
+    return []

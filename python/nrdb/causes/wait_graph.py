@@ -1,0 +1,288 @@
+"""The wait-for graph at a recording's end, and its roots: each goroutine that waits, the one that it waits for, and what all of them wait
+for at last. Of several goroutines that could give what one needs, it has one."""
+
+from collections import defaultdict
+from functools import lru_cache
+from typing import Callable, Hashable, Iterable, Iterator, NamedTuple, Optional
+
+from ..all_goroutines import A_CONDITION, MUTEXES
+from ..one_call import Call
+from ..recording import Recording
+from ..waits import Name, name_of_goid, waits_of
+from .deadlines_ahead import deadline_ahead
+from .index import MOVING, READING, index_of
+from .need import Certainty, Need
+from .needs import Needs
+from .waiters import Waiter, waiters_at
+from .words import name_of, place_in
+
+# What a goroutine waits for that has nothing to do.
+QUIET = ("a select", "a value from a channel", "a condition", "a select without cases")
+
+
+DEEP = 16  # levels of a tree
+MAIN = 1  # Go's own number of the main goroutine
+
+
+class Edge(NamedTuple):
+    """That a goroutine waits for another."""
+
+    waiter: Name
+    on: Name
+    certainty: Certainty
+
+
+class Branch(NamedTuple):
+    """Goroutines that wait alike for others: these, what the first one needs, for which ones, and the branches that wait for them."""
+
+    waiters: list[Waiter]
+    need: Need
+    on: list[Name]
+    branches: "list[Branch]"
+
+
+class Hang(NamedTuple):
+    """A root: the goroutine that others wait for, or those that wait for one another; what each of them needs, which branches wait for
+    them, and how many goroutines that is, of which so many only perhaps. `alike` are roots like it, and `beside` others that wait for
+    the same goroutine, which has ended. `is_loose`: it isn't known which of the roots wait for which. `until`: a call of the roots that has a
+    deadline yet, so that they don't wait without end.
+    """
+
+    roots: list[Waiter]
+    needs: list[Need]
+    branches: list[Branch]
+    waiting: int = 0
+    perhaps: int = 0
+    certainty: Certainty = Certainty.KNOWN
+    alike: list[Waiter] = []
+    beside: list[Waiter] = []
+    is_loose: bool = False
+    until: Optional[Call] = None
+
+    @property
+    def root(self) -> Waiter:
+        """The first of those that wait for one another, or the root itself."""
+        return self.roots[0]
+
+    @property
+    def every_root(self) -> list[Waiter]:
+        """All roots: these, those that are alike, and those beside."""
+        return [*self.roots, *self.alike, *self.beside]
+
+    @property
+    def is_deadlock(self) -> bool:
+        """Whether goroutines wait for one another."""
+        return len(self.roots) > 1
+
+    @property
+    def is_of_mutexes(self) -> bool:
+        """Whether each of its roots waits for a mutex."""
+        return all(is_at_mutex(root) for root in self.roots)
+
+    @property
+    def has_reason(self) -> bool:
+        """Whether more is said of it than what its roots wait for: that its roots hold mutexes, or why what they wait for doesn't come. That nobody
+        closes a channel is no reason: a goroutine that takes values may have nothing to do."""
+        need, wait = self.needs[0], self.root.wait
+        if self.is_deadlock:
+            return self.is_of_mutexes or any(one.more for one in self.needs)
+        idles = wait is not None and wait.kind in QUIET and wait.kind != A_CONDITION
+        return need.is_odd or bool(need.gone or need.ended or (wait and need.says) or (need.more and not idles))
+
+    @property
+    def is_of_go(self) -> bool:
+        """Whether Go's own code waits there alone, as idle connections of net/http do."""
+        return all(waiter.is_of_go for waiter in waiters_of(self))
+
+    @property
+    def is_quiet(self) -> bool:
+        """Whether nobody waits for it and it may have nothing to do: a read, a select, a value from a channel."""
+        call, wait = self.root.call, self.root.wait
+        reads = call is not None and call.name in READING and not call.is_asking
+        idles = wait is not None and wait.kind in QUIET
+        is_alone = not self.waiting and not self.is_deadlock and not self.beside
+        return is_alone and (reads or idles) and not self.needs[0].is_odd
+
+
+class WaitGraph:
+    """The graph at a position: the waiters, their needs, the edges, and the hangs, the one that most wait for first."""
+
+    def __init__(self, recording: Recording, position: int) -> None:
+        index = index_of(recording)
+        self.recording, self.position = recording, position
+        self.waiters = waiters_at(index, position)
+        needs = Needs(index, self.waiters, position)
+        self.needs = {name: needs.of(waiter) for name, waiter in self.waiters.items()}
+        self.edges = {
+            name: Edge(name, need.by, need.certainty)
+            for name, need in self.needs.items()
+            if need.by is not None and need.by != name and need.by in self.waiters and not self._is_idle(name, need.by)
+        }
+        self._behind: dict[Name, list[Name]] = defaultdict(list)
+        for edge in self.edges.values():
+            self._behind[edge.on].append(edge.waiter)
+        self.hangs = self._hangs()
+        self.idle = sum(len(list(waiters_of(hang))) for hang in self.hangs if hang.is_of_go)
+
+    @property
+    def shown(self) -> list[Hang]:
+        """The hangs but for those of Go's own code alone."""
+        return [hang for hang in self.hangs if not hang.is_of_go]
+
+    @property
+    def count(self) -> int:
+        """How many goroutines hang, but for those that may have nothing to do."""
+        return sum(len(hang.every_root) + hang.waiting for hang in self.shown if not hang.is_quiet)
+
+    @property
+    def main(self) -> Optional[Name]:
+        """The main goroutine, if it is known."""
+        return name_of_goid(self.recording.lines, MAIN) if MAIN in self.recording.lines.goroutines else None
+
+    @property
+    def has_ended(self) -> bool:
+        """Whether the program ended by itself, as far as that is known: its main goroutine was neither in a call nor in a wait at the end."""
+        if self.main is None or self.position < self.recording.length:
+            return False
+        return self.main not in self.waiters and waits_of(self.recording).at(self.main, self.position) is None
+
+    def _is_idle(self, name: Name, by: Name) -> bool:
+        """Whether a goroutine that has answered the last request reads at a connection whose other end is perhaps nobody's any more: the one that
+        wrote there last waits for one, since calls that are over have kept theirs."""
+        call = self.waiters[name].call
+        if call is None or call.name not in READING or not self.needs[by].is_kept:
+            return False
+        index = index_of(self.recording)
+        before = [one for one in index.by_socket[call.socket] if one.last and one.moved and one.name in MOVING]
+        has_answered = bool(before) and before[-1].name == "Write" and before[-1].goroutine == call.goroutine
+        return has_answered and before[0].name == "Read" and self.needs[name].certainty > Certainty.PERHAPS
+
+    def _hangs(self) -> list[Hang]:
+        found = [self._ring(ring) for ring in self._rings()]
+        alike: dict[Hashable, list[Waiter]] = defaultdict(list)
+        for name, waiter in self.waiters.items():
+            if name not in self.edges:
+                alike[self._cause_of_root(waiter)].append(waiter)
+        for some in alike.values():
+            first, *others = sorted(some, key=lambda waiter: waiter.since)
+            found.append(self._hang([first], others))
+        return sorted(found, key=order)
+
+    def _cause_of_root(self, waiter: Waiter) -> Hashable:
+        """Roots that have the same are one hang: the goroutine that has ended for which they wait, else what they wait for and where."""
+        need = self.needs[waiter.name]
+        if need.gone:
+            return need.gone
+        return (kind_of(self.recording, waiter), need.how) if waiter.stack.calls else waiter.name
+
+    def _ring(self, ring: list[Name]) -> Hang:
+        """Goroutines that wait for one another; with those that may hold one of their mutexes in place of another, and wait for one of them."""
+        every = list(ring) if all(is_at_mutex(self.waiters[name]) for name in ring) else []
+        for name in every:
+            others = [other for other in self.needs[name].others if other not in every and other in self.edges]
+            every += [other for other in others if is_at_mutex(self.waiters[other]) and self.edges[other].on in every]
+        hang, index = self._hang([self.waiters[name] for name in every or ring], []), index_of(self.recording)
+        calls = [root.call for root in hang.roots if root.call]
+        timed = next((call for call in calls if deadline_ahead(index, call, self.position)), None)
+        return hang._replace(is_loose=len(every) > len(ring), until=timed)
+
+    def _rings(self) -> list[list[Name]]:
+        """The cycles of the graph, each once."""
+        rings, seen = [], set[Name]()
+        for name in self.edges:
+            path: dict[Name, None] = {}
+            at: Optional[Name] = name
+            while at is not None and at not in path and at not in seen:
+                path[at] = None
+                at = self.edges[at].on if at in self.edges else None
+            if at in path:
+                chain = list(path)
+                ring = chain[chain.index(at) :]
+                first = min(range(len(ring)), key=lambda number: self.waiters[ring[number]].since)
+                rings.append(ring[first:] + ring[:first])
+            seen.update(path)
+        return rings
+
+    def _hang(self, roots: list[Waiter], others: list[Waiter]) -> Hang:
+        names = [waiter.name for waiter in roots]
+        every = [*names, *(waiter.name for waiter in others)]
+        branches = self._branches(every, set(every))
+        count = count_of(branches, lambda branch: True)
+        sure = count_of(branches, lambda branch: branch.need.certainty > Certainty.PERHAPS)
+        certainty = min((self.edges[name].certainty for name in names if len(names) > 1), default=Certainty.KNOWN)
+        needs = [self.needs[name] for name in names]
+        kind = kind_of(self.recording, roots[0])
+        alike = [waiter for waiter in others if kind_of(self.recording, waiter) == kind]
+        beside = [waiter for waiter in others if kind_of(self.recording, waiter) != kind]
+        return Hang(roots, needs, branches, count, count - sure, certainty, alike, beside)
+
+    def _branches(self, names: list[Name], seen: set[Name], depth: int = 0) -> list[Branch]:
+        """The branches that wait for these, those that are alike together, those of which most is known first. Below some depth all that
+        are left are one level."""
+        alike: dict[Hashable, list[Name]] = defaultdict(list)
+        upcoming = list(names)
+        while upcoming:
+            for name in self._behind.get(upcoming.pop(0), ()):
+                if name not in seen:
+                    seen.add(name)
+                    alike[self._likeness(name)].append(name)
+                    upcoming += [name] if depth == DEEP else []
+        made = [self._branch(some, seen, depth) for some in alike.values()]
+        return sorted(made, key=lambda branch: -branch.need.certainty)
+
+    def _branch(self, names: list[Name], seen: set[Name], depth: int) -> Branch:
+        waiters, on = [self.waiters[name] for name in names], [self.edges[name].on for name in names]
+        behind = self._branches(names, seen, depth + 1) if depth < DEEP else []
+        return Branch(waiters, self.needs[names[0]], on, behind)
+
+    def _likeness(self, name: Name) -> Hashable:
+        need = self.needs[name]
+        return kind_of(self.recording, self.waiters[name]), need.how, need.certainty
+
+
+def kind_of(recording: Recording, waiter: Waiter) -> tuple[str, str, int]:
+    """Where a waiter waits and what for: those that have the same are alike."""
+    what = name_of(recording, waiter.call) if waiter.call else ""
+    return place_in(waiter.stack), waiter.wait.kind if waiter.wait else what, mutex_of(waiter)
+
+
+def is_at_mutex(waiter: Waiter) -> bool:
+    """Whether a goroutine waits for a mutex."""
+    return waiter.wait is not None and waiter.wait.kind in MUTEXES
+
+
+def mutex_of(waiter: Waiter) -> int:
+    """The number of the mutex that a goroutine waits for; 0 where it waits for something else, or it isn't known."""
+    wait = waiter.wait
+    return wait.objects[0].object if wait and wait.objects and wait.kind in MUTEXES else 0
+
+
+def count_of(branches: Iterable[Branch], is_meant: Callable[[Branch], bool]) -> int:
+    """How many goroutines wait in branches that are meant, down to those that aren't."""
+    return sum(len(one.waiters) + count_of(one.branches, is_meant) for one in branches if is_meant(one))
+
+
+def waiters_of(hang: Hang) -> Iterator[Waiter]:
+    """All goroutines of a hang."""
+    yield from hang.every_root
+    branches = list(hang.branches)
+    while branches:
+        branch = branches.pop()
+        yield from branch.waiters
+        branches += branch.branches
+
+
+def order(hang: Hang) -> tuple[bool, bool, int, int, int]:
+    """Deadlocks that are certain come first, then what others wait for and of which it is known why, then what most wait for; last what may
+    have nothing to do. Reads that wait for one another are a deadlock of which it isn't known why."""
+    is_certain = hang.is_deadlock and hang.certainty > Certainty.PERHAPS and not hang.until
+    are_reads = all(root.call and root.call.name in READING for root in hang.roots)
+    has_reason = hang.has_reason and (hang.is_deadlock or hang.waiting > 0)
+    rank = 0 if is_certain and (has_reason or not are_reads) else 1 if has_reason else 2 if is_certain else 3
+    return hang.is_of_go, hang.is_quiet, rank, -hang.waiting, hang.root.since
+
+
+@lru_cache(maxsize=4)
+def graph_at(recording: Recording, position: int) -> WaitGraph:
+    """The graph of a recording at a position."""
+    return WaitGraph(recording, position)

@@ -1,0 +1,74 @@
+"""The goroutines that wait at a recording's end and don't go on: each in a call of a socket, or outside of the poller."""
+
+from functools import lru_cache
+from typing import NamedTuple, Optional
+
+from ..one_call import Call
+from ..recording import Recording
+from ..where import OF_THE_PROGRAM, Stack
+from ..waits import ALL_REQUESTS, Name, Waiting, waits_of
+from .index import READING, WRITING, Index
+from .words import is_of_a_lock, is_of_the_program
+
+TICKERS = ("time.NewTicker", "time.Tick", "time.(*Ticker).Reset")
+
+
+class Waiter(NamedTuple):
+    """A goroutine that waits and doesn't go on: since which step, its stack, and its call of a socket or its wait for something else."""
+
+    name: Name
+    since: int
+    stack: Stack
+    call: Optional[Call] = None
+    wait: Optional[Waiting] = None
+
+    @property
+    def is_of_go(self) -> bool:
+        """Whether Go's own code waits there alone, as net/http does between two requests."""
+        return bool(self.stack.calls) and not any(call.of == OF_THE_PROGRAM for call in self.stack.calls)
+
+
+def is_waiting(index: Index, call: Call) -> bool:
+    """Whether a call sleeps at the recording's end, for the other end or for a lock, and is no listener's."""
+    is_asleep = call.name in READING + WRITING and index.book.sleeps_at_the_end(call)
+    return is_asleep and not index.is_listening(call)
+
+
+def waiters_at(index: Index, position: int) -> dict[Name, Waiter]:
+    """The goroutines that wait at a position and don't go on in the recording. Listeners and sleepers aren't among them, and
+    outside of the poller no goroutine that runs Go's own code alone."""
+    recording, found = index.recording, dict[Name, Waiter]()
+    for wait in waits_of(recording).left(position):
+        if (
+            is_of_the_program(wait.stack)
+            and not is_of_a_lock(wait.stack)
+            and not wait.is_asleep
+            and not is_timed(recording, wait)
+        ):
+            found[wait.name] = Waiter(wait.name, wait.first, wait.stack, None, wait)
+    for call in index.book.calls:
+        if not call.last and call.first <= position and is_waiting(index, call):
+            name = Name(call.goroutine)
+            found[name] = Waiter(name, call.first, recording.lines.of(call.first), call)
+    return found
+
+
+def is_timed(recording: Recording, wait: Waiting) -> bool:
+    """Whether a wait ends by itself: at a ticker's channel, or at a timer's that is to go off after all that the recording has."""
+    lines = recording.lines
+    if wait.kind == ALL_REQUESTS:  # (which looks again and again)
+        return False
+    return any(
+        timer.due > last_time_of(recording) or any(call.function in TICKERS for call in lines.stacks[timer.stack].calls)
+        for at in wait.objects
+        for timer in lines.timers.get(at.object, ())[-1:]
+    )
+
+
+@lru_cache(maxsize=2)
+def last_time_of(recording: Recording) -> int:
+    """The last time that the lines of a recording have."""
+    lines = recording.lines
+    of_uses = max((use.end for uses in lines.uses.values() for use in uses), default=0)
+    of_parks = max((max(park.begin, park.end) for parks in lines.parks.values() for park in parks), default=0)
+    return max(of_uses, of_parks, lines.times[-1] if lines.times else 0)

@@ -1,0 +1,25 @@
+"""The changes of a recording by one run of `netrev changes`, for who has no session. The machine in Python takes many times as long to say
+them."""
+
+import subprocess
+from typing import Optional
+
+from netrev_words.command_lines import file_word
+
+from .changed_lines import NoChanges
+from .recorded_changes import RecordedChanges
+from .recording import Recording
+
+AT_LEAST, A_STEP = 5, 0.00005  # seconds that netrev gets, and more for each step: the model takes about that long
+
+
+def printed_changes(netrev: str, path: str, recording: Recording) -> Optional[RecordedChanges]:
+    """What netrev says that the steps of the recording in a file change; None if it can't be asked, takes as long as the model would, or
+    refuses the recording."""
+    words, seconds = [netrev, "changes", file_word(path)], AT_LEAST + A_STEP * recording.length
+    try:
+        run = subprocess.run(words, stdin=subprocess.DEVNULL, capture_output=True, timeout=seconds, check=False)
+        changes = RecordedChanges.read([run.stdout])
+    except (OSError, subprocess.TimeoutExpired, NoChanges):
+        return None
+    return None if run.returncode or changes.fault or changes.length != recording.length else changes

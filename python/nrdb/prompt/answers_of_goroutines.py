@@ -1,0 +1,63 @@
+"""What nrdb answers about where the session and one goroutine are: `goroutine N` shows its stack and the source, and `where`, `frame`, `up` and
+`down` go by it then."""
+
+from typing import Optional
+
+from netrev_words.vocabulary import number_of
+
+from ..goroutine_stacks import GoroutineStack, stack_of
+from ..session import Answering, Misused, Session
+from ..waits import Name
+from ..where import stack_lines
+from .answers_of_calls import usage
+from .answers_of_program import show_frame, stack_at
+
+
+def answer_where(session: Session, words: list[str]) -> None:
+    position, length, direction = session.stands()
+    session.printer.note(f"at {position} of {length} {direction}")
+    session.printer.place(session.place(position))
+    if session.recording and session.goroutine and (found := stack_of(session.recording, session.goroutine, position)):
+        show(session, found)
+    elif session.recording and (lines := stack_lines(stack_at(session))):
+        session.printer.note("\n".join(lines))
+    if session.recording and (tests := session.recording.lines.tests_at(position)):
+        session.printer.note(f"while these tests ran: {', '.join(tests)}")
+
+
+def answer_goroutine(session: Session, words: list[str]) -> None:
+    """Chooses a goroutine; without words, the chosen one, else that of the last step."""
+    recording, position = session.text(), session.stands().position
+    name = named(words) if words else session.goroutine or of_step(session, position)
+    if name is None:
+        raise Misused(f"{usage('goroutine')}; N is a number")
+    found = stack_of(recording, name, position)
+    if found is None:
+        raise Misused(f"{name} has neither a step nor a wait up to position {position}: info goroutines all")
+    session.goroutine, session.frame, session.is_before = name, None, False
+    show(session, found)
+    if found.stack.calls:
+        show_frame(session, found.stack, None)
+
+
+def show(session: Session, found: GoroutineStack) -> None:
+    """The line of a goroutine, and its stack."""
+    session.printer.note("\n".join([found.words(), *stack_lines(found.stack)]))
+
+
+def named(words: list[str]) -> Optional[Name]:
+    """The goroutine that words name: `12`, or `goid 34` for one that has no step."""
+    number = number_of(words[-1])
+    is_goid = len(words) == 2 and words[0] == "goid"
+    return None if number is None or len(words) > 1 + is_goid else Name(number, is_goid)
+
+
+def of_step(session: Session, position: int) -> Optional[Name]:
+    """The goroutine of the last step that one made."""
+    if not position:
+        return None
+    maker = session.text().step(position).argument("g")
+    return None if maker is None else Name(maker)
+
+
+OF_GOROUTINES: dict[str, Answering] = {"goroutine": answer_goroutine, "where": answer_where}

@@ -1,0 +1,151 @@
+"""What `netrev suspects FILE` lists of a recording: each line as netrev printed it, and what it says. netrev is asked once. An older one,
+which has no such program, lists nothing, and neither does one that fails: the rules of `info suspects` go by nrdb's own notes then
+(`suspects/reckoned.py`)."""
+
+import re
+import subprocess
+from typing import Iterable, NamedTuple, Optional
+
+from .interrupts import Interrupts
+from .noted import By
+
+PAUSE = 0.05  # seconds between two looks whether Ctrl-C came
+LOST_WAKE_UP = re.compile(r"at \d+ lost-wakeup gor (\d+) desc (\d+) ([rw]) event (\d+) taken (\d+) by (\d+)")
+ASLEEP = re.compile(
+    r"at \d+ asleep gor (\d+) desc (\d+) (?:(r) because (?:closing|deadline|error|bytes|end)|(w) because (?:closing|deadline|shut|room))"
+)
+HELD_REFERENCE = re.compile(r"at \d+ held-reference sock (\d+) gor (\d+) count (\d+) since (\d+)( gone)?")
+OF_A_DEADLINE = re.compile(
+    r"at (\d+) (?:passed-deadline|(timeout|taken-back) gor (\d+)) "
+    r"desc (\d+) ([rw]) set (\d+) by (\d+) (rw?|w)(?: moved (\d+) by (\d+))?"
+)
+LAST = re.compile(r"ok (\d+) steps")
+
+
+class LostWakeUp(NamedTuple):
+    """A goroutine that is parked at a side whose last event was taken, and at which no try was answered EAGAIN since."""
+
+    line: str
+    goroutine: int
+    descriptor: int
+    side: str
+    event: int  # its step
+    taken: int  # the step that took the readiness, and who made it
+    by: int
+
+
+class HeldReference(NamedTuple):
+    """A goroutine that took so many more references of a closed socket than it gave back, the last one at step `since`."""
+
+    line: str
+    socket: int
+    goroutine: int
+    references: int
+    since: int
+    is_gone: bool
+
+
+class OfDeadline(NamedTuple):
+    """What came of the deadline of a side at a step, what had set it, for which sides, and the first setting after that of the other side
+    alone. It passed, a goroutine's call ended with it, or it was taken back before that goroutine looked."""
+
+    line: str
+    step: int
+    goroutine: Optional[int]
+    descriptor: int
+    side: str
+    setting: By
+    sides: str
+    moved: Optional[By]
+
+
+class Listed:
+    """The suspects of a list: lost wake-ups, the lines of goroutines that sleep although their side has to be answered, by goroutine,
+    descriptor and side, held references by socket and goroutine, and what came of deadlines: those that passed, the calls that ended, by
+    step, and those that were taken back, by step, descriptor and side."""
+
+    def __init__(self, lines: Iterable[str] = ()) -> None:
+        self.lost_wake_ups: list[LostWakeUp] = []
+        self.asleep: dict[tuple[int, int, str], str] = {}
+        self.held_references: dict[tuple[int, int], HeldReference] = {}
+        self.passed_deadlines: list[OfDeadline] = []
+        self.timeouts: dict[int, OfDeadline] = {}
+        self.taken_back: dict[tuple[int, int, str], OfDeadline] = {}
+        for line in lines:
+            self._take(line)
+
+    def _take(self, line: str) -> None:
+        """Takes a line; one of no known form says nothing to the rules."""
+        if found := OF_A_DEADLINE.fullmatch(line):
+            self._take_deadline(line, *found.groups())
+        elif found := HELD_REFERENCE.fullmatch(line):
+            s, g, references, since = map(int, found.groups()[:4])
+            self.held_references[s, g] = HeldReference(line, s, g, references, since, found[5] is not None)
+        elif found := LOST_WAKE_UP.fullmatch(line):
+            goroutine, d, side, *steps = found.groups()
+            self.lost_wake_ups.append(LostWakeUp(line, int(goroutine), int(d), side, *map(int, steps)))
+        elif found := ASLEEP.fullmatch(line):
+            goroutine, d, reading, writing = found.groups()
+            self.asleep[int(goroutine), int(d), reading or writing] = line
+
+    def _take_deadline(self, line: str, step: str, came: Optional[str], g: str, d: str, side: str, *due: str) -> None:
+        set_at, set_by, sides, moved_at, moved_by = due
+        setting, moved = By(int(set_at), int(set_by)), By(int(moved_at), int(moved_by)) if moved_at else None
+        found = OfDeadline(line, int(step), int(g) if came else None, int(d), side, setting, sides, moved)
+        if came is None:
+            self.passed_deadlines.append(found)
+        elif came == "timeout":
+            self.timeouts[found.step] = found
+        else:
+            self.taken_back[found.step, found.descriptor, side] = found
+
+
+class SuspectList:
+    """The list of a recording's file, for which netrev is started when it is needed first."""
+
+    def __init__(self, program: str, path: str, interrupts: Interrupts) -> None:
+        self._words, self._interrupts = [program, "suspects", path], interrupts
+        self._process: Optional["subprocess.Popen[bytes]"] = None
+        self._lines: Optional[list[str]] = None
+
+    def prepare(self) -> None:
+        """Starts netrev, if that hasn't been done."""
+        if self._process is not None or self._lines is not None:
+            return
+        try:
+            with self._interrupts.shielded():
+                self._process = subprocess.Popen(
+                    self._words,
+                    stdin=subprocess.DEVNULL,
+                    stdout=subprocess.PIPE,
+                    stderr=subprocess.DEVNULL,
+                    start_new_session=True,
+                )
+        except OSError:
+            self._lines = []
+
+    def of(self, length: int) -> Optional[Listed]:
+        """What is listed of a recording of so many steps; None if netrev has no list of it."""
+        if self._lines is None:
+            self._lines = self._read()
+        *lines, last = self._lines or [""]
+        found = LAST.fullmatch(last)
+        return Listed(lines) if found and int(found[1]) == length else None
+
+    def _read(self) -> list[str]:
+        """All lines, when netrev has ended; none if it failed."""
+        self.prepare()
+        while self._process is not None:
+            self._interrupts.check()
+            try:
+                output, _ = self._process.communicate(timeout=PAUSE)
+            except subprocess.TimeoutExpired:
+                continue
+            return [] if self._process.returncode else output.decode("ascii", "replace").splitlines()
+        return []
+
+    def drop(self) -> None:
+        """Ends netrev, if its output hasn't been read."""
+        if self._process is not None and self._lines is None:
+            self._process.kill()
+            self._process.communicate()

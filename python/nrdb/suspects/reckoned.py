@@ -1,0 +1,44 @@
+"""The facts of `netrev suspects` by nrdb's own notes: of steps that are only played (`explore`, `reduce`), and with an older netrev. They have no
+lines. (Of references and of what was taken back the rules have all that they need in the notes.)"""
+
+from typing import Iterator, Optional
+
+from ..noted import AT, By, Due
+from ..noted_goroutines import PARKED
+from ..notes import Notes
+from ..suspect_list import Listed, LostWakeUp, OfDeadline
+
+
+def by_the_notes(notes: Notes) -> Listed:
+    """All of them."""
+    facts = Listed()
+    facts.lost_wake_ups += lost_wake_ups(notes)
+    facts.passed_deadlines += passed_deadlines(notes)
+    for one in notes.timeouts:
+        facts.timeouts[one.step] = of_deadline(one.step, one.goroutine, one.descriptor, one.side, one.due)
+    return facts
+
+
+def lost_wake_ups(notes: Notes) -> Iterator[LostWakeUp]:
+    """Each goroutine that is parked at a side, if no try was answered EAGAIN after the side's last event."""
+    for g, goroutine in notes.goroutines.items():
+        if notes.status(g) == PARKED:
+            side, use = goroutine.status.side, notes.use_of[goroutine.status.number]
+            event, taken = use.last_event(side), use.taken[AT[side]]
+            if taken and event > notes.again[side].get(use.socket, 0):
+                yield LostWakeUp("", g, use.descriptor, side, event, taken.step, taken.goroutine)
+
+
+def passed_deadlines(notes: Notes) -> Iterator[OfDeadline]:
+    """Each deadline that passed by a firing."""
+    for use in notes.uses:
+        for side, passings in zip("rw", use.passings):
+            for step, kind, due in passings:
+                if kind == "fire":
+                    yield of_deadline(step, None, use.descriptor, side, due)
+
+
+def of_deadline(step: int, g: Optional[int], d: int, side: str, due: Due) -> OfDeadline:
+    """What came of a deadline at a step."""
+    setting, moved = due.setting, due.moved and By(due.moved.step, due.moved.goroutine)
+    return OfDeadline("", step, g, d, side, By(setting.step, setting.goroutine), setting.mode, moved)

@@ -1,0 +1,27 @@
+"""End not passed on: a goroutine that only read at one connection and only wrote to another met the end of the stream and had written all; it
+never closed the other connection for writing, and the Read at its other end hangs."""
+
+from typing import Iterator
+
+from ...causes.unpassed_ends import UnpassedEnd, unpassed_ends
+from ..found import Evidence, Suspect, Weight
+from ..run import Run
+
+
+def rule(run: Run) -> Iterator[Suspect]:
+    for end in unpassed_ends(run.calls):  # (where the recording says which sockets are one connection's ends)
+        yield suspect_of(run, end)
+
+
+def suspect_of(run: Run, end: UnpassedEnd) -> Suspect:
+    first, second = (says.removesuffix(".") for says in end.says(run.recording))
+    return Suspect(
+        end.met.last,
+        Weight.LIKELY,
+        [first[0].lower() + first[1:], second],
+        goroutine=end.met.goroutine,
+        socket=end.wrote.socket,
+        evidence=[Evidence(run.end, f"shut {end.wrote.socket}", "0")],
+        looks=[f"goto {end.met.last}", f"calls gor {end.met.goroutine}"],
+        steps=[end.wrote.first, end.met.last, end.waits.first],
+    )

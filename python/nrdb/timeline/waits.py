@@ -1,0 +1,65 @@
+"""The waits outside of the poller as the page draws them, also those of goroutines that touch no socket."""
+
+from typing import Any
+
+from ..causes.http_requests import requests_of
+from ..causes.index import index_of
+from ..causes.words import place_in, short
+from ..recording import Recording
+from ..waits import Name, Waiting, waits_of
+from ..where import OF_THE_PROGRAM
+from .calls import Data, Texts, program_calls, runs_in
+
+MOST_ROWS, MOST_WAITS = 200, 20_000  # goroutines without steps that have a row, and waits
+
+
+def waits_data(recording: Recording) -> Data:
+    """The waits of a recording: `rows`, each with its goroutine, behind which step it begins and up to which it lasts (0: it doesn't end),
+    and what the goroutine does, its line and its stack, as places in `texts`. A goroutine without steps is in `others`, by Go's name of it
+    with what it runs, and has the number -1 less its place there. `left_out` are goroutines and waits for which a page has no room: the
+    waits that don't end come first, then the newest."""
+    waits, texts = waits_of(recording), Texts({"": 0})
+    shown = {name: list(filter(is_long, some)) for name, some in waits.of.items()}
+    others = [name for name, some in shown.items() if some and name.is_goid]
+    others.sort(key=lambda name: rank(shown[name]))
+    numbers: dict[Name, int] = {name: -1 - place for place, name in enumerate(others[:MOST_ROWS])}
+    every = [wait for name, some in shown.items() if not name.is_goid or name in numbers for wait in some]
+    every.sort(key=lambda wait: (wait.last is not None, -wait.first))
+    rows = [
+        [
+            numbers.get(wait.name, wait.name.number),
+            wait.first,
+            wait.last or 0,
+            *(texts[text] for text in (wait.does, wait.stack.words(), program_calls(wait.stack))),
+        ]
+        for wait in every[:MOST_WAITS]
+    ]
+    return {
+        "rows": sorted(rows, key=lambda row: row[1]),
+        "others": [[name.number, runs(shown[name])] for name in numbers],
+        "texts": list(texts),
+        "left_out": [len(others[MOST_ROWS:]), len(every[MOST_WAITS:])],
+    }
+
+
+def requests_data(recording: Recording) -> dict[int, list[str]]:
+    """Of each socket on which net/http's client wrote requests the lines of these, each once."""
+    found: dict[int, dict[str, None]] = {}
+    for request in requests_of(index_of(recording)):
+        found.setdefault(request.socket, {})[place_in(request.stack).strip().removeprefix("at ")] = None
+    return {socket: list(places) for socket, places in found.items()}
+
+
+def is_long(wait: Waiting) -> bool:
+    """Whether a wait was under way at some position."""
+    return wait.last is None or wait.last > wait.first
+
+
+def rank(waits: list[Waiting]) -> tuple[bool, int]:
+    """The goroutines that wait at the end come first, then those that waited last."""
+    return waits[-1].last is not None, -waits[-1].first
+
+
+def runs(waits: list[Waiting]) -> str:
+    """The outermost function of the program that a goroutine is in; empty if it is in none."""
+    return short(next((found for wait in waits if (found := runs_in(wait.stack, OF_THE_PROGRAM))), ""))
