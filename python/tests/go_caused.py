@@ -1,5 +1,5 @@
-"""Records the programs of tools/go/samples/causes and oversights with the `go` on the PATH, bad and good, and says whether the line of
-each bug stands in what is printed first:
+"""Records the programs of tools/go/samples/causes, oversights, roots, turns, gone, skips and joins with the `go` on the PATH, bad and good, and says whether the
+line of each bug stands in what is printed first:
 
     python3 python tests.go_caused [FOLDER]    keeps the recordings in FOLDER, as in python/tests/caused"""
 
@@ -9,7 +9,8 @@ import subprocess
 import sys
 import tempfile
 
-from netrev_go.converting import program_of
+from netrev_go.converting import everybody_of, program_of
+from netrev_go.line_reader import line_reader
 from netrev_go.lines import Roots, lines_of
 from netrev_go.logfile import read_log
 from netrev_go.making import make, write
@@ -21,12 +22,25 @@ from nrdb.causes import first_words
 from nrdb.recording import Recording
 from nrdb.suspects.ranking import all_suspects_of
 
-SOURCE, OVERSIGHTS = SAMPLES / "causes/main.go", SAMPLES / "oversights/main.go"
+SOURCE, OVERSIGHTS, ROOTS, TURNS, GONE, SKIPS, JOINS = (
+    SAMPLES / name / "main.go" for name in ("causes", "oversights", "roots", "turns", "gone", "skips", "joins")
+)
 NAMES = {
     SOURCE: ("idleClose", "half", "stale", "left", "once", "pool", "piece", "both", "body"),
     OVERSIGHTS: (
         "forgotten", "earlier", "unread", "dead", "mutex", "waiting", "writers", "dialBack", "shutdown",
     ),
+    ROOTS: ("hub", "bodies", "relay", "slots", "itself"),
+    TURNS: (
+        "doubled", "ring", "undone", "unflushed", "longer", "queued", "dropped", "limited", "cancelled", "expired", "unwoken", "stays",
+        "uncounted", "overdue",
+    ),
+    GONE: (
+        "unmatched", "missed", "quits", "skipped", "surplus", "stilled", "elsewhere", "reread", "nested", "readahead", "unanswered",
+        "outlived",
+    ),
+    SKIPS: ("kept", "opened", "counted", "buffered", "timed", "ending", "swallowed", "mute"),
+    JOINS: ("gaveup", "guarded", "rounds", "uncased", "pooled", "stuck", "polled"),
 }  # fmt: skip
 
 
@@ -56,11 +70,12 @@ def recorded(go: Go, program: pathlib.Path, words: list[str], name: pathlib.Path
         read = read_log(log)
         made = make(read, all_bytes=False)
         roots = Roots(go.sources(), pathlib.Path.cwd())
-        used = set(made.stacks) | {wait.stack for wait in made.beside.waits}
-        calls = lines_of(read, used, program_of(log, read.program), go.program, roots)
+        used = set(made.stacks) | made.everybody.stacks()
+        calls = lines_of(read, used, program_of(log, read.program), line_reader(go), roots)
     write(made, name)
     more = [{"bytes": made.bytes}] if made.bytes else []
-    write_where(name.with_suffix(".where"), made.stacks, calls, made.orders, made.beside, more)
+    everybody = everybody_of(made, made.everybody, calls)
+    write_where(name.with_suffix(".where"), made.stacks, calls, made.orders, made.beside, more, made.times, everybody)
     return run.returncode
 
 

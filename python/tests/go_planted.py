@@ -178,3 +178,17 @@ class Planted(unittest.TestCase):
             status, said = self.called("doctor")
             self.assertEqual(status, 0, said)
             self.assertIn(f"  {without}\n", said)
+
+    def test_without_the_objects_of_waits_all_else_is_recorded(self) -> None:
+        parks = "gopark(parkunlock_c, unsafe.Pointer(&root.lock), reason, traceBlockSync, 3+skipframes)"
+        changes: list[Change] = [
+            ("runtime/sema.go", {"goparkunlock(&root.lock, reason, traceBlockSync, 4+skipframes)": parks})
+        ]
+        without = (
+            "without the objects at which goroutines wait: runtime/sema.go semacquire1: goparkunlock(&root.lock, ...) stands there "
+            "0 times, not 1"
+        )
+        with self.planted(changes):
+            status, said = self.called("doctor")
+            self.assertEqual(status, 0, said)
+            self.assertIn(f"  {without}\n", said)

@@ -7,6 +7,7 @@ import sys
 
 from netrev_fuzz.logs import to_text
 from netrev_go.converting import program_of
+from netrev_go.line_reader import line_reader
 from netrev_go.lines import looked_up
 from netrev_go.logfile import read_log
 from netrev_go.toolchain import find_go
@@ -16,7 +17,7 @@ def main(path: pathlib.Path) -> None:
     log, go = read_log(path), find_go()
     stacks = [log.stacks[point.stack] for point in log.points if point.stack in log.stacks]
     addresses = {address - 1 for stack in stacks for address in (stack.made, *stack.calls) if address}
-    print(to_text(log, looked_up(program_of(path, log.program), go.program, addresses, 0)), end="")
+    print(to_text(log, looked_up(program_of(path, log.program), line_reader(go), addresses, 0)), end="")
 
 
 if __name__ == "__main__":

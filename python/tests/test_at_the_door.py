@@ -63,6 +63,7 @@ class Completion(unittest.TestCase):
         self.assertEqual(self.completed("netrev-go", "--until", 3), ["--until-failure"])
         self.assertEqual(self.completed("nrdb", "--sus", 1), ["--suspects"])
         self.assertEqual(self.completed("netrev", "ch", 1), ["check", "changes"])
+        self.assertEqual(self.completed("netrev", "s", 1), ["suspects", "serve"])
         self.assertEqual(self.completed("netrev", "x", 2), [])
 
     @unittest.skipUnless(shutil.which("zsh"), "no zsh is on this machine")

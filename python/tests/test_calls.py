@@ -9,6 +9,7 @@ from netrev_fuzz.injections import Bug, Traffic
 from netrev_fuzz.little_go import Turns
 from nrdb.calls import book_of
 from nrdb.one_call import Call, Outcome
+from netrev_fuzz.injections import Traffic
 from nrdb.causes import errors_table
 from nrdb.following import GOALS, Stay, Subject, calls_table, goroutine_at, steps_table
 from nrdb.recording import Recording
@@ -135,10 +136,24 @@ class Calls(unittest.TestCase):
             failed = {made.first for made in traffic.told if made.last and made.outcome in ENDS.values()}
             rows = [row for row in table.rows if row.values]  # (those without say why)
             told = {row.values["first"] for row in rows}
-            early = {made.first for made in traffic.told if made.first in failed and made.last <= at}
-            self.assertLessEqual(early, told)
-            self.assertEqual(told & failed, early)
-            self.assertTrue(all(row.values["last"] <= at and row.values["outcome"] for row in rows))
+            self.assertLessEqual(failed, told)
+            self.assertTrue(all(row.values["outcome"] for row in rows))
+            self.assertEqual(
+                [row.values["last"] > at for row in rows], [row.values.get("later", False) for row in rows]
+            )
+            self.assertEqual([row.text.endswith("(later)") for row in rows], [row.values["last"] > at for row in rows])
+
+    def test_of_many_errors_the_nearest_are_shown(self) -> None:
+        recording = Recording(Traffic(3, None, 3000).run().text())
+        every = [row.values for row in errors_table(recording, recording.length, None).rows if row.values]
+        self.assertGreater(len(every), 8)
+        at = sorted(row["last"] for row in every)[3]
+        table = errors_table(recording, at, 6)
+        self.assertEqual([row.values.get("later", False) for row in table.rows if row.values], [False] * 4 + [True] * 2)
+        self.assertIn(f"{len(every) - 6} later ones: info errors all", table.rest)
+        table = errors_table(recording, at, 2)
+        self.assertEqual([row.values.get("later", False) for row in table.rows if row.values], [False] * 2)
+        self.assertIn("2 earlier ones: info errors all", table.rest)
 
 
 class Going(unittest.TestCase):

@@ -7,12 +7,15 @@ import os
 import unittest
 from pathlib import Path
 from typing import Any, Iterator, NamedTuple
+from unittest.mock import patch
 
 from netrev_fuzz.injections import Traffic
 from nrdb.causes import errors_table, first_words
+from nrdb.causes.failing import cause_of
 from nrdb.causes.index import index_of
 from nrdb.causes.source import behind
 from nrdb.causes.tables import hangs_table
+from nrdb.causes.unpassed_ends import SETTLED
 from nrdb.causes.words import duration
 from nrdb.recording import Recording
 from nrdb.suspects.rules_of_calls.left_open import SINCE
@@ -43,6 +46,7 @@ def writes(g: int) -> Steps:
     return [*put, ["waitbegin", g, g, "w"], ["blockarm", g], ["blockcheck", g], ["parkcommit", g]]
 
 
+CLOSES_IT: Steps = [["increfclose", 0, 0], ["evict", 0, 0], ["decref", 0, 0], ["pollclose", 0, 0]]
 CLOSES: Steps = [["increfclose", 0, 1], ["evict", 0, 1], ["decref", 0, 1], ["pollclose", 0, 1]]
 SECOND: Steps = [["arrive", 0, "6869"], ["rwlock", 0, 0, "r"], ["pollreset", 0, 0, "r"], ["sysread", 0, 0, 16]]
 TAKES_TURN: Steps = [["rwlock", 0, 0, "r"], ["acquire", 0], *UNLOCKS, ["release", 1], ["acquire", 0], *SECOND]
@@ -55,11 +59,50 @@ class Pair(NamedTuple):
     good: Steps
 
 
+DEADLINE: Steps = [["incref", 1, 0], ["setdeadline", 1, 0, "r", 5], ["decref", 1, 0]]
+REST: Steps = [
+    ["rwlock", 1, 0, "r"],
+    ["pollreset", 1, 0, "r"],
+    ["sysread", 1, 0, 14],
+    ["waitbegin", 1, 0, "r"],
+    ["blockarm", 1],
+]
+GIVES_UP: Steps = [*REST, ["blockcheck", 1], ["parkcommit", 1], *PASSES, ["blockswap", 1], ["waitcheck", 1], *UNLOCKS]
+PARTLY: Steps = [
+    *OPEN,
+    *DEADLINE,
+    *GETS,
+    *UNLOCKS,
+    *GIVES_UP,
+    ["incref", 1, 0],
+    ["setdeadline", 1, 0, "r", 0],
+    ["decref", 1, 0],
+]
+
+
+def asks(count: int) -> Steps:
+    """A Read that asks for so many bytes and gets two."""
+    return [["arrive", 0, "6869"], ["rwlock", 1, 0, "r"], ["pollreset", 1, 0, "r"], ["sysread", 1, 0, count], *UNLOCKS]
+
+
+READER: Steps = [["rwlock", 0, 1, "r"], ["pollreset", 0, 1, "r"], ["sysread", 0, 1, 16], ["waitbegin", 0, 1, "r"]]
+THREE: Steps = [
+    *TWO_ENDS,
+    ["sockopen", 16, 16],
+    ["pollopen", 0, 2],
+    *READER,
+    ["blockarm", 0],
+    ["blockcheck", 0],
+    ["parkcommit", 0],
+]
+TAKES: Steps = [["rwlock", 1, 2, "r"], ["pollreset", 1, 2, "r"], ["sysread", 1, 2, 16], ["rwunlock", 1, 2, "r"]]
+PUTS: Steps = [["rwlock", 1, 0, "w"], ["pollreset", 1, 0, "w"], ["syswrite", 1, 0, "6869"], ["rwunlock", 1, 0, "w"]]
+RELAYS: Steps = [*THREE, ["arrive", 2, "6869"], *TAKES, *PUTS, ["peerclose", 2], *TAKES]
+SHUTS: Steps = [["incref", 1, 0], ["closewrite", 1, 0], ["decref", 1, 0]]
+TICKS: Steps = [["tick", time] for time in range(1, SETTLED + 1)]
 PAIRS = {
-    "deadline of an earlier call": Pair(
-        OPEN + SETS + GETS + UNLOCKS + PASSES + LATE,
-        OPEN + GETS + UNLOCKS + SETS + PASSES + LATE,
-    ),
+    "end not passed on": Pair(RELAYS + TICKS, RELAYS + SHUTS + TICKS),
+    "bytes thrown away": Pair(PARTLY + asks(16), PARTLY + asks(14)),
     "timeout again and again": Pair(OPEN + SETS + PASSES + LATE * MANY, OPEN + SETS + PASSES + LATE * (MANY - 1)),
     "both ends write": Pair(TWO_ENDS + writes(0) + writes(1), TWO_ENDS + writes(0) + writes(1)[:-1]),
     "left open": Pair(
@@ -130,7 +173,7 @@ class Causes(unittest.TestCase):
     def test_calls_that_wait_for_one_another(self) -> None:
         recording = Recording.read(str(CAUSED / "both-bad.jsonl"))
         rows = hangs_table(recording, recording.length).rows
-        self.assertEqual(rows[0].text, "Two calls wait for one another.")
+        self.assertEqual(rows[0].text, "Deadlock: two calls wait for one another.")
         self.assertEqual(rules_of(recording), ["both ends write"])
         self.assertEqual(hangs_table(recording, 10).rows, [])
 
@@ -144,7 +187,7 @@ class Causes(unittest.TestCase):
     def test_a_write_needs_room_also_where_its_reader_has_shut_its_own_writing(self) -> None:
         told = "\n".join(first_words(Recording.read(str(CAUSED / "unread-bad.jsonl")), "unread"))
         self.assertRegex(told, r"Write at main.go:\d+ in unread.func1 .* waits on socket 3")
-        self.assertIn("It needs room, which a read makes at its other end, socket 2.", told)
+        self.assertIn("Socket 3 has no room: its other end, socket 2, was never read.", told)
         self.assertNotIn("closed for writing", told)
 
     def test_pieces_of_two_messages_that_are_mixed(self) -> None:
@@ -165,6 +208,14 @@ class Causes(unittest.TestCase):
         table = errors_table(recording, recording.length, None)
         self.assertIn("ECONNRESET", table.rows[0].text)
         self.assertRegex(table.rows[1].text, r"The other end, socket 2, was closed in net/http")
+
+    def test_of_calls_that_fail_alike_one_cause_is_looked_for(self) -> None:
+        """A program that spins at a closed descriptor has a failed call for each step."""
+        recording = with_lines([*OPEN, *CLOSES_IT, *[["rwlock", 1, 0, "r"]] * 500])
+        with patch("nrdb.causes.first.cause_of", wraps=cause_of) as looks:
+            told = first_words(recording, "spin")
+        self.assertEqual(looks.call_count, 1)
+        self.assertIn("499 more like it.", told[2])
 
     def test_the_source_is_shown_to_the_end_of_its_function(self) -> None:
         self.assertEqual(behind(["func f() {", "\tx()", "}", "", "y"], 2), [(2, "    x()")])
@@ -196,14 +247,49 @@ class Rules(unittest.TestCase):
                 self.assertNotIn(rule, rules_of(with_lines(pair.good)))
 
     def test_those_of_lines_and_of_other_ends_say_nothing_without(self) -> None:
-        for rule in {rule.name for rule in RULES_OF_CALLS} - {"timeout again and again"}:
+        for rule in {rule.name for rule in RULES_OF_CALLS} - {"timeout again and again", "bytes thrown away"}:
             self.assertNotIn(rule, rules_of(recording_of(PAIRS[rule].bad)), rule)
+
+    def test_an_end_that_was_not_passed_on_is_said_first(self) -> None:
+        recording = with_lines(PAIRS["end not passed on"].bad)
+        told = first_words(recording, "a.jsonl")
+        self.assertRegex(
+            told[0],
+            r"cause:  The end of a stream isn't passed on: Read at a.go:1 in main \(goroutine 1\) met it on socket 2",
+        )
+        self.assertIn("waits for it at the other end, socket 1", told[1])
+
+    def test_a_relay_that_has_not_written_all_or_reads_elsewhere_is_none(self) -> None:
+        for steps in (
+            [
+                *THREE,
+                *PUTS,
+                ["arrive", 2, "6869"],
+                *TAKES,
+                ["peerclose", 2],
+                *TAKES,
+                *TICKS,
+            ],  # (what it read last isn't written)
+            [*RELAYS, *TICKS[:-1]],  # (it may close yet)
+            [*RELAYS, *PUTS, *TICKS],
+        ):
+            self.assertNotIn("end not passed on", rules_of(with_lines(steps)))
+
+    def test_a_timeout_by_a_deadline_under_which_calls_went_well_is_no_suspect(self) -> None:
+        """It is said with the failed call: the line that set the deadline, and how many calls went well under it."""
+        for name in ("forgotten", "pool"):
+            recording = Recording.read(str(CAUSED / f"{name}-bad.jsonl"))
+            self.assertEqual(all_suspects_of(recording).suspects, [])
+            told = "\n".join(first_words(recording, name))
+            self.assertRegex(
+                told, rf"Its deadline was set at {bug_line(name)} in .*; 1 (Read|Write) went well under it"
+            )
 
     def test_go_s_own_code_is_not_suspected(self) -> None:
         for rule in {rule.name for rule in RULES_OF_CALLS} - {"both ends write"}:
             self.assertNotIn(rule, rules_of(with_lines(PAIRS[rule].bad, "go")), rule)
 
     def test_they_come_after_the_others_and_say_perhaps(self) -> None:
-        for rule in ("deadline of an earlier call", "left open", "two readers"):
+        for rule in ("left open", "two readers"):
             found = all_suspects_of(with_lines(PAIRS[rule].bad)).suspects
             self.assertTrue(found[-1].sentence().startswith("perhaps: "), rule)

@@ -8,7 +8,8 @@ from collections import Counter
 from pathlib import Path
 
 from nrdb.calls import book_of
-from nrdb.causes.hanging import hangs_at
+from nrdb.causes.index import index_of
+from nrdb.causes.waiters import is_waiting
 from nrdb.recording import Recording
 from nrdb.timeline.calls import FAILED, HANGS
 from nrdb.timeline.drawing import CLASS, LETTER, drawing, fitted
@@ -47,7 +48,8 @@ class Drawings(unittest.TestCase):
             kinds = Counter(node.get("class") for node in elements(picture, "rect"))
             calls = [one for one in book_of(recording).calls if one.socket >= 0]
             self.assertEqual(sum(kinds[kind] for kind in CLASS.values()), len(calls), name)
-            self.assertEqual(kinds[CLASS[HANGS]], len(hangs_at(recording, recording.length)), name)
+            hanging = [one for one in calls if not one.last and is_waiting(index_of(recording), one)]
+            self.assertEqual(kinds[CLASS[HANGS]], len(hanging), name)
             heads = [node.text for node in elements(picture, "text") if (node.text or "").startswith("connection ")]
             self.assertEqual(len(heads), len({one.socket for one in calls}))
             numbers = [node.text for node in elements(picture, "text") if node.get("class") == "count"]

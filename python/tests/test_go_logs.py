@@ -66,7 +66,7 @@ class Stored(unittest.TestCase):
                 with mock.patch.object(lines, "shift", return_value=0), mock.patch.object(
                     lines, "looked_up", return_value=symbols
                 ):
-                    calls = lines_of(log, set(recording.stacks), pathlib.Path("none"), "go", Roots(sources, here))
+                    calls = lines_of(log, set(recording.stacks), pathlib.Path("none"), ["go"], Roots(sources, here))
                 made = pathlib.Path(folder, "made.where")
                 write_where(made, recording.stacks, calls)
                 self.assertEqual(made.read_text(), (REAL / f"{name}.where").read_text())
@@ -138,7 +138,7 @@ class Reading(unittest.TestCase):
         points = opened(20)
         log = read(binary(points[:30] + points[31:]))
         self.assertEqual(len(log.points), 39)
-        self.assertIn("1 points were under way when the log ended, and are left out", log.notes)
+        self.assertIn("1 point was under way when the log ended, and is left out", log.notes)
 
     def test_so_many_may_be_missing_together_as_were_under_way(self) -> None:
         points = opened(100)
@@ -283,7 +283,7 @@ class Told(unittest.TestCase):
     def test_addresses_become_lines(self) -> None:
         told = "main.f\n/p/main.go:14\n?\n?:0\n"
         with mock.patch.object(lines.subprocess, "run", return_value=mock.Mock(stdout=told)):
-            self.assertEqual(looked_up(pathlib.Path("p"), "go", [5, 4], 0), {4: ("main.f", "/p/main.go", 14)})
+            self.assertEqual(looked_up(pathlib.Path("p"), ["go"], [5, 4], 0), {4: ("main.f", "/p/main.go", 14)})
 
     def test_without_go_there_is_a_recording_without_lines(self) -> None:
         with tempfile.TemporaryDirectory() as folder, mock.patch.object(

@@ -155,6 +155,16 @@ def test_a_run_whose_netrev_go_is_killed_is_offered_and_recovered(folder: Path) 
     assert "recover" not in stand_in.call("convert")[1]
 
 
+def test_a_run_in_another_folder_than_netrev_logs_names_is_not_offered(
+    folder: Path, monkeypatch: pytest.MonkeyPatch
+) -> None:
+    stand_in = StandIn(folder, RUNS)
+    killed(stand_in)
+    for place, count in ((stand_in.logs, 1), (folder, 0)):
+        monkeypatch.setenv("NETREV_LOGS", str(place))
+        assert len(left_runs()) == count
+
+
 def test_several_runs_that_were_cut_off_are_recovered_together(folder: Path) -> None:
     stand_in = StandIn(folder, RUNS)
     for _ in range(2):

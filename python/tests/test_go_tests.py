@@ -19,8 +19,9 @@ import pytest
 from netrev_fuzz.logs import binary
 from netrev_go import cli, converting, forms, report
 from netrev_go.cli import Status
-from netrev_go.cutting import sockets_of
+from netrev_go.cutting import goroutines_of, sockets_of
 from netrev_go.forms import Cause, Told
+from netrev_go.goroutines import goroutines_of as everybody
 from netrev_go.points import Kind, Log
 from netrev_go.ran import Ran, Tests, Went, of_log
 from netrev_go.running import FROM_THE_TERMINAL, SIGNALS, Limits, Runner
@@ -117,6 +118,20 @@ class Ranning(unittest.TestCase):
         tests = tests_of("1 1 1 package p\n1 2 1 runs T\n1 2 1 ends T\n2 3 1 runs T\n2 3 1 fails T\n2 3 1 ends T\n")
         self.assertEqual([test.went().value for test in tests.ran], ["passed", "failed"])
 
+    def test_a_bubble_of_synctest_is_part_of_the_test_of_its_name(self) -> None:
+        begins, ends, fails = "1 2 1 runs T\n1 3 1 runs T\n", "2 3 4 ends T\n", "2 3 3 fails T\ta.go:5\n"
+        for lines, went, seconds in (
+            (f"{begins}{ends}3 2 6 ends T\n", Went.PASSED, 5 / 10**9),
+            (f"{begins}{fails}{ends}3 2 6 ends T\n", Went.FAILED, 5 / 10**9),
+            (f"{begins}2 3 3 skips T\n{ends}3 2 6 ends T\n", Went.SKIPPED, 5 / 10**9),
+            (f"{begins}{ends}", Went.UNFINISHED, 0.0),
+            (f"{begins}{ends}3 4 5 runs T\n3 4 5 ends T\n3 2 6 ends T\n", Went.PASSED, 5 / 10**9),
+        ):
+            with self.subTest(lines=lines):
+                (test,) = tests_of(f"1 1 1 package p\n{lines}").ran
+                self.assertEqual((test.went(), test.goroutine), (went, 2))
+                self.assertAlmostEqual(test.seconds(), seconds)
+
 
 class Cutting(unittest.TestCase):
     def kept(self, name: str) -> list[int]:
@@ -133,6 +148,28 @@ class Cutting(unittest.TestCase):
 
     def test_another_one_has_none_of_them(self) -> None:
         self.assertEqual(self.kept("TestGreen"), [0, 2])
+
+    def test_a_test_has_no_goroutines_of_another_one(self) -> None:
+        """One that another test has left behind waits on; the main goroutine and those of its parts are kept, and what it shares by a socket."""
+        points = Points()
+        points.points += POINTS.points
+        left, channel = 40, 5_000
+        points.add(Kind.READY, RED, 0, left, 1)
+        for goroutine in (MAIN, RED, PART, GREEN, CHILD, left):
+            points.add(Kind.PARKS, goroutine, channel, 1).add(Kind.CHANNEL_CLOSED, goroutine, channel)
+            points.add(Kind.TIMER, goroutine, channel)
+        found = everybody([point._replace(time=1_600_000_000) for point in points.points], [], 0)
+        tests = tests_of(LINES)
+        rows: list[tuple[str, dict[int, int], set[int]]] = [
+            ("TestGreen", {}, {MAIN, GREEN}),
+            ("TestGreen", {left: 0}, {MAIN, GREEN, left}),
+            ("TestRed", {}, {MAIN, RED, PART, CHILD, left}),
+            ("TestRed/a_part", {}, {MAIN, RED, PART, CHILD, left}),
+        ]
+        for name, numbers, expected in rows:
+            kept = goroutines_of(tests.by_name[name], found, tests.ran, numbers)
+            parks, timers = {park.goroutine for park in kept.parks}, {timer.goroutine for timer in kept.timers}
+            self.assertEqual([parks, timers, {use.goroutine for use in kept.uses}], [expected] * 3, (name, numbers))
 
     def test_goroutines_that_made_each_other_are_nobodys(self) -> None:
         points = Points().add(Kind.READY, 5, 0, 6, 1).add(Kind.READY, 6, 0, 5, 1).opened(701, 901, g=5)

@@ -207,8 +207,15 @@ class Words(unittest.TestCase):
         for word, advice in FOREIGN.items():
             self.assertNotIn(word, COMMANDS, word)
             self.assertEqual(hint([word], UNKNOWN), advice)
-        for word in ("find", "locals", "stack", "rewind"):
+        for word in ("find", "locals", "rewind"):
             self.assertNotIn("did you mean", hint([word], UNKNOWN))
+
+    def test_words_of_other_debuggers_for_goroutines_and_stacks_are_taken(self) -> None:
+        for line, wanted in (
+            ("thread 3", "goroutine 3"), ("gr goid 41", "goroutine goid 41"), ("goroutines", "info goroutines"), ("threads all", "info goroutines all"),
+            ("stack", "where"), ("bt", "where"), ("g 12", "goto 12"), ("go 12", "goto 12"), ("goro 2", "goroutine 2"),
+        ):  # fmt: skip
+            self.assertEqual(" ".join(whole_words(line.split())), wanted)
 
     def test_each_advice_names_what_there_is(self) -> None:
         for word, advice in FOREIGN.items():

@@ -113,11 +113,17 @@ def test_a_command_that_is_printed_to_be_typed_next_has_to_run(room: Room) -> No
 
 def test_netrevs_answers_have_to_be_netrevs(tmp_path: Path) -> None:
     netrev = tmp_path / "netrev"
-    netrev.write_text("#!/bin/sh\ncat > /dev/null\necho at 3 end\necho wd 2 = -1\n")
+    listed = "[ $1 != suspects ] || { echo at 3 timeout; echo ok 3 steps; exit; }"
+    netrev.write_text(f"#!/bin/sh\n{listed}\ncat > /dev/null\necho at 3 end\necho wd 2 = -1\n")
     netrev.chmod(0o755)
     room = Room(tmp_path, {"PATH": os.defpath}, netrev=str(netrev))
-    room.play(command("    $ echo '| netrev: at 3 wd 2 = -1; at 4 wd 2 = -1' # a.jsonl\n"))
-    for false in ("at 3 wd 2 = -1; at 4 wd 2 = 0", "Read at a.go:1 ended with a timeout."):
+    room.play(command("    $ echo '| netrev: at 3 timeout; at 3 wd 2 = -1; at 4 wd 2 = -1' # a.jsonl\n"))
+    for false in (
+        "at 3 wd 2 = -1; at 4 wd 2 = 0",
+        "at 4 timeout; at 3 wd 2 = -1",
+        "ok 3 steps",
+        "Read at a.go:1 ended with a timeout.",
+    ):
         with pytest.raises(ReadmeError, match="gives this as netrev's answer, and it isn't: " + false):
             room.play(command(f"    $ echo '| netrev: {false}' # a.jsonl\n"))
 

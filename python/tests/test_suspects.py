@@ -17,7 +17,7 @@ from nrdb.suspects.ranking import suspects_of
 from nrdb.suspects.run import Run
 from tests.examples import ALL, EXAMPLES, REFUSED
 
-LIMITS = Limits(gor=4, sock=2, desc=2, buf=16)
+LIMITS = Limits(gor=4, sock=3, desc=3, buf=16)
 Steps = list[list[Any]]
 
 OPEN: Steps = [["spawn"], ["sockopen", 16, 16], ["pollopen", 0, 0]]

@@ -24,7 +24,8 @@ SAID = "isn't one of its form"
 
 # what stands in place of a line, counted from 0, and what is said of the file then
 WRONG: tuple[tuple[int, Any, str], ...] = (
-    (0, [], SAID), (0, {}, SAID), (0, {"where": 2, "steps": 2}, "another version"), (0, 7, SAID),
+    (0, [], SAID), (0, {}, SAID), (0, {"where": 3, "steps": 2}, "another version"),
+    (0, {"where": [], "steps": 2}, "another version"), (0, 7, SAID),
     (0, {"where": 1, "steps": 3}, "a recording of 3 steps, and this one has 2"), (0, {"where": 1, "steps": "\x1b"}, SAID),
     (1, CALL | {"of": []}, SAID), (1, CALL | {"of": {}}, SAID), (1, CALL | {"line": "3"}, SAID),
     (1, CALL | {"line": True}, SAID), (1, CALL | {"function": None}, SAID), (1, {"call": 1}, SAID),

@@ -14,6 +14,7 @@ MEGABYTE = 1 << 20
 NO_MEMORY = b"fault 108 memory\n"
 MOST = 1 << 30
 LOADS: list[int] = []
+STACK = 128 * 1024  # more than a stack grows by
 WALK = """stepi 4
 print lock 0
 dump in 0
@@ -96,11 +97,17 @@ def loads_in():
 
 
 def expect_walk(recording, replies):
+    """Sees that each line has its reply, and each reply is the right one. Gives how many commands were placed, and what is shown of the
+    position then."""
+    expect("how many replies", WALK.count("\n"), len(replies))
+    return expect_beginning(recording, replies)
+
+
+def expect_beginning(recording, replies):
     """Sees that each reply is the right one, or that memory ran out for it as docs/use/COMMANDS.md says: of a look, which
     may be asked again, or of a search, whose reply is owed then and given once by `resume`. Gives how many commands were
     placed, and what is shown of the position then."""
     state, placed, owed = State(), 0, None
-    expect("how many replies", WALK.count("\n"), len(replies))
     for line, came in zip(WALK.splitlines(), replies):
         asked = read_line(line.encode())
         assert asked, line
@@ -137,15 +144,21 @@ def ended_in(size, words, text):
     return ended(process, text)
 
 
-def play_memory(word, recording, upgraded=b""):
+def play_memory(word, recording, right=b""):
     """A hundred sizes up to twice what the right replies take, and those about the least that the program loads in. With
-    `upgrade` the right text has to be named."""
+    `upgrade` and `suspects` the right text has to be named."""
 
     def play(size):
         try:
             return judge(size, *ended_in(size, [word, recording.path], WALK.encode() if word == "run" else b""))
         except Wrong as wrong:
             raise Wrong(f"with {size // 1024} KB: {wrong}") from None
+
+    def expect_whole_beginning(output):
+        if word == "run":
+            expect_beginning(recording, output.decode().splitlines())
+        else:
+            expect("whether the output is a beginning", True, right.startswith(output))
 
     def judge(size, status, output, errors):
         if size < loads_in():
@@ -154,14 +167,17 @@ def play_memory(word, recording, upgraded=b""):
             expect("whether the system refused to start it", True, refused)
             return "unloaded"
         expect("errors", b"", errors)
+        if status == -signal.SIGSEGV:
+            expect_whole_beginning(output)
+            return "killed"
         if (status, output) == (1, NO_MEMORY):
             return "unstarted"
         if word == "upgrade" and status == 1:
-            expect_begun(upgraded, output)
+            expect_begun(right, output)
             return "unstarted"
         expect("status", 0, status)
-        if word == "upgrade":
-            expect("output", upgraded, output)
+        if word in ("upgrade", "suspects"):
+            expect("output", right, output)
             return "whole"
         if word == "check":
             expect("output", f"ok {recording.length} steps\n".encode(), output)
@@ -172,7 +188,21 @@ def play_memory(word, recording, upgraded=b""):
     wanted = {"unloaded", "unstarted", "whole"}
     if word == "run" and recording.length > 10:
         wanted.add("short")
-    expect("what was met", wanted, {play(size) for size in a_hundred_sizes(play)})
+    expect("what was met", wanted, kinds_met(play))
+
+
+def kinds_met(play):
+    """What is met at a hundred sizes. Where a stack has to grow and the address space has no room for it, the system kills netrev: with more
+    room by a stack's growth it doesn't."""
+    met = set()
+    for size in a_hundred_sizes(play):
+        what = play(size)
+        if what == "killed":
+            expect(
+                f"whether the system kills it with {(size + STACK) // 1024} KB too", False, play(size + STACK) == what
+            )
+        met.add(what)
+    return met - {"killed"}
 
 
 def a_hundred_sizes(play):
@@ -217,6 +247,11 @@ def play_memory_of_serve(recording):
             )
             return "unloaded"
         expect("errors", "", errors)
+        if status == -signal.SIGSEGV:
+            expect("output where the system ended it", "", output)
+            expect("whether some replies are missing", True, len(replies) <= WALK.count("\n") or not shown)
+            expect_beginning(recording, replies)
+            return "killed"
         if not replies:
             expect("status and output where nobody was served", (1, NO_MEMORY.decode()), (status, output))
             return "unstarted"
@@ -226,6 +261,4 @@ def play_memory_of_serve(recording):
             expect("status and output", (0, f"placed {placed}\n"), (status, output))
         return "short" if any(" memory" in line for line in [*replies, *shown, output]) else "whole"
 
-    expect(
-        "what was met", {"unloaded", "unstarted", "whole"}, {play(size) for size in a_hundred_sizes(play)} - {"short"}
-    )
+    expect("what was met", {"unloaded", "unstarted", "whole"}, kinds_met(play) - {"short"})

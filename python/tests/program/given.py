@@ -18,12 +18,22 @@ from .sharing import ROOT
 
 def upgrade_of(text: bytes) -> bytes:
     """The text that the model writes of a recording's, or its fault."""
-    upgraded = printed("upgrade", text, b"", Observer())
-    assert upgraded, "the model has an opinion on each recording that is here"
-    return upgraded.output
+    return output_of("upgrade", text)
 
 
-FIRST = str(ROOT / "examples/first.jsonl")
+def suspects_of(text: bytes) -> bytes:
+    """The lines that the model prints of a recording's suspects, or its fault."""
+    return output_of("suspects", text)
+
+
+def output_of(program: str, text: bytes) -> bytes:
+    """What a program prints over a recording, as the model has it."""
+    right = printed(program, text, b"", Observer())
+    assert right, "the model has an opinion on each recording that is here"
+    return right.output
+
+
+FIRST, ANSWERS, LOST = (str(ROOT / f"examples/{name}.jsonl") for name in ("first", "answers", "lost-wakeup"))
 TEXT = Path(FIRST).read_bytes()
 UPGRADED = upgrade_of(TEXT)
 ROOM = '{"netrev":1,"gor":4096,"sock":256,"desc":256,"buf":65536}\n'
@@ -31,6 +41,14 @@ TICKS = ROOM + "".join(f'["tick",{time}]\n' for time in range(1, 50_001))
 LARGE = ROOM + '["spawn"]\n' * 5 + '["sockopen",65536,65536]\n' * 256
 LARGE += f'["arrive",0,"{"ab" * 60_000}"]\n["arrive",255,"6869"]\n' + '["tick",1]\n' * 40 + '["sysread",0,0,60000]\n'
 ARRIVED, LAST = 262, 304  # where LARGE has the bytes, and its last position
+LOST_AFTER = """["pollopen",0,0]
+["pollevent",0,1,"r",0]
+["pollreset",0,0,"r"]
+["waitbegin",0,0,"r"]
+["blockarm",0]
+["blockcheck",0]
+["parkcommit",0]
+"""  # after LARGE: a lost wake-up
 UPGRADED_TICKS = b'{"buf":65536,"desc":256,"gor":4096,"netrev":2,"sock":256}\n' + b"".join(
     b'["tick",%d,"done"]\n' % time for time in range(1, 50_001)
 )

@@ -90,9 +90,20 @@ class Room:
         """Fails if what follows netrev's name isn't netrev's answer."""
         recording = RECORDING.search(command.text)
         for answer in ANSWER.findall(printed):
-            values = [VALUE.fullmatch(part) for part in answer.split(";")]
-            if not recording or not all(value and self.is_answered(recording[0], *value.groups()) for value in values):
+            if not recording or not all(self.is_of_netrev(recording[0], part.strip()) for part in answer.split(";")):
                 raise ReadmeError(f"`{command.text}` gives this as netrev's answer, and it isn't: {answer}")
+
+    def is_of_netrev(self, recording: str, words: str) -> bool:
+        """Whether netrev says so of a recording: that a cell has a value, or a line of its suspects."""
+        value = VALUE.fullmatch(words)
+        return self.is_answered(recording, *value.groups()) if value else self.is_listed(recording, words)
+
+    def is_listed(self, recording: str, line: str) -> bool:
+        """Whether netrev lists this suspect, if a netrev is at hand."""
+        if not self.netrev:
+            return True
+        command = [self.netrev, "suspects", str(Path(self.current) / recording)]
+        return line in subprocess.run(command, capture_output=True, text=True, check=True).stdout.splitlines()[:-1]
 
     def is_answered(self, recording: str, position: str, cell: str, value: str) -> bool:
         """Whether netrev says that a cell has this value at a position, if a netrev is at hand."""
@@ -111,12 +122,20 @@ def commands_of_go() -> Optional[Path]:
 
 def settings_of(home: Path, *folders: Path) -> dict[str, str]:
     """The environment of a user with this home, who has these folders on the PATH. Go's caches are those of the user who runs the
-    tests."""
+    tests. Logs have a folder of their own: what an interrupted run left in memory isn't README's."""
     go = commands_of_go()
+    logs = home / "logs"
+    logs.mkdir(exist_ok=True)
     python = Path(shutil.which("python3") or "/usr/bin/python3").parent
     path = [*folders, *([go] if go else []), SYSTEM, python]
     caches = {"XDG_CACHE_HOME": cache().parent, "GOCACHE": os.environ.get("GOCACHE", cache().parent / "go-build")}
-    settings = {"PATH": ":".join(map(str, path)), "HOME": str(home), "LANG": "C.UTF-8", "GOPROXY": "off"}
+    settings = {
+        "PATH": ":".join(map(str, path)),
+        "HOME": str(home),
+        "LANG": "C.UTF-8",
+        "GOPROXY": "off",
+        "NETREV_LOGS": str(logs),
+    }
     return settings | {name: str(folder) for name, folder in caches.items()}
 
 

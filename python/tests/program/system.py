@@ -11,6 +11,7 @@
     memory    address spaces of a hundred sizes, from too small for any program to ample: the right replies, or that memory
               ran out, and below the size that the system can load the program in, the system's own message
     upgrade   `upgrade` in all of these: its text goes out whole, or its first lines and what went wrong
+    suspects  `suspects` with such outputs and files
 """
 
 import os
@@ -31,9 +32,12 @@ from netrev_machine.debugger import Recording
 from .address_spaces import LOOKS, MEGABYTE, NO_MEMORY, ended, limit_memory, loads_in, play_memory, play_memory_of_serve
 from .callers import callers
 from .given import (
+    ANSWERS,
     ARRIVED,
     FIRST,
     LARGE,
+    LOST,
+    LOST_AFTER,
     POSITION,
     TEXT,
     TICKS,
@@ -42,6 +46,7 @@ from .given import (
     Function,
     file_of,
     rest_of,
+    suspects_of,
     upgrade_of,
 )
 from .sharing import NETREV, PATIENCE, Server, Wrong, expect, talk
@@ -52,6 +57,7 @@ USAGE = b"""usage: netrev run FILE
        netrev check FILE
        netrev upgrade FILE
        netrev changes FILE
+       netrev suspects FILE
        netrev serve FILE --port P [--fronts N] [--workers W] [--journal H] [--connections C]
 """
 GOOD = b"ok 10 steps\n"
@@ -437,6 +443,38 @@ def upgrades():
     yield Function("upgrade: memory of a hundred sizes", play_memory_of_upgrade)
 
 
+def suspects():
+    for into, what in ((CLOSED, "closed"), (FULL, "full"), (gone, "without a reader")):
+        yield Case(f"suspects: output {what}", "suspects", LOST, 3, into=into)
+        yield Case(f"suspects: output {what}, without suspects", "suspects", ANSWERS, 3, into=into)
+        yield Case(f"suspects: output {what}, a refused recording", "suspects", "/dev/null", 3, into=into)
+        yield Case(f"suspects: output {what}, no memory", "suspects", LOST, 3, into=into, beside=8192)
+        yield Case(f"suspects: output {what}, no such file", "suspects", "no such file", 3, into=into)
+    yield Case("suspects: output full, and never waits", "suspects", LOST, 3, into=full_pipe_that_never_waits)
+    text = Path(LOST).read_bytes()
+    right = suspects_of(text)
+    for what, given in (("closed", CLOSED), ("that is a folder", opened("/", os.O_RDONLY)), ("empty", b"")):
+        yield Case(f"suspects: input {what}", "suspects", LOST, 0, right, input=given)
+    for what, file, lines in (
+        ("that is a pipe, in pieces of 3 bytes", pipe_of(3, 0.002, text), right),
+        ("that is a pipe, in pieces of 60000 bytes", pipe_of(60_000, 0.01, TICKS.encode()), b"ok 50000 steps\n"),
+        ("with spaces in its name", file_of(" two  words ", text), right),
+    ):
+        yield Case(f"suspects: file {what}", "suspects", file, 0, lines)
+    yield Case("suspects: file that is standard input", "suspects", "/dev/stdin", 0, right, input=text)
+    yield Case("suspects: file that is a pipe, which ends at once", "suspects", pipe_of(1, 0, b""), 1, EMPTY)
+    for what, file in (("isn't there", "no such file"), ("is a folder", "/"), ("can't be read", "/proc/self/mem")):
+        yield Case(f"suspects: file that {what}", "suspects", file, 3)
+    yield Case("suspects: file of 64 GB, with 64 MB of memory", "suspects", sparse, 1, NO_MEMORY, memory=64 * MEGABYTE)
+    yield Function("suspects: memory of a hundred sizes", play_memory_of_suspects)
+
+
+def play_memory_of_suspects(folder):
+    text = (LARGE + LOST_AFTER).encode()
+    path = Path(os.fsdecode(file_of("recording", text)(folder)))
+    play_memory("suspects", Recording.read(NETREV, path, LOOKS), suspects_of(text))
+
+
 def play_memory_of_upgrade(folder):
     text = LARGE.encode()
     path = Path(os.fsdecode(file_of("recording", text)(folder)))
@@ -646,7 +684,7 @@ def memory():
 
 
 def cases():
-    for group in (outputs, inputs, words, files, lines, signals, callers, memory, upgrades):
+    for group in (outputs, inputs, words, files, lines, signals, callers, memory, upgrades, suspects):
         yield from group()
 
 

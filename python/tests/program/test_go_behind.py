@@ -92,7 +92,7 @@ class Explored(Behind):
             "1 1 5 package example.org/toy\n3 20 1 runs TestGreen\n14 20 3 ends TestGreen\n"
         )
 
-        def converted(_: object, name: pathlib.Path, *__: object) -> Outcome:
+        def converted(_: object, name: pathlib.Path, *__: object, **___: object) -> Outcome:
             shutil.copy(recording, name)
             return Outcome(True, [f"{name}: ok"])
 

@@ -38,9 +38,14 @@ def reply_at(path: Path, position: str, cell: str) -> str:
 
 def foreign_words(text: str, path: Path) -> list[str]:
     """What follows `netrev:` in a text about a recording, and isn't what netrev prints."""
-    checked = subprocess.run([NETREV, "check", path], capture_output=True, text=True, timeout=60, check=False).stdout
+    lines = [line for program in ("check", "suspects") for line in printed(program, path).splitlines()]
     answers = [answer for found in SAYS.findall(text) for answer in found.replace("`", "").split("; ")]
-    return [answer for answer in answers if not is_printed(answer, path) and answer != checked.strip()]
+    return [answer for answer in answers if not is_printed(answer, path) and answer not in lines]
+
+
+def printed(program: str, path: Path) -> str:
+    """What one of netrev's programs prints of a file."""
+    return subprocess.run([NETREV, program, path], capture_output=True, text=True, timeout=60, check=False).stdout
 
 
 def is_printed(answer: str, path: Path) -> bool:
@@ -134,10 +139,13 @@ def test_kept_schedules_carry_netrevs_answer_alone(tmp_path: Path, monkeypatch: 
 
 
 def test_a_doubt_about_a_rule_is_nrdbs_own_line() -> None:
-    suspect = mock.Mock(evidence=[(3, "rd 0", "-1")], rule="r", weight=1, step=3, steps=[3], looks=["goto 3"])
+    suspect = mock.Mock(
+        listed=["at 3 x"], evidence=[(3, "rd 0", "-1")], rule="r", weight=1, step=3, steps=[3], looks=["goto 3"]
+    )
     suspect.sentence.return_value = "s"
     recording = mock.Mock()
     recording.lines.words.return_value = ""
     scout = mock.Mock(values=lambda *_: ["7"])
     rows = [row.text.strip() for row in table._rows(scout, recording, 1, suspect)]
-    assert rows == ["1. r: s", "netrev: at 3 rd 0 = 7", "take care: the rule expects rd 0 = -1 at 3", "next:   goto 3"]
+    says = "netrev: at 3 x; at 3 rd 0 = 7"
+    assert rows == ["1. r: s", says, "take care: the rule expects rd 0 = -1 at 3", "next:   goto 3"]

@@ -69,6 +69,7 @@ USAGE = b"""usage: netrev run FILE
        netrev check FILE
        netrev upgrade FILE
        netrev changes FILE
+       netrev suspects FILE
        netrev serve FILE --port P [--fronts N] [--workers W] [--journal H] [--connections C]
 """
 # the words, the status, what is printed, and what is said on standard error

@@ -11,7 +11,7 @@ from netrev_machine.observing import Observer
 from netrev_machine.program import replay
 from netrev_words.vocabulary import CELLS
 
-from .support import EXAMPLES, events, nrdb, nrdb_process, recordings, shown
+from .support import EXAMPLES, ROOT, events, nrdb, nrdb_process, recordings, shown
 
 AT = 6  # positions of each recording
 SEED = 20261127
@@ -88,6 +88,37 @@ class Lines(unittest.TestCase):
         self.assertIn("(the write timer of descriptor 2, set at step 107 by goroutine 2)", told)
         self.assertEqual(told.split("info errors\n")[1].count(", timed out "), 1)
         self.assertIn("1 more are waits of Go's own code", told)
+
+    def test_a_goroutine_is_chosen_until_the_session_moves(self):
+        hub = ROOT / "python/tests/caused/hub-bad.jsonl"
+        told = said(
+            hub,
+            "continue",
+            "info goroutines",
+            "goroutine goid 21",
+            "up",
+            "bt",
+            "goto 266",
+            "goroutine",
+            "goroutine 999",
+            "goroutine x",
+        )
+        table, chosen, up, where, moved, last, missing, misused = told.split("(netrev) ")[1:]
+        self.assertRegex(
+            table,
+            r"\| goid 21 +waits for a mutex; main.go:54 sync.\(\*Mutex\).Lock since step \d+; started at main.go:\d+\n",
+        )
+        self.assertRegex(
+            table, r"\| gor 2 +idle +sleeps; main.go:107 time.Sleep since step 88; started at main.go:91\n"
+        )
+        self.assertIn("| goid 21: waits for a mutex since step", chosen)
+        self.assertRegex(chosen, r"\* main.go:54 +main.\(\*room\).join\n\|   \* main.go:68 +main.\(\*room\).serve\n")
+        self.assertRegex(chosen, r"\| frame \d: main.\(\*room\).join at main.go:54\n")
+        self.assertRegex(up, r"\| frame \d: main.\(\*room\).serve at main.go:68\n")
+        self.assertIn("| goid 21: waits for a mutex since step", where)
+        self.assertIn("| goroutine 5: in Write on socket 3 since step 266, at main.go:63", last)
+        self.assertIn("| goroutine 999 has neither a step nor a wait up to position 266", missing)
+        self.assertIn("N is a number", misused)
 
     def test_next_and_finish_go_by_calls(self):
         lines = ["goto 186", "finish 2", "next", "reverse-next", "goto 171", "next", "reverse-finish"]

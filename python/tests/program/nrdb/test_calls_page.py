@@ -14,7 +14,8 @@ from typing import Any, Sequence
 from unittest.mock import patch
 
 from nrdb.calls import book_of
-from nrdb.causes.hanging import hangs_at
+from nrdb.causes.index import index_of
+from nrdb.causes.waiters import is_waiting
 from nrdb.recording import Recording
 from nrdb.suspects.ranking import all_suspects_of
 from nrdb.timeline.calls import COLUMNS, packed
@@ -75,7 +76,8 @@ class Data(unittest.TestCase):
                 for call in book_of(recording).calls
             ]
             self.assertEqual(told, wanted, name)
-            hanging = {(one.call.goroutine, one.call.first) for one in hangs_at(recording, recording.length)}
+            left = [one for one in book_of(recording).calls if not one.last and is_waiting(index_of(recording), one)]
+            hanging = {(one.goroutine, one.first) for one in left}
             hangs = {(g, at) for (g, _, at, *_), state in zip(told, data["state"]) if STATES[state] == "hangs"}
             self.assertEqual(hangs, hanging, name)
 

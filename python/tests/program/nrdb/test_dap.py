@@ -230,6 +230,34 @@ class GoLines(unittest.TestCase):
             self.assertEqual(editor("stackTrace", threadId=1)["stackFrames"][0]["name"], "main.ask")
             self.assertEqual(editor.move("stepOut", threadId=1)["description"], "at 97")
 
+    def test_threads_say_what_they_wait_for_and_stacks_are_in_the_order_of_calls(self):
+        with Adapter() as editor:
+            editor.begin(str(CAUSED.with_name("bodies-bad.jsonl")), source="go")
+            threads = {one["name"]: one["id"] for one in editor("threads")["threads"]}
+            waiting = [
+                name for name in threads if "waits for a connection of net/http in main.name at main.go:" in name
+            ]
+            self.assertEqual([name.split()[0] for name in waiting], ["goid", "goid"])
+            frames = editor("stackTrace", threadId=threads[waiting[0]])["stackFrames"]
+            names = [frame["name"] for frame in frames]
+            self.assertEqual(names[0], "main.name")
+            self.assertRegex(names[1], r"main.bodies.func2.\d")
+            self.assertEqual(names[names.index("net/http.(*Transport).getConn") :][-1], "net/http.(*Client).Get")
+            inner = [frame["source"] for frame in frames if frame["name"].startswith("net/http")]
+            self.assertEqual({source["presentationHint"] for source in inner}, {"deemphasize"})
+            with self.assertRaisesRegex(Refusal, "makes no step in the recording"):
+                editor("next", threadId=threads[waiting[0]])
+        with Adapter() as editor:
+            stopped = editor.begin(str(CAUSED.with_name("hub-bad.jsonl")), source="recording")
+            self.assertRegex(
+                stopped["text"], r"^Goroutine 6 waits for one call: Write at main\.go:63 in \(\*room\)\.say"
+            )
+            threads = {one["name"]: one["id"] for one in editor("threads")["threads"]}
+            sleeps = next(name for name in threads if "sleeps in main.talk at main.go:" in name)
+            names = [frame["name"] for frame in editor("stackTrace", threadId=threads[sleeps])["stackFrames"]]
+            self.assertRegex(names[1], r"sleeps since step \d+")
+            self.assertLess(names.index("time.Sleep"), names.index("main.talk"))
+
     def test_the_recording_comes_first_otherwise(self):
         with Adapter() as editor:
             editor.begin(str(HUNG))

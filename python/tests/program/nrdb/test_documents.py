@@ -11,7 +11,7 @@ from nrdb.commands import OF_NRDB, TOPICS, Origin
 from .support import ROOT, nrdb
 
 PROMPT = "(netrev) "
-RECORDING = re.compile(r"examples/[\w/-]+\.jsonl")
+RECORDING = re.compile(r"(?:examples|python/tests/caused)/[\w/-]+\.jsonl")
 
 
 def sessions(text):

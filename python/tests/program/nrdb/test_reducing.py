@@ -122,6 +122,18 @@ class Reducing(unittest.TestCase):
         self.assertIn(f"`ok {left.length} steps`", text)
         self.assertRegex(text, r"netrev: `at \d+ wd 0 = -1`")
 
+    def test_a_hang_is_reported_with_all_its_steps(self) -> None:
+        path = ROOT / "python/tests/caused/both-bad.jsonl"
+        said = nrdb("--batch", "-ex", f"report {self.folder / 'hang.md'}", path)
+        self.assertIn("hang.md with hang.svg: Deadlock: two calls wait for one another.", said)
+        text = (self.folder / "hang.md").read_text()
+        self.assertTrue(text.startswith("# A deadlock\n\nDeadlock: two calls wait for one another.\n"), text)
+        for words in ("## Goroutine 2\n", "## Goroutine 3\n", "* main.go:223", "`ok 97 steps`", "-ex 'info hangs'"):
+            self.assertIn(words, text)
+        self.assertIn("](hang.svg)", text)
+        ET.parse(self.folder / "hang.svg")
+        self.assertFalse((self.folder / "hang.jsonl").exists())
+
     def test_what_is_not_there_has_no_value(self) -> None:
         out, path = self.folder / "o.jsonl", EXAMPLES / "real/hijacked.jsonl"
         for cell in ("rg 9", "lock 99", "gor 4000"):

@@ -2,11 +2,13 @@
 which netrev accepts; and `--suspects`, whose exit status says whether there are any."""
 
 import json
+import re
 import subprocess
 import unittest
 from pathlib import Path
 
 from netrev_fuzz.injections import Bug, Traffic
+from netrev_machine.suspects import HELD_REFERENCE, HUNTS, LOST_WAKE_UP, PASSED_DEADLINE
 from tests.program.sharing import NETREV
 from tests.examples import KNOWN, REFUSED
 from tests.test_suspects import PAIRS, recording_of
@@ -19,9 +21,25 @@ SOME = 4
 SEED = 100
 
 
+# examples of which netrev lists one suspect
+LISTED = {
+    "lost-wakeup": LOST_WAKE_UP,
+    "leaked-reference": HELD_REFERENCE,
+    "real/lost": LOST_WAKE_UP,
+    "real/leak": HELD_REFERENCE,
+    "real/hijacked": PASSED_DEADLINE,
+}
+LINE = re.compile(rf"at \d+ (?:{'|'.join(HUNTS)}) [^;]*; ")
+
+
+def printed(program: str, path: Path) -> str:
+    """What netrev prints of a file."""
+    return subprocess.run([NETREV, program, path], capture_output=True, text=True, timeout=60, check=False).stdout
+
+
 def checked(path: Path) -> str:
     """What `netrev check` prints of a file."""
-    return subprocess.run([NETREV, "check", path], capture_output=True, text=True, timeout=60, check=False).stdout
+    return printed("check", path)
 
 
 class Suspects(unittest.TestCase):
@@ -58,8 +76,32 @@ class Suspects(unittest.TestCase):
         table = next(event for event in map(json.loads, said.splitlines()) if event["event"] == "table")
         (suspect,) = table["rows"]
         self.assertEqual((suspect["rule"], suspect["step"]), ("lost wake-up", 18))
-        self.assertEqual(suspect["netrev"], ["at 17 rg 0 = ready", "at 18 rg 0 = nil"])
+        lines = "at 22 lost-wakeup gor 0 desc 0 r event 16 taken 18 by 0", "at 22 asleep gor 0 desc 0 r because bytes"
+        self.assertEqual(suspect["netrev"], [*lines, "at 17 rg 0 = ready", "at 18 rg 0 = nil"])
         self.assertEqual(suspect["looks"], ["goto 17", "history rg 0"])
+
+    def test_the_lines_of_netrev_s_list_are_as_it_printed_them(self) -> None:
+        for name, hunt in LISTED.items():
+            with self.subTest(name):
+                path = EXAMPLES / f"{name}.jsonl"
+                (line,) = [line for line in printed("suspects", path).splitlines() if line.split()[2] == hunt]
+                self.assertIn(f"|    netrev: {line}; at ", nrdb("--suspects", path, status=SOME))
+
+    def test_an_older_netrev_has_no_list_and_the_same_suspects(self) -> None:
+        older = self.path.parent / "netrev"
+        older.write_text(
+            f"""#!/bin/sh
+if [ "$1" = suspects ]; then echo usage >&2; exit 2; fi
+exec '{NETREV}' "$@"
+"""
+        )
+        older.chmod(0o755)
+        for name in LISTED:
+            with self.subTest(name):
+                path = EXAMPLES / f"{name}.jsonl"
+                now, before = (nrdb(*words, "--suspects", path, status=SOME) for words in ((), ("--netrev", older)))
+                self.assertEqual(LINE.sub("", now), before)
+                self.assertNotIn(DOUBT, before)
 
     def test_the_session_stays_where_it_is(self) -> None:
         said = nrdb(

@@ -11,7 +11,7 @@ import time
 import unittest
 from pathlib import Path
 
-from .support import EXAMPLES, NETREV, NRDB, PATIENCE
+from .support import EXAMPLES, NETREV, NRDB, PATIENCE, ROOT
 from tests.folders import folder_of
 
 PROMPT = "(netrev) "
@@ -143,6 +143,21 @@ class Terminal(unittest.TestCase):
     def test_the_first_line_says_what_to_type(self):
         with self.typist() as person:
             self.assertIn("| what went wrong: info suspects; what hangs: ", person.greeting)
+
+    def test_a_session_opens_with_what_failed_or_hangs_in_the_whole_run(self):
+        hung, caused = EXAMPLES / "real" / "hung.jsonl", ROOT / "python" / "tests" / "caused"
+        failed, deadlock = EXAMPLES / "real" / "hijacked.jsonl", caused / "both-bad.jsonl"
+        for recording, said in (
+            (hung, "2 goroutines wait at the end, at main.go:13 in count; at main.go:42 in ask: info hangs"),
+            (
+                deadlock,
+                "cause:  Deadlock: two calls wait for one another.\n|         Write at main.go:223 in both.func1",
+            ),
+            (failed, "cause:  Write at main.go:39 in echo (goroutine 2) ended with a timeout.\n|         Its deadline"),
+        ):
+            with self.subTest(said), Typist(recording, self.home, TERM="dumb") as person:
+                self.assertIn(f"| {said}", person.greeting)
+                self.assertLess(person.greeting.index(said), person.greeting.index("what went wrong:"))
 
     def test_lines_of_a_mark_have_a_prompt_of_their_own(self):
         with self.typist() as person:

@@ -144,7 +144,9 @@ class Timeline(unittest.TestCase):
             self.assertEqual(f"desc {' '.join(before.split()[1:])}", where)
         (suspect,) = data["suspects"]
         self.assertEqual((suspect["rule"], suspect["s"], suspect["d"]), ("deadline left behind", 3, 2))
-        self.assertEqual(suspect["netrev"], ["at 186 wd 2 = -1", "at 185 wd 2 = 45061869"])
+        setting = "desc 2 w set 107 by 2 rw moved 115 by 2"
+        lines = [f"at 186 passed-deadline {setting}", f"at 197 timeout gor 2 {setting}"]
+        self.assertEqual(suspect["netrev"], [*lines, "at 186 wd 2 = -1", "at 185 wd 2 = 45061869"])
         told = [data["lines"]["texts"][at] for at in data["lines"]["at"]]
         self.assertEqual(
             told[: recording.length + 1], [recording.lines.words(step) for step in range(recording.length + 1)]

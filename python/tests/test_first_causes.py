@@ -1,0 +1,85 @@
+"""The causes ask netrev what the steps changed, and reckon that themselves if it doesn't say it. And `info hangs` where a session opens."""
+
+import contextlib
+import io
+import os
+import pathlib
+import tempfile
+import unittest
+from unittest.mock import patch
+
+from nrdb import modelled_changes, printed_changes
+from nrdb.causes import __main__ as causes
+from nrdb.causes import first_words
+from nrdb.causes.tables import hangs_table
+from nrdb.recording import Recording
+from tests.test_causes import CAUSED, with_lines
+from tests.test_suspects import OPEN
+
+BAD = str(CAUSED / "pool-bad.jsonl")
+
+
+class ByNetrev(unittest.TestCase):
+    def setUp(self) -> None:
+        folder = tempfile.TemporaryDirectory()
+        self.addCleanup(folder.cleanup)
+        self.netrev = pathlib.Path(folder.name, "netrev")
+        self.changes = pathlib.Path(folder.name, "changes")
+        self.recording = Recording.read(BAD)
+        self.changes.write_text("\n".join(modelled_changes._lines(self.recording)) + "\n")
+        self.says(f'test "$1" = changes && cat {self.changes}')
+
+    def says(self, script: str) -> None:
+        """What the stand-in for netrev does."""
+        self.netrev.write_text(f"#!/bin/sh\n{script}\n")
+        self.netrev.chmod(0o700)
+
+    def printed(self) -> list[str]:
+        """What `nrdb.causes` prints."""
+        out = io.StringIO()
+        with patch.dict(os.environ, {"NETREV": str(self.netrev)}), contextlib.redirect_stdout(out):
+            self.assertEqual(causes.main([BAD]), 0)
+        return out.getvalue().splitlines()
+
+    def test_the_words_are_the_same_without_the_model(self) -> None:
+        expected = first_words(Recording.read(BAD), BAD)
+        self.assertTrue(expected[0].startswith("cause:  "), expected)
+        with patch.object(modelled_changes, "_lines", side_effect=AssertionError):
+            self.assertEqual(self.printed(), expected)
+
+    def test_the_model_says_them_if_netrev_does_not(self) -> None:
+        expected = self.printed()
+        short = "echo ok 1 steps"
+        for script in (
+            "exit 0",
+            "exit 1",
+            f"cat {self.changes}; exit 1",
+            "echo step 2: refused",
+            short,
+            "exec sleep 60",
+        ):
+            self.says(script)
+            with self.subTest(script), patch.multiple(printed_changes, AT_LEAST=0.5, A_STEP=0):
+                self.assertIsNone(printed_changes.printed_changes(str(self.netrev), BAD, self.recording))
+                self.assertEqual(self.printed(), expected)
+        self.netrev.unlink()
+        self.assertIsNone(printed_changes.printed_changes(str(self.netrev), BAD, self.recording))
+
+
+class AtTheStart(unittest.TestCase):
+    def test_what_hangs_is_that_of_the_end(self) -> None:
+        recording = Recording.read(str(CAUSED / "bodies-bad.jsonl"))
+        start, end = hangs_table(recording, 0), hangs_table(recording, recording.length)
+        self.assertTrue(end.rows)
+        self.assertEqual(start.rows, end.rows)
+        self.assertIn(f"that is at the end, position {recording.length}: ", start.rest)
+        self.assertNotIn("at the end", end.rest)
+
+    def test_it_says_so_also_where_nothing_hangs(self) -> None:
+        self.assertEqual(
+            hangs_table(with_lines(OPEN), 0).rest, "no call hangs at the end, but for those that wait for connections"
+        )
+
+
+if __name__ == "__main__":
+    unittest.main()
