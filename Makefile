@@ -71,9 +71,9 @@ loopback: ready
 hostile: ready
 	@sh scripts/pytest.sh --beside python/tests/program/hostile.py
 
-# Tests `netrev upgrade` and `netrev changes`, compared with stored texts, with the model in Python, and with `print`.
+# Tests `netrev upgrade`, `netrev changes` and `netrev suspects`, compared with stored texts, with the model in Python, and with `print`.
 upgrades: ready
-	@sh scripts/pytest.sh --beside $(addprefix python/tests/program/,upgrades.py changes.py)
+	@sh scripts/pytest.sh --beside $(addprefix python/tests/program/,upgrades.py changes.py suspects.py)
 
 # Tests the program against the system: closed or full streams, odd files, signals, little memory.
 system: ready
@@ -189,7 +189,7 @@ try-deb:
 # `go` on the PATH, `make real GO=1.27` or `make real GO=all` with releases of Debian's, fetched and not installed. An hour or so a
 # release; `make real ONLY=net/rpc` for some, `ONLY='^net$$' TESTS='^TestUnix'` for some of a package. The gate does a small part.
 real: ready
-	@sh scripts/pytest.sh $(addprefix python/tests/,go_tool.py go_kept.py go_planted.py go_tests.py)
+	@sh scripts/pytest.sh $(addprefix python/tests/,go_tool.py go_kept.py go_planted.py go_tests.py go_waits.py)
 	@python3 python netrev_go.real --only '$(ONLY)' --tests '$(TESTS)' --go "$(GO)"
 
 # Tries that recording changes nothing of a program and loses no run: `make trials GO="1.19 1.27"`. Some ten minutes a release, and not in

@@ -52,8 +52,9 @@ def main(given_words: list[str] | None = None) -> int:
     if asked.write and asked.definitions:
         given.error("--write is for the laws, and takes no definitions")
     if asked.write:
-        write(asked.root / reading.PAGE, list(found.rows()))
-    print(names(found) if asked.names else "\n".join(found.rows()))
+        write(asked.root / reading.PAGE, reading.tables(found.tree))
+    rows = found.rows() if asked.definitions else reading.tables(found.tree)
+    print(names(found) if asked.names else "\n".join(rows))
     return 0
 
 

@@ -35,7 +35,7 @@ if (( CURRENT == 2 )) || [[ $PREFIX == -* ]]; then
 fi
 _files
 """
-OF_NETREV = ["run", "check", "upgrade", "changes", "serve", "bench"]
+OF_NETREV = ["run", "check", "upgrade", "changes", "suspects", "serve", "bench"]
 
 
 def options_of(parser: argparse.ArgumentParser) -> list[str]:

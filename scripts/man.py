@@ -36,6 +36,9 @@ netrev \- walk a recorded schedule of a Go program's network poller in both dire
 .B netrev changes
 .I FILE
 .br
+.B netrev suspects
+.I FILE
+.br
 .B netrev serve
 .I FILE
 .BI \-\-port " P"

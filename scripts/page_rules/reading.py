@@ -58,6 +58,32 @@ LAWS = (
     ),
 )
 
+# the hunts, whose files have definitions of the proofs as well
+HUNTS = (
+    Law("what `suspects` writes", ("nr_programs/Suspects:ShowsSuspects",), 1700),
+    Law(
+        "the laws of the hunts",
+        (
+            "nr_suspects/DeadlineFindings:IsFinding",
+            "nr_suspects/Deadlines:IsInTime",
+            "nr_suspects/LostWakeUps:HasLost",
+            "nr_suspects/LostWakeUps:IsTaking",
+            "nr_suspects/Sleepers:SleepsOn",
+            "nr_suspects/Sleepers:HasNothing",
+            "nr_suspects/Peers:peer_of",
+            "nr_suspects/HeldReferences:IsHeld",
+            "nr_suspects/HeldReferences:IsListed",
+            "nr_suspects/References:references_at",
+            "nr_suspects/References:given",
+            "nr_suspects/References:taken",
+            "nr_suspects/LockedSides:is_locked",
+            "nr_rev/Step:owing",
+            "nr_programs/Suspects:ShowsSuspects",
+        ),
+        2000,
+    ),
+)
+
 
 @dataclass(frozen=True)
 class Count:
@@ -183,19 +209,25 @@ def reading_list(tree: Tree) -> Iterator[Finding]:
     """Where the page's tables aren't what the laws rest on, and where that is more than may be."""
     if not tree.has(PAGE):
         return
-    found = ReadingList(tree, LAWS)
-    for cited in found.missing:
+    found, hunts = ReadingList(tree, LAWS), ReadingList(tree, HUNTS)
+    for cited in found.missing + hunts.missing:
         yield Finding(PAGE, 1, f"there is no definition {cited} for the laws to rest on")
     for path, name in found.strays():
         yield Finding(path, 1, f"no law rests on {name}, and laws rest on what stands beside it")
     for path, name in found.misplaced():
         yield Finding(path, 1, f"{name}: the files that the laws rest on, and no others, stand under {BELIEVED!r}")
-    for law, places in zip(LAWS, found.of_laws):
+    for law, places in (*zip(LAWS, found.of_laws), *zip(HUNTS, hunts.of_laws)):
         if (lines := found.count(places).lines) > law.most_lines:
             yield Finding(PAGE, 1, f"{law.says} rests on {lines:,} lines of definitions, and may on {law.most_lines:,}")
-    yield from _differences(tree.text(PAGE), [row for row in found.rows() if row])
-    counts = [found.count(places) for places in (*found.of_laws, found.all)]
+    yield from _differences(tree.text(PAGE), [row for row in tables(tree) if row])
+    counts = [found.count(places) for places in (*found.of_laws, found.all, *hunts.of_laws, hunts.all)]
     yield from _in_words(tree, {(f"{count.definitions:,}", f"{count.lines:,}") for count in counts})
+
+
+def tables(tree: Tree) -> list[str]:
+    """The page's tables: those of the laws, and those of the hunts."""
+    rows = list(ReadingList(tree, LAWS).rows())
+    return [*rows, "", *ReadingList(tree, HUNTS).rows()] if HUNTS else rows
 
 
 def _in_words(tree: Tree, counted: set[tuple[str, str]]) -> Iterator[Finding]:
