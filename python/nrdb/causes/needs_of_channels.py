@@ -231,8 +231,10 @@ class NeedsOfChannels:
         at, lines = wait.objects[0], self._recording.lines
         uses, what = lines.uses.get(at.object, ()), GIVES.get(at.use, "")
         goids = {use.goid for use in uses if use.what == what}
-        if not goids or any(use.what == CLOSED for use in uses) or not all(
-            goid in lines.goroutines and lines.goroutines[goid].last >= 0 for goid in goids
+        if (
+            not goids
+            or any(use.what == CLOSED for use in uses)
+            or not all(goid in lines.goroutines and lines.goroutines[goid].last >= 0 for goid in goids)
         ):
             return []
         did, unclosed_too = ("put", ", and nobody has closed it") if at.use == FOR_VALUE else ("took", "")

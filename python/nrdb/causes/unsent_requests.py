@@ -38,7 +38,7 @@ class Unsent(NamedTuple):
         says = [
             f"The request{place_in(stack)} ({self.name}, step {self.use.last}) was never written: net/http closed its connection, socket "
             f"{self.closed.socket}, in step {self.closed.first} instead.",
-            "It does so if the body gives an error, or ends before its ContentLength: then Do returns an error.",
+            "Perhaps its body gave an error, or ended before its ContentLength: then Do returns an error.",
         ]
         own = stack.own()
         reads = reading_line(recording, own[0]) if own else 0
