@@ -45,6 +45,9 @@ class Beside:
         default_factory=list
     )  # of sockets for datagrams, and to which they are connected
     sent: list[tuple[int, str]] = field(default_factory=list)  # behind which steps datagrams went to which addresses
+    sizes: list[tuple[int, int]] = field(
+        default_factory=list
+    )  # behind which steps bytes were read or written that count as fewer, and how many they were
     _names: dict[int, int] = field(default_factory=dict)  # the numbers of names
     _ends: dict[tuple[int, int], list[int]] = field(
         default_factory=dict

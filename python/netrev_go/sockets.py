@@ -51,6 +51,7 @@ class Socket:
     held: int = 0
     peer_closed: bool = False
     shut: bool = False
+    whole: dict[int, int] = field(default_factory=dict)  # of points that count fewer bytes, how many they moved
 
     def capacity(self) -> int:
         """How large its output is: so large that it was full where Go first found it so, else as large as the largest write."""
@@ -198,6 +199,8 @@ def owned(points: list[Point], all_bytes: bool = True) -> Owned:
             else:
                 if not all_bytes and (point[5] > FEW_BYTES or point[4] > FEW_BYTES and kind == WRITE):
                     cut += point.b > FEW_BYTES
+                    if point.b > FEW_BYTES:
+                        socket.whole[point.number] = point.b
                     point = of_few(point)
                 count_bytes(socket, point)
                 if kind == WRITE:

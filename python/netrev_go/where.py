@@ -76,7 +76,8 @@ def write_where(
     for part in parts(orders, STEPS_A_LINE) if orders is not None else ():
         numbered.add({"orders": part})
     of_sockets: dict[str, Sequence[object]] = {
-        "peers": beside.peers, "ends": beside.ends, "addresses": beside.addresses, "sent": beside.sent, "errors": beside.errors,
+        "peers": beside.peers, "ends": beside.ends, "addresses": beside.addresses, "sent": beside.sent, "sizes": beside.sizes,
+        "errors": beside.errors,
     }  # fmt: skip
     for what, pairs in of_sockets.items():
         for first in range(0, len(pairs), STEPS_A_LINE):

@@ -12,7 +12,7 @@ from typing import Any, Iterable, NamedTuple, Optional
 from .all_goroutines import OF_GOROUTINES, AllGoroutines, typed
 
 OF_GO, OF_THE_PROGRAM, OF_A_LIBRARY = "go", "program", "library"
-OF_SOCKETS = frozenset(("peers", "ends", "addresses", "sent", "errors"))  # lines of the file
+OF_SOCKETS = frozenset(("peers", "ends", "addresses", "sent", "sizes", "errors"))  # lines of the file
 OF_CALL = {"function": str, "file": str, "line": int, "of": str}
 MOST_BYTES, MOST_LINE = 2**26, 2**24  # of the file, and of one of its lines
 SHOWN = 12  # calls of a stack
@@ -127,6 +127,7 @@ class Lines(AllGoroutines):
         self.ends: dict[int, tuple[int, int]] = {}  # of a socket the numbers of its own name and of the other end's
         self.addresses: dict[int, tuple[str, str]] = {}  # of sockets for datagrams, and to which they are connected
         self.sent: dict[int, str] = {}  # to which address a datagram went, by a step of the call
+        self.sizes: dict[int, int] = {}  # how many bytes a read or a write had that counts as fewer, by its step
         self.errors: dict[int, str] = {}  # of the system, by the step behind which a goroutine's call had them
         self.waits: dict[int, list[Wait]] = {}  # outside of the poller, by goroutine
         self.times = array(
@@ -199,6 +200,8 @@ class Lines(AllGoroutines):
                 self.addresses[typed(socket, int)] = typed(name, str), typed(peer, str)
         elif "sent" in line:
             self.sent.update((typed(step, int), typed(address, str)) for step, address in line["sent"])
+        elif "sizes" in line:
+            self.sizes.update((typed(step, int), typed(size, int)) for step, size in line["sizes"])
         elif "peers" in line:
             for one, other in line["peers"]:
                 self.peers[typed(one, int)], self.peers[typed(other, int)] = other, one

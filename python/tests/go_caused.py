@@ -1,4 +1,4 @@
-"""Records the programs of tools/go/samples/causes, oversights, roots, turns, gone, skips and joins with the `go` on the PATH, bad and good, and says whether the
+"""Records the programs of tools/go/samples/causes, oversights, roots, turns, gone, skips, joins, sizes and sources with the `go` on the PATH, bad and good, and says whether the
 line of each bug stands in what is printed first:
 
     python3 python tests.go_caused [FOLDER]    keeps the recordings in FOLDER, as in python/tests/caused"""
@@ -22,8 +22,9 @@ from nrdb.causes import first_words
 from nrdb.recording import Recording
 from nrdb.suspects.ranking import all_suspects_of
 
-SOURCE, OVERSIGHTS, ROOTS, TURNS, GONE, SKIPS, JOINS = (
-    SAMPLES / name / "main.go" for name in ("causes", "oversights", "roots", "turns", "gone", "skips", "joins")
+SOURCE, OVERSIGHTS, ROOTS, TURNS, GONE, SKIPS, JOINS, SIZES, SOURCES = (
+    SAMPLES / name / "main.go"
+    for name in ("causes", "oversights", "roots", "turns", "gone", "skips", "joins", "sizes", "sources")
 )
 NAMES = {
     SOURCE: ("idleClose", "half", "stale", "left", "once", "pool", "piece", "both", "body"),
@@ -41,6 +42,11 @@ NAMES = {
     ),
     SKIPS: ("kept", "opened", "counted", "buffered", "timed", "ending", "swallowed", "mute"),
     JOINS: ("gaveup", "guarded", "rounds", "uncased", "pooled", "stuck", "polled"),
+    SIZES: ("datagram", "frame", "held", "alone"),
+    SOURCES: (
+        "ordered", "departed", "oneOnly", "reentered", "unreturned", "outlasted", "unpushed", "crowded", "mistaken", "turnedAway",
+        "mixed", "spins", "unheard", "signalled", "seated", "partly",
+    ),
 }  # fmt: skip
 
 

@@ -4,6 +4,7 @@ line of the bug stands in it. And the rules that look at calls: each finds its b
 import contextlib
 import json
 import os
+import re
 import unittest
 from pathlib import Path
 from typing import Any, Iterator, NamedTuple
@@ -152,7 +153,7 @@ class Causes(unittest.TestCase):
             recording.lines.written = float("inf")  # (a clone's files are newer than the recording)
             with self.subTest(name), in_the_folder_of_the_source(source_of(name)):
                 told = "\n".join(first_words(recording, name))
-                self.assertEqual(f"{bug_line(name)} " in told, name not in WITHOUT_A_LINE, told)
+                self.assertEqual(re.search(rf"{bug_line(name)}\b", told) is not None, name not in WITHOUT_A_LINE, told)
 
     def test_good_runs_have_no_suspect(self) -> None:
         for name in ALL:

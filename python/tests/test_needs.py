@@ -7,7 +7,7 @@ from typing import Any
 from netrev_go.beside import Beside
 from netrev_go.points import Kind, Point
 from nrdb.all_goroutines import FOR_VALUE, PUT, TOOK, At, GoGoroutine, Object, Park, Timer, Use
-from nrdb.causes.balances import balances_of, has_ended
+from nrdb.causes.balances import balances_of, give_back, has_ended
 from nrdb.causes.ends_of_reads import bound_says, end_says
 from nrdb.causes.exchanges import unanswered, unasked
 from nrdb.causes.failing import in_the_past
@@ -68,7 +68,8 @@ class Balances(unittest.TestCase):
         self.assertEqual(ended.missing, 1)
 
     def test_a_queue_into_which_some_jobs_come_again_is_no_pool(self) -> None:
-        self.assertEqual(balances_of(self.recording(use(4, TOOK, 1, 9, 1), use(4, PUT, 2, 2, 2)), 1, {}), [])
+        self.assertFalse(give_back(balances_of(self.recording(use(4, TOOK, 1, 9, 1), use(4, PUT, 2, 2, 2)), 1, {})))
+        self.assertTrue(give_back(balances_of(self.recording(use(4, TOOK, 1, 4, 1), use(4, PUT, 2, 2, 2)), 1, {})))
 
     def test_those_who_only_put_or_only_take_have_none(self) -> None:
         self.assertEqual(balances_of(self.recording(use(1, PUT, 3, 2), use(4, TOOK, 1, 3)), 1, {}), [])

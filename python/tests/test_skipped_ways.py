@@ -345,7 +345,7 @@ def test_a_loop_that_calls_a_function_which_skips_done(tmp_path: Path) -> None:
     stack = Stack((call_at(7, "(*index).page", file), call_at(12, "(*index).run", file)), None)
     rounds = rounds_of(recording, stack)
     assert rounds is not None and (rounds.head, rounds.takes, rounds.line.line, rounds.done.line) == (11, 11, 12, 7)
-    assert words_of_ways(recording, rounds, False) == f"{file}:5 returns"
+    assert words_of_ways(recording, [rounds], False) == f"{file}:5 returns"
     assert rounds_of(recording, Stack((call_at(7, "(*index).page", file),), None)) is None
 
 

@@ -81,22 +81,33 @@ def at_lines(often: Counter[Call]) -> str:
 
 
 def balances_of(recording: Recording, number: int, now: dict[Name, Stack]) -> list[Balance]:
-    """The balances at a channel, if a function takes there and gives back; none if that isn't how it is used. `now` are the stacks of the
-    goroutines that wait."""
+    """The balances at a channel, of each function that takes there and gives back. `now` are the stacks of the goroutines that wait."""
     lines = recording.lines
     uses = [use for use in lines.uses.get(number, ()) if use.what in (PUT, TOOK)]
-    takes, function = takes_of(recording, uses)
-    if not function:
-        return []
-    found: dict[tuple[Name, Path], list[Use]] = defaultdict(list)
+    takes, functions = takes_of(recording, uses)
+    found: dict[str, dict[tuple[Name, Path], list[Use]]] = defaultdict(lambda: defaultdict(list))
     for use in uses:
-        if place := place_in(function, program_frames(lines.stacks[use.stack])):
-            found[name_of_goid(lines, use.goid), place.path].append(use)
-    form = Form(function, takes, *lines_of_form(recording, uses, takes, function))
+        frames = program_frames(lines.stacks[use.stack])
+        function = next((call.function for call in frames if call.function in functions), "")
+        if place := place_in(function, frames):
+            found[function][name_of_goid(lines, use.goid), place.path].append(use)
+    return [one for function, some in found.items() for one in of_function(recording, function, takes, some, now)]
+
+
+def give_back(balances: list[Balance]) -> bool:
+    """Whether at least half of what was taken was given back."""
+    given, taken = (sum(one.given.total() for one in balances), sum(one.taken.total() for one in balances))
+    return 2 * given >= taken
+
+
+def of_function(
+    recording: Recording, function: str, takes: str, found: dict[tuple[Name, Path], list[Use]], now: dict[Name, Stack]
+) -> list[Balance]:
+    """The balances of a function that takes and gives back, by whose calls of it are from which place."""
+    every = [use for some in found.values() for use in some]
+    form = Form(function, takes, *lines_of_form(recording, every, takes, function))
     made = (balance_of(recording, name, path, some, form, now) for (name, path), some in found.items())
-    balances = [one for one in made if one.taken]
-    given, taken = (sum(one.total() for one in some) for some in zip(*((b.given, b.taken) for b in balances)))
-    return balances if 2 * given >= taken else []
+    return [one for one in made if one.taken]
 
 
 def lines_of_form(recording: Recording, uses: list[Use], takes: str, function: str) -> tuple[set[Call], set[Call]]:
@@ -108,22 +119,22 @@ def lines_of_form(recording: Recording, uses: list[Use], takes: str, function: s
     return taking, giving
 
 
-def takes_of(recording: Recording, uses: list[Use]) -> tuple[str, str]:
-    """With what goroutines take at a channel, PUT or TOOK, and the innermost function of the program that does both; empty if there is none. It
-    takes first, and gives back after that."""
-    stacks, functions = recording.lines.stacks, Counter[str]()
+def takes_of(recording: Recording, uses: list[Use]) -> tuple[str, set[str]]:
+    """With what goroutines take at a channel, PUT or TOOK, and the innermost functions of the program that do both, but for those that only call one
+    which does. A function takes first, and gives back after that."""
+    stacks, functions, outer = recording.lines.stacks, Counter[str](), set[str]()
     frames: dict[tuple[int, str], set[Frames]] = defaultdict(set)
     for use in uses:
         frames[use.goid, use.what].add(program_frames(stacks[use.stack]))
     for goid in {use.goid for use in uses}:
         given = {call.function for some in frames[goid, PUT] for call in some}
         for some in frames[goid, TOOK]:
-            if function := next((call.function for call in some if call.function in given), ""):
-                functions[function] += 1
+            both = [call.function for call in some if call.function in given]
+            functions.update(both[:1])
+            outer.update(both[1:])
     if not functions:
-        return "", ""
-    function = functions.most_common(1)[0][0]
-    return first_of(recording, uses, function), function
+        return "", set()
+    return first_of(recording, uses, functions.most_common(1)[0][0]), set(functions) - outer
 
 
 def first_of(recording: Recording, uses: list[Use], function: str) -> str:

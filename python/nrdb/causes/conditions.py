@@ -5,26 +5,30 @@ import re
 from typing import NamedTuple, Optional
 
 from ..recording import Recording
-from ..waits import Waiting
+from ..waits import Waiting, waits_of
 from ..where import Call
+from .ended_goroutines import loop_round
 from .locks import owner
 from .source_functions import Lines, indent_of, range_of, source_of
 
 WAIT = re.compile(r"([\w.\[\]]+)\.Wait\(\)")
 FIELD = re.compile(r"\.(\w+)\b(?!\()")
 FUNCTION = re.compile(r"func (?:\(\w+ (\*?)(\w+)(?:\[[^\]]*\])?\) )?(\w+)")
+ENTRY = re.compile(r"[\w.]+\[[a-z]\w*(?:\.\w+)*\]")
 FLAG = re.compile(r"= (true|false|nil)\b")
 MOST = 2
 
 
 class Waking(NamedTuple):
-    """A function that changes what a Wait's loop looks at: where, which field, and the line that wakes somebody there, if one does."""
+    """A function that changes what a Wait's loop looks at: where, which field, the line that wakes somebody there, if one does, and whether it
+    waits itself."""
 
     function: str
     changes: int
     field: str
     signal: int = 0
     is_for_all: bool = False
+    is_waiting: bool = False
 
 
 def unsignalled(recording: Recording, wait: Waiting) -> list[str]:
@@ -34,7 +38,7 @@ def unsignalled(recording: Recording, wait: Waiting) -> list[str]:
         f"Perhaps {own[0].file}:{one.changes} in {one.function} should have woken it: it changes {one.field}, at which the loop round the Wait "
         "looks, and that function calls neither Signal nor Broadcast."
         for one in wakings_of(recording, wait)
-        if own and not one.signal
+        if own and not one.signal and not one.is_waiting
     ][:MOST]
 
 
@@ -46,7 +50,35 @@ def one_alone(recording: Recording, wait: Waiting, waiting: int) -> list[str]:
         f"Perhaps {own[0].file}:{one.signal} in {one.function} should wake all: Signal wakes one goroutine alone, and {waiting} still wait."
         for one in wakings_of(recording, wait)
         if own and lines and one.signal and not one.is_for_all and waiting > 1 and FLAG.search(lines[one.changes - 1])
+    ][:MOST] or mistaken_signal(recording, wait)
+
+
+def mistaken_signal(recording: Recording, wait: Waiting) -> list[str]:
+    """Of a loop that looks at an entry of its own: that a Signal perhaps wakes another one, whose entry it isn't."""
+    own = wait.stack.own()
+    lines = source_of(recording, own[0].file) if own else None
+    head = head_of(lines, own[0]) if own and lines else 0
+    entry = ENTRY.search(lines[head - 1]) if lines and head else None
+    if not own or not entry or not have_waited(recording, wait):
+        return []
+    return [
+        f"Perhaps {own[0].file}:{one.signal} in {one.function} woke another one: the loop at {own[0].file}:{head} looks at {entry[0]}, of which each "
+        "that waits has its own, and Signal wakes one goroutine alone."
+        for one in wakings_of(recording, wait)
+        if one.signal and not one.is_for_all
     ][:MOST]
+
+
+def have_waited(recording: Recording, wait: Waiting) -> bool:
+    """Whether several goroutines have waited for a condition."""
+    every = (one for some in waits_of(recording).of.values() for one in some if one.objects == wait.objects)
+    return len({one.name for one in every}) > 1
+
+
+def head_of(lines: Lines, call: Call) -> int:
+    """The line of the loop round a call; 0 if it is in none."""
+    within = range_of(lines, call)
+    return loop_round(lines, within, call.line) if within else 0
 
 
 def wakings_of(recording: Recording, wait: Waiting) -> list[Waking]:
@@ -63,12 +95,13 @@ def wakings_of(recording: Recording, wait: Waiting) -> list[Waking]:
     for function, within in functions_of(lines):
         text = {number: lines[number - 1].partition("//")[0] for number in within}
         changes = next((number for number, line in text.items() if changed_in(line, fields)), 0)
-        if not changes or not function.startswith(of_type or function) or any(map(WAIT.search, text.values())):
+        if not changes or not function.startswith(of_type or function):
             continue
         signals = [(number, signal[1]) for number, line in text.items() if (signal := wakes.search(line))]
         field = changed_in(lines[changes - 1], fields) or ""
         is_for_all = any(what == "Broadcast" for _, what in signals)
-        found.append(Waking(function, changes, field, signals[0][0] if signals else 0, is_for_all))
+        is_waiting = any(map(WAIT.search, text.values()))
+        found.append(Waking(function, changes, field, signals[0][0] if signals else 0, is_for_all, is_waiting))
     return found
 
 

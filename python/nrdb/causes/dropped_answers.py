@@ -13,6 +13,7 @@ from ..waits import Name, Waiting, name_of_goid
 from ..where import OF_THE_PROGRAM, Call as LineCall, Stack
 from .handed_over import written_for
 from .index import MOVING, Index
+from .lost_entries import entry_says
 from .need import Need
 from .senders import PUTS, givings_of
 from .source_functions import Lines, indent_of, range_of, source_of, text_at
@@ -50,8 +51,9 @@ def dropped_answer(index: Index, wait: Waiting, hands: list[Hand]) -> Optional[N
 
 
 def hands_of(recording: Recording, wait: Waiting, waiters: Mapping[Name, Waiter]) -> list[Hand]:
-    """The goroutines that wait to read, and that put values into channels from which others took them at the line of the waiting one; else, if
-    none ever has, those that are in a function which does so by the source."""
+    """The goroutines that wait to read, and that put values into channels from which others took them at the line of the waiting one, or that are in
+    the function in which another does so; else, if none ever has, those that are in a function which does so by the source.
+    """
     readers = {name: waiter for name, waiter in waiters.items() if waiter.call and waiter.call.name == "Read"}
     lines, own = recording.lines, wait.stack.own()
     taken = {
@@ -65,6 +67,10 @@ def hands_of(recording: Recording, wait: Waiting, waiters: Mapping[Name, Waiter]
             name, line = name_of_goid(lines, use.goid), lines.stacks[use.stack].own()
             if use.what == PUT and name in readers and line and line[0].of == OF_THE_PROGRAM:
                 found.setdefault(name, hand_of(readers[name], line[0]))
+    for hand in list(found.values()):
+        for name, reader in readers.items():
+            if any(call.function == hand.line.function for call in reader.stack.calls):
+                found.setdefault(name, hand_of(reader, hand.line))
     return list(found.values()) or by_source(recording, wait, readers)
 
 
@@ -144,7 +150,7 @@ def says_of(index: Index, wait: Waiting, hand: Hand, wrote: Call, read: Call) ->
     ways, place = ways_past(recording, hand.reader.stack, hand.line.file, hand.line.line), hand.line.place()
     by = ways_words(hand.line.file, ways)
     goes = f"{by} without {place}, where it hands values on" if ways else f"it hands values on at {place}"
-    return [*says, f"Perhaps {name} dropped the answer: {goes}."]
+    return [*says, f"Perhaps {name} dropped the answer: {goes}.", *entry_says(recording, hand.line)]
 
 
 def ways_words(file: str, ways: list[int]) -> str:

@@ -4,6 +4,7 @@ import re
 from functools import lru_cache
 from typing import Iterator, NamedTuple, Optional
 
+from ..one_call import Call as OneCall
 from ..recording import Recording
 from ..waits import Name
 from ..where import OF_THE_PROGRAM, Call, Stack
@@ -82,6 +83,21 @@ def ways_out(recording: Recording, call: Call) -> str:
     if leaves and over:
         return f", from whose loop {ways} {lead}, or the end of its range over {over}"
     return f", from whose loop only {ways} {lead}" if leaves else ""
+
+
+def left_by(index: Index, call: OneCall) -> str:
+    """The line by which a goroutine that has ended left the loop in which it made a call, as `ended_where` has it: if there are several, the first
+    one after the line of that function at which it was last."""
+    own = index.recording.lines.of(call.first).own()
+    leaves = leaves_of(index.recording, own[0]) if own and own[0].of == OF_THE_PROGRAM else []
+    if not own or not leaves:
+        return ""
+    passed = sorted(passed_by(index, Name(call.goroutine)), key=lambda one: (one.step, one.time))
+    inside = (one for passage in passed for one in passage.stack.calls if one.function == own[0].function)
+    last = max((one.line for one in inside if one.line in range(own[0].line, leaves[-1] + 1)), default=own[0].line)
+    later = [number for number in leaves if number >= last] if last > own[0].line else []
+    ways = " and ".join(f"{own[0].file}:{number}" for number in later[:1] or leaves)
+    return f", from whose loop {ways} lead{'s' if ' and ' not in ways else ''}"
 
 
 def ranged_over(recording: Recording, call: Call) -> str:

@@ -3,7 +3,9 @@
 from typing import Optional
 
 from ..one_call import Call
+from ..waits import Name, waits_of
 from .index import Index
+from .responses import SERVE, has
 from .words import is_of_go
 
 TO_THE_END = ("io.ReadAll", "io.copyBuffer", "io.Copy", "net.genericReadFrom", "internal/poll.Splice")
@@ -22,11 +24,20 @@ def end_says(index: Index, call: Call, other: int, position: int) -> list[str]:
     if call.name != "Read" or is_of_go(index.recording, call):
         return []
     functions = {one.function for one in index.recording.lines.of(call.first).calls}
+    if functions.intersection(OF_A_BODY) and is_served(index, other, position):
+        return []
     if says := bound_says(functions, other):
         return [says]
     if not index.moved(call.socket, "Write", position) and not index.moved(other, "Write", position):
         return ["Nobody has written anything on this connection."]
     return []
+
+
+def is_served(index: Index, socket: int, position: int) -> bool:
+    """Whether the goroutine that wrote last at a socket is in a handler of net/http yet, so that it may write more."""
+    wrote = index.last_use(socket, position, ("Write",))
+    wait = waits_of(index.recording).at(Name(wrote.goroutine), position) if wrote else None
+    return wait is not None and has(wait.stack, SERVE)
 
 
 def bound_says(functions: set[str], other: int) -> str:

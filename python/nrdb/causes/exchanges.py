@@ -9,8 +9,10 @@ from ..one_call import Call
 from ..recording import Recording
 from .asked import Asked, asked_of
 from .ends_of_reads import line_reader_of
+from .frame_lengths import length_says
 from .flushes import ways_round_a_flush, ways_without_an_answer, writes_through_a_buffer
 from .index import MOVING, Index, back
+from .left_in_buffers import never_flushed
 from .words import place_of, told
 
 MOST_ASKED = 65_536  # bytes, as which a Read counts that asks for more
@@ -87,16 +89,32 @@ def unanswered(index: Index, call: Call, other: int, position: int) -> list[str]
         one for one in index.by_socket[other] if one.goroutine == read.goroutine and one.name == "Write" and one.moved
     ]
     now = index.inside(read.goroutine, position)
-    if any(one.socket == other for one in written) or not answers:
+    if any(one.socket == other for one in written):
         return []
     if now is None or now.name != "Read" or now.socket != other or now.first <= read.first:
         return []
+    if not answers:
+        return unended(index, wrote, read, now)
     if len(answers) < FEWEST and not ways_round_a_flush(index.recording, index.recording.lines.of(now.first)):
         return []
     return [
         f"The request, {told(index.recording, wrote)} in {wrote.steps()}, was read by {told(index.recording, read)} in step {read.last}. "
         f"That goroutine has written there {counted(len(answers), 'time')} before; now it reads on since step {now.first}, without an answer."
         + perhaps_why(index, call, now)
+    ]
+
+
+def unended(index: Index, wrote: Call, read: Call, now: Call) -> list[str]:
+    """Of a first request, which was read, and of which nothing was answered: that its reader looks for the end of a line yet."""
+    line = line_reader_of(index, now)
+    if not line or line_reader_of(index, read) != line:
+        return []
+    recording, made = index.recording, never_flushed(index.recording, now)
+    kept = f"the answer is in the buffer that {made} makes, and no line flushes it; or " if made else ""
+    return [
+        f"The request, {told(recording, wrote)} in {wrote.steps()}, was read by {told(recording, read)} in step {read.last}, and nothing has been "
+        f"written there yet. That goroutine reads on since step {now.first}: {line} looks for the end of a line. Perhaps {kept}the request lacks "
+        "that."
     ]
 
 
@@ -159,7 +177,8 @@ def lacking(index: Index, call: Call, other: int) -> list[str]:
             if begin is call
             else [
                 f"Perhaps fewer bytes were sent than it was told to read: it asked for {whole} and has {whole - rest}, so {rest} more must come. "
-                f"{told(recording, wrote)}, the last there, ended in step {wrote.last}, and nobody writes there now."
+                f"{told(recording, wrote)}, the last there, ended in step {wrote.last}, and nobody writes there now.",
+                *length_says(recording, wrote, begin),
             ]
         )
     if index.moved(call.socket, "Read", recording.length) != index.moved(other, "Write", recording.length):
@@ -167,11 +186,13 @@ def lacking(index: Index, call: Call, other: int) -> list[str]:
     if begin is call:
         return [
             f"It asks for at least {counted(rest, 'byte')}: {told(recording, wrote)}, the last there, put {counted(wrote.moved or 0, 'byte')}, and all "
-            "of them are read."
+            "of them are read.",
+            *length_says(recording, wrote, begin),
         ]
     return [
         f"It asked for {counted(whole, 'byte')} and has {whole - rest}: {told(recording, wrote)}, the last there, put {counted(wrote.moved or 0, 'byte')}, and all of them are read. "
-        f"{counted(rest, 'byte')} more must come."
+        f"{counted(rest, 'byte')} more must come.",
+        *length_says(recording, wrote, begin),
     ]
 
 

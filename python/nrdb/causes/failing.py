@@ -10,13 +10,17 @@ from ..one_call import CLOSE, Call, Outcome
 from ..recording import Recording
 from ..waits import Name, waits_of
 from ..where import Stack
+from .asked import asked_of
 from .cancels import cancel_before, cancel_says, deferred_says, under_way
+from .cut_datagrams import cut_says
 from .datagrams import dropped_datagram
-from .exchanges import is_client
+from .exchanges import MOST_ASKED, is_client
 from .http_requests import cancelled_requests
 from .index import READING, Cause, Index, index_of, went_well
 from .late_answers import is_of_write_timeout
+from .long_lines import long_line_says
 from .needs import Needs
+from .sizes import are_known, moved_at, size_of
 from .words import duration, name_of, place_of_step, told, waits_words
 
 PAST = {
@@ -27,6 +31,7 @@ PAST = {
 OF_A_SERVER = ("net/http.(*conn).readRequest", "net/http.(*conn).serve")
 OF_CONNECTIONS = ("internal/poll.", "net.", "crypto/tls.")
 OF_A_FILE = "os.(*File)."
+CONN_READ = "net.(*conn).Read"
 DEEP = 3  # causes of causes that are told
 ENDED = {
     Outcome.TIMED_OUT: "ended with a timeout",
@@ -86,7 +91,7 @@ def of_timeout(index: Index, call: Call, begins: str) -> Cause:
             says.append(f"It had passed before the {name_of(recording, call)} began.{between(index, call)}")
         else:
             need = Needs(index, {}, call.last).of_call(call)
-            dropped = dropped_datagram(index, call)
+            dropped = cut_says(index, call, call.last) or dropped_datagram(index, call)
             says += [*map(in_the_past, [*need.says, *([] if dropped else need.more)]), *dropped]
     if is_of_write_timeout(index, call):
         says.append("That is the WriteTimeout of its http.Server.")
@@ -186,11 +191,30 @@ def of_the_other_end(index: Index, call: Call, begins: str, deep: int) -> Cause:
     ]
     looks, before = [f"goto {by.first}", f"calls sock {other}"], why(index, by, deep)
     says += before.says
+    last = index.last_use(other, by.first, ("Read",)) if other is not None else None
+    says += (long_line_says(index, last) or part_says(index, call, last)) if last else []
     if (late := late_write(index, call, by)) is not None:
         says.append(
             f"{told(recording, late)} came after the other end was closed, in step {late.first}: nobody read it."
         )
     return Cause(call, says, [call.first, by.first], looks, 0, before.calls)
+
+
+def part_says(index: Index, call: Call, last: Call) -> list[str]:
+    """Of a connection whose other end was closed before all bytes were read there: the last Read, if the program made it itself for more than it
+    got."""
+    recording, own = index.recording, index.recording.lines.of(last.first).own()
+    functions = [one.function for one in recording.lines.of(last.first).calls]
+    is_direct = own is not None and (CONN_READ, own[0].function) in zip(functions, functions[1:])
+    asked, got = asked_of(recording).of(last) or 0, size_of(index, last)
+    unread = moved_at(index, call.socket, "Write", call.last) - moved_at(index, last.socket, "Read", call.last)
+    if not are_known(index) or not is_direct or not got or unread <= 0 or not (got < asked or asked == MOST_ASKED):
+        return []
+    many = f"{'at least ' if asked == MOST_ASKED else ''}{asked}"
+    return [
+        f"{counted(unread, 'byte')} that had been written there were never read: {told(recording, last)}, the last Read, asked for {many} and got "
+        f"{got}. A Read returns what is there."
+    ]
 
 
 def late_write(index: Index, call: Call, by: Call) -> Optional[Call]:

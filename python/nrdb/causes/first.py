@@ -11,6 +11,7 @@ from ..all_goroutines import FOR_VALUE
 from ..one_call import CLOSE, Call, Outcome
 from ..recording import Recording
 from ..waits import Name
+from .ended_contexts import causes_of_ended, of_a_handler
 from .failed_dials import failed_dials
 from .failing import cause_of, failed_at, is_late, served_says
 from .hang_words import hang_looks, hang_says, tree_lines
@@ -20,6 +21,7 @@ from .index import READING, WRITING, Cause, Index, index_of
 from .joins import Topic, joined
 from .late_answers import late_answers
 from .leftovers import leftovers_of
+from .repeated_failures import repeated_says
 from .source import text_after
 from .unpassed_ends import unpassed_ends
 from .unsent_requests import causes_of_unsent
@@ -44,9 +46,10 @@ def first_words(recording: Recording, name: str) -> list[str]:
         lines.append(f"{INDENT}({rest} more: info errors, info hangs)")
     if not failed and all(hang.is_quiet for hang in hangs):
         left = list(failed_dials(index_of(recording))) or leftovers_of(recording)
-        cancelled = requests_that_ended(recording, False)
+        cancelled = [*requests_that_ended(recording, False), *causes_of_ended(index_of(recording))]
         late = list(late_answers(index_of(recording)))
         perhaps = [*cancelled, *once(recording, [*late, *left], [1] * len([*late, *left]))][:MOST_PERHAPS]
+        perhaps = [one for one in perhaps if not any(one.says[0].endswith(line.strip()) for line in lines)]
         looks += [one.looks for one in perhaps]
         lines += [line for one in perhaps for line in paragraph([*one.says, *text_after(recording, one.stopped)])]
     if looks:
@@ -134,12 +137,18 @@ def hangs_of(graph: WaitGraph, has_failures: bool) -> list[Hang]:
     hangs = [hang for hang in graph.shown if not hang.is_quiet]
     if graph.has_ended:
         hangs = [hang for hang in hangs if not hang.root.is_of_go or hang.is_deadlock]
-        left = [hang for hang in hangs if hang.waiting or hang.is_deadlock or hang.needs[0].is_odd]
+        left = [hang for hang in hangs if is_waited_for(hang) or hang.is_deadlock or hang.needs[0].is_odd]
         return left or [hang for hang in hangs if is_at_mutex(hang.root) and hang.has_reason and not has_failures]
     if hangs or has_failures:
         return hangs
     of_main = [hang for hang in graph.shown if any(one.name == graph.main for one in waiters_of(hang))]
     return of_main or graph.shown
+
+
+def is_waited_for(hang: Hang) -> bool:
+    """Whether a goroutine of the program waits for a root, not just one of Go's own."""
+    roots = {waiter.name for waiter in hang.every_root}
+    return any(waiter.name not in roots and not waiter.is_of_go for waiter in waiters_of(hang))
 
 
 def failures_of(recording: Recording) -> list[Cause]:
@@ -178,19 +187,26 @@ def of_request(recording: Recording, ended: CancelledRequest) -> Cause:
     """A request that ended because its context did."""
     steps, looks = [ended.request.last, ended.step], [f"goto {ended.step}", f"calls sock {ended.request.socket}"]
     served = served_says(index_of(recording), ended.closed, ended.closed.first)
-    return Cause(ended.closed, [*ended.says(recording), *served], steps, looks)
+    handler = [] if ended.is_late else of_a_handler(recording, ended.request.goid)
+    return Cause(ended.closed, [*ended.says(recording), *handler, *served], steps, looks)
 
 
 def telling_failures(recording: Recording) -> list[Cause]:
     """The failed calls that tell something of a program, with their causes. Those of one stack that one step brought about have one cause: it
     is looked for once, since a program may spin at a closed descriptor."""
     index, alike = index_of(recording), dict[Hashable, list[Call]]()
+    of_line: dict[Hashable, list[Call]] = defaultdict(list)
     stacks = recording.lines.steps
     for call in [*late_reads(index), *failed_at(index, recording.length)]:
         if is_telling(recording, call):
+            of_line[call.goroutine, call.outcome, stacks[call.first - 1] if recording.lines else call.first].append(
+                call
+            )
             same = call.name, call.outcome, call.cause, stacks[call.first - 1] if recording.lines else 0
             alike.setdefault(same if recording.lines and call.cause else call.first, []).append(call)
-    causes = [cause_of(index, calls[0]) for calls in alike.values()]
+    repeated = {calls[0].first: repeated_says(recording, calls) for calls in of_line.values()}
+    firsts = [calls[0] for calls in alike.values()]
+    causes = [with_more(cause_of(index, call), repeated.get(call.first, [])) for call in firsts]
     told = [call for cause in causes for call in cause.chain]
     apart = [
         (cause, len(calls))
@@ -278,6 +294,10 @@ def once(recording: Recording, causes: list[Cause], counts: list[int]) -> list[C
         kept.setdefault(key, cause)
         many[key] = many.get(key, 0) + count
     return [with_others(cause, many[key] - 1) for key, cause in kept.items()]
+
+
+def with_more(cause: Cause, more: list[str]) -> Cause:
+    return cause._replace(says=[*cause.says, *more])
 
 
 def with_others(cause: Cause, others: int) -> Cause:

@@ -4,6 +4,7 @@ from typing import Iterator, NamedTuple, Optional
 
 from ..one_call import CLOSE, Call, Outcome
 from .index import Cause, Index
+from .long_lines import long_line_says
 from .words import came_of, is_of_go, told
 
 
@@ -21,6 +22,7 @@ class GoneReader(NamedTuple):
             f"nobody reads on socket {read.socket} any more: goroutine {read.goroutine}, which alone had read there, ended after step {self.ended}.",
             f"Its last was {told(recording, read)}, {read.steps()}, {came_of(recording, read)}.",
         ]
+        says += long_line_says(index, read)
         if self.wrote:
             says.append(f"{told(recording, self.wrote)} came after that, in {self.wrote.steps()}: nobody has read it.")
         return says

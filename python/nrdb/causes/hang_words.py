@@ -33,6 +33,7 @@ VERBS = {
 }
 SEVERAL = {"{by}, which calls": "{by}, which call", "as it ends": "as they end", "what it reads": "what they read"}
 MOST_LINES = 20  # of a tree
+MOST_BESIDE = 3  # sentences of goroutines that wait for a root
 MOST_LOOSE = 4  # goroutines that are named of those that hold mutexes for one another, it isn't known which
 INDENT = "  "
 
@@ -49,6 +50,7 @@ def hang_says(graph: WaitGraph, hang: Hang) -> list[str]:
             deadlock_words(graph, hang),
             *(line for some in shown for line in some),
             *left,
+            *of_waiters(graph, hang),
             *unread_words(graph, hang),
         ]
     says = [*hang.needs[0].says, *hang.needs[0].more]
@@ -56,7 +58,23 @@ def hang_says(graph: WaitGraph, hang: Hang) -> list[str]:
         [f"Of socket {hang.root.call.socket}: {says[0]}", *says[1:]] if hang.alike and hang.root.call and says else says
     )
     cases = missing_case_says(recording, hang)
-    return [first_sentence(graph, hang), *of_first, *cases, *beside_words(graph, hang), *unread_words(graph, hang)]
+    others = [line for line in of_waiters(graph, hang) if line not in says]
+    return [
+        first_sentence(graph, hang),
+        *of_first,
+        *cases,
+        *beside_words(graph, hang),
+        *others,
+        *unread_words(graph, hang),
+    ]
+
+
+def of_waiters(graph: WaitGraph, hang: Hang) -> list[str]:
+    """What is said besides of goroutines that wait for responses, each sentence once."""
+    roots = {waiter.name for waiter in hang.roots} if hang.is_deadlock else set()
+    others = (waiter for waiter in waiters_of(hang) if waiter.name not in roots)
+    says = (line for waiter in others for line in graph.needs[waiter.name].beside)
+    return list(dict.fromkeys(says))[:MOST_BESIDE]
 
 
 def ahead_says(graph: WaitGraph, hang: Hang) -> list[list[str]]:

@@ -2,9 +2,11 @@
 took, and of the body of a response of net/http that isn't closed."""
 
 import re
+from operator import attrgetter
 from typing import Iterable, Optional
 
 from ..recording import Recording
+from ..waits import Waiting
 from ..where import OF_THE_PROGRAM, Call, Stack
 from .balances import Balance
 from .skipped_ways import Test, Way, has, is_text, nothing, skipped_ways, ways_are, ways_words
@@ -21,8 +23,13 @@ TO_OTHERS = (
     r"\breturn\b.*\b{name}(?:\.Body)?\b(?!\.)|=\s*{name}(?:\.Body)?\s*$|\bgo\b.*\b{name}\b|[({{,] *{name} *[,)}}]"
     r"|(?<![.\w])\w+\([^()]*\b{name}\.Body"
 )
+USES = re.compile(
+    r"\b(?:fmt\.F\w+|io\.\w+|(?:bufio|json|gob)\.New\w+|binary\.\w+)\(\w+"
+)  # functions that use a value and don't keep it
 CLOSES = r"\b{name}\.Body\.Close\b|\bio\.(?:ReadAll|Copy)\(.*\b{name}\.Body\b"
+AN_ERROR = re.compile(r"\breturn\b.*\b(?:err|fmt\.Errorf|errors\.New|Err\w+|false)\b")
 MOST_PLACES = 2
+TAKEN_AT, GIVEN_AT = attrgetter("taken"), attrgetter("given")
 
 
 def ways_that_keep(recording: Recording, balances: Iterable[Balance]) -> list[str]:
@@ -38,6 +45,41 @@ def ways_that_keep(recording: Recording, balances: Iterable[Balance]) -> list[st
             does = f"{ways_words(line.file, ways)} without {line.file}:{back[-1]}, which gives it back"
             says.append(f"Perhaps they kept it {ways_are(ways)}: {does}.")
     return says
+
+
+def ways_with_an_error(recording: Recording, wait: Waiting) -> list[str]:
+    """Of a function that takes something from a pool or a semaphore where a goroutine waits, and gives it back before it returns an error: the ways on
+    which it returns one without that."""
+    own = wait.stack.own()
+    if not own or own[0].of != OF_THE_PROGRAM or len(wait.objects) != 1:
+        return []
+    text = text_at(recording, own[0]).strip()
+    put, took = SEND.match(text), RECEIVE.search(text)
+    back = rf"<-{re.escape(put[1])}(?![\w.])" if put else rf"{re.escape(took[1])} <- " if took else ""
+    found = (
+        [number for number, _ in found_in(recording, own[0], re.compile(back)) if number > own[0].line] if back else []
+    )
+    ways = ways_of(recording, own[0], text, has(back), nothing) if found else []
+    lines = source_of(recording, own[0].file) or ()
+    failing = [way for way in ways if AN_ERROR.search(lines[way.number - 1])]
+    if not failing:
+        return []
+    function = own[0].function.rpartition("/")[2].partition(".")[2]
+    does = f"{ways_words(own[0].file, failing)} without {own[0].file}:{found[-1]}, which gives it back"
+    return [f"Perhaps {function} keeps it {ways_are(failing)}: {does}."]
+
+
+def gives_on_most_ways(recording: Recording, balances: Iterable[Balance]) -> bool:
+    """Whether the function that takes gives back at several lines, and has fewer ways on which it doesn't."""
+    taken, given = ({line for one in balances for line in some(one)} for some in (TAKEN_AT, GIVEN_AT))
+    ends = gives_back(recording, given)
+    for line in taken if ends else ():
+        lines, text = source_of(recording, line.file), text_at(recording, line).strip()
+        within = range_of(lines, line) if lines else None
+        gives = sum(ends(lines[number - 1].strip()) for number in within or () if lines and ends)
+        if ends and gives > max(1, len(ways_of(recording, line, text, ends, value_of(text, HANDS_ON)))):
+            return True
+    return False
 
 
 def gives_back(recording: Recording, given: Iterable[Call]) -> Optional[Test]:
@@ -60,7 +102,8 @@ def pattern_of(text: str) -> str:
 def value_of(text: str, form: str) -> Test:
     """Whether a statement hands on the value that another one takes."""
     found = TAKEN.match(text)
-    return has(form.format(name=found[1])) if found else nothing
+    hands_on = has(form.format(name=found[1])) if found else nothing
+    return lambda statement: hands_on(USES.sub("(", statement))
 
 
 def ways_of(recording: Recording, line: Call, text: str, ends: Test, keeps: Test) -> list[Way]:

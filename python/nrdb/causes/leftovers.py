@@ -9,6 +9,7 @@ from netrev_words.plurals import counted
 from ..one_call import CLOSE, Call, Outcome
 from ..recording import Recording
 from ..where import OF_THE_PROGRAM
+from .cut_datagrams import causes_of_cuts
 from .failing import cause_of
 from .gone_readers import without_reader
 from .index import MOVING, Cause, Index, index_of, went_well
@@ -25,7 +26,14 @@ class Place(NamedTuple):
 def leftovers_of(recording: Recording) -> list[Cause]:
     """All that is left over at the end of a recording, of each sort in the order of its steps. Of Go's own code alone nothing is."""
     index = index_of(recording)
-    found = [*without_reader(index), *never_read(index), *left_open(index), *early_ends(index), *mixed_writes(index)]
+    found = [
+        *causes_of_cuts(index),
+        *without_reader(index),
+        *never_read(index),
+        *left_open(index),
+        *early_ends(index),
+        *mixed_writes(index),
+    ]
     return [one._replace(says=[f"Perhaps: {one.says[0]}", *one.says[1:]]) for one in found]
 
 

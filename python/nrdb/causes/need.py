@@ -18,8 +18,8 @@ class Need(NamedTuple):
     """Why a waiter waits, in sentences; the goroutine that could end that, what is said of it (`{by}` is its name), and how certain that
     is; the last step of a goroutine that could have gone on, and is in no call any more; sentences that are said of a deadlock too;
     whether goroutines of one `go` statement differ in what is needed; the goroutine that has ended which gave that before; goroutines that
-    ended without giving it; others that may be the one in `by`; and whether calls that are over have kept what is needed, so that nobody who
-    waits has it.
+    ended without giving it; others that may be the one in `by`; whether calls that are over have kept what is needed, so that nobody who
+    waits has it; and sentences that are said too if the goroutine itself waits for another.
     """
 
     says: list[str]
@@ -33,3 +33,4 @@ class Need(NamedTuple):
     ended: tuple[Name, ...] = ()
     others: tuple[Name, ...] = ()
     is_kept: bool = False
+    beside: tuple[str, ...] = ()

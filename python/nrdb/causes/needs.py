@@ -7,10 +7,13 @@ from typing import Optional
 from ..one_call import CLOSE, Call
 from ..waits import Name, Waits, name_of_goid, waits_of
 from ..words import SIDES
+from .cut_datagrams import cut_says
 from .datagrams import unanswered_datagram
 from .ends_of_reads import end_says
 from .exchanges import lacking, unanswered, unasked
+from .held_back import held_back
 from .index import READING, Index
+from .left_in_buffers import left_in_buffer
 from .need import Certainty, Need
 from .new_readers import left_reader, thrown_away
 from .needs_elsewhere import NeedsElsewhere
@@ -46,20 +49,30 @@ class Needs:
         if other is None:
             need = unheard(index, call, self._position) if is_reading else None
             need = need or unaccepted(index, call, self._position)
-            return need or Need([], more=unanswered_datagram(index, call, self._position))
+            of_datagram = cut_says(index, call, self._position) or unanswered_datagram(index, call, self._position)
+            return need or Need([], more=of_datagram)
         if by := index.closing(other, self._position, whole=not is_reading):
             how = "closed" if by.name == CLOSE else "closed for writing"
             where = place_of_step(self._recording, by.first, by.goroutine)
             return Need([f"Its other end, socket {other}, was {how}{where}."])
         need = self._of_other_end(call, other, is_reading)
-        return need._replace(more=self._of_exchange(call, other)) if is_reading else need
+        if not is_reading:
+            return need
+        if beside := held_back(index, call.socket, self._position):
+            return need._replace(beside=tuple(beside))
+        lost = left_reader(index, call, other, self._position) or thrown_away(index, call, other, self._position)
+        return need._replace(more=lost or self._of_exchange(call, other), beside=tuple(lost))
 
     def _of_exchange(self, call: Call, other: int) -> list[str]:
         """Of a Read that waits: what its Writes before, the other end's Reads and the counts of bytes say."""
         index = self._index
-        found = left_reader(index, call, other, self._position) or lacking(index, call, other)
-        found = found or unasked(index, call) or unanswered(index, call, other, self._position)
-        found = found or thrown_away(index, call, other, self._position)
+        found = lacking(index, call, other)
+        found = (
+            found
+            or left_in_buffer(index, call)
+            or unasked(index, call)
+            or unanswered(index, call, other, self._position)
+        )
         found = found or unfinished_reply(index, call, other, self._position)
         return found or end_says(index, call, other, self._position)
 

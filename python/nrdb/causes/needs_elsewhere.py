@@ -7,10 +7,13 @@ from ..all_goroutines import A_CONDITION, A_WAIT_GROUP, MUTEXES
 from ..waits import A_CONNECTION, A_RESPONSE, ALL_REQUESTS, LAST_USE, Name, Waiting, Waits
 from ..where import OF_THE_PROGRAM, Stack
 from .bodies_left_open import open_bodies
+from .closed_later import closed_later
 from .conditions import one_alone, unsignalled
+from .contextless import contextless_says
 from .dropped_answers import Hand, dropped_answer, hands_of, is_for_values
 from .dropped_requests import dropped_request
 from .ended_goroutines import ended_where
+from .held_back import held_back
 from .index import READING, Index, back
 from .groups import Groups
 from .ledger import Ledger
@@ -69,9 +72,12 @@ class NeedsElsewhere:
         if len(wait.objects) == 1 and (balance := self._channels.of_balance(wait)):
             return balance
         more = self._of_condition(wait) if kind == A_CONDITION else []
+        if later := closed_later(self._recording, wait, self._stacks()):
+            return later
         if by := self._ended_before(wait):
-            more = more or self._channels.more_of(wait, by)
-            return Need([], by, "{by} ended its wait there before", Certainty.LIKELY, more=more)
+            more = more or (self._channels.more_of(wait, by) if kind != A_CONDITION else [])
+            beside = tuple(more) if kind == A_CONDITION else ()
+            return Need([], by, "{by} ended its wait there before", Certainty.LIKELY, more=more, beside=beside)
         if kind == A_CONDITION:
             return Need([], more=more)
         if kind == A_WAIT_GROUP and (need := self._groups.of(waiter, self._waiters, self._does)):
@@ -165,11 +171,12 @@ class NeedsElsewhere:
         """Of a response of net/http: the goroutine that serves the request, if that is in this recording."""
         socket = socket_of(self._index, wait, self._position)
         server = None if socket is None else server_of(self._index, socket, self._position)
-        if server is None or self._reads_on(server):
+        if socket is None or server is None or self._reads_on(server):
             return None
         does = "" if server in self._waiters else self._does(server)
         says = [f"{str(server).capitalize()} serves the request on socket {socket}; it {does}."] if does else []
-        return Need(says, server, "{by} serves the request", Certainty.LIKELY)
+        beside = *held_back(self._index, socket, self._position), *contextless_says(self._recording, wait)
+        return Need(says, server, "{by} serves the request", Certainty.LIKELY, beside=beside)
 
     def _reads_on(self, server: Name) -> bool:
         """Whether a goroutine of a server waits for the next request, so that it serves none."""

@@ -9,16 +9,19 @@ from ..all_goroutines import CLOSED, FOR_ROOM, FOR_VALUE, PUT, TOOK, At
 from ..recording import Recording
 from ..waits import Name, Waiting, Waits, name_of_goid
 from ..where import OF_THE_PROGRAM, Call, Stack
-from .balances import Balance, balances_of, has_ended
+from .balances import Balance, balances_of, give_back, has_ended
 from .balances_in_words import excess_says, kept_says
 from .index import index_of
 from .dispatchers import perhaps_dropped
+from .dropped_notices import dropped_notices
 from .ended_givers import ended_giver
 from .ended_goroutines import loop_words
 from .groups import outermost
 from .ledger import GIVES, GIVES_WORDS, Given, Ledger
+from .kept_ways import gives_on_most_ways, ways_with_an_error
 from .need import Certainty, Need
 from .siblings import Kind, ended_words, kinds_of
+from .rpc_calls import dropped_by_rpc
 from .senders import later_giver
 from .slots import of_slots
 from .uncancelled import uncancelled
@@ -51,7 +54,13 @@ class NeedsOfChannels:
         return found
 
     def _balances(self, number: int) -> list[Balance]:
-        return self._once(("balances", number), lambda: balances_of(self._recording, number, self._stacks))
+        """The balances at a channel; none if it isn't a pool or a semaphore, from which goroutines take and to which they give back."""
+
+        def find() -> list[Balance]:
+            found = balances_of(self._recording, number, self._stacks)
+            return found if give_back(found) or gives_on_most_ways(self._recording, found) else []
+
+        return self._once(("balances", number), find)
 
     def of_balance(self, wait: Waiting) -> Optional[Need]:
         """Of a channel from which goroutines take and give back: which calls kept something or gave it back twice; else a goroutine that has
@@ -129,6 +138,13 @@ class NeedsOfChannels:
 
     def of(self, wait: Waiting) -> Need:
         """Of channels: the goroutine that last did there what the waiter waits for; else what became of it."""
+        need, place = self._of(wait), (wait.stack.own(), wait.objects, "notices")
+        notices = self._once(
+            place, lambda: dropped_notices(self._recording, wait) or ways_with_an_error(self._recording, wait)
+        )
+        return need._replace(more=[*need.more, *notices], beside=tuple(dropped_by_rpc(self._recording, wait)))
+
+    def _of(self, wait: Waiting) -> Need:
         is_one = len(wait.objects) == 1
         given = [one for at in wait.objects for one in self._given(at) if one.name != wait.name]
         closing = self._closing(wait)
@@ -146,10 +162,21 @@ class NeedsOfChannels:
                 siblings, one.name, f"{begins} {words}", certainty, more=more, is_odd=bool(siblings), ended=ended
             )
         if not is_one:
-            return Need([])
+            return self._of_ended_takers(wait)
         if says := self._of_siblings(wait):
             return Need(says, is_odd=True, ended=self._ended_siblings(wait))
         return self._of_the_past(wait, given[:1], closing)
+
+    def _of_ended_takers(self, wait: Waiting) -> Need:
+        """Of a select that would put a value into a channel: that all who took from that have ended."""
+        for at in wait.objects:
+            given = self._given(at) if at.use == FOR_ROOM else []
+            if given and all(has_ended(self._recording, one.name) for one in given):
+                one, stack = given[0], given[0].stack
+                did = f"{str(one.name).capitalize()} {GIVES_WORDS[one.what]}{place_in(stack)} (step {one.last})"
+                ended = self._have_ended(wait._replace(objects=(at,)))
+                return Need([f"{did}; it {self._does(one.name, stack)}.", *ended], is_odd=True)
+        return Need([])
 
     def _of_the_past(self, wait: Waiting, given: list[Given], closing: Optional[Need]) -> Need:
         """Of a channel at which nobody that waits did what is waited for: who did last, else what became of it."""

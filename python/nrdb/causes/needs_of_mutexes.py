@@ -11,6 +11,7 @@ from .ledger import Ledger
 from .left_locked import left_locked
 from .locks import LOCK, Held, held_at, owner
 from .need import Certainty, Need
+from .package_source import place_of_variable
 from .source_functions import is_same_variable, source_of, text_at
 from .waiters import Waiter
 
@@ -134,6 +135,11 @@ class NeedsOfMutexes:
                 found.append(Holder(name, calls[0].file, at, 2 * (name in last) + (name in had)))
         return sorted(found, key=lambda holder: -holder.weight)[:MOST_HOLDERS]
 
+    def _is_same_field(self, call: Call, name: str, other: Call, other_name: str) -> bool:
+        """Whether two expressions in functions of other types name the same field of a struct."""
+        place = place_of_variable(self._recording, call, name)
+        return place is not None and place == place_of_variable(self._recording, other, other_name)
+
     def _waits_for(self, name: Name) -> set[int]:
         """The mutexes for which a goroutine waits."""
         waiter = self._waiters.get(name)
@@ -154,6 +160,8 @@ class NeedsOfMutexes:
             if any((one.file, one.line) == (call.file, held.line) for one in locks):
                 return held.line
             if name and is_alike and is_same_variable(name[1], held.name, True):
+                return held.line
+            if name and not is_alike and self._is_same_field(call, held.name, lock, name[1]):
                 return held.line
         is_behind = any(one.function == call.function and one.line < call.line for one in locks)
         return 0 if is_behind and source_of(self._recording, call.file) is None else None

@@ -8,9 +8,10 @@ from ..one_call import Call
 from ..where import OF_THE_PROGRAM
 from ..where import Call as LineCall
 from ..where import Stack
+from .groups import outermost
 from .index import Index, back
 from .source_functions import range_of, source_of, text_at
-from .words import came_of
+from .words import came_of, told
 
 BUFFERED = ("bufio.", "encoding/json.(*Decoder)")
 VARIABLE = re.compile(r"\b(\w+) :?= *(?:bufio|json)\.")
@@ -53,6 +54,8 @@ def left_reader(index: Index, call: Call, other: int, position: int) -> list[str
     if not reads or wrote is None or wrote.first > reads[-1].last:
         return []
     inside = functions_of(index, call)
+    if raw := past_a_reader(index, call, other, reads[-1], position):
+        return raw
     for read in since_an_answer(reads, calls):
         frames = stacks.of(read.first).calls if is_buffered(stacks.of(read.first)) else ()
         for frame in frames:
@@ -64,6 +67,25 @@ def left_reader(index: Index, call: Call, other: int, position: int) -> list[str
             is_over = frame not in lines_in(index, call) and read.goroutine == call.goroutine
             if is_over and may_have_more(index, read, other) and is_of_one_statement(index, frame):
                 return [lost_with(index, frame.file, frame.line, read, reads[-1], "no variable keeps it")]
+    return []
+
+
+def past_a_reader(index: Index, call: Call, other: int, read: Call, position: int) -> list[str]:
+    """Of a Read without a buffer: that the last one there was of a reader with a buffer, which a function made that the goroutine is in yet, or that
+    started it; and that the other end waits to read."""
+    lines = index.recording.lines
+    if is_buffered(lines.of(call.first)) or not is_buffered(lines.of(read.first)):
+        return []
+    now = index.last_use(other, position, ("Read",))
+    if now is None or 0 < now.last <= position:
+        return []
+    inside = {outermost(frame.function) for frame in lines.of(call.first).calls if frame.of == OF_THE_PROGRAM}
+    for frame in lines.of(read.first).calls:
+        made = maker_line(index, frame) if frame.of == OF_THE_PROGRAM and outermost(frame.function) in inside else 0
+        if made:
+            return [
+                lost_with(index, frame.file, made, read, read, f"{told(index.recording, call)} doesn't read from that")
+            ]
     return []
 
 

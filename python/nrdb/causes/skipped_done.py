@@ -2,7 +2,7 @@
 without it, and by the program's source, if that is here, the ways that skip it."""
 
 import re
-
+from collections import defaultdict
 from typing import NamedTuple, Optional
 
 from netrev_words.plurals import counted
@@ -34,13 +34,18 @@ class Rounds(NamedTuple):
 def skipped_done(recording: Recording, waits: Waits, count: Count, position: int) -> list[str]:
     """How many rounds of a loop were over without Done, if that is what is missing; nothing if that isn't known."""
     lines = recording.lines
-    for rounds in {found for use in count.done if (found := rounds_of(recording, lines.stacks[use.stack]))}:
+    loops: dict[tuple[str, int], set[Rounds]] = defaultdict(set)
+    for use in count.done:
+        if found := rounds_of(recording, lines.stacks[use.stack]):
+            loops[found.line.function, found.head].add(found)
+    for of_loop in loops.values():
+        every = sorted(of_loop, key=lambda rounds: rounds.line.line)
+        done = [use for use in count.done if any(is_by(recording, use, rounds) for rounds in every)]
         for uses in lines.uses.values():
-            took = [use for use in uses if use.what == TOOK and is_at(recording, use, rounds)]
-            done = [use for use in count.done if is_by(recording, use, rounds)]
+            took = [use for use in uses if use.what == TOOK and is_at(recording, use, every[-1])]
             missing = total(took) - total(done)
             if missing == count.missing and all(is_free(recording, waits, use, position) for use in took):
-                return [count_says(recording, count), *rounds_say(recording, rounds, took, done)]
+                return [count_says(recording, count), *rounds_say(recording, every, took, done)]
     return []
 
 
@@ -94,22 +99,25 @@ def has_ended(recording: Recording, use: Use) -> bool:
     return known is not None and known.last >= 0
 
 
-def rounds_say(recording: Recording, rounds: Rounds, took: list[Use], done: list[Use]) -> list[str]:
-    """How often a loop took a value and called Done, and the ways that skip it."""
-    file, place = rounds.line.file, rounds.done.place()
+def rounds_say(recording: Recording, every: list[Rounds], took: list[Use], done: list[Use]) -> list[str]:
+    """How often a loop took a value and called Done, at one line or several, and the ways that skip it."""
+    rounds = every[-1]
+    file, place = rounds.line.file, " and ".join(dict.fromkeys(one.done.place() for one in every))
     many = f"{counted(total(took), 'value')} from a channel and called Done at {place} {counted(total(done), 'time')}"
     says = f"The loop at {file}:{rounds.head} took {many}"
-    ways = words_of_ways(recording, rounds, any(has_ended(recording, use) for use in took))
+    ways = words_of_ways(recording, every, any(has_ended(recording, use) for use in took))
     return [f"{says}: {ways} without it." if ways else f"{says}."]
 
 
-def words_of_ways(recording: Recording, rounds: Rounds, has_left: bool) -> str:
+def words_of_ways(recording: Recording, every: list[Rounds], has_left: bool) -> str:
     """The ways of a loop, and of the function that it calls, by which Done is skipped, in words; empty if none is found."""
+    rounds = every[-1]
     lines, inner = source_of(recording, rounds.line.file), source_of(recording, rounds.done.file)
     within = range_of(lines, rounds.line) if lines else None
     if not lines or not inner or not within:
         return ""
-    ends = has(re.escape(text_at(recording, rounds.line).strip().partition("(")[0]) + r"\(")
+    texts = {text_at(recording, one.line).strip().partition("(")[0] for one in every}
+    ends = has(rf"(?:{'|'.join(map(re.escape, sorted(texts)))})\(")
     ways = skipped_ways(lines, within, is_text(code(lines, rounds.takes)), ends)
     words = [ways_words(rounds.line.file, ways if has_left else that_stay(ways))]
     function = range_of(inner, rounds.done) if rounds.done != rounds.line else None

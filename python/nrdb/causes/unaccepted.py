@@ -5,7 +5,7 @@ from typing import Iterator, NamedTuple, Optional
 from ..one_call import CLOSE, OPEN, Call
 from ..waits import Name
 from .balances import has_ended
-from .ended_goroutines import ended_where
+from .ended_goroutines import ended_where, left_by
 from .index import ACCEPTS, Index, back
 from .need import Certainty, Need
 from .words import place_of, told
@@ -39,7 +39,7 @@ def unaccepted(index: Index, call: Call, position: int) -> Optional[Need]:
     does = (
         f"is in {told(index.recording, now)} since step {now.first}"
         if now
-        else f"has ended{ended_where(index, name)}"
+        else f"has ended{left_by(index, accept) or ended_where(index, name)}"
         if has_ended(index.recording, name)
         else "is in no call of a socket"
     )

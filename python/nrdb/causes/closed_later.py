@@ -1,0 +1,55 @@
+"""Selects that another goroutine would end later: it is in a function before a line that closes a channel, or cancels a context, for which the select has a
+case. By the program's source, if that is here."""
+
+import re
+from typing import Iterable, Iterator, Optional
+
+from ..all_goroutines import A_SELECT
+from ..recording import Recording
+from ..waits import Name, Waiting
+from ..where import OF_THE_PROGRAM, Call, Stack
+from .need import Certainty, Need
+from .source_functions import Lines, indent_of, source_of
+from .uncancelled import cancel_in, cancels_of
+from .unclosed import closings_of, inside
+
+CASE = re.compile(r"\s*case (?:\w+(?:, \w+)? :?= )?<-\s*([\w.]+)(\(\))?:")
+DONE = ".Done"
+
+
+def closed_later(recording: Recording, wait: Waiting, stacks: Iterable[tuple[Name, Stack]]) -> Optional[Need]:
+    """The need of a goroutine that waits in a select; None if it doesn't, or no other one is before such a line."""
+    own = wait.stack.own()
+    lines = source_of(recording, own[0].file) if own and own[0].of == OF_THE_PROGRAM else None
+    if wait.kind != A_SELECT or not own or not lines:
+        return None
+    others = [(name, stack) for name, stack in stacks if name != wait.name]
+    for channel in channels_of(lines, own[0].line):
+        does = f"cancels the context of {channel.removesuffix(DONE)}" if channel.endswith(DONE) else f"closes {channel}"
+        for name, number in ended_by(lines, own[0], channel, others):
+            how = f"perhaps {{by}} {does} later, at {own[0].file}:{number}"
+            return Need([], name, how, Certainty.PERHAPS)
+    return None
+
+
+def channels_of(lines: Lines, number: int) -> Iterator[str]:
+    """The channels from which the cases of a select take values, as the source names them: `c.quit`, `ctx.Done`."""
+    margin = indent_of(lines[number - 1])
+    for text in lines[number:]:
+        if indent_of(text) <= margin and text.strip().startswith("}"):
+            return
+        found = CASE.match(text) if indent_of(text) == margin else None
+        if found and bool(found[2]) is found[1].endswith(DONE):
+            yield found[1]
+
+
+def ended_by(
+    lines: Lines, call: Call, channel: str, stacks: Iterable[tuple[Name, Stack]]
+) -> Iterator[tuple[Name, int]]:
+    """The goroutines that end a wait for a channel later, with the lines at which they do."""
+    cancels = cancels_of(lines, call) if channel.endswith(DONE) else []
+    closings = [] if channel.endswith(DONE) else closings_of(lines, call, channel)
+    for name, stack in stacks:
+        found = cancel_in(stack, call.file, cancels) if cancels else inside(stack, call.file, closings)
+        if found:
+            yield name, found.number

@@ -1,0 +1,88 @@
+"""Datagrams that were longer than the buffer into which they were read: the system throws the rest away, and says nothing."""
+
+from collections import defaultdict
+from functools import lru_cache
+from operator import attrgetter
+from typing import Iterator, NamedTuple
+
+from netrev_words.plurals import counted
+
+from ..one_call import Call
+from .asked import asked_of
+from .sizes import size_of
+from .index import Cause, Index
+from .unaccepted import is_datagram
+from .unheard import is_same, sent_at
+from .words import told
+
+
+class CutDatagram(NamedTuple):
+    """The Write of a datagram, and the Read that got its beginning."""
+
+    wrote: Call
+    read: Call
+
+    def says(self, index: Index) -> list[str]:
+        """It in sentences."""
+        recording, length = index.recording, counted(size_of(index, self.read), "byte")
+        wrote = f"{told(recording, self.wrote)} sent a datagram of {counted(size_of(index, self.wrote), 'byte')} in {self.wrote.steps()}"
+        read = f"{told(recording, self.read)} read it into a buffer of {length}, in step {self.read.last}"
+        return [f"{wrote}; {read}: the rest was thrown away."]
+
+
+@lru_cache(maxsize=2)
+def cut_datagrams(index: Index) -> tuple[CutDatagram, ...]:
+    """Those of a recording, in the order of their Reads: of each socket the Reads are paired with what was sent to its address, as long as the
+    lengths fit one another."""
+    found = [pair for socket in sorted(index.by_socket) for pair in cut_at(index, socket)]
+    return tuple(sorted(found, key=lambda pair: pair.read.last))
+
+
+def cut_at(index: Index, socket: int) -> Iterator[CutDatagram]:
+    """The datagrams that were cut as they were read at a socket."""
+    asked = asked_of(index.recording)
+    reads = [one for one in index.by_socket[socket] if one.name == "Read" and one.moved and one.last]
+    sent = sent_to(index, socket) if reads and is_datagram(index, socket) else []
+    for read, wrote in zip(sorted(reads, key=attrgetter("last")), sent):
+        room, size = asked.of(read), size_of(index, wrote)
+        if room is None or wrote.first >= read.last or size_of(index, read) != min(size, room):
+            return
+        if size > room:
+            yield CutDatagram(wrote, read)
+
+
+def sent_to(index: Index, socket: int) -> list[Call]:
+    """The Writes of datagrams to a socket's address, in their order."""
+    own, peer = index.recording.lines.addresses.get(socket, ("", ""))
+    if not own:
+        return []
+    found = (one for one in sent_at(index) if is_same(one.target, own) and (not peer or is_same(one.source, peer)))
+    return sorted((one.wrote for one in found), key=attrgetter("first"))
+
+
+def causes_of_cuts(index: Index) -> list[Cause]:
+    """They as what may be the matter: of each line that read the first one."""
+    found: dict[object, list[CutDatagram]] = defaultdict(list)
+    for pair in cut_datagrams(index):
+        found[index.recording.lines.of(pair.read.first).own()].append(pair)
+    return [cause_of(index, first, len(others)) for first, *others in found.values()]
+
+
+def cause_of(index: Index, pair: CutDatagram, others: int) -> Cause:
+    more = [f"{others} more like it."] if others else []
+    looks = [f"goto {pair.read.last}", f"calls sock {pair.read.socket}"]
+    return Cause(pair.read, [*pair.says(index), *more], [pair.wrote.first, pair.read.first], looks)
+
+
+def cut_says(index: Index, call: Call, position: int) -> list[str]:
+    """Of a Read that waits for a datagram: that the last datagram of its goroutine there was cut, with what the goroutine did that read it."""
+    wrote = index.last_use(call.socket, call.first, ("Write",)) if is_datagram(index, call.socket) else None
+    pair = next((one for one in cut_datagrams(index) if wrote and one.wrote is wrote), None)
+    if pair is None or pair.wrote.goroutine != call.goroutine or pair.read.last > position:
+        return []
+    own = index.by_goroutine[pair.read.goroutine]
+    following = next((one for one in own if one.first > pair.read.last), None)
+    says = pair.says(index)
+    if following and following.name == "Read" and following.socket == pair.read.socket:
+        says.append(f"That goroutine sent no answer: it read on in step {following.first}.")
+    return says

@@ -1,0 +1,66 @@
+"""Values that are dropped if nobody waits for them: of a goroutine that waits at a channel, by the program's source if that is here, the lines that put a value there
+in a select with a `default`."""
+
+import re
+from typing import Optional
+
+from ..all_goroutines import FOR_VALUE
+from ..recording import Recording
+from ..waits import Waiting
+from ..where import OF_THE_PROGRAM, Call
+from .package_source import files_of
+from .senders import TAKES
+from .source_functions import Lines, indent_of, is_same_variable, text_at
+from .closed_later import channels_of
+
+SENDS = re.compile(r"\s*case ([\w.]+)(?:\[[^\]]*\])? <- ")
+DEFAULT = re.compile(r"\s*default:")
+MOST = 2
+
+
+def dropped_notices(recording: Recording, wait: Waiting) -> list[str]:
+    """What is said of them; nothing if the source has no such line."""
+    own = wait.stack.own()
+    if not own or own[0].of != OF_THE_PROGRAM or not any(at.use == FOR_VALUE for at in wait.objects):
+        return []
+    found = [
+        f"{file}:{number}"
+        for name in names_at(recording, own[0])
+        for file, lines in files_of(recording, own[0].file)
+        for number in range(1, len(lines) + 1)
+        if is_dropping(lines, number, name)
+    ]  # fmt: skip
+    if not found:
+        return []
+    puts = " and ".join(found[:MOST])
+    return [
+        f"{puts} put{'s' if len(found) == 1 else ''} a value there only if somebody waits or there is room, and else goes on (default): perhaps one was "
+        "lost."
+    ]
+
+
+def names_at(recording: Recording, call: Call) -> list[str]:
+    """The channels from which the line of a call takes values: of a select those of its cases."""
+    taken = TAKES.search(text_at(recording, call))
+    if taken:
+        return [taken[1]]
+    lines = next((lines for file, lines in files_of(recording, call.file) if file.endswith(call.file)), None)
+    return [name for name in channels_of(lines, call.line) if not name.endswith(".Done")] if lines else []
+
+
+def is_dropping(lines: Lines, number: int, name: str) -> bool:
+    """Whether a line is a case of a select that puts a value into a channel which may be the one of a name, and the select has a `default`."""
+    sends = SENDS.match(lines[number - 1].partition("//")[0])
+    return sends is not None and is_same_variable(name, sends[1], True) and default_of(lines, number) is not None
+
+
+def default_of(lines: Lines, number: int) -> Optional[int]:
+    """The `default:` of the select that a case is of."""
+    margin = indent_of(lines[number - 1])
+    for at in range(number + 1, len(lines) + 1):
+        text, indent = lines[at - 1], indent_of(lines[at - 1])
+        if indent < margin or (indent == margin and text.strip() == "}"):
+            return None
+        if indent == margin and DEFAULT.match(text):
+            return at
+    return None

@@ -1,0 +1,72 @@
+"""Requests of net/http's client that weren't sent, since their contexts had ended before; and contexts of handlers that goroutines use after those have
+returned, by the program's source if that is here."""
+
+import re
+from typing import Iterator, NamedTuple, Optional
+
+from ..all_goroutines import ENDED, Use
+from ..recording import Recording
+from ..waits import name_of_goid
+from ..where import OF_THE_PROGRAM
+from .http_requests import CAUSE_OF_END
+from .index import Cause, Index, back
+from .source_functions import range_of, source_of
+from .words import place_in
+
+ROUND_TRIPS = ("net/http.(*Transport).roundTrip", "net/http.(*Transport).getConn")
+REQUEST = re.compile(r"\b(\w+) \*http\.Request\b")
+
+
+class EndedBefore(NamedTuple):
+    """That a goroutine found the context of its request ended, before it sent that."""
+
+    use: Use
+
+    def says(self, recording: Recording) -> list[str]:
+        """It in sentences."""
+        name, stack = name_of_goid(recording.lines, self.use.goid), recording.lines.stacks[self.use.stack]
+        says = f"The request{place_in(stack)} ({name}, step {self.use.last}) wasn't sent: its context had ended before."
+        return [says, *of_a_handler(recording, self.use.goid)]
+
+
+def ended_before(index: Index) -> Iterator[EndedBefore]:
+    """The requests of the program that weren't sent for that reason."""
+    lines = index.recording.lines
+    for uses in lines.uses.values():
+        for use in uses:
+            functions = [call.function for call in lines.stacks[use.stack].calls[:3]] if use.what == ENDED else []
+            own = lines.stacks[use.stack].own() if CAUSE_OF_END in functions else None
+            if own and own[0].of == OF_THE_PROGRAM and any(one in functions for one in ROUND_TRIPS):
+                yield EndedBefore(use)
+
+
+def of_a_handler(recording: Recording, goid: int) -> list[str]:
+    """That a goroutine was started by a handler of net/http in a function that takes its request's context: that ends as the handler returns."""
+    known = recording.lines.goroutines.get(goid)
+    made = known.made if known else None
+    lines = source_of(recording, made.file) if made and made.of == OF_THE_PROGRAM else None
+    within = range_of(lines, made._replace(function="")) if lines and made else None
+    if not lines or not within or not made:
+        return []
+    texts = {number: lines[number - 1].partition("//")[0] for number in within}
+    request = REQUEST.search(texts[within.start])
+    if not request:
+        return []
+    context = next((number for number, text in texts.items() if f"{request[1]}.Context()" in text), 0)
+    if not context:
+        return []
+    return [
+        f"Its goroutine was started at {made.place()}, in a function that takes {request[1]}.Context() at {made.file}:{context}: net/http ends that "
+        "context as the handler returns."
+    ]
+
+
+def causes_of_ended(index: Index) -> list[Cause]:
+    """They as causes."""
+    return [cause for one in ended_before(index) if (cause := cause_of(index, one))]
+
+
+def cause_of(index: Index, ended: EndedBefore) -> Optional[Cause]:
+    near = next(back(index.book.calls, ended.use.last), None)
+    looks = [f"goto {ended.use.last}", "info goroutines"]
+    return Cause(near, ended.says(index.recording), [ended.use.last], looks) if near else None

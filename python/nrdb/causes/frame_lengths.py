@@ -1,0 +1,77 @@
+"""Lengths that stand before what they are of: of a Read that asks for more bytes than came, the lines that wrote its length and read it, by the
+program's source if that is here."""
+
+import re
+from typing import NamedTuple, Optional
+
+from ..one_call import Call
+from ..recording import Recording
+from ..where import OF_THE_PROGRAM
+from .source_functions import Lines, range_of, source_of
+
+LENGTH = re.compile(
+    r"(?:(?:Put|Append)U(?:v|V)?(?:ar)?[iI]nt\d*\(|binary\.Write\(|[FS]printf\(|\bbyte\().*\blen\(([\w.]+)(?:\[[^\]]*\])?\)"
+)
+PARSED = re.compile(
+    r"\bUint(?:16|32|64)\(|ReadUvarint\(|\bUvarint\(|binary\.Read\(|strconv\.(?:Atoi|Parse\w+)\(|\bint\(\w+\[\d\]\)"
+)
+BODY = re.compile(r"append\([^,]+, ?([\w.]+)\.\.\.\)|\.Write(?:String)?\(([\w.]+)(?:\[:\])?\)|copy\([^,]+, ?([\w.]+)\)")
+HEADERS = re.compile(r"head|hdr|prefix|size|len", re.IGNORECASE)
+
+
+class Line(NamedTuple):
+    """A line of the program's source."""
+
+    file: str
+    number: int
+    text: str
+
+    def place(self) -> str:
+        return f"{self.file}:{self.number}"
+
+
+def length_says(recording: Recording, wrote: Call, read: Call) -> list[str]:
+    """Which lines wrote the length that a Read asks for, and read it; and that it is of something else than what was written."""
+    written = line_of(recording, wrote, LENGTH)
+    if written is None:
+        return []
+    parsed = line_of(recording, read, PARSED)
+    by = f", which {parsed.place()} read" if parsed else ""
+    says = [f"Perhaps that is the length that {written.place()} wrote{by}."]
+    found = LENGTH.search(written.text)
+    bodies = bodies_of(recording, wrote)
+    if found and bodies and found[1] not in bodies:
+        says.append(f"It is the length of {found[1]}, and {' and '.join(sorted(bodies))} was written.")
+    return says
+
+
+def line_of(recording: Recording, call: Call, pattern: "re.Pattern[str]") -> Optional[Line]:
+    """The last line with a pattern, up to the one that a call is made from, in the innermost function of the program that has one."""
+    for one in recording.lines.of(call.first).calls:
+        lines = source_of(recording, one.file) if one.of == OF_THE_PROGRAM else None
+        within = range_of(lines, one) if lines else None
+        found = [number for number in within or () if lines and pattern.search(code(lines, number))]
+        upto = [number for number in found if number <= one.line]
+        if lines and found:
+            number = (upto or found)[-1]
+            return Line(one.file, number, code(lines, number))
+    return None
+
+
+def bodies_of(recording: Recording, wrote: Call) -> set[str]:
+    """The variables that the function of a Write writes or puts together, but for those that are named as a header is."""
+    own = recording.lines.of(wrote.first).own()
+    lines = source_of(recording, own[0].file) if own and own[0].of == OF_THE_PROGRAM else None
+    within = range_of(lines, own[0]) if lines and own else None
+    texts = [code(lines, number) for number in within or () if lines]
+    found = {next(filter(None, match.groups())) for text in texts for match in BODY.finditer(text)}
+    made = {
+        name
+        for name in found
+        if any(re.search(rf"\b{re.escape(name)} :?= append\(|\bcopy\({re.escape(name)}\b", text) for text in texts)
+    }
+    return {name for name in found - made if not HEADERS.search(name)}
+
+
+def code(lines: Lines, number: int) -> str:
+    return lines[number - 1].partition("//")[0].strip()

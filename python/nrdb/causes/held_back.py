@@ -1,0 +1,107 @@
+"""What a handler of net/http wrote and its server holds back: that goes out when the handler returns, or calls Flush. Of a goroutine that waits for
+it, by the program's source if that is here."""
+
+import re
+from typing import Iterator, Optional
+
+from netrev_words.plurals import counted
+
+from ..one_call import Call
+from ..recording import Recording
+from ..waits import Name, waits_of
+from ..where import OF_THE_PROGRAM, Call as LineCall, Stack
+from .index import Index, back
+from .responses import SERVE, has, server_of
+from .source_functions import Lines, indent_of, range_of, source_of
+from .words import told
+
+WRITER = re.compile(r"\b(\w+) http\.ResponseWriter\b")
+FLUSHES = re.compile(r"\.Flush\(\)|NewResponseController\(")
+PROXY = "net/http/httputil.(*ReverseProxy).copyResponse"
+
+
+def held_back(index: Index, socket: int, position: int) -> list[str]:
+    """Of a goroutine that waits for an answer on a socket: that the handler which serves it perhaps wrote one, and didn't flush it."""
+    other, server = index.other_end(socket), server_of(index, socket, position)
+    stack = stack_of(index, server, position) if server else None
+    if other is None or server is None or stack is None or not has(stack, SERVE):
+        return []
+    if has(stack, PROXY):
+        where = "Perhaps its ReverseProxy, which has no FlushInterval, holds back what it has read."
+        return [where, *came_since(index, server, other, position)]
+    came = came_since(index, server, other, position)
+    writes = next((place for place, is_passed in unflushed(index.recording, stack) if is_passed or came), "")
+    if not writes or has_written(index, server, other, position):
+        return []
+    return [
+        f"Perhaps what {writes} wrote is held back: net/http sends it when the handler returns, and nothing flushes it before.",
+        *came,
+    ]
+
+
+def stack_of(index: Index, name: Name, position: int) -> Optional[Stack]:
+    """Where a goroutine waits at a position."""
+    if wait := waits_of(index.recording).at(name, position):
+        return wait.stack
+    inside = None if name.is_goid else index.inside(name.number, position)
+    return index.recording.lines.of(inside.first) if inside else None
+
+
+def has_written(index: Index, server: Name, socket: int, position: int) -> bool:
+    """Whether a goroutine has written at a socket since it last read there."""
+    moved = (
+        one for one in back(index.by_goroutine.get(server.number, ()), position) if one.socket == socket and one.moved
+    )
+    last = next(moved, None)
+    return last is not None and last.name == "Write"
+
+
+def came_since(index: Index, server: Name, socket: int, position: int) -> list[str]:
+    """That a goroutine got bytes elsewhere since it last read at a socket, and wrote none there."""
+    calls = [one for one in index.by_goroutine.get(server.number, []) if one.first <= position]
+    asked = next((one for one in reversed(calls) if one.socket == socket and one.name == "Read" and one.moved), None)
+    since = [one for one in calls if asked and one.first > asked.last and one.moved]
+    got = [one for one in since if one.name == "Read" and one.socket != socket]
+    if not asked or not got or any(one.name == "Write" and one.socket == socket for one in since):
+        return []
+    return [
+        f"{told(index.recording, got[-1])} got {counted(got[-1].moved or 0, 'byte')} in step {got[-1].last}, and nothing was written to "
+        f"socket {socket} since."
+    ]
+
+
+def unflushed(recording: Recording, stack: Stack) -> Iterator[tuple[str, bool]]:
+    """The lines of a stack's functions that write to a ResponseWriter which none of them flushes, and whether each is sure to have been passed."""
+    found: list[tuple[str, bool]] = []
+    for call in stack.calls:
+        lines = source_of(recording, call.file) if call.of == OF_THE_PROGRAM else None
+        within = range_of(lines, call) if lines else None
+        if lines and within:
+            if any(FLUSHES.search(code(lines, number)) for number in within):
+                return
+            found += writes_of(lines, call, within)
+    yield from found
+
+
+def writes_of(lines: Lines, call: LineCall, within: range) -> Iterator[tuple[str, bool]]:
+    """The lines of a function that write to its ResponseWriter, the last one before the line where it is first."""
+    named = next((match[1] for number in within if (match := WRITER.search(code(lines, number)))), None)
+    if named is None:
+        return
+    name = re.escape(named)
+    writes = re.compile(
+        rf"(?<![\w.]){name}\.Write(?:String)?\(|\bFprint\w*\({name},|\bio\.(?:Copy\w*|WriteString)\({name},|NewEncoder\({name}\)|NewWriter\w*\({name}\b"
+    )
+    numbers = [number for number in within if writes.search(code(lines, number))]
+    before = [number for number in numbers if number <= call.line]
+    for number in [*reversed(before), *(one for one in numbers if one > call.line)]:
+        yield f"{call.file}:{number}", number < call.line and is_passed(lines, number, call.line)
+
+
+def is_passed(lines: Lines, number: int, line: int) -> bool:
+    """Whether a line lies in no block that ends before another one."""
+    return all(indent_of(lines[at - 1]) >= indent_of(lines[number - 1]) for at in range(number + 1, line + 1))
+
+
+def code(lines: Lines, number: int) -> str:
+    return lines[number - 1].partition("//")[0]

@@ -1,0 +1,112 @@
+"""Requests that are in a buffer yet: of a goroutine that waits for an answer, and since its last one nothing was written there, though a function that it is
+in writes into a bufio.Writer and doesn't flush that. By the program's source, if that is here."""
+
+import re
+from functools import lru_cache
+from typing import Iterator, NamedTuple
+
+from ..one_call import Call
+from ..recording import Recording
+from ..where import OF_THE_PROGRAM
+from ..where import Call as LineCall
+from .index import MOVING, Index
+from .package_source import HEAD, files_of
+from .source_functions import Lines, range_of, source_of
+
+WRITER = re.compile(
+    r"^\s+(\w+)\s+\*bufio\.(?:Writer|ReadWriter)\b|\b(\w+)\s*(?::?=|:)\s*bufio\.New(?:Writer\w*|ReadWriter)\(|\b(\w+) \*bufio\.(?:Writer|ReadWriter)\b"
+)
+FLUSHES = re.compile(r"\.Flush\(\)")
+FLUSHED, MAKES = re.compile(r"\b(\w+)\.Flush\(\)"), re.compile(r"bufio\.New(?:Writer|ReadWriter)")
+STARTS = re.compile(r"\b(?:go|defer)\b")
+
+
+class Named(NamedTuple):
+    """The functions of a package that write into a buffer, or flush one, by name; and the variables and fields that are buffers."""
+
+    writes: frozenset[str]
+    flushes: frozenset[str]
+    buffers: frozenset[str]
+
+
+def left_in_buffer(index: Index, call: Call) -> list[str]:
+    """What is said of a Read that waits; nothing if something was written since the last answer, or nothing is known to be in a buffer."""
+    moved = [one for one in index.by_socket[call.socket] if one.name in MOVING and one.moved and one.first < call.first]
+    if moved and moved[-1].name == "Write":
+        return []
+    for frame in index.recording.lines.of(call.first).calls:
+        if frame.of == OF_THE_PROGRAM and (place := unflushed_in(index.recording, frame)):
+            return [f"Perhaps what {place} writes is in a buffer yet: nothing flushes it before {frame.place()}."]
+    return []
+
+
+def unflushed_in(recording: Recording, frame: LineCall) -> str:
+    """The last line of a function, before the one at which it is, that writes into a buffer which isn't flushed up to there; empty if there is
+    none."""
+    lines = source_of(recording, frame.file)
+    within = range_of(lines, frame) if lines else None
+    if not lines or not within:
+        return ""
+    named = names_of(tuple(lines for _, lines in files_of(recording, frame.file)))
+    writes = 0
+    for number in range(within.start + 1, frame.line):
+        text = lines[number - 1].partition("//")[0]
+        if FLUSHES.search(text) or calls_one_of(text, named.flushes):
+            writes = 0
+        elif is_write(text, named.buffers) or (calls_one_of(text, named.writes) and not STARTS.search(text)):
+            writes = number
+    return f"{frame.file}:{writes}" if writes else ""
+
+
+def never_flushed(recording: Recording, call: Call) -> str:
+    """Where the package in which a call is made makes a writer with a buffer, if no line of it flushes one: ` main.go:28`; empty if it isn't so."""
+    own = recording.lines.of(call.first).own()
+    if own is None or own[0].of != OF_THE_PROGRAM:
+        return ""
+    files = list(files_of(recording, own[0].file))
+    flushed = {match[1] for _, lines in files for text in lines for match in FLUSHED.finditer(text.partition("//")[0])}
+    made = [
+        f"{file}:{number}"
+        for file, lines in files
+        for number, text in enumerate(lines, 1)
+        if MAKES.search(text.partition("//")[0])
+    ]
+    return made[0] if made and not flushed & names_of(tuple(lines for _, lines in files)).buffers else ""
+
+
+@lru_cache(maxsize=32)
+def names_of(files: tuple[Lines, ...]) -> Named:
+    """The functions of a package by what they do with buffers, those too that call one which does."""
+    buffers = frozenset(
+        name
+        for lines in files
+        for text in lines
+        for match in WRITER.finditer(text)
+        if (name := next(filter(None, match.groups()), ""))
+    )
+    bodies = {name: body for lines in files for name, body in bodies_of(lines)}
+    flushes = {name for name, body in bodies.items() if FLUSHES.search(body)}
+    writes = {name for name, body in bodies.items() if name not in flushes and is_write(body, buffers)}
+    flushes |= {name for name, body in bodies.items() if calls_one_of(body, frozenset(flushes))}
+    return Named(frozenset(writes), frozenset(flushes), buffers)
+
+
+def bodies_of(lines: Lines) -> Iterator[tuple[str, str]]:
+    """The functions of a file, with their texts."""
+    for number, text in enumerate(lines, 1):
+        if head := HEAD.match(text):
+            within = range_of(lines, LineCall(head[3], "", number, OF_THE_PROGRAM))
+            inside = (lines[at - 1].partition("//")[0] for at in (within or range(0))[1:])
+            yield head[3], "\n".join([text.partition("{")[2], *inside])
+
+
+def is_write(text: str, buffers: frozenset[str]) -> bool:
+    """Whether a text writes into one of these buffers."""
+    names = "|".join(map(re.escape, sorted(buffers)))
+    pattern = rf"\b(?:{names})\.(?:Writer\.)?Write\w*\(|\bFprint\w*\((?:\w+\.)*(?:{names}),|\bio\.(?:WriteString|Copy)\((?:\w+\.)*(?:{names}),"
+    return bool(names) and re.search(pattern, text) is not None
+
+
+def calls_one_of(text: str, names: frozenset[str]) -> bool:
+    """Whether a text calls a function of one of these names."""
+    return any(found[1] in names for found in re.finditer(r"\b(\w+)\(", text))

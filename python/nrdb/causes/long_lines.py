@@ -1,0 +1,17 @@
+"""Lines that a bufio.Scanner doesn't take: of a Read that filled its buffer of 65,536 bytes, after which Scan gives up."""
+
+from ..one_call import Call
+from .asked import asked_of
+from .index import Index
+
+SCAN, HALF = "bufio.(*Scanner).Scan", 32_768
+
+
+def long_line_says(index: Index, last: Call) -> list[str]:
+    """What is said of the last Read of a goroutine at a socket; nothing if a Scanner's buffer wasn't at its largest there."""
+    functions = (call.function for call in index.recording.lines.of(last.first).calls)
+    if not last.moved or SCAN not in functions or asked_of(index.recording).of(last) != HALF:
+        return []
+    return [
+        "Perhaps a line was too long: a bufio.Scanner gives up if one has more than 65,536 bytes, and its buffer was at its largest there."
+    ]

@@ -1,0 +1,59 @@
+"""Tables of those who wait for answers, by the program's source if that is here: the lines that look an entry up, put entries in, and take them out. One that is
+put in under the same key takes another's place."""
+
+import re
+from typing import NamedTuple
+
+from ..recording import Recording
+from ..where import Call
+from .package_source import files_of
+from .source_functions import Lines, range_of, source_of
+
+LOOKS_UP = re.compile(r"\w+(?:, \w+)? :?= ([\w.]+)\[([^\]]+)\]")
+MOST = 2
+
+
+class Place(NamedTuple):
+    """A line, and the key there."""
+
+    place: str
+    key: str
+
+
+def entry_says(recording: Recording, line: Call) -> list[str]:
+    """Of a goroutine that hands answers on at a line: in which table it looks up for whom, and which lines put entries there and take them out."""
+    lines = source_of(recording, line.file)
+    within = range_of(lines, line) if lines else None
+    found = [
+        (number, looks)
+        for number in within or () if lines and number <= line.line and (looks := LOOKS_UP.search(code(lines, number)))
+    ]  # fmt: skip
+    if not found:
+        return []
+    number, looks = found[-1]
+    table = looks[1].rpartition(".")[2]
+    puts = places_of(recording, line.file, rf"\b{re.escape(table)}\[([^\]]+)\] = ")
+    takes = places_of(recording, line.file, rf"\bdelete\([\w.]*\b{re.escape(table)}, ([^)]+)\)")
+    if not puts:
+        return []
+    put = " and ".join(f"{one.place} under {one.key}" for one in puts[:MOST])
+    taken = f", and {' and '.join(one.place for one in takes[:MOST])} takes them out" if takes else ""
+    return [
+        f"It looks up for whom an answer is at {line.file}:{number}, in {looks[1]} under {looks[2]}; {put} puts entries there{taken}. Perhaps "
+        "two had the same key, or an answer has another key than its request."
+    ]
+
+
+def places_of(recording: Recording, file: str, pattern: str) -> list[Place]:
+    """The lines of a package that fit a pattern, with the key that it finds."""
+    found = re.compile(pattern)
+    return [
+        Place(f"{name}:{number}", match[1])
+        for name, lines in files_of(recording, file)
+        for number in range(1, len(lines) + 1)
+        if (match := found.search(code(lines, number)))
+    ]
+
+
+def code(lines: Lines, number: int) -> str:
+    return lines[number - 1].partition("//")[0].strip()

@@ -1,0 +1,102 @@
+"""The files of a package of the program, and the types of its expressions as far as they are plain: receivers, parameters, and fields of structs."""
+
+import os
+import re
+from functools import lru_cache
+from typing import Iterator, Optional
+
+from ..recording import Recording
+from ..where import Call
+from .source_functions import Lines, source
+
+STRUCT = re.compile(r"(?:type )?(\w+)(?:\[[^\]]*\])? struct \{$")
+IN_A_LINE = re.compile(r"type (\w+) struct ?\{ ?(.+?) ?\}$")
+FIELD = re.compile(r"\s+(\w+(?:, \w+)*)\s+\*?([\w.]+(?:\[[\w.]+\])?)\s*(?:`.*)?$")
+EMBEDDED = re.compile(r"\s+\*?([\w.]+)\s*$")
+HEAD = re.compile(r"func (?:\((\w+) \*?(\w+)(?:\[[^\]]*\])?\) )?(\w+)(?:\[[^\]]*\])?\(([^)]*)")
+PARAMETER = re.compile(r"(\w+(?:, \w+)*) \*?([\w.]+)(?:,|$)")
+ALIAS, MADE = re.compile(r"\s*(\w+) := ([\w.]+)$"), re.compile(r"\s*(\w+) := &?(\w+)\{")
+MOST_FILES = 40
+
+
+def files_of(recording: Recording, file: str) -> Iterator[tuple[str, Lines]]:
+    """The files of the package that a file is in, as they are named in a recording, this one first; but for its tests if it is none."""
+    folder, name = os.path.split(file)
+    for path in (file, *others_in(os.path.abspath(folder or "."), name)):
+        lines = source(os.path.abspath(os.path.join(folder, os.path.basename(path))), recording.lines.written)
+        if lines:
+            yield os.path.join(folder, os.path.basename(path)), lines
+
+
+@lru_cache(maxsize=64)
+def others_in(folder: str, name: str) -> tuple[str, ...]:
+    """The other files of Go in a folder."""
+    try:
+        found = sorted(one for one in os.listdir(folder) if one.endswith(".go") and one != name)
+    except OSError:
+        return ()
+    is_test = name.endswith("_test.go")
+    return tuple(one for one in found if is_test or not one.endswith("_test.go"))[:MOST_FILES]
+
+
+def field_type(recording: Recording, file: str, of_type: str, field: str) -> Optional[str]:
+    """The type of a field of a struct of the package; None if it isn't found."""
+    for _, lines in files_of(recording, file):
+        if of_type in (fields := fields_in(lines)):
+            return fields[of_type].get(field)
+    return None
+
+
+@lru_cache(maxsize=128)
+def fields_in(lines: Lines) -> dict[str, dict[str, str]]:
+    """The fields of each struct that a file defines, with their types."""
+    found: dict[str, dict[str, str]] = {}
+    current: Optional[dict[str, str]] = None
+    for text in (line.partition("//")[0].rstrip() for line in lines):
+        if whole := IN_A_LINE.match(text):
+            fields = (field for part in whole[2].split(";") if (field := FIELD.match(f" {part.strip()}")))
+            found[whole[1]] = {name: field[2] for field in fields for name in field[1].split(", ")}
+        elif named := STRUCT.match(text.strip()):
+            current = found.setdefault(named[1], {})
+        elif text.strip() == "}":
+            current = None
+        elif current is not None and (field := FIELD.match(text)):
+            current.update((name, field[2]) for name in field[1].split(", "))
+        elif current is not None and (embedded := EMBEDDED.match(text)):
+            current[embedded[1].rpartition(".")[2]] = embedded[1]
+    return found
+
+
+def variables_of(recording: Recording, lines: Lines, call: Call) -> dict[str, str]:
+    """The types of the receiver, the parameters, and plain variables of the function that a call is in."""
+    begin = next((number for number in range(min(call.line, len(lines)), 0, -1) if HEAD.match(lines[number - 1])), 0)
+    head = HEAD.match(lines[begin - 1]) if begin else None
+    if head is None:
+        return {}
+    found = {name: kind for names, kind in PARAMETER.findall(head[4]) for name in names.split(", ")}
+    found |= {head[1]: head[2]} if head[1] else {}
+    for text in (lines[number - 1].partition("//")[0].rstrip() for number in range(begin + 1, call.line)):
+        if made := MADE.match(text):
+            found[made[1]] = made[2]
+        elif (alias := ALIAS.match(text)) and (kind := type_of(recording, call.file, found, alias[2].split("."))):
+            found[alias[1]] = kind
+    return found
+
+
+def type_of(recording: Recording, file: str, variables: dict[str, str], path: list[str]) -> Optional[str]:
+    """The type of a variable's field, by the types of the variables."""
+    first, *fields = path
+    kind = variables.get(first)
+    for field in fields:
+        kind = field_type(recording, file, kind, field) if kind else None
+    return kind
+
+
+def place_of_variable(recording: Recording, call: Call, expression: str) -> Optional[str]:
+    """Which field of which struct an expression names in the function that a call is in: `Node.mu` for `s.node.mu`; None if that isn't known."""
+    lines = source(os.path.abspath(call.file), recording.lines.written)
+    *path, field = expression.split(".")
+    if not lines or not path:
+        return None
+    kind = type_of(recording, call.file, variables_of(recording, lines, call), path)
+    return f"{kind.partition('[')[0]}.{field}" if kind else None

@@ -1,0 +1,36 @@
+"""Calls of net/rpc that are done and were dropped: its client puts a call into the channel that Go was given only if there is room."""
+
+import re
+
+from netrev_words.plurals import counted
+
+from ..all_goroutines import FOR_VALUE, PUT
+from ..recording import Recording
+from ..waits import Waiting
+from ..where import OF_THE_PROGRAM
+from .responses import has
+from .source_functions import found_in, text_at
+from .unclosed import RECEIVE
+
+DONE = "net/rpc.(*Call).done"
+
+
+def dropped_by_rpc(recording: Recording, wait: Waiting) -> list[str]:
+    """Of a goroutine that waits for a call of net/rpc at a channel which was full perhaps: that."""
+    if len(wait.objects) != 1 or wait.objects[0].use != FOR_VALUE:
+        return []
+    at, lines, own = wait.objects[0], recording.lines, wait.stack.own()
+    puts = [use for use in lines.uses.get(at.object, ()) if use.what == PUT]
+    known = lines.objects.get(at.object)
+    if not known or known.room < 1 or not puts:
+        return []
+    if not all(has(lines.stacks[use.stack], DONE) for use in puts) or sum(use.often for use in puts) < known.room:
+        return []
+    made, name = "", RECEIVE.search(text_at(recording, own[0])) if own and own[0].of == OF_THE_PROGRAM else None
+    if own and name:
+        makes = re.compile(rf"\b{re.escape(name[1])}\b.*make\(chan \*rpc\.Call")
+        made = next((f", made at {own[0].file}:{number}," for number, _ in found_in(recording, own[0], makes)), "")
+    return [
+        f"Perhaps calls were dropped: that channel{made} has room for {counted(known.room, 'value')}, and net/rpc drops a call that is done while it "
+        "is full."
+    ]

@@ -1,0 +1,35 @@
+"""How many bytes calls moved, also where a recording counts them as fewer."""
+
+from collections import defaultdict
+from functools import lru_cache
+
+from ..one_call import Call
+from .index import Index
+
+
+def size_of(index: Index, call: Call) -> int:
+    """How many bytes a call read or wrote."""
+    return (call.moved or 0) + sizes_of(index).get(call.first, 0)
+
+
+def are_known(index: Index) -> bool:
+    """Whether a recording has the sizes of all its calls."""
+    return index.recording.lines.bytes is None or bool(index.recording.lines.sizes)
+
+
+def moved_at(index: Index, socket: int, name: str, until: int) -> int:
+    """How many bytes the calls of a name moved at a socket that ended up to a step."""
+    calls = index.by_socket.get(socket, ())
+    return sum(size_of(index, call) for call in calls if call.name == name and 0 < call.last <= until)
+
+
+@lru_cache(maxsize=2)
+def sizes_of(index: Index) -> dict[int, int]:
+    """How many bytes each call moved beside those that count, by its first step."""
+    found: dict[int, int] = defaultdict(int)
+    lines, length = index.recording.lines, index.recording.length
+    for step, size in lines.sizes.items():
+        call = index.at(step) if 0 < step <= length else None
+        if call:
+            found[call.first] += size - (lines.bytes or 0)
+    return found
