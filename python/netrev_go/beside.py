@@ -19,7 +19,7 @@ OF_CONNECTIONS = frozenset(
 )  # fmt: skip
 
 
-OF_DATAGRAMS, GOES_TO = 1, 2  # what a point NAMED is, as go/log/poll.go has it
+OF_DATAGRAMS, GOES_TO, OF_UNIX = 1, 2, 3  # what a point NAMED is, as go/log/poll.go has it
 OF_IPV4, LOOPBACK, UNSPECIFIED = 1, 3, 4  # sorts of addresses there
 
 
@@ -48,6 +48,9 @@ class Beside:
     sizes: list[tuple[int, int]] = field(
         default_factory=list
     )  # behind which steps bytes were read or written that count as fewer, and how many they were
+    _unix: dict[int, tuple[list[int], list[int]]] = field(
+        default_factory=dict
+    )  # of each path the sockets that were accepted and dialed there, whose other end isn't met yet
     _names: dict[int, int] = field(default_factory=dict)  # the numbers of names
     _ends: dict[tuple[int, int], list[int]] = field(
         default_factory=dict
@@ -60,6 +63,8 @@ class Beside:
             self.addresses.append((socket, address_words(point.a), address_words(point.b)))
         elif point.c == GOES_TO:
             self.sent.append((step, address_words(point.a)))
+        elif point.c == OF_UNIX:
+            self._is_of_unix(socket, point)
         else:
             self._is_connected(socket, point)
 
@@ -71,6 +76,17 @@ class Beside:
             self.peers.append((others.pop(), socket))
         else:
             self._ends.setdefault((point.a, point.b), []).append(socket)
+
+    def _is_of_unix(self, socket: int, point: Point) -> None:
+        """A socket that was connected to a path, or accepted there. Of both as many as wait for their other ends are kept: if it is one alone, these
+        two are a connection; if there are several it isn't known which, and all up to then have no other end."""
+        path, is_dialed = (point.b, True) if point.b else (point.a, False)
+        waiting = self._unix.setdefault(path, ([], []))
+        waiting[is_dialed].append(socket)
+        if len(waiting[False]) == len(waiting[True]):
+            if len(waiting[False]) == 1:
+                self.peers.append((waiting[True][0], waiting[False][0]))
+            self._unix[path] = [], []
 
     def failed(self, step: int, point: Point) -> None:
         """A read or a write that has no step, since the machine has no such answer."""

@@ -50,6 +50,6 @@ def ended_by(
     cancels = cancels_of(lines, call) if channel.endswith(DONE) else []
     closings = [] if channel.endswith(DONE) else closings_of(lines, call, channel)
     for name, stack in stacks:
-        found = cancel_in(stack, call.file, cancels) if cancels else inside(stack, call.file, closings)
+        found = cancel_in(lines, stack, call.file, cancels) if cancels else inside(lines, stack, call.file, closings)
         if found:
             yield name, found.number

@@ -2,12 +2,12 @@
 round the Wait looks at, and calls neither Signal nor Broadcast."""
 
 import re
-from typing import NamedTuple, Optional
+from typing import Iterator, NamedTuple, Optional
 
 from ..recording import Recording
 from ..waits import Waiting, waits_of
 from ..where import Call
-from .ended_goroutines import loop_round
+from .ended_goroutines import body_of, loop_round
 from .locks import owner
 from .source_functions import Lines, indent_of, range_of, source_of
 
@@ -59,6 +59,14 @@ def mistaken_signal(recording: Recording, wait: Waiting) -> list[str]:
     lines = source_of(recording, own[0].file) if own else None
     head = head_of(lines, own[0]) if own and lines else 0
     entry = ENTRY.search(lines[head - 1]) if lines and head else None
+    others = sorted({place for place in places_of_waits(recording, wait) if own and place != own[0].place()})
+    if own and others:
+        return [
+            f"Perhaps {own[0].file}:{one.signal} in {one.function} woke another one: goroutines wait there at {others[0]} too, for something else, "
+            "and Signal wakes one goroutine alone."
+            for one in wakings_of(recording, wait)
+            if one.signal and not one.is_for_all
+        ][:MOST]
     if not own or not entry or not have_waited(recording, wait):
         return []
     return [
@@ -67,6 +75,14 @@ def mistaken_signal(recording: Recording, wait: Waiting) -> list[str]:
         for one in wakings_of(recording, wait)
         if one.signal and not one.is_for_all
     ][:MOST]
+
+
+def places_of_waits(recording: Recording, wait: Waiting) -> Iterator[str]:
+    """The lines at which goroutines have waited for a condition."""
+    for some in waits_of(recording).of.values():
+        for one in some:
+            if one.objects == wait.objects and (own := one.stack.own()):
+                yield own[0].place()
 
 
 def have_waited(recording: Recording, wait: Waiting) -> bool:
@@ -113,9 +129,17 @@ def fields_of(lines: Lines, call: Call) -> set[str]:
         text = lines[number - 1].partition("//")[0]
         if indent_of(text) < margin:
             margin = indent_of(text)
+            if text.strip() == "for {":
+                return conditions_in(lines, number)
             if text.lstrip().startswith(("for ", "if ")):
                 return set(FIELD.findall(text))
     return set()
+
+
+def conditions_in(lines: Lines, head: int) -> set[str]:
+    """The fields in the conditions of a loop that has none of its own."""
+    texts = (lines[number - 1].partition("//")[0].strip() for number in body_of(lines, head))
+    return {field for text in texts if text.startswith("if ") for field in FIELD.findall(text)}
 
 
 def functions_of(lines: Lines) -> list[tuple[str, range]]:

@@ -75,14 +75,22 @@ def cause_of(index: Index, pair: CutDatagram, others: int) -> Cause:
 
 
 def cut_says(index: Index, call: Call, position: int) -> list[str]:
-    """Of a Read that waits for a datagram: that the last datagram of its goroutine there was cut, with what the goroutine did that read it."""
+    """Of a Read that waits for a datagram: that the last datagram of its goroutine there was cut, with what the goroutine did that read it; else that
+    the last one which that goroutine got there was."""
     wrote = index.last_use(call.socket, call.first, ("Write",)) if is_datagram(index, call.socket) else None
     pair = next((one for one in cut_datagrams(index) if wrote and one.wrote is wrote), None)
     if pair is None or pair.wrote.goroutine != call.goroutine or pair.read.last > position:
-        return []
+        return last_cut(index, call)
     own = index.by_goroutine[pair.read.goroutine]
     following = next((one for one in own if one.first > pair.read.last), None)
     says = pair.says(index)
     if following and following.name == "Read" and following.socket == pair.read.socket:
         says.append(f"That goroutine sent no answer: it read on in step {following.first}.")
     return says
+
+
+def last_cut(index: Index, call: Call) -> list[str]:
+    """That the last datagram which was read at a socket before a call was cut."""
+    reads = [one for one in index.by_socket[call.socket] if one.name == "Read" and one.moved and one.first < call.first]
+    pair = next((one for one in cut_datagrams(index) if reads and one.read is reads[-1]), None)
+    return pair.says(index) if pair else []

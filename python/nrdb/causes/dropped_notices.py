@@ -8,9 +8,9 @@ from ..all_goroutines import FOR_VALUE
 from ..recording import Recording
 from ..waits import Waiting
 from ..where import OF_THE_PROGRAM, Call
-from .package_source import files_of
+from .package_source import files_of, place_of_variable
 from .senders import TAKES
-from .source_functions import Lines, indent_of, is_same_variable, text_at
+from .source_functions import Lines, indent_of, range_of, text_at
 from .closed_later import channels_of
 
 SENDS = re.compile(r"\s*case ([\w.]+)(?:\[[^\]]*\])? <- ")
@@ -28,7 +28,7 @@ def dropped_notices(recording: Recording, wait: Waiting) -> list[str]:
         for name in names_at(recording, own[0])
         for file, lines in files_of(recording, own[0].file)
         for number in range(1, len(lines) + 1)
-        if is_dropping(lines, number, name)
+        if is_dropping(recording, own[0], name, Call("", file, number, OF_THE_PROGRAM), lines)
     ]  # fmt: skip
     if not found:
         return []
@@ -48,10 +48,17 @@ def names_at(recording: Recording, call: Call) -> list[str]:
     return [name for name in channels_of(lines, call.line) if not name.endswith(".Done")] if lines else []
 
 
-def is_dropping(lines: Lines, number: int, name: str) -> bool:
-    """Whether a line is a case of a select that puts a value into a channel which may be the one of a name, and the select has a `default`."""
-    sends = SENDS.match(lines[number - 1].partition("//")[0])
-    return sends is not None and is_same_variable(name, sends[1], True) and default_of(lines, number) is not None
+def is_dropping(recording: Recording, own: Call, name: str, line: Call, lines: Lines) -> bool:
+    """Whether a line is a case of a select that puts a value into the channel which is named so in the function of a call, and the select has a
+    `default`."""
+    sends = SENDS.match(lines[line.line - 1].partition("//")[0])
+    if sends is None or default_of(lines, line.line) is None:
+        return False
+    if "." in name and "." in sends[1]:
+        places = place_of_variable(recording, own, name), place_of_variable(recording, line, sends[1])
+        return places[0] == places[1] if all(places) else name.rpartition(".")[2] == sends[1].rpartition(".")[2]
+    within = range_of(lines, line)
+    return name == sends[1] and own.file == line.file and own.line in (within or ())
 
 
 def default_of(lines: Lines, number: int) -> Optional[int]:

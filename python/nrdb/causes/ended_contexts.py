@@ -7,13 +7,16 @@ from typing import Iterator, NamedTuple, Optional
 from ..all_goroutines import ENDED, Use
 from ..recording import Recording
 from ..waits import name_of_goid
-from ..where import OF_THE_PROGRAM
+from ..where import OF_THE_PROGRAM, Stack
 from .http_requests import CAUSE_OF_END
 from .index import Cause, Index, back
+from .package_source import files_of
+from .responses import SERVE
 from .source_functions import range_of, source_of
 from .words import place_in
 
 ROUND_TRIPS = ("net/http.(*Transport).roundTrip", "net/http.(*Transport).getConn")
+KEEPS = re.compile(r"[:=,{(] *\w+\.Context\(\)")
 REQUEST = re.compile(r"\b(\w+) \*http\.Request\b")
 
 
@@ -26,7 +29,7 @@ class EndedBefore(NamedTuple):
         """It in sentences."""
         name, stack = name_of_goid(recording.lines, self.use.goid), recording.lines.stacks[self.use.stack]
         says = f"The request{place_in(stack)} ({name}, step {self.use.last}) wasn't sent: its context had ended before."
-        return [says, *of_a_handler(recording, self.use.goid)]
+        return [says, *(of_a_handler(recording, self.use.goid) or kept_by_a_handler(recording, stack))]
 
 
 def ended_before(index: Index) -> Iterator[EndedBefore]:
@@ -59,6 +62,23 @@ def of_a_handler(recording: Recording, goid: int) -> list[str]:
         f"Its goroutine was started at {made.place()}, in a function that takes {request[1]}.Context() at {made.file}:{context}: net/http ends that "
         "context as the handler returns."
     ]
+
+
+def kept_by_a_handler(recording: Recording, stack: Stack) -> list[str]:
+    """The only line of a package at which a handler of net/http keeps the context of its request; nothing if it is in the stack, or there are
+    several."""
+    own = stack.own()
+    if own is None or any(call.function == SERVE for call in stack.calls):
+        return []
+    found = [
+        f"{file}:{number}"
+        for file, lines in files_of(recording, own[0].file)
+        for number, text in enumerate(lines, 1)
+        if KEEPS.search(text.partition("//")[0])
+    ]
+    if len(found) != 1:
+        return []
+    return [f"Perhaps it is the one that {found[0]} keeps of a request: net/http ends that as its handler returns."]
 
 
 def causes_of_ended(index: Index) -> list[Cause]:

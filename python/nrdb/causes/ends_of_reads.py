@@ -1,14 +1,18 @@
 """What a Read that waits looks for, by the functions that it is called in: the end of the stream, the end of a line, or anything at all."""
 
+import re
 from typing import Optional
 
 from ..one_call import Call
 from ..waits import Name, waits_of
+from ..where import OF_THE_PROGRAM
 from .index import Index
+from .package_source import files_of
 from .responses import SERVE, has
 from .words import is_of_go
 
 TO_THE_END = ("io.ReadAll", "io.copyBuffer", "io.Copy", "net.genericReadFrom", "internal/poll.Splice")
+CLOSES_WRITE, MOST_CLOSES = re.compile(r"\.CloseWrite\(\)"), 2
 OF_A_BODY = ("net/http.(*body).Read",)
 OF_A_COUNT = ("io.CopyN", "io.(*LimitedReader).Read")
 SPLICE = "internal/poll.Splice"  # an io.LimitedReader's limit may end it, which no stack shows
@@ -27,10 +31,27 @@ def end_says(index: Index, call: Call, other: int, position: int) -> list[str]:
     if functions.intersection(OF_A_BODY) and is_served(index, other, position):
         return []
     if says := bound_says(functions, other):
-        return [says]
+        return [says, *(half_closes(index, other, position) if "for writing" in says else [])]
     if not index.moved(call.socket, "Write", position) and not index.moved(other, "Write", position):
         return ["Nobody has written anything on this connection."]
     return []
+
+
+def half_closes(index: Index, socket: int, position: int) -> list[str]:
+    """The lines of the program that close a connection for writing, of which none has done so at a socket."""
+    used = index.last_use(socket, position, ("Write", "Read"))
+    own = index.recording.lines.of(used.first).own() if used else None
+    if own is None or own[0].of != OF_THE_PROGRAM:
+        return []
+    found = [
+        f"{file}:{number}"
+        for file, lines in files_of(index.recording, own[0].file)
+        for number, text in enumerate(lines, 1)
+        if CLOSES_WRITE.search(text.partition("//")[0])
+    ]
+    if not 0 < len(found) <= MOST_CLOSES:
+        return []
+    return [f"CloseWrite is called at {' and '.join(found)}, and that hasn't come to socket {socket}."]
 
 
 def is_served(index: Index, socket: int, position: int) -> bool:

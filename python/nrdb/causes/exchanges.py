@@ -13,9 +13,11 @@ from .frame_lengths import length_says
 from .flushes import ways_round_a_flush, ways_without_an_answer, writes_through_a_buffer
 from .index import MOVING, Index, back
 from .left_in_buffers import never_flushed
+from .sizes import are_known, moved_at, size_of
 from .words import place_of, told
 
 MOST_ASKED = 65_536  # bytes, as which a Read counts that asks for more
+FEW_ASKED = 256  # bytes that a Read may ask for at once, as of a head
 FEWEST = 2  # exchanges before, by which a habit is known
 READ_FULL = "io.ReadAtLeast"
 
@@ -169,9 +171,18 @@ def lacking(index: Index, call: Call, other: int) -> list[str]:
     asked, wrote = asked_of(recording), index.last_use(other, recording.length, ("Write",))
     rest, begin = asked.of(call), begin_of_full(index, asked, call)
     whole = asked.of(begin)
-    if not rest or not whole or not wrote or not wrote.last or (begin is call and rest < MOST_ASKED):
+    if (
+        not rest
+        or not whole
+        or not wrote
+        or not wrote.last
+        or (begin is call and rest < MOST_ASKED and rest <= size_of(index, wrote))
+    ):
         return []
-    if is_cut(recording, index, (call.socket, other)):
+    is_of_a_buffer = rest & (rest - 1) == 0 and any(one.function.startswith("bufio.") for one in stack.calls)
+    if begin is call and (rest < FEW_ASKED or is_of_a_buffer):
+        return []
+    if is_cut(recording, index, (call.socket, other)) and not are_known(index):
         return (
             []
             if begin is call
@@ -181,16 +192,16 @@ def lacking(index: Index, call: Call, other: int) -> list[str]:
                 *length_says(recording, wrote, begin),
             ]
         )
-    if index.moved(call.socket, "Read", recording.length) != index.moved(other, "Write", recording.length):
+    if moved_at(index, call.socket, "Read", recording.length) != moved_at(index, other, "Write", recording.length):
         return []
     if begin is call:
         return [
-            f"It asks for at least {counted(rest, 'byte')}: {told(recording, wrote)}, the last there, put {counted(wrote.moved or 0, 'byte')}, and all "
+            f"It asks for {'at least ' if rest >= MOST_ASKED else ''}{counted(rest, 'byte')}: {told(recording, wrote)}, the last there, put {counted(size_of(index, wrote), 'byte')}, and all "
             "of them are read.",
             *length_says(recording, wrote, begin),
         ]
     return [
-        f"It asked for {counted(whole, 'byte')} and has {whole - rest}: {told(recording, wrote)}, the last there, put {counted(wrote.moved or 0, 'byte')}, and all of them are read. "
+        f"It asked for {counted(whole, 'byte')} and has {whole - rest}: {told(recording, wrote)}, the last there, put {counted(size_of(index, wrote), 'byte')}, and all of them are read. "
         f"{counted(rest, 'byte')} more must come.",
         *length_says(recording, wrote, begin),
     ]

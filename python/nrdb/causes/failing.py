@@ -85,14 +85,16 @@ def of_timeout(index: Index, call: Call, begins: str) -> Cause:
         says.append(f"Its deadline was set{at}, while it waited, {duration(time)} ahead.")
     else:
         says.append(f"Its deadline was set{at}, {duration(time)} ahead{under(well, late, name_of(recording, call))}")
-    need = None
+    need, cut = None, cut_says(index, call, call.last)
     if call.cause < call.first and not well and not late and time > 0 and not index.is_listening(call):
         if 0 < call.passed < call.first:
             says.append(f"It had passed before the {name_of(recording, call)} began.{between(index, call)}")
         else:
             need = Needs(index, {}, call.last).of_call(call)
-            dropped = cut_says(index, call, call.last) or dropped_datagram(index, call)
+            dropped = cut or dropped_datagram(index, call)
             says += [*map(in_the_past, [*need.says, *([] if dropped else need.more)]), *dropped]
+    else:
+        says += cut
     if is_of_write_timeout(index, call):
         says.append("That is the WriteTimeout of its http.Server.")
     elif is_of_a_server(recording.lines.of(call.cause)):

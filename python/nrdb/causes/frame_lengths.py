@@ -16,6 +16,7 @@ PARSED = re.compile(
     r"\bUint(?:16|32|64)\(|ReadUvarint\(|\bUvarint\(|binary\.Read\(|strconv\.(?:Atoi|Parse\w+)\(|\bint\(\w+\[\d\]\)"
 )
 BODY = re.compile(r"append\([^,]+, ?([\w.]+)\.\.\.\)|\.Write(?:String)?\(([\w.]+)(?:\[:\])?\)|copy\([^,]+, ?([\w.]+)\)")
+IS_LENGTH = re.compile(r"\b(\w+) :?= (?:\w+\()?len\(\w+")
 HEADERS = re.compile(r"head|hdr|prefix|size|len", re.IGNORECASE)
 
 
@@ -32,7 +33,7 @@ class Line(NamedTuple):
 
 def length_says(recording: Recording, wrote: Call, read: Call) -> list[str]:
     """Which lines wrote the length that a Read asks for, and read it; and that it is of something else than what was written."""
-    written = line_of(recording, wrote, LENGTH)
+    written = length_line(recording, wrote)
     if written is None:
         return []
     parsed = line_of(recording, read, PARSED)
@@ -43,6 +44,19 @@ def length_says(recording: Recording, wrote: Call, read: Call) -> list[str]:
     if found and bodies and found[1] not in bodies:
         says.append(f"It is the length of {found[1]}, and {' and '.join(sorted(bodies))} was written.")
     return says
+
+
+def length_line(recording: Recording, wrote: Call) -> Optional[Line]:
+    """The line that writes a length, of the function of a Write: of something, or of a variable that has it."""
+    if found := line_of(recording, wrote, LENGTH):
+        return found
+    own = recording.lines.of(wrote.first).own()
+    lines = source_of(recording, own[0].file) if own and own[0].of == OF_THE_PROGRAM else None
+    within = range_of(lines, own[0]) if lines and own else None
+    names = {made[1] for number in within or () if lines and (made := IS_LENGTH.search(code(lines, number)))}
+    if not names:
+        return None
+    return line_of(recording, wrote, re.compile(rf"(?:Uint\d*\(|\bbyte\().*\b(?:{'|'.join(sorted(names))})\b"))
 
 
 def line_of(recording: Recording, call: Call, pattern: "re.Pattern[str]") -> Optional[Line]:

@@ -19,7 +19,7 @@ class Need(NamedTuple):
     is; the last step of a goroutine that could have gone on, and is in no call any more; sentences that are said of a deadlock too;
     whether goroutines of one `go` statement differ in what is needed; the goroutine that has ended which gave that before; goroutines that
     ended without giving it; others that may be the one in `by`; whether calls that are over have kept what is needed, so that nobody who
-    waits has it; and sentences that are said too if the goroutine itself waits for another.
+    waits has it; sentences that are said too if the goroutine itself waits for another; and whether `more` says only up to where it reads.
     """
 
     says: list[str]
@@ -34,3 +34,4 @@ class Need(NamedTuple):
     others: tuple[Name, ...] = ()
     is_kept: bool = False
     beside: tuple[str, ...] = ()
+    is_plain: bool = False

@@ -61,7 +61,9 @@ class Needs:
         if beside := held_back(index, call.socket, self._position):
             return need._replace(beside=tuple(beside))
         lost = left_reader(index, call, other, self._position) or thrown_away(index, call, other, self._position)
-        return need._replace(more=lost or self._of_exchange(call, other), beside=tuple(lost))
+        more = lost or self._of_exchange(call, other)
+        ends = [] if more else end_says(index, call, other, self._position)
+        return need._replace(more=more or ends, beside=tuple(lost), is_plain=bool(ends))
 
     def _of_exchange(self, call: Call, other: int) -> list[str]:
         """Of a Read that waits: what its Writes before, the other end's Reads and the counts of bytes say."""
@@ -74,7 +76,7 @@ class Needs:
             or unanswered(index, call, other, self._position)
         )
         found = found or unfinished_reply(index, call, other, self._position)
-        return found or end_says(index, call, other, self._position)
+        return found
 
     def _of_lock(self, call: Call) -> Need:
         """Of a call that waits for the lock of a socket's side: which call has that."""

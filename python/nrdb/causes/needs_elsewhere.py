@@ -21,6 +21,7 @@ from .need import Certainty, Need
 from .needs_of_channels import NeedsOfChannels
 from .needs_of_mutexes import NeedsOfMutexes
 from .responses import SERVE, has, server_of, socket_of
+from .rpc_calls import dropped_by_rpc
 from .stopped_timers import of_timers, timers_of_select
 from .unaccepted import is_dialed
 from .waiters import Waiter
@@ -50,8 +51,9 @@ class NeedsElsewhere:
     def of(self, waiter: Waiter, wait: Waiting) -> Need:
         """The need of a waiter."""
         need = self._of(waiter, wait)
-        more = timers_of_select(self._recording, wait)
-        return need._replace(more=[*need.more, *more]) if more else need
+        more = [*timers_of_select(self._recording, wait), *self._channels.besides(wait)]
+        beside = dropped_by_rpc(self._recording, wait)
+        return need._replace(more=[*need.more, *more], beside=(*need.beside, *beside)) if more or beside else need
 
     def _of(self, waiter: Waiter, wait: Waiting) -> Need:
         kind = wait.kind

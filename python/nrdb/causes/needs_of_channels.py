@@ -21,7 +21,6 @@ from .ledger import GIVES, GIVES_WORDS, Given, Ledger
 from .kept_ways import gives_on_most_ways, ways_with_an_error
 from .need import Certainty, Need
 from .siblings import Kind, ended_words, kinds_of
-from .rpc_calls import dropped_by_rpc
 from .senders import later_giver
 from .slots import of_slots
 from .uncancelled import uncancelled
@@ -61,6 +60,16 @@ class NeedsOfChannels:
             return found if give_back(found) or gives_on_most_ways(self._recording, found) else []
 
         return self._once(("balances", number), find)
+
+    def besides(self, wait: Waiting) -> list[str]:
+        """What is said of a channel whatever else is known: values that were perhaps lost there, or kept by a function that takes one."""
+
+        def find() -> list[str]:
+            is_pool = any(self._balances(at.object) for at in wait.objects if self.is_buffered(at))
+            kept = [] if is_pool else ways_with_an_error(self._recording, wait)
+            return dropped_notices(self._recording, wait) or kept
+
+        return self._once((wait.stack.own(), wait.objects, "besides"), find)
 
     def of_balance(self, wait: Waiting) -> Optional[Need]:
         """Of a channel from which goroutines take and give back: which calls kept something or gave it back twice; else a goroutine that has
@@ -138,13 +147,6 @@ class NeedsOfChannels:
 
     def of(self, wait: Waiting) -> Need:
         """Of channels: the goroutine that last did there what the waiter waits for; else what became of it."""
-        need, place = self._of(wait), (wait.stack.own(), wait.objects, "notices")
-        notices = self._once(
-            place, lambda: dropped_notices(self._recording, wait) or ways_with_an_error(self._recording, wait)
-        )
-        return need._replace(more=[*need.more, *notices], beside=tuple(dropped_by_rpc(self._recording, wait)))
-
-    def _of(self, wait: Waiting) -> Need:
         is_one = len(wait.objects) == 1
         given = [one for at in wait.objects for one in self._given(at) if one.name != wait.name]
         closing = self._closing(wait)

@@ -14,7 +14,7 @@ from .source_functions import range_of, source_of, text_at
 from .words import came_of, told
 
 BUFFERED = ("bufio.", "encoding/json.(*Decoder)")
-VARIABLE = re.compile(r"\b(\w+) :?= *(?:bufio|json)\.")
+VARIABLE = re.compile(r"\b(\w+) :?= *(?:[\w.]+\()*(?:bufio|json)\.")
 HANDED_ON = r"return\b[^()]*\b{name}\b|[({{,=] *&?{name}\b *[,)}}]|= *{name}\s*\Z|\bgo\b.*\b{name}\b"
 AT_ONCE = re.compile(r"\b(?:bufio\.New(?:Reader|ReaderSize|Scanner)|json\.NewDecoder)\((?:[^()]|\([^()]*\))*\)\.\w+\(")
 MAKES = re.compile(r"\b(bufio\.NewReader|bufio\.NewReaderSize|bufio\.NewScanner|json\.NewDecoder)\(")

@@ -9,7 +9,8 @@ from ..recording import Recording
 from ..waits import Waiting
 from ..where import OF_THE_PROGRAM
 from .responses import has
-from .source_functions import found_in, text_at
+from .package_source import files_of
+from .source_functions import text_at
 from .unclosed import RECEIVE
 
 DONE = "net/rpc.(*Call).done"
@@ -28,8 +29,14 @@ def dropped_by_rpc(recording: Recording, wait: Waiting) -> list[str]:
         return []
     made, name = "", RECEIVE.search(text_at(recording, own[0])) if own and own[0].of == OF_THE_PROGRAM else None
     if own and name:
-        makes = re.compile(rf"\b{re.escape(name[1])}\b.*make\(chan \*rpc\.Call")
-        made = next((f", made at {own[0].file}:{number}," for number, _ in found_in(recording, own[0], makes)), "")
+        makes = re.compile(rf"\b{re.escape(name[1].rpartition('.')[2])}\b.*make\(chan \*rpc\.Call")
+        found = (
+            f", made at {file}:{number},"
+            for file, lines_of in files_of(recording, own[0].file)
+            for number, text in enumerate(lines_of, 1)
+            if makes.search(text.partition("//")[0])
+        )
+        made = next(found, "")
     return [
         f"Perhaps calls were dropped: that channel{made} has room for {counted(known.room, 'value')}, and net/rpc drops a call that is done while it "
         "is full."

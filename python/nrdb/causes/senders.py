@@ -10,7 +10,7 @@ from ..waits import Name, Waiting
 from ..where import OF_THE_PROGRAM, Call, Stack
 from .locks import owner
 from .need import Certainty, Need
-from .source_functions import Lines, is_same_variable, range_of, source_of, text_at
+from .source_functions import Lines, is_inside, is_same_variable, range_of, source_of, text_at
 
 PUTS = re.compile(r"([\w.]+(?:\[[^\]]*\])?) ?<- ?(?=\S)")
 TAKES = re.compile(r"(?:<- ?|\brange )([\w.]+)(?![\w.(])")
@@ -41,7 +41,8 @@ def later_giver(recording: Recording, wait: Waiting, stacks: Iterable[tuple[Name
     for goroutine, stack in stacks:
         for call in stack.calls if goroutine != wait.name else ():
             for giving in givings:
-                if call.file == own[0].file and call.line in giving.within and call.line < giving.number:
+                is_before = call.line in giving.within and call.line < giving.number
+                if call.file == own[0].file and is_before and is_inside(source, call, giving.within):
                     how = f"perhaps {{by}} {does} later, at {own[0].file}:{giving.number}"
                     return Need([], goroutine, how, Certainty.PERHAPS)
     return None

@@ -11,6 +11,7 @@ from ..text_files import lines_of
 from ..where import Call
 
 Lines = tuple[str, ...]
+WRAPPED = ".gowrap"  # in the names of functions that only start another
 LITERAL = re.compile(r"\.(?:func|gowrap|deferwrap)\d+")
 
 
@@ -40,6 +41,11 @@ def range_of(lines: Lines, call: Call) -> Optional[range]:
     ends = (number for number in range(begin + 1, len(lines) + 1) if is_end(lines[number - 1], margin))
     end = next(ends, None)
     return range(begin, end + 1) if end and end >= call.line else None
+
+
+def is_inside(lines: Lines, call: Call, within: range) -> bool:
+    """Whether a call is in a function of these lines itself, not in a literal of that, or in what only starts another."""
+    return WRAPPED not in call.function and range_of(lines, call) == within
 
 
 def is_last_line(recording: Recording, call: Call, number: int) -> bool:

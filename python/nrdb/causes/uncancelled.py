@@ -10,7 +10,7 @@ from ..waits import Name, Waiting
 from ..where import OF_THE_PROGRAM, Call, Stack
 from .locks import owner
 from .need import Certainty, Need
-from .source_functions import Lines, begin_of_literal, is_same_variable, range_of, source_of, text_at
+from .source_functions import Lines, begin_of_literal, is_inside, is_same_variable, range_of, source_of, text_at
 
 DONE = re.compile(r"<-\s*[\w.]+\.Done\(\)")
 MAKES = re.compile(r"[\w.]+, ([\w.]+) :?= context\.With(?:Cancel|Timeout|Deadline)\w*\(")
@@ -34,7 +34,7 @@ def uncancelled(recording: Recording, wait: Waiting, stacks: Iterable[tuple[Name
         return None
     cancels = cancels_of(source, own[0])
     for name, stack in stacks:
-        if name != wait.name and (cancel := cancel_in(stack, own[0].file, cancels)):
+        if name != wait.name and (cancel := cancel_in(source, stack, own[0].file, cancels)):
             how = f"perhaps {{by}} cancels its context later, at {own[0].file}:{cancel.number}"
             return Need([], name, how, Certainty.PERHAPS)
     if len(cancels) != 1:
@@ -59,10 +59,11 @@ def cancels_of(source: Lines, call: Call) -> list[Cancelling]:
     return found
 
 
-def cancel_in(stack: Stack, file: str, cancels: list[Cancelling]) -> Optional[Cancelling]:
+def cancel_in(source: Lines, stack: Stack, file: str, cancels: list[Cancelling]) -> Optional[Cancelling]:
     """The line at which a goroutine cancels later: behind one where it is, or as a function ends that it is in."""
     for call in stack.calls:
         for cancel in cancels if call.file == file else ():
-            if call.line in cancel.within and (cancel.is_deferred or call.line < cancel.number):
+            is_there = call.line in cancel.within and is_inside(source, call, cancel.within)
+            if is_there and (cancel.is_deferred or call.line < cancel.number):
                 return cancel
     return None

@@ -9,10 +9,9 @@ from ..waits import Name, Waiting
 from ..where import OF_THE_PROGRAM, Call, Stack
 from .locks import owner
 from .need import Certainty, Need
-from .source_functions import Lines, is_same_variable, range_of, source_of, text_at
+from .source_functions import WRAPPED, Lines, is_inside, is_same_variable, range_of, source_of, text_at
 from .words import short
 
-WRAPPED = ".gowrap"  # in the names of functions that only start another
 RANGE = re.compile(r"\brange ([\w.]+) \{")
 RECEIVE = re.compile(r"<-\s*([\w.]+)(?![\w.(])")
 CLOSE = re.compile(r"(defer )?\bclose\(([\w.]+)\)")
@@ -47,7 +46,7 @@ def unclosed(recording: Recording, wait: Waiting, stacks: Iterable[tuple[Name, S
     if not closings:
         return Need([], more=[f"{loop}: no line of {own[0].file} closes one of that name."]) if ranges else None
     for goroutine, stack in stacks:
-        if goroutine != wait.name and (closing := inside(stack, own[0].file, closings)):
+        if goroutine != wait.name and (closing := inside(source, stack, own[0].file, closings)):
             how = f"perhaps {{by}} closes that later, at {own[0].file}:{closing.number}"
             return Need([], goroutine, how, Certainty.PERHAPS)
     closing = closings[0]
@@ -67,13 +66,14 @@ def closings_of(source: Lines, call: Call, name: str) -> list[Closing]:
     return found
 
 
-def inside(stack: Stack, file: str, closings: list[Closing]) -> Optional[Closing]:
+def inside(source: Lines, stack: Stack, file: str, closings: list[Closing]) -> Optional[Closing]:
     """The line at which a goroutine closes a channel later, if it is in that function before the line, or the closing is deferred."""
     for call in stack.calls:
         for closing in closings:
             if (
                 call.file == file
                 and call.line in closing.within
+                and is_inside(source, call, closing.within)
                 and (closing.is_deferred or call.line < closing.number)
             ):
                 return closing

@@ -85,7 +85,7 @@ class Hang(NamedTuple):
         closes a channel is no reason: a goroutine that takes values may have nothing to do."""
         need, wait = self.needs[0], self.root.wait
         if self.is_deadlock:
-            return self.is_of_mutexes or any(one.more for one in self.needs)
+            return self.is_of_mutexes or any(one.more and not one.is_plain for one in self.needs)
         idles = wait is not None and wait.kind in QUIET and wait.kind != A_CONDITION
         return need.is_odd or bool(need.gone or need.ended or (wait and need.says) or (need.more and not idles))
 

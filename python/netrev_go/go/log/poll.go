@@ -27,6 +27,7 @@ const (
 const (
 	netrevOfDatagrams = 1 // a is the address of a socket for datagrams, and b the one that it is connected to, or 0
 	netrevGoesTo      = 2 // a is the address to which the goroutine is about to send a datagram
+	netrevOfUnix      = 3 // a is the own path of a connection's end, and b the other one's, as numbers; 0 where an end has none
 )
 
 // What the log has of a system call's error.
@@ -212,8 +213,19 @@ func netrevEnds(fd *FD) bool {
 	own, err := syscall.Getsockname(fd.Sysfd)
 	if err == nil && netrevEnd(own) != 0 && netrevEnd(other) != 0 {
 		runtime_netrevPoint(netrevNamedKind, &fd.fdmu.state, netrevEnd(own), netrevEnd(other), 0)
+	} else if err == nil && netrevPath(own) != netrevPath(other) {
+		runtime_netrevPoint(netrevNamedKind, &fd.fdmu.state, netrevPath(own), netrevPath(other), netrevOfUnix)
 	}
 	return true
+}
+
+// netrevPath is a number for the path of a socket in the system's own domain; 0 for none, and for what is no such socket.
+func netrevPath(name syscall.Sockaddr) int64 {
+	end, isUnix := name.(*syscall.SockaddrUnix)
+	if !isUnix || end == nil || end.Name == "" || end.Name == "@" {
+		return 0
+	}
+	return netrevHash(0, []byte(end.Name))
 }
 
 // netrevEnd is a number for an address and its port, the same for one of IPv4 however it is written; 0 for what is neither.
@@ -231,8 +243,13 @@ func netrevEnd(name syscall.Sockaddr) int64 {
 	default:
 		return 0
 	}
-	hash := (uint64(14695981039346656037) ^ uint64(port)) * 1099511628211
-	for _, digits := range address {
+	return netrevHash(port, address)
+}
+
+// netrevHash is a number for a number and bytes, which isn't 0.
+func netrevHash(first int, bytes []byte) int64 {
+	hash := (uint64(14695981039346656037) ^ uint64(first)) * 1099511628211
+	for _, digits := range bytes {
 		hash = (hash ^ uint64(digits)) * 1099511628211
 	}
 	return int64(hash | 1)
