@@ -1,0 +1,74 @@
+"""How many bytes calls moved of which a recording counts fewer, which datagrams were cut, and which unix sockets are two ends of one connection."""
+
+import pytest
+
+from netrev_go.beside import OF_UNIX, Beside
+from netrev_go.points import Kind, Point
+from nrdb.causes.cut_datagrams import cut_datagrams
+from nrdb.causes.index import index_of
+from nrdb.causes.sizes import are_known, moved_at, size_of
+from nrdb.recording import Recording
+from nrdb.where import Lines
+from tests.test_needs import stored
+
+
+def of_unix(beside: Beside, socket: int, own: int, other: int) -> None:
+    beside.named(socket, Point(socket, Kind.NAMED, 1, 0, own, other, OF_UNIX, 0, 0))
+
+
+@pytest.mark.parametrize(
+    "order, peers",
+    [
+        ("d1 a2", [(1, 2)]), ("a2 d1", [(1, 2)]), ("d1 a2 d3 a4", [(1, 2), (3, 4)]), ("a2 d1 d3 a4", [(1, 2), (3, 4)]),
+        ("d1 d3 a2 a4", []), ("d1 a2 d3 d5 a4 a6 d7 a8", [(1, 2), (7, 8)]), ("d1 A2 D3 a4", [(3, 2), (1, 4)]), ("d1", []), ("a2", []),
+    ],
+)  # fmt: skip
+def test_unix_sockets_of_one_connection(order: str, peers: list[tuple[int, int]]) -> None:
+    beside = Beside()
+    for kind, socket in ((one[0], int(one[1:])) for one in order.split()):
+        path = 7 if kind.islower() else 9
+        of_unix(beside, socket, *((0, path) if kind.lower() == "d" else (path, 0)))
+    assert (beside.peers, beside.ends, beside.addresses) == (peers, [], [])
+
+
+def calls_of(recording: Recording, name: str) -> list[int]:
+    """The sizes of the calls of a name on the sockets of a recording, in their order."""
+    index = index_of(recording)
+    return [size_of(index, call) for call in index.book.calls if call.name == name and call.moved]
+
+
+def test_sizes_are_those_that_were_moved() -> None:
+    recording = stored("partly-bad")
+    index = index_of(recording)
+    wrote = next(call for call in index.book.calls if call.name == "Write" and call.moved)
+    assert are_known(index) and (wrote.moved, size_of(index, wrote)) == (64, 1 << 20)
+    assert moved_at(index, wrote.socket, "Write", recording.length) == 1 << 20
+    assert moved_at(index, wrote.socket, "Write", wrote.last - 1) == 0
+    recording.lines.sizes.clear()
+    again = stored("partly-bad")
+    again.lines.sizes.clear()
+    index = index_of(again)
+    assert not are_known(index) and max(calls_of(again, "Write")) == 64
+
+
+@pytest.mark.parametrize(
+    "text, is_good", [('{"sizes":[[1,100]]}', True), ('{"sizes":[[1,"100"]]}', False), ('{"sizes":[[1]]}', False)]
+)
+def test_lines_of_sizes(text: str, is_good: bool) -> None:
+    assert (Lines(f'{{"where":2,"steps":3}}\n{text}', 3).fault == "") is is_good
+
+
+def test_datagrams_that_were_cut() -> None:
+    index = index_of(stored("datagram-bad"))
+    found = [(size_of(index, one.wrote), size_of(index, one.read)) for one in cut_datagrams(index)]
+    assert found == [(20, 16)]
+    assert not cut_datagrams(index_of(stored("datagram-good")))
+
+
+def test_datagrams_of_which_one_was_lost_are_no_pairs() -> None:
+    recording = stored("datagram-bad")
+    index = index_of(recording)
+    first = next(call for call in index.book.calls if call.name == "Write" and call.moved)
+    index.by_socket[first.socket].remove(first)  # as if it were another's
+    cut_datagrams.cache_clear()
+    assert not cut_datagrams(index)
