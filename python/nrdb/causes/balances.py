@@ -17,7 +17,7 @@ DEFERRED = ".deferwrap"  # in the names of functions that run as another ends
 BEGIN = attrgetter("begin")
 TAKEN_WORDS = {TOOK: ("took", "put", "back"), PUT: ("put", "took", "out again")}
 Frames = tuple[Call, ...]
-Path = tuple[tuple[str, int], ...]  # the functions and lines outside of the one that takes and gives back
+Path = tuple[Call, ...]  # the calls outside of the one that takes and gives back
 
 
 class Place(NamedTuple):
@@ -53,6 +53,7 @@ class Balance(NamedTuple):
     has_one: bool = False
     is_taking: bool = False
     is_giving: bool = False
+    called: str = ""  # from where, if a goroutine called the function from several places
 
     @property
     def missing(self) -> int:
@@ -66,6 +67,7 @@ class Balance(NamedTuple):
         many, given = self.taken.total(), self.given.total()
         words = f"{self.name} {did} {counted(many, 'value')} there{at_lines(self.taken)} and {gave} "
         words += f"{given} {back}{at_lines(self.given)}" if given else f"none {back}"
+        words += f", in calls from {self.called}" if self.called else ""
         now = "it waits to give one more back" if self.is_giving else "it has one now" if self.has_one else ""
         return words + (f"; {now}" if now else "")
 
@@ -106,8 +108,17 @@ def of_function(
     """The balances of a function that takes and gives back, by whose calls of it are from which place."""
     every = [use for some in found.values() for use in some]
     form = Form(function, takes, *lines_of_form(recording, every, takes, function))
-    made = (balance_of(recording, name, path, some, form, now) for (name, path), some in found.items())
+    often = Counter(name for name, _ in found)
+    made = (
+        balance_of(recording, name, path, some, form, now)._replace(called=called_at(path) if often[name] > 1 else "")
+        for (name, path), some in found.items()
+    )
     return [one for one in made if one.taken]
+
+
+def called_at(path: Path) -> str:
+    """From where a function is called: `a.go:3`."""
+    return path[0].place() if path else ""
 
 
 def lines_of_form(recording: Recording, uses: list[Use], takes: str, function: str) -> tuple[set[Call], set[Call]]:
@@ -155,7 +166,7 @@ def place_in(function: str, frames: Frames) -> Optional[Place]:
     for at, call in enumerate(frames):
         if call.function == function:
             inner = frames[at - 1] if at and frames[at - 1].function.startswith(f"{function}.") else call
-            return Place(inner, tuple((outer.function, outer.line) for outer in frames[at + 1 :]))
+            return Place(inner, frames[at + 1 :])
     return None
 
 
@@ -190,7 +201,7 @@ def current_in(function: str, path: Path, stack: Optional[Stack]) -> Optional[tu
     """Where a goroutine stands now in a call of the function from the same place, and its whole stack."""
     frames = program_frames(stack) if stack else ()
     for at, call in enumerate(frames):
-        if call.function == function and tuple((outer.function, outer.line) for outer in frames[at + 1 :]) == path:
+        if call.function == function and frames[at + 1 :] == path:
             inner = frames[at - 1] if at and frames[at - 1].function.startswith(f"{function}.") else call
             return inner, frames
     return None

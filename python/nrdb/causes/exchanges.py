@@ -5,7 +5,7 @@ from typing import Iterator, NamedTuple, Optional
 
 from netrev_words.plurals import counted
 
-from ..one_call import Call
+from ..one_call import OPEN, Call
 from ..recording import Recording
 from .asked import Asked, asked_of
 from .ends_of_reads import line_reader_of
@@ -14,6 +14,7 @@ from .flushes import ways_round_a_flush, ways_without_an_answer, writes_through_
 from .index import MOVING, Index, back
 from .left_in_buffers import never_flushed
 from .sizes import are_known, moved_at, size_of
+from .unaccepted import is_dialed
 from .words import place_of, told
 
 MOST_ASKED = 65_536  # bytes, as which a Read counts that asks for more
@@ -51,9 +52,13 @@ def exchanges_of(index: Index, goroutine: int, socket: int, until: int) -> list[
 
 
 def is_client(index: Index, goroutine: int, socket: int) -> bool:
-    """Whether a goroutine alone reads and writes at a socket, and wrote before it got anything there."""
-    moved = [call for call in index.by_socket.get(socket, ()) if call.name in MOVING and call.moved]
-    return bool(moved) and moved[0].name == "Write" and all(call.goroutine == goroutine for call in moved)
+    """Whether a goroutine alone reads and writes at a socket that was dialed, or wrote before it got anything at one of which that isn't known."""
+    calls = index.by_socket.get(socket, [])
+    moved = [call for call in calls if call.name in MOVING and call.moved]
+    stack = index.recording.lines.of(calls[0].first) if calls else None
+    is_known = stack is not None and calls[0].name == OPEN and bool(stack.calls)
+    asks = is_dialed(index, socket) if is_known else bool(moved) and moved[0].name == "Write"
+    return bool(moved) and asks and all(call.goroutine == goroutine for call in moved)
 
 
 def unasked(index: Index, call: Call) -> list[str]:

@@ -21,7 +21,7 @@ from .late_answers import is_of_write_timeout
 from .long_lines import long_line_says
 from .needs import Needs
 from .sizes import are_known, moved_at, size_of
-from .words import duration, name_of, place_of_step, told, waits_words
+from .words import ENDED, duration, name_of, place_of_step, told, waits_words
 
 PAST = {
     "sleeps": "slept", "waits": "waited", "it is now in": "it was then in", "is itself under way": "was itself under way", "It needs": "It needed",
@@ -33,13 +33,6 @@ OF_CONNECTIONS = ("internal/poll.", "net.", "crypto/tls.")
 OF_A_FILE = "os.(*File)."
 CONN_READ = "net.(*conn).Read"
 DEEP = 3  # causes of causes that are told
-ENDED = {
-    Outcome.TIMED_OUT: "ended with a timeout",
-    Outcome.CLOSED: "ended since its descriptor was closed",
-    Outcome.BROKEN_PIPE: "ended with EPIPE",
-    Outcome.EVENT_ERROR: "ended with an error event",
-    Outcome.EOF: "met the end of the stream",
-}
 
 
 def causes_of(recording: Recording, position: int) -> list[Cause]:

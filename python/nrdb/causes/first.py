@@ -12,6 +12,7 @@ from ..one_call import CLOSE, Call, Outcome
 from ..recording import Recording
 from ..waits import Name
 from .ended_contexts import causes_of_ended, of_a_handler
+from .ended_goroutines import goid_of
 from .failed_dials import failed_dials
 from .failing import cause_of, failed_at, is_late, served_says
 from .hang_words import hang_looks, hang_says, tree_lines
@@ -124,8 +125,11 @@ def left_by(graph: WaitGraph, call: Call) -> list[str]:
     later = [one for one in index.by_goroutine[call.goroutine] if one.first > call.last and one.name != CLOSE]
     if left is None or not left.wait or ended is None or later:
         return []
-    did = "put a value" if left.wait.objects[0].use == FOR_VALUE else "take one"
-    waits = f"{left.name} {waits_words(left.wait)}, at which {name} was the last to {did}"
+    at, goid = left.wait.objects[0], goid_of(graph.recording, name)
+    did = "put a value" if at.use == FOR_VALUE else "take one"
+    is_last = any(use.goid == goid for use in graph.recording.lines.uses.get(at.object, ()))
+    whose = f", at which {name} was the last to {did}" if is_last else f", as {name} had put for others"
+    waits = f"{left.name} {waits_words(left.wait)}{whose}"
     return [f"{str(name).capitalize()} ended after that, at step {ended}; {waits}."]
 
 

@@ -9,6 +9,7 @@ from ..recording import Recording
 from ..waits import Waiting
 from ..where import OF_THE_PROGRAM, Call, Stack
 from .balances import Balance
+from .ended_goroutines import body_of, loop_round
 from .skipped_ways import Test, Way, has, is_text, nothing, skipped_ways, ways_are, ways_words
 from .source_functions import found_in, range_of, source_of, text_at
 
@@ -124,9 +125,26 @@ def ways_past_close(recording: Recording, stacks: Iterable[Stack]) -> list[str]:
             found = TAKEN.match(text)
             closes = CLOSES.format(name=found[1]) if found else ""
             ways = ways_of(recording, call, text, has(closes), value_of(text, TO_OTHERS)) if found else []
+            if found and (deferred := closed_in_a_loop(recording, call, found[1])):
+                says[deferred] = None
+                break
             if ways:
                 does = ways_words(call.file, ways)
                 says[f"Perhaps it was left open {ways_are(ways)}: {does} without a Close of the body."] = None
             if ways or (found and found_in(recording, call, re.compile(closes))):
                 break
     return list(says)[:MOST_PLACES]
+
+
+def closed_in_a_loop(recording: Recording, call: Call, name: str) -> str:
+    """That a body is closed only as the function returns, though the line of its request is in a loop of that: the Close is deferred. Empty if it
+    isn't so."""
+    lines = source_of(recording, call.file)
+    within = range_of(lines, call) if lines else None
+    head = loop_round(lines, within, call.line) if lines and within else 0
+    defers = re.compile(rf"\bdefer {re.escape(name)}\.Body\.Close\(\)")
+    found = [number for number in body_of(lines, head) if defers.search(lines[number - 1])] if lines and head else []
+    function = call.function.rpartition("/")[2].partition(".")[2]
+    return (
+        f"It is closed only as {function} returns: the defer at {call.file}:{found[0]} is in a loop." if found else ""
+    )

@@ -17,6 +17,7 @@ from .left_in_buffers import left_in_buffer
 from .need import Certainty, Need
 from .new_readers import left_reader, thrown_away
 from .needs_elsewhere import NeedsElsewhere
+from .partial_reads import partial_reads
 from .unaccepted import unaccepted
 from .unfinished_replies import unfinished_reply
 from .unheard import unheard
@@ -61,7 +62,7 @@ class Needs:
         if beside := held_back(index, call.socket, self._position):
             return need._replace(beside=tuple(beside))
         lost = left_reader(index, call, other, self._position) or thrown_away(index, call, other, self._position)
-        more = lost or self._of_exchange(call, other)
+        more = lost or self._of_exchange(call, other) or partial_reads(index, call)
         ends = [] if more else end_says(index, call, other, self._position)
         return need._replace(more=more or ends, beside=tuple(lost), is_plain=bool(ends))
 

@@ -13,6 +13,7 @@ from .contextless import contextless_says
 from .dropped_answers import Hand, dropped_answer, hands_of, is_for_values
 from .dropped_requests import dropped_request
 from .ended_goroutines import ended_where
+from .ended_hands import ended_hand
 from .held_back import held_back
 from .index import READING, Index, back
 from .groups import Groups
@@ -116,7 +117,7 @@ class NeedsElsewhere:
         if own not in self._hands:
             self._hands[own] = hands_of(self._recording, wait, self._waiters)
         found = dropped_answer(self._index, wait, self._hands[own])
-        return found or dropped_request(self._recording, wait, self._waiters)
+        return found or dropped_request(self._recording, wait, self._waiters) or ended_hand(self._index, wait)
 
     def excess_of(self, names: set[Name]) -> list[str]:
         """Which calls of these goroutines gave something back to a channel more often than they took it."""

@@ -19,6 +19,7 @@ from .ended_goroutines import loop_words
 from .groups import outermost
 from .ledger import GIVES, GIVES_WORDS, Given, Ledger
 from .kept_ways import gives_on_most_ways, ways_with_an_error
+from .loop_variables import shared_variables
 from .need import Certainty, Need
 from .siblings import Kind, ended_words, kinds_of
 from .senders import later_giver
@@ -67,7 +68,9 @@ class NeedsOfChannels:
         def find() -> list[str]:
             is_pool = any(self._balances(at.object) for at in wait.objects if self.is_buffered(at))
             kept = [] if is_pool else ways_with_an_error(self._recording, wait)
-            return dropped_notices(self._recording, wait) or kept
+            own = wait.stack.own()
+            shared = shared_variables(self._recording, own[0].file) if own and self.is_new(wait) else []
+            return dropped_notices(self._recording, wait) or kept or shared
 
         return self._once((wait.stack.own(), wait.objects, "besides"), find)
 

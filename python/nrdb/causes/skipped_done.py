@@ -7,7 +7,7 @@ from typing import NamedTuple, Optional
 
 from netrev_words.plurals import counted
 
-from ..all_goroutines import TOOK, Use
+from ..all_goroutines import PUT, TOOK, Use
 from ..recording import Recording
 from ..waits import Waits, name_of_goid
 from ..where import OF_THE_PROGRAM, Call, Stack
@@ -44,9 +44,30 @@ def skipped_done(recording: Recording, waits: Waits, count: Count, position: int
         for uses in lines.uses.values():
             took = [use for use in uses if use.what == TOOK and is_at(recording, use, every[-1])]
             missing = total(took) - total(done)
-            if missing == count.missing and all(is_free(recording, waits, use, position) for use in took):
+            if not took or not all(is_free(recording, waits, use, position) for use in took):
+                continue
+            if missing == count.missing:
                 return [count_says(recording, count), *rounds_say(recording, every, took, done)]
+            puts = [use for use in uses if use.what == PUT]
+            if not missing and total(done) == total(count.done) and total(puts) == total(took):
+                return [count_says(recording, count), *unput_says(recording, count, puts)]
     return []
+
+
+def unput_says(recording: Recording, count: Count, puts: list[Use]) -> list[str]:
+    """Of values each of which had its Done: that fewer were put into their channel than were added, and the ways on which none is put."""
+    owns = [own[0] for use in puts if (own := recording.lines.stacks[use.stack].own())]
+    adders = {own[0].function for use in count.added if (own := recording.lines.stacks[use.stack].own())}
+    line = next((own for own in owns if own.function in adders and own.of == OF_THE_PROGRAM), None)
+    many = counted(total(puts), "value")
+    lines = source_of(recording, line.file) if line else None
+    within = range_of(lines, line) if lines and line else None
+    if not line or not lines or not within:
+        return [f"{many} came, and each had its Done: more was added than that."]
+    head, text = loop_round(lines, within, line.line), code(lines, line.line).partition(" <- ")[0]
+    ways = skipped_ways(lines, within, is_text(code(lines, head)), has(rf"{re.escape(text)} <- ")) if head else []
+    goes = f": {ways_words(line.file, ways)} without it" if ways else ""
+    return [f"{many} came from {line.place()}, and each had its Done: more was added than that{goes}."]
 
 
 def rounds_of(recording: Recording, stack: Stack) -> Optional[Rounds]:

@@ -31,6 +31,8 @@ def range_of(lines: Lines, call: Call) -> Optional[range]:
     """The numbers of the lines of the function that a call is in; of a function literal its own alone."""
     if not 0 < call.line <= len(lines):
         return None
+    if LITERAL.search(call.function) and is_literal_of_one_line(lines[call.line - 1]):
+        return range(call.line, call.line + 1)
     begin = begin_of_literal(lines, call.line) if LITERAL.search(call.function) else 0
     begin = begin or next((number for number in range(call.line, 0, -1) if lines[number - 1].startswith("func ")), 0)
     if not begin:
@@ -59,6 +61,12 @@ def is_of_one_line(text: str) -> bool:
     """Whether a function begins and ends in a line."""
     code = text.partition("//")[0].rstrip()
     return code.startswith("func ") and code.endswith("}") and code.count("{") == code.count("}")
+
+
+def is_literal_of_one_line(text: str) -> bool:
+    """Whether a function literal begins and ends in a line."""
+    code = text.partition("//")[0]
+    return "func(" in code and code.count("{") == code.count("}") > 0
 
 
 def begin_of_literal(lines: Lines, line: int) -> int:

@@ -7,6 +7,7 @@ from ..all_goroutines import CLOSED, FOR_VALUE, PUT
 from ..recording import Recording
 from ..waits import Name, Waiting
 from ..where import OF_THE_PROGRAM, Call, Stack
+from .ended_goroutines import loop_round
 from .locks import owner
 from .need import Certainty, Need
 from .source_functions import WRAPPED, Lines, is_inside, is_same_variable, range_of, source_of, text_at
@@ -49,6 +50,10 @@ def unclosed(recording: Recording, wait: Waiting, stacks: Iterable[tuple[Name, S
         if goroutine != wait.name and (closing := inside(source, stack, own[0].file, closings)):
             how = f"perhaps {{by}} closes that later, at {own[0].file}:{closing.number}"
             return Need([], goroutine, how, Certainty.PERHAPS)
+    for goroutine, stack in stacks:
+        if goroutine != wait.name and (closing := closes_in_its_loop(source, stack, own[0].file, closings)):
+            how = f"perhaps {{by}} closes that later, at {own[0].file}:{closing.number}"
+            return Need([], goroutine, how, Certainty.PERHAPS)
     closing = closings[0]
     where = f"{own[0].file}:{closing.number}"
     nobody = f"no goroutine that waits is in that function{ended_in(recording, own[0].file, closing)}"
@@ -77,6 +82,16 @@ def inside(source: Lines, stack: Stack, file: str, closings: list[Closing]) -> O
                 and (closing.is_deferred or call.line < closing.number)
             ):
                 return closing
+    return None
+
+
+def closes_in_its_loop(source: Lines, stack: Stack, file: str, closings: list[Closing]) -> Optional[Closing]:
+    """The line at which a goroutine closes a channel later, if that is in a loop of a function which it is in, after the line."""
+    for call in stack.calls:
+        for closing in closings:
+            if call.file == file and call.line in closing.within and is_inside(source, call, closing.within):
+                if loop_round(source, closing.within, closing.number):
+                    return closing
     return None
 
 

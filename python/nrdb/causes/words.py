@@ -12,6 +12,13 @@ from ..where import Stack
 from ..waits import Waiting
 from ..words import duration as duration
 
+ENDED = {
+    Outcome.TIMED_OUT: "ended with a timeout",
+    Outcome.CLOSED: "ended since its descriptor was closed",
+    Outcome.BROKEN_PIPE: "ended with EPIPE",
+    Outcome.EVENT_ERROR: "ended with an error event",
+    Outcome.EOF: "met the end of the stream",
+}
 POLL = "internal/poll.(*FD)."
 # What Go's own functions are called by programs, where it isn't the function of internal/poll.
 NAMES = {

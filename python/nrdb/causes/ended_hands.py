@@ -1,0 +1,77 @@
+"""Goroutines that put values for others into channels, each of which has a channel of its own, and have ended: of one that waits for such a value. The
+clients of many RPC protocols have one that hands the answers on, and servers have workers that put their results so."""
+
+from typing import NamedTuple, Optional
+
+from ..all_goroutines import FOR_VALUE, PUT, TOOK, Use
+from ..one_call import Call as OneCall
+from ..waits import Name, Waiting, name_of_goid, of_names
+from ..where import OF_THE_PROGRAM, Call
+from .balances import has_ended
+from .ended_goroutines import ended_where, ways_out
+from .index import Index
+from .ledger import END
+from .need import Need
+from .words import ENDED, told
+
+MOST_NAMED = 4
+
+
+class EndedHand(NamedTuple):
+    """A goroutine that has ended, its last putting of a value for another, and the line of that."""
+
+    name: Name
+    use: Use
+    line: Call
+
+
+def ended_hand(index: Index, wait: Waiting) -> Optional[Need]:
+    """The need of a goroutine that waits for a value, if all goroutines have ended that put values for others which waited at the same line; None
+    if one hasn't, or nobody did."""
+    lines, own = index.recording.lines, wait.stack.own()
+    if not own or own[0].of != OF_THE_PROGRAM or len(wait.objects) != 1 or wait.objects[0].use != FOR_VALUE:
+        return None
+    if any(use.what == PUT for use in lines.uses.get(wait.objects[0].object, ())):
+        return None
+    taken = [
+        uses for uses in lines.uses.values()
+        if any(use.what == TOOK and lines.stacks[use.stack].own() == own for use in uses)
+    ]  # fmt: skip
+    found = dict[Name, EndedHand]()
+    for use in sorted((use for uses in taken for use in uses if use.what == PUT), key=END):
+        line, name = lines.stacks[use.stack].own(), name_of_goid(lines, use.goid)
+        if line and line[0].of == OF_THE_PROGRAM:
+            found[name] = EndedHand(name, use, line[0])
+    hands = list(found.values())
+    if not hands or not all(has_ended(index.recording, hand.name) for hand in hands) or wait.name in found:
+        return None
+    return Need(says_of(index, hands), gone=hands[0].name if len(hands) == 1 else None, is_odd=True, ended=tuple(found))
+
+
+def says_of(index: Index, hands: list[EndedHand]) -> list[str]:
+    """It in sentences: where they put values for others, and what each did last."""
+    last, recording = hands[-1], index.recording
+    if len(hands) > 1:
+        names = of_names([hand.name for hand in hands[:MOST_NAMED]])
+        more = f" and {len(hands) - MOST_NAMED} more" if len(hands) > MOST_NAMED else ""
+        says = f"{names}{more}, which put such values at {last.line.place()}, have all ended{ways_out(recording, last.line)}."
+        return [says[0].upper() + says[1:]]
+    known = recording.lines.goroutines.get(
+        last.name.number if last.name.is_goid else recording.lines.goid_of(last.name.number)
+    )
+    step = f" after step {known.last}" if known else ""
+    says = f"{last.name}, which put such values at {last.line.place()}, ended{step}{ended_where(index, last.name)}."
+    failed = failed_last(index, last.name)
+    how = (
+        f"Before that, {told(recording, failed)} {ENDED.get(failed.outcome, f'ended with {failed.error}')} (step {failed.last})."
+        if failed
+        else ""
+    )
+    return [says[0].upper() + says[1:], *([how] if how else [])]
+
+
+def failed_last(index: Index, name: Name) -> Optional[OneCall]:
+    """The last Read or Write of a goroutine, if that failed, or met the end of the stream."""
+    calls = [] if name.is_goid else index.by_goroutine.get(name.number, [])
+    moving = [call for call in calls if call.name in ("Read", "Write") and call.last]
+    return moving[-1] if moving and (moving[-1].outcome.is_error or moving[-1].outcome in ENDED) else None

@@ -1,0 +1,49 @@
+"""Reads whose count is perhaps not looked at, by the program's source if that is here: of a goroutine that waits to read, the lines of its function that read
+once into a slice of just the length that is wanted. A Read returns what is there."""
+
+import re
+
+from ..one_call import Call
+from ..where import OF_THE_PROGRAM
+from .index import Index
+from .source_functions import Lines, range_of, source_of
+
+WHOLE = re.compile(r"[\w.]+\.Read\((\w+)\[:(\w+(?:\([\w.]+\))?)\]\)")
+MADE = re.compile(r"\b(\w+) :?= make\(\[\]byte, (?!\d)[^)]+\)")
+READ = re.compile(r"(?<!bufio)[\w.]+\.Read\((\w+)\)")
+MOST = 2
+
+
+def partial_reads(index: Index, call: Call) -> list[str]:
+    """What is said of a Read that waits: of the lines of the functions that it is in, which have read there before, or name the length."""
+    passed = {
+        (one.function, one.line)
+        for read in index.by_socket[call.socket]
+        if read.name == "Read" and read.moved
+        for one in index.recording.lines.of(read.first).calls
+        if one.of == OF_THE_PROGRAM
+    }
+    for one in index.recording.lines.of(call.first).calls:
+        lines = source_of(index.recording, one.file) if one.of == OF_THE_PROGRAM else None
+        within = range_of(lines, one) if lines else None
+        found = [
+            number
+            for number in (partial_lines(lines, within) if lines and within else [])
+            if (one.function, number) in passed or WHOLE.search(lines[number - 1] if lines else "")
+        ]
+        if found:
+            places = " and ".join(f"{one.file}:{number}" for number in found[:MOST])
+            reads = "read" if found[1:] else "reads"
+            return [f"Perhaps a part was taken for the whole: {places} {reads} once, and a Read returns what is there."]
+    return []
+
+
+def partial_lines(lines: Lines, within: range) -> list[int]:
+    """The lines of a function that read once into a slice of a length that isn't a constant."""
+    texts = {number: lines[number - 1].partition("//")[0] for number in within}
+    made = {match[1] for text in texts.values() if (match := MADE.search(text))}
+    return [
+        number
+        for number, text in texts.items()
+        if WHOLE.search(text) or ((match := READ.search(text)) and match[1] in made)
+    ]
