@@ -48,9 +48,9 @@ class Beside:
     sizes: list[tuple[int, int]] = field(
         default_factory=list
     )  # behind which steps bytes were read or written that count as fewer, and how many they were
-    _unix: dict[int, tuple[list[int], list[int]]] = field(
+    _unix: dict[int, tuple[list[tuple[int, int]], list[tuple[int, int]]]] = field(
         default_factory=dict
-    )  # of each path the sockets that were accepted and dialed there, whose other end isn't met yet
+    )  # of each path the sockets that were accepted and dialed there, with the goroutines that did
     _names: dict[int, int] = field(default_factory=dict)  # the numbers of names
     _ends: dict[tuple[int, int], list[int]] = field(
         default_factory=dict
@@ -78,15 +78,16 @@ class Beside:
             self._ends.setdefault((point.a, point.b), []).append(socket)
 
     def _is_of_unix(self, socket: int, point: Point) -> None:
-        """A socket that was connected to a path, or accepted there. Of both as many as wait for their other ends are kept: if it is one alone, these
-        two are a connection; if there are several it isn't known which, and all up to then have no other end."""
+        """A socket that was connected to a path, or accepted there."""
         path, is_dialed = (point.b, True) if point.b else (point.a, False)
-        waiting = self._unix.setdefault(path, ([], []))
-        waiting[is_dialed].append(socket)
-        if len(waiting[False]) == len(waiting[True]):
-            if len(waiting[False]) == 1:
-                self.peers.append((waiting[True][0], waiting[False][0]))
-            self._unix[path] = [], []
+        self._unix.setdefault(path, ([], []))[is_dialed].append((socket, point.goroutine))
+
+    def pair_unix(self) -> None:
+        """The ends of connections to a path of the system's own domain: the first that was dialed is the first that was accepted, and so on, if one
+        goroutine dialed all and one accepted all. The order of several isn't known."""
+        for accepted, dialed in self._unix.values():
+            if len({goroutine for _, goroutine in accepted}) == len({goroutine for _, goroutine in dialed}) == 1:
+                self.peers += [(one, other) for (one, _), (other, _) in zip(dialed, accepted)]
 
     def failed(self, step: int, point: Point) -> None:
         """A read or a write that has no step, since the machine has no such answer."""

@@ -100,6 +100,7 @@ def make(
     orders = orders_of(log.of_kinds(ORDERING), converter.made) if log.has_orders else None
     everybody = goroutines_of(log.of_kinds(CONCERNED), converter.made, log.begin)
     converter.beside.waits = waits_of(everybody, converter.goroutines)
+    converter.beside.pair_unix()
     converter.beside.sizes = [
         (step, size) for (point, socket), step in zip(converter.points, converter.ended)
         if socket.whole and step and (size := socket.whole.get(point.number))

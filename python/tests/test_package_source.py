@@ -4,7 +4,7 @@ from pathlib import Path
 
 import pytest
 
-from nrdb.all_goroutines import FOR_ROOM, FOR_VALUE, At
+from nrdb.all_goroutines import FOR_ROOM, FOR_VALUE, PUT, At, Use
 from nrdb.causes.closed_later import channels_of
 from nrdb.causes.dropped_notices import dropped_notices
 from nrdb.causes.kept_ways import ways_with_an_error
@@ -202,6 +202,9 @@ def stored_waits() -> dict[Name, list[Waiting]]:
 @pytest.mark.parametrize("text, line", [("	<-a.wake", 8), ("	<-a.done", 0)])
 def test_values_that_are_lost_if_nobody_waits(recording: Recording, tmp_path: Path, text: str, line: int) -> None:
     at = call(tmp_path, "alarm", "(*alarm).deliver", text)
+    assert not dropped_notices(recording, waiting(at))  # nobody has put a value there
+    recording.lines.stacks[99] = Stack((at._replace(line=7),), None)
+    recording.lines.uses[1] = [Use(1, 9, PUT, 99, 1, 1, 1, 1, 1)]
     says = dropped_notices(recording, waiting(at))
     assert [f"{at.file}:{line} puts a value there only if somebody waits" in one for one in says] == [True] * bool(line)
 

@@ -12,22 +12,19 @@ from nrdb.where import Lines
 from tests.test_needs import stored
 
 
-def of_unix(beside: Beside, socket: int, own: int, other: int) -> None:
-    beside.named(socket, Point(socket, Kind.NAMED, 1, 0, own, other, OF_UNIX, 0, 0))
-
-
 @pytest.mark.parametrize(
     "order, peers",
     [
-        ("d1 a2", [(1, 2)]), ("a2 d1", [(1, 2)]), ("d1 a2 d3 a4", [(1, 2), (3, 4)]), ("a2 d1 d3 a4", [(1, 2), (3, 4)]),
-        ("d1 d3 a2 a4", []), ("d1 a2 d3 d5 a4 a6 d7 a8", [(1, 2), (7, 8)]), ("d1 A2 D3 a4", [(3, 2), (1, 4)]), ("d1", []), ("a2", []),
+        ("d1 a2", [(1, 2)]), ("a2 d1", [(1, 2)]), ("d1 d3 a2 a4", [(1, 2), (3, 4)]), ("d1 a2 d3", [(1, 2)]),
+        ("d1 a2 D3 A4", [(1, 2), (3, 4)]), ("d1 e3 a2 a4", []), ("d1 d3 a2 b4", []), ("d1", []), ("a2", []), ("e1 e3 b2 b4", [(1, 2), (3, 4)]),
     ],
 )  # fmt: skip
 def test_unix_sockets_of_one_connection(order: str, peers: list[tuple[int, int]]) -> None:
     beside = Beside()
-    for kind, socket in ((one[0], int(one[1:])) for one in order.split()):
-        path = 7 if kind.islower() else 9
-        of_unix(beside, socket, *((0, path) if kind.lower() == "d" else (path, 0)))
+    for who, socket in ((one[0], int(one[1:])) for one in order.split()):
+        own, other = (7 if who.islower() else 9, 0)[:: 1 if who.lower() in "ab" else -1]
+        beside.named(socket, Point(socket, Kind.NAMED, ord(who.lower()), 0, own, other, OF_UNIX, 0, 0))
+    beside.pair_unix()
     assert (beside.peers, beside.ends, beside.addresses) == (peers, [], [])
 
 

@@ -47,7 +47,7 @@ def ended_by(
     lines: Lines, call: Call, channel: str, stacks: Iterable[tuple[Name, Stack]]
 ) -> Iterator[tuple[Name, int]]:
     """The goroutines that end a wait for a channel later, with the lines at which they do."""
-    cancels = cancels_of(lines, call) if channel.endswith(DONE) else []
+    cancels = cancels_of(lines, call, channel.removesuffix(DONE)) if channel.endswith(DONE) else []
     closings = [] if channel.endswith(DONE) else closings_of(lines, call, channel)
     for name, stack in stacks:
         found = cancel_in(lines, stack, call.file, cancels) if cancels else inside(lines, stack, call.file, closings)

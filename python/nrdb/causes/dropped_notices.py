@@ -4,7 +4,7 @@ in a select with a `default`."""
 import re
 from typing import Optional
 
-from ..all_goroutines import FOR_VALUE
+from ..all_goroutines import FOR_VALUE, PUT
 from ..recording import Recording
 from ..waits import Waiting
 from ..where import OF_THE_PROGRAM, Call
@@ -15,7 +15,7 @@ from .closed_later import channels_of
 
 SENDS = re.compile(r"\s*case ([\w.]+)(?:\[[^\]]*\])? <- ")
 DEFAULT = re.compile(r"\s*default:")
-MOST = 2
+MOST, MOST_FRAMES, NEAR = 2, 6, 8
 
 
 def dropped_notices(recording: Recording, wait: Waiting) -> list[str]:
@@ -23,6 +23,13 @@ def dropped_notices(recording: Recording, wait: Waiting) -> list[str]:
     own = wait.stack.own()
     if not own or own[0].of != OF_THE_PROGRAM or not any(at.use == FOR_VALUE for at in wait.objects):
         return []
+    passed = {
+        own_of.place()
+        for at in wait.objects
+        for use in recording.lines.uses.get(at.object, ())
+        if use.what == PUT
+        for own_of in recording.lines.stacks[use.stack].calls[:MOST_FRAMES]
+    }
     found = [
         f"{file}:{number}"
         for name in names_at(recording, own[0])
@@ -30,6 +37,7 @@ def dropped_notices(recording: Recording, wait: Waiting) -> list[str]:
         for number in range(1, len(lines) + 1)
         if is_dropping(recording, own[0], name, Call("", file, number, OF_THE_PROGRAM), lines)
     ]  # fmt: skip
+    found = [place for place in found if any(is_near(place, one) for one in passed)]
     if not found:
         return []
     puts = " and ".join(found[:MOST])
@@ -37,6 +45,13 @@ def dropped_notices(recording: Recording, wait: Waiting) -> list[str]:
         f"{puts} put{'s' if len(found) == 1 else ''} a value there only if somebody waits or there is room, and else goes on (default): perhaps one was "
         "lost."
     ]
+
+
+def is_near(place: str, other: str) -> bool:
+    """Whether a case of a select is at a place, or the line where the select begins is just before."""
+    file, _, number = place.rpartition(":")
+    other_file, _, other_number = other.rpartition(":")
+    return file == other_file and 0 <= int(number) - int(other_number) <= NEAR
 
 
 def names_at(recording: Recording, call: Call) -> list[str]:

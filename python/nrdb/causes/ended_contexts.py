@@ -6,16 +6,19 @@ from typing import Iterator, NamedTuple, Optional
 
 from ..all_goroutines import ENDED, Use
 from ..recording import Recording
-from ..waits import name_of_goid
+from ..waits import A_CONNECTION, name_of_goid, waits_of
 from ..where import OF_THE_PROGRAM, Stack
+from .bodies_left_open import open_bodies
 from .http_requests import CAUSE_OF_END
 from .index import Cause, Index, back
+from .ledger import Ledger
 from .package_source import files_of
 from .responses import SERVE
 from .source_functions import range_of, source_of
 from .words import place_in
 
-ROUND_TRIPS = ("net/http.(*Transport).roundTrip", "net/http.(*Transport).getConn")
+GET_CONNECTION = "net/http.(*Transport).getConn"
+ROUND_TRIPS = ("net/http.(*Transport).roundTrip", GET_CONNECTION)
 KEEPS = re.compile(r"[:=,{(] *\w+\.Context\(\)")
 REQUEST = re.compile(r"\b(\w+) \*http\.Request\b")
 
@@ -28,7 +31,14 @@ class EndedBefore(NamedTuple):
     def says(self, recording: Recording) -> list[str]:
         """It in sentences."""
         name, stack = name_of_goid(recording.lines, self.use.goid), recording.lines.stacks[self.use.stack]
-        says = f"The request{place_in(stack)} ({name}, step {self.use.last}) wasn't sent: its context had ended before."
+        request = f"The request{place_in(stack)} ({name}, step {self.use.last})"
+        if any(call.function == GET_CONNECTION for call in stack.calls[:3]):
+            waits = waits_of(recording)
+            own = [one for one in waits.of.get(name, ()) if one.kind == A_CONNECTION and one.first <= self.use.last]
+            since = own[-1].first if own else self.use.last
+            bodies = open_bodies(recording, Ledger(recording, waits), waits, since)
+            return [f"{request} ended while it waited for a connection: its context had ended.", *bodies]
+        says = f"{request} wasn't sent: its context had ended before."
         return [says, *(of_a_handler(recording, self.use.goid) or kept_by_a_handler(recording, stack))]
 
 

@@ -4,15 +4,17 @@ with a line that puts a value there, or takes one, and didn't come to it."""
 import re
 from typing import Iterator, Optional
 
+from ..all_goroutines import A_SELECT, FOR_VALUE
 from ..recording import Recording
 from ..waits import Waiting, name_of_goid, of_names
 from ..where import OF_THE_PROGRAM, Call
+from .closed_later import DONE, channels_of
 from .ended_goroutines import ended_where, goid_of
 from .index import Index
 from .need import Need
-from .senders import WORDS, Giving, givings_at
+from .senders import PUTS, WORDS, Giving, givings_at, givings_of
 from .siblings import lines_of
-from .source_functions import text_at
+from .source_functions import source_of, text_at
 
 STARTS = re.compile(r"\bgo (?:[\w.]+\.)?(\w+)\(")
 FUNCTION = re.compile(r"func (?:\([^)]*\) )?(\w+)[(\[]")
@@ -21,10 +23,13 @@ MOST = 50  # goroutines that are looked at
 
 def ended_giver(index: Index, wait: Waiting) -> Optional[Need]:
     """The goroutines that perhaps should have given what is waited for, and ended; None if none is found."""
-    own = wait.stack.own()
-    if not own or own[0].of != OF_THE_PROGRAM or len(wait.objects) != 1 or wait.objects[0].use not in WORDS:
+    own, recording = wait.stack.own(), index.recording
+    is_select = wait.kind == A_SELECT
+    if not own or own[0].of != OF_THE_PROGRAM or not wait.objects or wait.objects[0].use not in WORDS:
         return None
-    givings, recording = givings_at(index.recording, wait), index.recording
+    if not is_select and len(wait.objects) != 1:
+        return None
+    givings = givings_of_select(recording, own[0]) if is_select else givings_at(recording, wait)
     if not givings:
         return None
     found = dict[int, list[int]]()  # the goroutines, by the line that they should have come to
@@ -36,12 +41,19 @@ def ended_giver(index: Index, wait: Waiting) -> Optional[Need]:
     return need_of(index, wait, found[first], own[0], first) if first else None
 
 
+def givings_of_select(recording: Recording, call: Call) -> list[Giving]:
+    """The lines that put values into channels for which a select has a case."""
+    lines = source_of(recording, call.file)
+    names = [name for name in channels_of(lines, call.line) if not name.endswith(DONE)] if lines else []
+    return [giving for name in names for giving in givings_of(lines, call, name, PUTS)] if lines else []
+
+
 def need_of(index: Index, wait: Waiting, found: list[int], own: Call, number: int) -> Need:
     """The need of those that ended before a line."""
     lines, names = index.recording.lines, [name_of_goid(index.recording.lines, goid) for goid in found]
     known = lines.goroutines[found[0]]
     made = f", started at {known.made.place()}," if known.made else ","
-    does = WORDS[wait.objects[0].use][0]
+    does = WORDS[FOR_VALUE if wait.kind == A_SELECT else wait.objects[0].use][0]
     if len(names) == 1:
         ended = f"{names[0]}{made} which has ended after step {known.last}{ended_where(index, names[0])}"
     else:

@@ -65,7 +65,10 @@ def ended_where(index: Index, name: Name, known: Optional[Stack] = None) -> str:
     if not own:
         return ""
     is_known = known is not None and known.own() is not None and place_in(known) == place_in(stack or known)
-    last = "" if is_known else f", last known at {own[0].place()} in {short(own[0].function)}"
+    called = (
+        f", called at {own[-1].place()} in {short(own[-1].function)}" if own[0].function != own[-1].function else ""
+    )
+    last = "" if is_known else f", last known at {own[0].place()} in {short(own[0].function)}{called}"
     return f"{last}{ways_out(index.recording, own[-1])}"
 
 

@@ -9,7 +9,7 @@ from ..one_call import OPEN, Call
 from ..recording import Recording
 from .asked import Asked, asked_of
 from .ends_of_reads import line_reader_of
-from .frame_lengths import length_says
+from .frame_lengths import is_of_a_body, length_says
 from .flushes import ways_round_a_flush, ways_without_an_answer, writes_through_a_buffer
 from .index import MOVING, Index, back
 from .left_in_buffers import never_flushed
@@ -69,8 +69,11 @@ def unasked(index: Index, call: Call) -> list[str]:
         return []
     if len(before) < FEWEST or not last.reads or any(not one.reads for one in before):
         return []
+    firsts = {index.recording.lines.of(one.reads[0].first).own() for one in found}
     if len(last.reads) < max(len(one.reads) for one in before):
         return []
+    if index.recording.lines and index.recording.lines.of(call.first).own() not in firsts:
+        return []  # it is in the middle of an answer
     wrote = last.writes[-1]
     return [
         f"Before each of its {len(found)} answers there goroutine {call.goroutine} wrote; since the last of them it has written nothing: its last "
@@ -185,6 +188,11 @@ def lacking(index: Index, call: Call, other: int) -> list[str]:
     ):
         return []
     is_of_a_buffer = rest & (rest - 1) == 0 and any(one.function.startswith("bufio.") for one in stack.calls)
+    if begin is call and is_of_a_buffer and is_of_a_body(recording, call):
+        return [
+            f"It waits for the rest of a message: {told(recording, wrote)} was the last there.",
+            *length_says(recording, wrote, call),
+        ]
     if begin is call and (rest < FEW_ASKED or is_of_a_buffer):
         return []
     if is_cut(recording, index, (call.socket, other)) and not are_known(index):

@@ -20,6 +20,7 @@ from .index import READING, Cause, Index, index_of, went_well
 from .late_answers import is_of_write_timeout
 from .long_lines import long_line_says
 from .needs import Needs
+from .shared_sockets import shared_says
 from .sizes import are_known, moved_at, size_of
 from .words import ENDED, duration, name_of, place_of_step, told, waits_words
 
@@ -78,7 +79,7 @@ def of_timeout(index: Index, call: Call, begins: str) -> Cause:
         says.append(f"Its deadline was set{at}, while it waited, {duration(time)} ahead.")
     else:
         says.append(f"Its deadline was set{at}, {duration(time)} ahead{under(well, late, name_of(recording, call))}")
-    need, cut = None, cut_says(index, call, call.last)
+    need, cut = None, [*cut_says(index, call, call.last), *shared_says(index, call)]
     if call.cause < call.first and not well and not late and time > 0 and not index.is_listening(call):
         if 0 < call.passed < call.first:
             says.append(f"It had passed before the {name_of(recording, call)} began.{between(index, call)}")

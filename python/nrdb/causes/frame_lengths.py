@@ -16,7 +16,7 @@ PARSED = re.compile(
     r"\bUint(?:16|32|64)\(|ReadUvarint\(|\bUvarint\(|binary\.Read\(|strconv\.(?:Atoi|Parse\w+)\(|\bint\(\w+\[\d\]\)"
 )
 BODY = re.compile(r"append\([^,]+, ?([\w.]+)\.\.\.\)|\.Write(?:String)?\(([\w.]+)(?:\[:\])?\)|copy\([^,]+, ?([\w.]+)\)")
-IS_LENGTH = re.compile(r"\b(\w+) :?= (?:\w+\()?len\(\w+")
+IS_LENGTH = re.compile(r"\b(\w+) :?= (?:[^,(]+, )?(?:\w+\()?len\(\w+")
 HEADERS = re.compile(r"head|hdr|prefix|size|len", re.IGNORECASE)
 
 
@@ -44,6 +44,12 @@ def length_says(recording: Recording, wrote: Call, read: Call) -> list[str]:
     if found and bodies and found[1] not in bodies:
         says.append(f"It is the length of {found[1]}, and {' and '.join(sorted(bodies))} was written.")
     return says
+
+
+def is_of_a_body(recording: Recording, read: Call) -> bool:
+    """Whether a Read is made behind a line of its function that reads a length."""
+    own, parsed = recording.lines.of(read.first).own(), line_of(recording, read, PARSED)
+    return own is not None and parsed is not None and parsed.file == own[0].file and parsed.number < own[0].line
 
 
 def length_line(recording: Recording, wrote: Call) -> Optional[Line]:

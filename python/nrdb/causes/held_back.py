@@ -10,6 +10,7 @@ from ..one_call import Call
 from ..recording import Recording
 from ..waits import Name, waits_of
 from ..where import OF_THE_PROGRAM, Call as LineCall, Stack
+from .ended_goroutines import loop_round
 from .index import Index, back
 from .responses import SERVE, has, server_of
 from .source_functions import Lines, indent_of, range_of, source_of
@@ -30,6 +31,11 @@ def held_back(index: Index, socket: int, position: int) -> list[str]:
         where = "Perhaps its ReverseProxy, which has no FlushInterval, holds back what it has read."
         return [where, *came_since(index, server, other, position)]
     came = came_since(index, server, other, position)
+    if (flush := flushed_in_vain(index.recording, stack)) and not has_written(index, server, other, position):
+        return [
+            f"{flush} should have flushed the answer, and nothing was written to socket {other} since its request: perhaps its "
+            "ResponseWriter is no http.Flusher.",
+        ]
     writes = next((place for place, is_passed in unflushed(index.recording, stack) if is_passed or came), "")
     if not writes or has_written(index, server, other, position):
         return []
@@ -70,6 +76,19 @@ def came_since(index: Index, server: Name, socket: int, position: int) -> list[s
     ]
 
 
+def flushed_in_vain(recording: Recording, stack: Stack) -> str:
+    """The line of a stack's function with a ResponseWriter that flushes before the line where it is, in no loop; empty if there is none."""
+    for call in stack.calls:
+        lines = source_of(recording, call.file) if call.of == OF_THE_PROGRAM else None
+        within = range_of(lines, call) if lines else None
+        if not lines or not within or not any(WRITER.search(code(lines, number)) for number in within):
+            continue
+        found = [number for number in within if number < call.line and FLUSHES.search(code(lines, number))]
+        if found and loop_round(lines, within, found[-1]) in (0, loop_round(lines, within, call.line)):
+            return f"{call.file}:{found[-1]}"
+    return ""
+
+
 def unflushed(recording: Recording, stack: Stack) -> Iterator[tuple[str, bool]]:
     """The lines of a stack's functions that write to a ResponseWriter which none of them flushes, and whether each is sure to have been passed."""
     found: list[tuple[str, bool]] = []
@@ -95,7 +114,11 @@ def writes_of(lines: Lines, call: LineCall, within: range) -> Iterator[tuple[str
     numbers = [number for number in within if writes.search(code(lines, number))]
     before = [number for number in numbers if number <= call.line]
     for number in [*reversed(before), *(one for one in numbers if one > call.line)]:
-        yield f"{call.file}:{number}", number < call.line and is_passed(lines, number, call.line)
+        is_in_loop = (
+            number >= call.line and loop_round(lines, within, number) >= loop_round(lines, within, call.line) > 0
+        )
+        if number <= call.line or is_in_loop:
+            yield f"{call.file}:{number}", number < call.line and is_passed(lines, number, call.line)
 
 
 def is_passed(lines: Lines, number: int, line: int) -> bool:

@@ -11,6 +11,7 @@ from ..where import Call, Stack
 
 GIVES = {FOR_VALUE: PUT, FOR_ROOM: TOOK}  # what ends a wait at a channel
 GIVES_WORDS = {PUT: "put the last value there", TOOK: "took the last value there"}
+GAVE_BEFORE = {PUT: "put a value there before", TOOK: "took one there before"}
 END = attrgetter("end")
 
 

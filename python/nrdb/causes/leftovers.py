@@ -10,9 +10,11 @@ from ..one_call import CLOSE, Call, Outcome
 from ..recording import Recording
 from ..where import OF_THE_PROGRAM
 from .cut_datagrams import causes_of_cuts
+from .exchanges import is_cut
 from .failing import cause_of
 from .gone_readers import without_reader
 from .index import MOVING, Cause, Index, index_of, went_well
+from .sizes import are_known, moved_at, size_of
 from .words import came_of, is_of_go, place_of_step, told
 
 
@@ -48,8 +50,10 @@ def never_read(index: Index) -> Iterator[Cause]:
     """Bytes that were written at one end and that the other end was closed without reading."""
     recording, length = index.recording, index.recording.length
     for socket, other in ends_of(index):
-        by, read = index.closing(other, length, whole=True), index.moved(other, "Read", length)
-        missing = index.moved(socket, "Write", length) - read
+        by, read = index.closing(other, length, whole=True), moved_at(index, other, "Read", length)
+        missing = moved_at(index, socket, "Write", length) - read
+        if is_cut(recording, index, (socket, other)) and not are_known(index):
+            continue
         last, wrote = index.last_use(other, length, ("Read",)), first_beyond(index, socket, read)
         if by is None or wrote is None or last is None or missing <= 0 or is_of_go(recording, last):
             continue
@@ -66,7 +70,7 @@ def first_beyond(index: Index, socket: int, count: int) -> Optional[Call]:
     """The first Write at a socket that wrote more than so many bytes together with those before it."""
     together = 0
     for call in index.by_socket[socket]:
-        together += (call.moved or 0) if call.name == "Write" else 0
+        together += size_of(index, call) if call.name == "Write" else 0
         if together > count:
             return call
     return None

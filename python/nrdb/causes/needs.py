@@ -18,6 +18,7 @@ from .need import Certainty, Need
 from .new_readers import left_reader, thrown_away
 from .needs_elsewhere import NeedsElsewhere
 from .partial_reads import partial_reads
+from .shared_sockets import shared_says
 from .unaccepted import unaccepted
 from .unfinished_replies import unfinished_reply
 from .unheard import unheard
@@ -51,7 +52,7 @@ class Needs:
             need = unheard(index, call, self._position) if is_reading else None
             need = need or unaccepted(index, call, self._position)
             of_datagram = cut_says(index, call, self._position) or unanswered_datagram(index, call, self._position)
-            return need or Need([], more=of_datagram)
+            return need or Need([], more=[*of_datagram, *shared_says(index, call)])
         if by := index.closing(other, self._position, whole=not is_reading):
             how = "closed" if by.name == CLOSE else "closed for writing"
             where = place_of_step(self._recording, by.first, by.goroutine)

@@ -17,7 +17,7 @@ from .dropped_notices import dropped_notices
 from .ended_givers import ended_giver
 from .ended_goroutines import loop_words
 from .groups import outermost
-from .ledger import GIVES, GIVES_WORDS, Given, Ledger
+from .ledger import GAVE_BEFORE, GIVES, GIVES_WORDS, Given, Ledger
 from .kept_ways import gives_on_most_ways, ways_with_an_error
 from .loop_variables import shared_variables
 from .need import Certainty, Need
@@ -156,7 +156,8 @@ class NeedsOfChannels:
         if closing and (closing.by or not given):
             return closing
         if one := next((one for one in given if one.name in self._waiters), None):
-            words = f"{GIVES_WORDS[one.what]}{place_in(one.stack)}"
+            is_last = one.last >= max(other.last for other in given)
+            words = f"{(GIVES_WORDS if is_last else GAVE_BEFORE)[one.what]}{place_in(one.stack)}"
             if not is_one:
                 return Need([], one.name, f"perhaps for {{by}}: it {words}", Certainty.PERHAPS)
             is_over = has_left(self._waiters[one.name].stack, one.stack)
@@ -181,7 +182,7 @@ class NeedsOfChannels:
                 did = f"{str(one.name).capitalize()} {GIVES_WORDS[one.what]}{place_in(stack)} (step {one.last})"
                 ended = self._have_ended(wait._replace(objects=(at,)))
                 return Need([f"{did}; it {self._does(one.name, stack)}.", *ended], is_odd=True)
-        return Need([])
+        return ended_giver(index_of(self._recording), wait) or Need([])
 
     def _of_the_past(self, wait: Waiting, given: list[Given], closing: Optional[Need]) -> Need:
         """Of a channel at which nobody that waits did what is waited for: who did last, else what became of it."""

@@ -10,10 +10,19 @@ from ..waits import Name, Waiting
 from ..where import OF_THE_PROGRAM, Call, Stack
 from .locks import owner
 from .need import Certainty, Need
-from .source_functions import Lines, begin_of_literal, is_inside, is_same_variable, range_of, source_of, text_at
+from .source_functions import (
+    LITERAL,
+    Lines,
+    begin_of_literal,
+    is_inside,
+    is_same_variable,
+    range_of,
+    source_of,
+    text_at,
+)
 
-DONE = re.compile(r"<-\s*[\w.]+\.Done\(\)")
-MAKES = re.compile(r"[\w.]+, ([\w.]+) :?= context\.With(?:Cancel|Timeout|Deadline)\w*\(")
+DONE = re.compile(r"<-\s*([\w.]+)\.Done\(\)")
+MAKES = re.compile(r"([\w.]+), ([\w.]+) :?= context\.With(?:Cancel|Timeout|Deadline)\w*\(")
 
 
 class Cancelling(NamedTuple):
@@ -27,12 +36,13 @@ class Cancelling(NamedTuple):
 def uncancelled(recording: Recording, wait: Waiting, stacks: Iterable[tuple[Name, Stack]]) -> Optional[Need]:
     """The need of a goroutine that waits for a context alone; None if it doesn't, or the source has no context of that sort."""
     own, lines = wait.stack.own(), recording.lines
-    if not own or own[0].of != OF_THE_PROGRAM or len(wait.objects) != 1 or not DONE.search(text_at(recording, own[0])):
+    done = DONE.search(text_at(recording, own[0])) if own and own[0].of == OF_THE_PROGRAM else None
+    if not own or not done or len(wait.objects) != 1:
         return None
     source = source_of(recording, own[0].file)
     if not source or any(use.what == CLOSED for use in lines.uses.get(wait.objects[0].object, ())):
         return None
-    cancels = cancels_of(source, own[0])
+    cancels = cancels_of(source, own[0], done[1])
     for name, stack in stacks:
         if name != wait.name and (cancel := cancel_in(source, stack, own[0].file, cancels)):
             how = f"perhaps {{by}} cancels its context later, at {own[0].file}:{cancel.number}"
@@ -45,11 +55,22 @@ def uncancelled(recording: Recording, wait: Waiting, stacks: Iterable[tuple[Name
     )
 
 
-def cancels_of(source: Lines, call: Call) -> list[Cancelling]:
-    """The lines that cancel a context which the file makes."""
-    names = {made[1] for text in source if (made := MAKES.search(text.partition("//")[0]))} - {"_"}
+def cancels_of(source: Lines, call: Call, context: str) -> list[Cancelling]:
+    """The lines that cancel a context which the file makes; of a variable of the function that a call is in those of that function alone."""
+    whole = range_of(source, call._replace(function=LITERAL.sub("", call.function).partition(".func")[0])) or range(0)
+    head = source[whole.start - 1] if whole else ""
+    is_local = "." not in context and re.search(rf"\b{re.escape(context)}\b", head) is None
+    makes = [
+        made
+        for number, text in enumerate(source, 1)
+        if (made := MAKES.search(text.partition("//")[0]))
+        and (not is_local or (number in whole and made[1] == context))
+    ]
+    names = {made[2] for made in makes} - {"_"}
     found = []
     for number, text in enumerate(source, 1):
+        if is_local and number not in whole:
+            continue
         called = re.search(r"(defer )?(?<![\w.])([\w.]+)\(\)", text.partition("//")[0])
         if called and any(is_same_variable(name, called[2], True) for name in names):
             of_literal = Call(f"{owner(call.function)}.func1", call.file, number, call.of)

@@ -8,6 +8,7 @@ from ..one_call import CLOSE, Call
 from ..waits import Name
 from .exchanges import is_cut
 from .index import Index
+from .sizes import are_known, moved_at
 from .words import is_of_go, told
 
 
@@ -22,7 +23,7 @@ class Unread(NamedTuple):
 def unread(index: Index, position: int) -> Iterator[Unread]:
     """The bytes that nobody reads at a position. Where reads or writes count fewer bytes than they moved it isn't known."""
     for socket, other in sorted(index.recording.lines.peers.items()):
-        count = index.moved(socket, "Write", position) - index.moved(other, "Read", position)
+        count = moved_at(index, socket, "Write", position) - moved_at(index, other, "Read", position)
         wrote = index.last_use(socket, position, ("Write",))
         calls = [
             one for one in (*index.by_socket.get(socket, ()), *index.by_socket.get(other, ())) if one.first <= position
@@ -32,7 +33,7 @@ def unread(index: Index, position: int) -> Iterator[Unread]:
             if (
                 wrote.last
                 and not is_of_go(index.recording, wrote)
-                and not is_cut(index.recording, index, (socket, other))
+                and (are_known(index) or not is_cut(index.recording, index, (socket, other)))
             ):
                 yield Unread(wrote, count, other)
 

@@ -1,0 +1,25 @@
+"""Sockets for datagrams at which several goroutines read: each gets whatever comes next, also what was meant for another."""
+
+from ..one_call import Call
+from ..waits import Name, of_names
+from .index import Index
+from .unaccepted import is_datagram
+
+MOST = 6
+
+
+def shared_says(index: Index, call: Call) -> list[str]:
+    """What is said of a Read at such a socket, if each of those goroutines writes there too, as one that waits for an answer of its own."""
+    if not is_datagram(index, call.socket):
+        return []
+    calls = index.by_socket[call.socket]
+    readers, writers = ({one.goroutine for one in calls if one.name == name} for name in ("Read", "Write"))
+    shared = sorted(readers & writers)
+    if len(shared) < 2 or call.goroutine not in shared:
+        return []
+    more = f" and {len(shared) - MOST} more" if len(shared) > MOST else ""
+    names = of_names([Name(number) for number in shared[:MOST]])
+    return [
+        f"{names[0].upper()}{names[1:]}{more} write and read at socket {call.socket}: each Read gets what comes next, perhaps the answer to another's "
+        "request."
+    ]
