@@ -29,7 +29,7 @@ SAYS = {
     "mixed": "Perhaps bytes that were read before are lost: {bug} made a reader with a buffer",
     "spins": "the break at {bug} leaves a select or a switch alone.",
     "unheard": "{bug} puts a value there only if somebody waits or there is room, and else goes on (default)",
-    "signalled": "Perhaps {bug} in (*desk).collectForOne woke another one: the loop at main.go:",
+    "signalled": "Perhaps {bug} in (*office).collectForOne woke another one: the loop at main.go:",
     "seated": "Perhaps (*hall).enter keeps it on this way: {bug} returns without main.go:",
     "partly": "Read at {bug} in load, called at main.go:",
 }

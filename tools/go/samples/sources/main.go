@@ -604,13 +604,13 @@ func unheard(isBad bool) {
 	a.deliver(dial(listener), 2)
 }
 
-type desk struct {
+type office struct {
 	lock  sync.Mutex
 	heard *sync.Cond
 	acks  map[string]bool
 }
 
-func (d *desk) collectForOne(end net.Conn) {
+func (d *office) collectForOne(end net.Conn) {
 	for in := bufio.NewScanner(end); in.Scan(); {
 		d.lock.Lock()
 		d.acks[in.Text()] = true
@@ -619,7 +619,7 @@ func (d *desk) collectForOne(end net.Conn) {
 	}
 }
 
-func (d *desk) collect(end net.Conn) {
+func (d *office) collect(end net.Conn) {
 	for in := bufio.NewScanner(end); in.Scan(); {
 		d.lock.Lock()
 		d.acks[in.Text()] = true
@@ -628,7 +628,7 @@ func (d *desk) collect(end net.Conn) {
 	}
 }
 
-func (d *desk) page(end net.Conn, name string) {
+func (d *office) page(end net.Conn, name string) {
 	d.lock.Lock()
 	defer d.lock.Unlock()
 	fmt.Fprintln(end, name)
@@ -639,7 +639,7 @@ func (d *desk) page(end net.Conn, name string) {
 
 // signalled: a Signal wakes another one than the one for whom it is.
 func signalled(isBad bool) {
-	listener, d := listen(), &desk{acks: map[string]bool{}}
+	listener, d := listen(), &office{acks: map[string]bool{}}
 	d.heard = sync.NewCond(&d.lock)
 	go serve(listener, func(end net.Conn) {
 		for in := bufio.NewScanner(end); in.Scan(); {
