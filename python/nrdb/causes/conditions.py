@@ -14,7 +14,9 @@ from .source_functions import Lines, indent_of, range_of, source_of
 WAIT = re.compile(r"([\w.\[\]]+)\.Wait\(\)")
 FIELD = re.compile(r"\.(\w+)\b(?!\()")
 FUNCTION = re.compile(r"func (?:\(\w+ (\*?)(\w+)(?:\[[^\]]*\])?\) )?(\w+)")
-ENTRY = re.compile(r"[\w.]+\[[a-z]\w*(?:\.\w+)*\]")
+ENTRY = re.compile(
+    r"[\w.]+\[[a-z]\w*(?:\.\w+)*\]|\w+\.[\w.]+ (?:[<>]=?|[!=]=) (?!nil\b|true\b|false\b|len\b)[a-z]\w*\b(?!\.)"
+)
 FLAG = re.compile(r"= (true|false|nil)\b")
 MOST = 2
 

@@ -12,6 +12,7 @@ from .ended_goroutines import ended_where, ways_out
 from .index import Index
 from .ledger import END
 from .need import Need
+from .new_channels import made_since
 from .words import ENDED, told
 
 MOST_NAMED = 4
@@ -31,7 +32,8 @@ def ended_hand(index: Index, wait: Waiting) -> Optional[Need]:
     lines, own = index.recording.lines, wait.stack.own()
     if not own or own[0].of != OF_THE_PROGRAM or len(wait.objects) != 1 or wait.objects[0].use != FOR_VALUE:
         return None
-    if any(use.what == PUT for use in lines.uses.get(wait.objects[0].object, ())):
+    since = made_since(index.recording, wait)
+    if any(use.what == PUT and use.last >= since for use in lines.uses.get(wait.objects[0].object, ())):
         return None
     taken = [
         uses for uses in lines.uses.values()

@@ -60,7 +60,9 @@ class NeedsElsewhere:
         kind = wait.kind
         if kind == LAST_USE:
             return self._of_close(waiter)
-        if certain := of_timers(self._recording, wait) or self._of_answer(wait):
+        if stopped := of_timers(self._recording, wait):
+            return stopped._replace(is_odd=True)
+        if certain := self._of_answer(wait):
             return certain
         if kind in MUTEXES and (need := self._mutexes.of(waiter, wait)):
             return need
@@ -82,7 +84,7 @@ class NeedsElsewhere:
             beside = tuple(more) if kind == A_CONDITION else ()
             return Need([], by, "{by} ended its wait there before", Certainty.LIKELY, more=more, beside=beside)
         if kind == A_CONDITION:
-            return Need([], more=more)
+            return Need([], more=more, is_odd=bool(more))
         if kind == A_WAIT_GROUP and (need := self._groups.of(waiter, self._waiters, self._does)):
             return need
         if self._channels.is_new(wait) and (by := self._ended_before(wait, elsewhere=True)):

@@ -22,6 +22,7 @@ from .kept_ways import gives_on_most_ways, ways_with_an_error
 from .loop_variables import shared_variables
 from .need import Certainty, Need
 from .siblings import Kind, ended_words, kinds_of
+from .new_channels import made_since
 from .senders import later_giver
 from .slots import of_slots
 from .uncancelled import uncancelled
@@ -146,12 +147,19 @@ class NeedsOfChannels:
 
     def is_new(self, wait: Waiting) -> bool:
         """Whether a goroutine waits at channels at which nobody has done yet what it waits for, as at one that is made for each request."""
-        return bool(wait.objects) and all(at.use and not self._given(at) for at in wait.objects)
+        since = self._made_since(wait)
+        given = (one for at in wait.objects for one in self._given(at))
+        return bool(wait.objects) and all(at.use for at in wait.objects) and not any(one.last >= since for one in given)
+
+    def _made_since(self, wait: Waiting) -> int:
+        """Behind which step a channel was made at the earliest at which a goroutine waits."""
+        return self._once((wait.name, wait.objects, "made"), lambda: made_since(self._recording, wait))
 
     def of(self, wait: Waiting) -> Need:
         """Of channels: the goroutine that last did there what the waiter waits for; else what became of it."""
         is_one = len(wait.objects) == 1
-        given = [one for at in wait.objects for one in self._given(at) if one.name != wait.name]
+        since = self._made_since(wait)
+        given = [one for at in wait.objects for one in self._given(at) if one.name != wait.name and one.last >= since]
         closing = self._closing(wait)
         if closing and (closing.by or not given):
             return closing

@@ -51,6 +51,16 @@ def skipped_done(recording: Recording, waits: Waits, count: Count, position: int
             puts = [use for use in uses if use.what == PUT]
             if not missing and total(done) == total(count.done) and total(puts) == total(took):
                 return [count_says(recording, count), *unput_says(recording, count, puts)]
+    return perhaps_skipped(recording, count, loops)
+
+
+def perhaps_skipped(recording: Recording, count: Count, loops: dict[tuple[str, int], set[Rounds]]) -> list[str]:
+    """Of a loop that takes values for several WaitGroups: the ways that skip Done."""
+    for of_loop in loops.values():
+        every = sorted(of_loop, key=lambda rounds: rounds.line.line)
+        if ways := words_of_ways(recording, every, False):
+            done = f"{every[-1].done.place()}, which calls Done"
+            return [count_says(recording, count), f"Perhaps it is skipped on this way: {ways} without {done}."]
     return []
 
 

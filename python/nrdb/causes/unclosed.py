@@ -10,6 +10,7 @@ from ..where import OF_THE_PROGRAM, Call, Stack
 from .ended_goroutines import loop_round
 from .locks import owner
 from .need import Certainty, Need
+from .skipped_ways import Way, has, skipped_ways, ways_words
 from .source_functions import WRAPPED, Lines, is_inside, is_same_variable, range_of, source_of, text_at
 from .words import short
 
@@ -56,8 +57,21 @@ def unclosed(recording: Recording, wait: Waiting, stacks: Iterable[tuple[Name, S
             return Need([], goroutine, how, Certainty.PERHAPS)
     closing = closings[0]
     where = f"{own[0].file}:{closing.number}"
-    nobody = f"no goroutine that waits is in that function{ended_in(recording, own[0].file, closing)}"
+    ways = ways_without(source, closing, name[1])
+    if ways:
+        says = f"{loop}. Perhaps {where} should have closed it: {ways_words(own[0].file, ways)} without that."
+        return Need([], more=[says], is_odd=True)
+    nobody = f"no other goroutine that waits is in that function{ended_in(recording, own[0].file, closing)}"
     return Need([], more=[f"{loop}. Perhaps {where} should have closed it: {nobody}."], is_odd=True)
+
+
+def ways_without(source: Lines, closing: Closing, name: str) -> list[Way]:
+    """The ways of a function that makes a channel, and closes it at a line, on which it isn't closed."""
+    field = re.escape(name.rpartition(".")[2])
+    makes, closes = rf"\b{field}\b(?::| :?=) *make\(chan\b", rf"\bclose\((?:[\w.]+\.)?{field}\)"
+    if not any(re.search(makes, source[number - 1]) for number in closing.within if number < closing.number):
+        return []
+    return skipped_ways(source, closing.within, has(makes), has(closes))
 
 
 def closings_of(source: Lines, call: Call, name: str) -> list[Closing]:

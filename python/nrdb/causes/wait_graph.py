@@ -277,7 +277,7 @@ def order(hang: Hang) -> tuple[bool, bool, int, int, int]:
     have nothing to do. Reads that wait for one another are a deadlock of which it isn't known why."""
     is_certain = hang.is_deadlock and hang.certainty > Certainty.PERHAPS and not hang.until
     are_reads = all(root.call and root.call.name in READING for root in hang.roots)
-    has_reason = hang.has_reason and (hang.is_deadlock or hang.waiting > 0)
+    has_reason = hang.has_reason and (hang.is_deadlock or hang.waiting > 0 or hang.needs[0].is_odd)
     rank = 0 if is_certain and (has_reason or not are_reads) else 1 if has_reason else 2 if is_certain else 3
     return hang.is_of_go, hang.is_quiet, rank, -hang.waiting, hang.root.since
 

@@ -1,0 +1,34 @@
+"""Channels that a function makes for one request alone: what was done before at the same address was done at an older one, whose memory was used again. By
+the program's source, if that is here."""
+
+import re
+
+from ..recording import Recording
+from ..waits import Waiting
+from ..where import OF_THE_PROGRAM
+from .ended_goroutines import loop_round
+from .index import index_of
+from .senders import PUTS, TAKES
+from .source_functions import range_of, source_of, text_at
+
+
+def made_since(recording: Recording, wait: Waiting) -> int:
+    """Behind which step the channel was made at which a goroutine waits, if the function where it waits makes it: that of its Write since, if that is in
+    no loop; else 0."""
+    own = wait.stack.own()
+    if not own or own[0].of != OF_THE_PROGRAM or len(wait.objects) != 1 or wait.name.is_goid:
+        return 0
+    text = text_at(recording, own[0])
+    name = TAKES.search(text) or PUTS.search(text)
+    lines = source_of(recording, own[0].file)
+    within = range_of(lines, own[0]) if lines else None
+    if not name or "." in name[1] or not lines or not within:
+        return 0
+    makes = re.compile(rf"\b{re.escape(name[1])}\b(?:, \w+)? :?= (?:\w+, )?make\(chan\b")
+    made = next((number for number in within if number < own[0].line and makes.search(lines[number - 1])), 0)
+    calls = index_of(recording).by_goroutine.get(wait.name.number, [])
+    wrote = [call for call in calls if call.name == "Write" and call.first <= wait.first]
+    frames = recording.lines.of(wrote[-1].first).calls if made and wrote else ()
+    line = next((call.line for call in frames if call.function == own[0].function), 0)
+    is_once = made < line < own[0].line and max(loop_round(lines, within, at) for at in (line, own[0].line)) <= made
+    return wrote[-1].first if made and is_once else 0
