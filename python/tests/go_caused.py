@@ -1,4 +1,4 @@
-"""Records the programs of tools/go/samples/causes, oversights, roots, turns, gone, skips, joins, sizes and sources with the `go` on the PATH, bad and good, and says whether the
+"""Records the programs of tools/go/samples/causes, oversights, roots, turns, gone, skips, joins, sizes, sources and hands with the `go` on the PATH, bad and good, and says whether the
 line of each bug stands in what is printed first:
 
     python3 python tests.go_caused [FOLDER]    keeps the recordings in FOLDER, as in python/tests/caused"""
@@ -22,9 +22,9 @@ from nrdb.causes import first_words
 from nrdb.recording import Recording
 from nrdb.suspects.ranking import all_suspects_of
 
-SOURCE, OVERSIGHTS, ROOTS, TURNS, GONE, SKIPS, JOINS, SIZES, SOURCES = (
+SOURCE, OVERSIGHTS, ROOTS, TURNS, GONE, SKIPS, JOINS, SIZES, SOURCES, HANDS = (
     SAMPLES / name / "main.go"
-    for name in ("causes", "oversights", "roots", "turns", "gone", "skips", "joins", "sizes", "sources")
+    for name in ("causes", "oversights", "roots", "turns", "gone", "skips", "joins", "sizes", "sources", "hands")
 )
 NAMES = {
     SOURCE: ("idleClose", "half", "stale", "left", "once", "pool", "piece", "both", "body"),
@@ -47,6 +47,7 @@ NAMES = {
         "ordered", "departed", "oneOnly", "reentered", "unreturned", "outlasted", "unpushed", "crowded", "mistaken", "turnedAway",
         "mixed", "spins", "unheard", "signalled", "seated", "partly",
     ),
+    HANDS: ("severed", "dismissed", "repeated", "deferred", "hidden", "mingled", "stranded"),
 }  # fmt: skip
 
 

@@ -180,8 +180,9 @@ class NeedsElsewhere:
             return None
         does = "" if server in self._waiters else self._does(server)
         says = [f"{str(server).capitalize()} serves the request on socket {socket}; it {does}."] if does else []
-        beside = *held_back(self._index, socket, self._position), *contextless_says(self._recording, wait)
-        return Need(says, server, "{by} serves the request", Certainty.LIKELY, beside=beside)
+        held = held_back(self._index, socket, self._position)
+        beside = *held, *contextless_says(self._recording, wait)
+        return Need(says, server, "{by} serves the request", Certainty.LIKELY, more=held, beside=beside)
 
     def _reads_on(self, server: Name) -> bool:
         """Whether a goroutine of a server waits for the next request, so that it serves none."""

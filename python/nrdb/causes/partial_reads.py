@@ -10,7 +10,7 @@ from .source_functions import Lines, range_of, source_of
 
 WHOLE = re.compile(r"[\w.]+\.Read\((\w+)\[:(\w+(?:\([\w.]+\))?)\]\)")
 MADE = re.compile(r"\b(\w+) :?= make\(\[\]byte, (?!\d)[^)]+\)")
-READ = re.compile(r"(?<!bufio)[\w.]+\.Read\((\w+)\)")
+READ = re.compile(r"[\w.]+\.Read\((\w+)\)")
 MOST = 2
 
 
