@@ -5,7 +5,7 @@ from typing import Mapping, NamedTuple, Optional
 
 from ..all_goroutines import FOR_VALUE, PUT, TOOK, Use
 from ..recording import Recording
-from ..waits import Name, Waiting, name_of_goid
+from ..waits import Name, Waiting, name_of_goid, waits_of
 from ..where import OF_THE_PROGRAM
 from .dropped_answers import ways_past, ways_words
 from .handed_over import put_before
@@ -31,6 +31,8 @@ def dropped_request(recording: Recording, wait: Waiting, waiters: Mapping[Name, 
     if not wait.objects or any(at.use != FOR_VALUE for at in wait.objects):
         return None
     request = put_before(recording, wait)
+    if request and request.last < answered_before(recording, wait):
+        return None
     taken = taker_of(recording, wait, request, waiters) if request else None
     if not request or not taken or has_answer(recording, wait, request):
         return None
@@ -45,6 +47,12 @@ def dropped_request(recording: Recording, wait: Waiting, waiters: Mapping[Name, 
     ways, place = ways_past(recording, taken.taker.stack, taken.file, taken.line), f"{taken.file}:{taken.line}"
     goes = f"{ways_words(taken.file, ways)} without {place}, where it answers" if ways else f"it answers at {place}"
     return Need([says, f"Perhaps {name} left it without an answer: {goes}."], is_odd=True)
+
+
+def answered_before(recording: Recording, wait: Waiting) -> int:
+    """Behind which step the last wait of a goroutine at the same line ended; 0 if there was none."""
+    earlier = (one for one in waits_of(recording).of.get(wait.name, ()) if one.stack.own() == wait.stack.own())
+    return max((one.last for one in earlier if one.last is not None and one.last <= wait.first), default=0)
 
 
 def left_to_a_timer(recording: Recording, taker: Waiter) -> str:

@@ -55,7 +55,14 @@ def never_read(index: Index) -> Iterator[Cause]:
         if is_cut(recording, index, (socket, other)) and not are_known(index):
             continue
         last, wrote = index.last_use(other, length, ("Read",)), first_beyond(index, socket, read)
-        if by is None or wrote is None or last is None or missing <= 0 or is_of_go(recording, last):
+        if (
+            by is None
+            or wrote is None
+            or last is None
+            or missing <= 0
+            or is_of_go(recording, last)
+            or is_of_go(recording, wrote)
+        ):
             continue
         says = [
             f"{counted(missing, 'byte')} that {told(recording, wrote)} wrote in {wrote.steps()} were never read.",

@@ -87,6 +87,8 @@ class NeedsElsewhere:
             return Need([], more=more, is_odd=bool(more))
         if kind == A_WAIT_GROUP and (need := self._groups.of(waiter, self._waiters, self._does)):
             return need
+        if left := self._channels.left_without(wait):
+            return Need(left)
         if self._channels.is_new(wait) and (by := self._ended_before(wait, elsewhere=True)):
             how = "perhaps {by} ends it, as it ended a wait at that line before"
             return Need([], by, how, Certainty.PERHAPS, more=self._channels.more_of(wait, by))

@@ -291,6 +291,12 @@ class NeedsOfChannels:
         did = "put" if at.use == FOR_VALUE else "taken"
         return f"Only {wait.name} itself has {did} values there so far,{place_in(lines.stacks[uses[-1].stack])}."
 
+    def left_without(self, wait: Waiting) -> list[str]:
+        """Of a value that nobody ever took from a channel: which goroutine waited for it and went on without."""
+        if len(wait.objects) != 1 or not self.is_new(wait):
+            return []
+        return self._once(("gone", wait.objects), lambda: self._gone(wait))
+
     def _gone(self, wait: Waiting) -> list[str]:
         """Of a value that nobody ever took: which goroutine waited for it and went on without."""
         at = wait.objects[0]
