@@ -53,6 +53,7 @@ def lines_of(dice: random.Random, steps: int) -> list[Any]:
         found.append(
             {"sent": [[dice.choice(ends), dice.choice(STRANGE)], [dice.randint(1, steps + 1), "127.0.0.1:53"]]}
         )
+        found.append({"sizes": [[dice.choice(ends), dice.choice(ends)], [dice.randint(1, steps + 1), 100]]})
         found.append({"errors": [[dice.choice(ends), dice.choice(STRANGE)], [dice.randint(1, steps + 1), "EPIPE"]]})
         words = dice.choice(STRANGE), dice.choice(ends), dice.choice([-1, 0, 1])
         found.append({"waits": [[dice.choice(ends), 0, dice.randrange(3), *words]]})

@@ -11,14 +11,14 @@ from ..all_goroutines import FOR_VALUE
 from ..one_call import CLOSE, Call, Outcome
 from ..recording import Recording
 from ..waits import Name
-from .ended_contexts import causes_of_ended, of_a_handler
+from .ended_contexts import causes_of_ended
 from .ended_goroutines import goid_of
+from .ended_requests import requests_that_ended
 from .failed_dials import failed_dials
-from .failing import cause_of, failed_at, is_late, served_says
+from .failing import cause_of, failed_at, is_late
 from .hang_words import hang_looks, hang_says, tree_lines
 from .gone_readers import ended_behind
-from .http_requests import CancelledRequest, cancelled_requests
-from .index import READING, WRITING, Cause, Index, index_of
+from .index import READING, WRITING, Cause, Index, index_of, with_more, with_others
 from .joins import Topic, joined
 from .late_answers import late_answers
 from .leftovers import leftovers_of
@@ -177,24 +177,6 @@ def failures_of(recording: Recording) -> list[Cause]:
     ]
 
 
-def requests_that_ended(recording: Recording, is_late: bool) -> list[Cause]:
-    """The requests of net/http's client that ended because a deadline of their context passed, or because somebody cancelled it; those of the
-    same lines are one."""
-    alike: dict[Hashable, list[CancelledRequest]] = defaultdict(list)
-    for one in cancelled_requests(index_of(recording)):
-        if one.is_late is is_late:
-            alike[one.places(recording)].append(one)
-    return [with_others(of_request(recording, first), len(others)) for first, *others in alike.values()]
-
-
-def of_request(recording: Recording, ended: CancelledRequest) -> Cause:
-    """A request that ended because its context did."""
-    steps, looks = [ended.request.last, ended.step], [f"goto {ended.step}", f"calls sock {ended.request.socket}"]
-    served = served_says(index_of(recording), ended.closed, ended.closed.first)
-    handler = [] if ended.is_late else of_a_handler(recording, ended.request.goid)
-    return Cause(ended.closed, [*ended.says(recording), *handler, *served], steps, looks)
-
-
 def telling_failures(recording: Recording) -> list[Cause]:
     """The failed calls that tell something of a program, with their causes. Those of one stack that one step brought about have one cause: it
     is looked for once, since a program may spin at a closed descriptor."""
@@ -298,11 +280,3 @@ def once(recording: Recording, causes: list[Cause], counts: list[int]) -> list[C
         kept.setdefault(key, cause)
         many[key] = many.get(key, 0) + count
     return [with_others(cause, many[key] - 1) for key, cause in kept.items()]
-
-
-def with_more(cause: Cause, more: list[str]) -> Cause:
-    return cause._replace(says=[*cause.says, *more])
-
-
-def with_others(cause: Cause, others: int) -> Cause:
-    return cause._replace(says=[*cause.says, f"{others} more like it."]) if others else cause

@@ -27,6 +27,16 @@ class Cause(NamedTuple):
     chain: list[Call] = []  # the failed calls that the sentences give as its causes
 
 
+def with_more(cause: Cause, more: list[str]) -> Cause:
+    """A cause with sentences more."""
+    return cause._replace(says=[*cause.says, *more])
+
+
+def with_others(cause: Cause, others: int) -> Cause:
+    """A cause that says of how many others it is too."""
+    return cause._replace(says=[*cause.says, f"{others} more like it."]) if others else cause
+
+
 class Index:
     """The calls of a recording, each list in the order of their first steps."""
 

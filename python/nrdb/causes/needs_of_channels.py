@@ -5,10 +5,10 @@ from itertools import islice
 from typing import Any, Callable, Hashable, Iterable, Iterator, Mapping, Optional, TypeVar
 
 
-from ..all_goroutines import CLOSED, FOR_ROOM, FOR_VALUE, PUT, TOOK, At
+from ..all_goroutines import FOR_ROOM, FOR_VALUE, PUT, TOOK, At
 from ..recording import Recording
 from ..waits import Name, Waiting, Waits, name_of_goid
-from ..where import OF_THE_PROGRAM, Call, Stack
+from ..where import OF_THE_PROGRAM, Stack
 from .balances import Balance, balances_of, give_back, has_ended
 from .balances_in_words import excess_says, kept_says
 from .index import index_of
@@ -16,6 +16,7 @@ from .dispatchers import perhaps_dropped
 from .dropped_notices import dropped_notices
 from .ended_givers import ended_giver
 from .ended_goroutines import loop_words
+from .givers import has_left, have_ended, is_in, only_itself, untouched
 from .groups import outermost
 from .ledger import GAVE_BEFORE, GIVES, GIVES_WORDS, Given, Ledger
 from .kept_ways import gives_on_most_ways, ways_with_an_error
@@ -188,7 +189,7 @@ class NeedsOfChannels:
             if given and all(has_ended(self._recording, one.name) for one in given):
                 one, stack = given[0], given[0].stack
                 did = f"{str(one.name).capitalize()} {GIVES_WORDS[one.what]}{place_in(stack)} (step {one.last})"
-                ended = self._have_ended(wait._replace(objects=(at,)))
+                ended = have_ended(self._recording, wait._replace(objects=(at,)))
                 return Need([f"{did}; it {self._does(one.name, stack)}.", *ended], is_odd=True)
         return ended_giver(index_of(self._recording), wait) or Need([])
 
@@ -199,8 +200,8 @@ class NeedsOfChannels:
             did = f"{str(one.name).capitalize()} {GIVES_WORDS[one.what]}{place_in(one.stack)} (step {one.last}{loop})"
             ended = f"{did}; it {does}." if (does := self._does(one.name, one.stack)) else f"{did}."
             gone = one.name if has_ended(self._recording, one.name) else None
-            return Need([ended, *((closing.more if closing else []) or self._have_ended(wait))], gone=gone)
-        if itself := self._only_itself(wait):
+            return Need([ended, *((closing.more if closing else []) or have_ended(self._recording, wait))], gone=gone)
+        if itself := only_itself(self._recording, wait):
             return Need([itself])
         if left := self._once(("gone", wait.objects), lambda: self._gone(wait)):
             return Need(left)
@@ -208,15 +209,10 @@ class NeedsOfChannels:
             return context
         later = self._by_source("later", later_giver, wait)
         if later is None or not later.by:
-            return ended_giver(index_of(self._recording), wait) or later or Need([], more=self._untouched(wait))
+            return (
+                ended_giver(index_of(self._recording), wait) or later or Need([], more=untouched(self._recording, wait))
+            )
         return later
-
-    def _untouched(self, wait: Waiting) -> list[str]:
-        """Of a channel at which nobody has done yet what is waited for: that."""
-        uses = self._recording.lines.uses.get(wait.objects[0].object, ()) if len(wait.objects) == 1 else ()
-        if wait.objects[0].use != FOR_ROOM or any(use.what == TOOK for use in uses):
-            return []
-        return ["Nobody has taken a value from that channel so far."]
 
     def _given(self, at: At) -> list[Given]:
         """The first goroutines of those that did at a channel what is waited for: those first that wait."""
@@ -267,30 +263,6 @@ class NeedsOfChannels:
         did = {use.goid for use in self._recording.lines.uses.get(at.object, ()) if use.what == what}
         return kinds_of(self._recording, did)
 
-    def _have_ended(self, wait: Waiting) -> list[str]:
-        """Of a channel at which only goroutines that have ended did what is waited for: that, and that nobody closed it."""
-        at, lines = wait.objects[0], self._recording.lines
-        uses, what = lines.uses.get(at.object, ()), GIVES.get(at.use, "")
-        goids = {use.goid for use in uses if use.what == what}
-        if (
-            not goids
-            or any(use.what == CLOSED for use in uses)
-            or not all(goid in lines.goroutines and lines.goroutines[goid].last >= 0 for goid in goids)
-        ):
-            return []
-        did, unclosed_too = ("put", ", and nobody has closed it") if at.use == FOR_VALUE else ("took", "")
-        many = f"All {len(goids)} goroutines that {did}" if len(goids) > 1 else f"The goroutine that {did}"
-        return [f"{many} values there ha{'ve' if len(goids) > 1 else 's'} ended{unclosed_too}."]
-
-    def _only_itself(self, wait: Waiting) -> str:
-        """That only the goroutine which waits has done so far what it waits for."""
-        at, lines = wait.objects[0], self._recording.lines
-        uses = [use for use in lines.uses.get(at.object, ())[:MOST_GIVEN] if use.what == GIVES.get(at.use, "")]
-        if not uses or any(name_of_goid(lines, use.goid) != wait.name for use in uses):
-            return ""
-        did = "put" if at.use == FOR_VALUE else "taken"
-        return f"Only {wait.name} itself has {did} values there so far,{place_in(lines.stacks[uses[-1].stack])}."
-
     def left_without(self, wait: Waiting) -> list[str]:
         """Of a value that nobody ever took from a channel: which goroutine waited for it and went on without."""
         if len(wait.objects) != 1 or not self.is_new(wait):
@@ -313,14 +285,3 @@ class NeedsOfChannels:
         return [
             f"{name} waited for that{place_in(last.stack)} from step {last.first} to {last.last}, and went on without."
         ]
-
-
-def is_in(stack: Stack, call: Call) -> bool:
-    """Whether a goroutine is in a function behind a line of it."""
-    return any(one.function == call.function and one.line > call.line for one in stack.calls)
-
-
-def has_left(stack: Stack, earlier: Stack) -> bool:
-    """Whether a goroutine has returned from the program's function in which it was."""
-    own = earlier.own()
-    return own is not None and all(call.function != own[0].function for call in stack.calls)
