@@ -8,6 +8,7 @@ from ..one_call import Call
 from ..recording import Recording
 from ..where import OF_THE_PROGRAM
 from .source_functions import Lines, range_of, source_of
+from .statements import code_at
 
 LENGTH = re.compile(
     r"(?:(?:Put|Append)U(?:v|V)?(?:ar)?[iI]nt\d*\(|binary\.Write\(|[FS]printf\(|\bbyte\().*\blen\(([\w.]+)(?:\[[^\]]*\])?\)"
@@ -59,7 +60,7 @@ def length_line(recording: Recording, wrote: Call) -> Optional[Line]:
     own = recording.lines.of(wrote.first).own()
     lines = source_of(recording, own[0].file) if own and own[0].of == OF_THE_PROGRAM else None
     within = range_of(lines, own[0]) if lines and own else None
-    names = {made[1] for number in within or () if lines and (made := IS_LENGTH.search(code(lines, number)))}
+    names = {made[1] for number in within or () if lines and (made := IS_LENGTH.search(code_at(lines, number)))}
     if not names:
         return None
     return line_of(recording, wrote, re.compile(rf"(?:Uint\d*\(|\bbyte\().*\b(?:{'|'.join(sorted(names))})\b"))
@@ -70,11 +71,11 @@ def line_of(recording: Recording, call: Call, pattern: "re.Pattern[str]") -> Opt
     for one in recording.lines.of(call.first).calls:
         lines = source_of(recording, one.file) if one.of == OF_THE_PROGRAM else None
         within = range_of(lines, one) if lines else None
-        found = [number for number in within or () if lines and pattern.search(code(lines, number))]
+        found = [number for number in within or () if lines and pattern.search(code_at(lines, number))]
         upto = [number for number in found if number <= one.line]
         if lines and found:
             number = (upto or found)[-1]
-            return Line(one.file, number, code(lines, number))
+            return Line(one.file, number, code_at(lines, number))
     return None
 
 
@@ -83,7 +84,7 @@ def bodies_of(recording: Recording, wrote: Call) -> set[str]:
     own = recording.lines.of(wrote.first).own()
     lines = source_of(recording, own[0].file) if own and own[0].of == OF_THE_PROGRAM else None
     within = range_of(lines, own[0]) if lines and own else None
-    texts = [code(lines, number) for number in within or () if lines]
+    texts = [code_at(lines, number) for number in within or () if lines]
     found = {next(filter(None, match.groups())) for text in texts for match in BODY.finditer(text)}
     made = {
         name
@@ -91,7 +92,3 @@ def bodies_of(recording: Recording, wrote: Call) -> set[str]:
         if any(re.search(rf"\b{re.escape(name)} :?= append\(|\bcopy\({re.escape(name)}\b", text) for text in texts)
     }
     return {name for name in found - made if not HEADERS.search(name)}
-
-
-def code(lines: Lines, number: int) -> str:
-    return lines[number - 1].partition("//")[0].strip()

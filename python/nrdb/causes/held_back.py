@@ -14,6 +14,7 @@ from .ended_goroutines import loop_round
 from .index import Index, back
 from .responses import SERVE, has, server_of
 from .source_functions import Lines, indent_of, range_of, source_of
+from .statements import code_at
 from .words import told
 
 WRITER = re.compile(r"\b(\w+) http\.ResponseWriter\b")
@@ -81,9 +82,9 @@ def flushed_in_vain(recording: Recording, stack: Stack) -> str:
     for call in stack.calls:
         lines = source_of(recording, call.file) if call.of == OF_THE_PROGRAM else None
         within = range_of(lines, call) if lines else None
-        if not lines or not within or not any(WRITER.search(code(lines, number)) for number in within):
+        if not lines or not within or not any(WRITER.search(code_at(lines, number)) for number in within):
             continue
-        found = [number for number in within if number < call.line and FLUSHES.search(code(lines, number))]
+        found = [number for number in within if number < call.line and FLUSHES.search(code_at(lines, number))]
         if found and loop_round(lines, within, found[-1]) in (0, loop_round(lines, within, call.line)):
             return f"{call.file}:{found[-1]}"
     return ""
@@ -96,7 +97,7 @@ def unflushed(recording: Recording, stack: Stack) -> Iterator[tuple[str, bool]]:
         lines = source_of(recording, call.file) if call.of == OF_THE_PROGRAM else None
         within = range_of(lines, call) if lines else None
         if lines and within:
-            if any(FLUSHES.search(code(lines, number)) for number in within):
+            if any(FLUSHES.search(code_at(lines, number)) for number in within):
                 return
             found += writes_of(lines, call, within)
     yield from found
@@ -104,14 +105,14 @@ def unflushed(recording: Recording, stack: Stack) -> Iterator[tuple[str, bool]]:
 
 def writes_of(lines: Lines, call: LineCall, within: range) -> Iterator[tuple[str, bool]]:
     """The lines of a function that write to its ResponseWriter, the last one before the line where it is first."""
-    named = next((match[1] for number in within if (match := WRITER.search(code(lines, number)))), None)
+    named = next((match[1] for number in within if (match := WRITER.search(code_at(lines, number)))), None)
     if named is None:
         return
     name = re.escape(named)
     writes = re.compile(
         rf"(?<![\w.]){name}\.Write(?:String)?\(|\bFprint\w*\({name},|\bio\.(?:Copy\w*|WriteString)\({name},|NewEncoder\({name}\)|NewWriter\w*\({name}\b"
     )
-    numbers = [number for number in within if writes.search(code(lines, number))]
+    numbers = [number for number in within if writes.search(code_at(lines, number))]
     before = [number for number in numbers if number <= call.line]
     for number in [*reversed(before), *(one for one in numbers if one > call.line)]:
         is_in_loop = (
@@ -124,7 +125,3 @@ def writes_of(lines: Lines, call: LineCall, within: range) -> Iterator[tuple[str
 def is_passed(lines: Lines, number: int, line: int) -> bool:
     """Whether a line lies in no block that ends before another one."""
     return all(indent_of(lines[at - 1]) >= indent_of(lines[number - 1]) for at in range(number + 1, line + 1))
-
-
-def code(lines: Lines, number: int) -> str:
-    return lines[number - 1].partition("//")[0]

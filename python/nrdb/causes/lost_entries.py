@@ -8,6 +8,7 @@ from ..recording import Recording
 from ..where import Call
 from .package_source import files_of
 from .source_functions import Lines, range_of, source_of
+from .statements import code_at
 
 LOOKS_UP = re.compile(r"\w+(?:, \w+)? :?= ([\w.]+)\[([^\]]+)\]")
 MOST = 2
@@ -26,7 +27,7 @@ def entry_says(recording: Recording, line: Call) -> list[str]:
     within = range_of(lines, line) if lines else None
     found = [
         (number, looks)
-        for number in within or () if lines and number <= line.line and (looks := LOOKS_UP.search(code(lines, number)))
+        for number in within or () if lines and number <= line.line and (looks := LOOKS_UP.search(code_at(lines, number)))
     ]  # fmt: skip
     if not found:
         return []
@@ -51,9 +52,5 @@ def places_of(recording: Recording, file: str, pattern: str) -> list[Place]:
         Place(f"{name}:{number}", match[1])
         for name, lines in files_of(recording, file)
         for number in range(1, len(lines) + 1)
-        if (match := found.search(code(lines, number)))
+        if (match := found.search(code_at(lines, number)))
     ]
-
-
-def code(lines: Lines, number: int) -> str:
-    return lines[number - 1].partition("//")[0].strip()
