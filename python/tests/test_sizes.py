@@ -16,14 +16,14 @@ from tests.test_needs import stored
     "order, peers",
     [
         ("d1 a2", [(1, 2)]), ("a2 d1", [(1, 2)]), ("d1 d3 a2 a4", [(1, 2), (3, 4)]), ("d1 a2 d3", [(1, 2)]),
-        ("d1 a2 D3 A4", [(1, 2), (3, 4)]), ("d1 e3 a2 a4", []), ("d1 d3 a2 b4", []), ("d1", []), ("a2", []), ("e1 e3 b2 b4", [(1, 2), (3, 4)]),
+        ("d1 a2 p3 q4", [(1, 2), (3, 4)]), ("d1 e3 a2 a4", []), ("d1 d3 a2 b4", []), ("d1", []), ("a2", []), ("e1 e3 b2 b4", [(1, 2), (3, 4)]),
     ],
 )  # fmt: skip
 def test_unix_sockets_of_one_connection(order: str, peers: list[tuple[int, int]]) -> None:
     beside = Beside()
     for who, socket in ((one[0], int(one[1:])) for one in order.split()):
-        own, other = (7 if who.islower() else 9, 0)[:: 1 if who.lower() in "ab" else -1]
-        beside.named(socket, Point(socket, Kind.NAMED, ord(who.lower()), 0, own, other, OF_UNIX, 0, 0))
+        own, other = (9 if who in "pq" else 7, 0)[:: 1 if who in "abq" else -1]
+        beside.named(socket, Point(socket, Kind.NAMED, ord(who), 0, own, other, OF_UNIX, 0, 0))
     beside.pair_unix()
     assert (beside.peers, beside.ends, beside.addresses) == (peers, [], [])
 
