@@ -18,6 +18,9 @@ from .sizes import are_known, moved_at, size_of
 from .words import came_of, is_of_go, place_of_step, told
 
 
+FAREWELL = "crypto/tls.(*Conn).closeNotify"  # which nobody has to read
+
+
 class Place(NamedTuple):
     """A function of the program, and a line of it; 0 where none is known."""
 
@@ -62,6 +65,7 @@ def never_read(index: Index) -> Iterator[Cause]:
             or missing <= 0
             or is_of_go(recording, last)
             or is_of_go(recording, wrote)
+            or any(one.function == FAREWELL for one in recording.lines.of(wrote.first).calls)
         ):
             continue
         says = [
