@@ -69,6 +69,7 @@ def causes_of_cuts(index: Index) -> list[Cause]:
 
 
 def cause_of(index: Index, pair: CutDatagram, others: int) -> Cause:
+    """A datagram that was cut as a cause, with how many others there are."""
     more = [f"{others} more like it."] if others else []
     looks = [f"goto {pair.read.last}", f"calls sock {pair.read.socket}"]
     return Cause(pair.read, [*pair.says(index), *more], [pair.wrote.first, pair.read.first], looks)

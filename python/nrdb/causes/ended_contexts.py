@@ -97,6 +97,7 @@ def causes_of_ended(index: Index) -> list[Cause]:
 
 
 def cause_of(index: Index, ended: EndedBefore) -> Optional[Cause]:
+    """It as a cause, at the call before it; None if there is none."""
     near = next(back(index.book.calls, ended.use.last), None)
     looks = [f"goto {ended.use.last}", "info goroutines"]
     return Cause(near, ended.says(index.recording), [ended.use.last], looks) if near else None
