@@ -12,7 +12,7 @@ from .bodies_left_open import open_bodies
 from .http_requests import CAUSE_OF_END
 from .index import Cause, Index, back
 from .ledger import Ledger
-from .package_source import files_of
+from .package_source import places_with
 from .responses import SERVE
 from .source_functions import range_of, source_of
 from .words import place_in
@@ -80,12 +80,7 @@ def kept_by_a_handler(recording: Recording, stack: Stack) -> list[str]:
     own = stack.own()
     if own is None or any(call.function == SERVE for call in stack.calls):
         return []
-    found = [
-        f"{file}:{number}"
-        for file, lines in files_of(recording, own[0].file)
-        for number, text in enumerate(lines, 1)
-        if KEEPS.search(text.partition("//")[0])
-    ]
+    found = places_with(recording, own[0].file, KEEPS)
     if len(found) != 1:
         return []
     return [f"Perhaps it is the one that {found[0]} keeps of a request: net/http ends that as its handler returns."]

@@ -1,7 +1,8 @@
 """Goroutines that put values for others into channels, each of which has a channel of its own, and have ended: of one that waits for such a value. The
 clients of many RPC protocols have one that hands the answers on, and servers have workers that put their results so."""
 
-from typing import NamedTuple, Optional
+from functools import lru_cache
+from typing import NamedTuple, Optional, Sequence
 
 from ..all_goroutines import FOR_VALUE, PUT, TOOK, Use
 from ..one_call import Call as OneCall
@@ -35,22 +36,30 @@ def ended_hand(index: Index, wait: Waiting) -> Optional[Need]:
     since = made_since(index.recording, wait)
     if any(use.what == PUT and use.last >= since for use in lines.uses.get(wait.objects[0].object, ())):
         return None
-    taken = [
-        uses for uses in lines.uses.values()
-        if any(use.what == TOOK and lines.stacks[use.stack].own() == own for use in uses)
-    ]  # fmt: skip
-    found = dict[Name, EndedHand]()
-    for use in sorted((use for uses in taken for use in uses if use.what == PUT), key=END):
-        line, name = lines.stacks[use.stack].own(), name_of_goid(lines, use.goid)
-        if line and line[0].of == OF_THE_PROGRAM:
-            found[name] = EndedHand(name, use, line[0])
-    hands = list(found.values())
-    if not hands or not all(has_ended(index.recording, hand.name) for hand in hands) or wait.name in found:
+    hands = hands_at(index, own[0])
+    names = tuple(hand.name for hand in hands)
+    if not hands or not all(has_ended(index.recording, name) for name in names) or wait.name in names:
         return None
-    return Need(says_of(index, hands), gone=hands[0].name if len(hands) == 1 else None, is_odd=True, ended=tuple(found))
+    return Need(says_of(index, hands), gone=names[0] if len(names) == 1 else None, is_odd=True, ended=names)
 
 
-def says_of(index: Index, hands: list[EndedHand]) -> list[str]:
+@lru_cache(maxsize=256)
+def hands_at(index: Index, line: Call) -> tuple[EndedHand, ...]:
+    """The goroutines that put values into channels of which others took them at a line, in the order of their last."""
+    lines, found = index.recording.lines, dict[Name, EndedHand]()
+    taken = [
+        uses
+        for uses in lines.uses.values()
+        if any(use.what == TOOK and (own := lines.stacks[use.stack].own()) and own[0] == line for use in uses)
+    ]
+    for use in sorted((use for uses in taken for use in uses if use.what == PUT), key=END):
+        own, name = lines.stacks[use.stack].own(), name_of_goid(lines, use.goid)
+        if own and own[0].of == OF_THE_PROGRAM:
+            found[name] = EndedHand(name, use, own[0])
+    return tuple(found.values())
+
+
+def says_of(index: Index, hands: Sequence[EndedHand]) -> list[str]:
     """It in sentences: where they put values for others, and what each did last."""
     last, recording = hands[-1], index.recording
     if len(hands) > 1:

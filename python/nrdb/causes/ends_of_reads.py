@@ -7,7 +7,7 @@ from ..one_call import Call
 from ..waits import Name, waits_of
 from ..where import OF_THE_PROGRAM
 from .index import Index
-from .package_source import files_of
+from .package_source import places_with
 from .responses import SERVE, has
 from .words import is_of_go
 
@@ -43,12 +43,7 @@ def half_closes(index: Index, socket: int, position: int) -> list[str]:
     own = index.recording.lines.of(used.first).own() if used else None
     if own is None or own[0].of != OF_THE_PROGRAM:
         return []
-    found = [
-        f"{file}:{number}"
-        for file, lines in files_of(index.recording, own[0].file)
-        for number, text in enumerate(lines, 1)
-        if CLOSES_WRITE.search(text.partition("//")[0])
-    ]
+    found = places_with(index.recording, own[0].file, CLOSES_WRITE)
     if not 0 < len(found) <= MOST_CLOSES:
         return []
     return [f"CloseWrite is called at {' and '.join(found)}, and that hasn't come to socket {socket}."]

@@ -29,7 +29,7 @@ def held_back(index: Index, socket: int, position: int) -> list[str]:
     if other is None or server is None or stack is None or not has(stack, SERVE):
         return []
     if has(stack, PROXY):
-        where = "Perhaps its ReverseProxy, which has no FlushInterval, holds back what it has read."
+        where = "Perhaps its ReverseProxy holds back what it has read, as it does without a FlushInterval."
         return [where, *came_since(index, server, other, position)]
     came = came_since(index, server, other, position)
     if (flush := flushed_in_vain(index.recording, stack)) and not has_written(index, server, other, position):

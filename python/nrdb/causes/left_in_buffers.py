@@ -10,7 +10,7 @@ from ..recording import Recording
 from ..where import OF_THE_PROGRAM
 from ..where import Call as LineCall
 from .index import MOVING, Index
-from .package_source import HEAD, files_of
+from .package_source import HEAD, files_of, places_with
 from .source_functions import Lines, range_of, source_of
 
 WRITER = re.compile(
@@ -22,11 +22,13 @@ STARTS = re.compile(r"\b(?:go|defer)\b")
 
 
 class Named(NamedTuple):
-    """The functions of a package that write into a buffer, or flush one, by name; and the variables and fields that are buffers."""
+    """The functions of a package that write into a buffer, or flush one, by name; the variables and fields that are buffers, and those that are
+    flushed."""
 
     writes: frozenset[str]
     flushes: frozenset[str]
     buffers: frozenset[str]
+    flushed: frozenset[str]
 
 
 def left_in_buffer(index: Index, call: Call) -> list[str]:
@@ -47,7 +49,7 @@ def unflushed_in(recording: Recording, frame: LineCall) -> str:
     within = range_of(lines, frame) if lines else None
     if not lines or not within:
         return ""
-    named = names_of(tuple(lines for _, lines in files_of(recording, frame.file)))
+    named = names_near(recording, frame.file)
     writes = 0
     for number in range(within.start + 1, frame.line):
         text = lines[number - 1].partition("//")[0]
@@ -63,18 +65,16 @@ def never_flushed(recording: Recording, call: Call) -> str:
     own = recording.lines.of(call.first).own()
     if own is None or own[0].of != OF_THE_PROGRAM:
         return ""
-    files = list(files_of(recording, own[0].file))
-    flushed = {match[1] for _, lines in files for text in lines for match in FLUSHED.finditer(text.partition("//")[0])}
-    made = [
-        f"{file}:{number}"
-        for file, lines in files
-        for number, text in enumerate(lines, 1)
-        if MAKES.search(text.partition("//")[0])
-    ]
-    return made[0] if made and not flushed & names_of(tuple(lines for _, lines in files)).buffers else ""
+    made, named = places_with(recording, own[0].file, MAKES), names_near(recording, own[0].file)
+    return made[0] if made and not named.flushed & named.buffers else ""
 
 
-@lru_cache(maxsize=32)
+@lru_cache(maxsize=64)
+def names_near(recording: Recording, file: str) -> Named:
+    """The functions and variables of the package that a file is in."""
+    return names_of(tuple(lines for _, lines in files_of(recording, file)))
+
+
 def names_of(files: tuple[Lines, ...]) -> Named:
     """The functions of a package by what they do with buffers, those too that call one which does."""
     buffers = frozenset(
@@ -88,7 +88,8 @@ def names_of(files: tuple[Lines, ...]) -> Named:
     flushes = {name for name, body in bodies.items() if FLUSHES.search(body)}
     writes = {name for name, body in bodies.items() if name not in flushes and is_write(body, buffers)}
     flushes |= {name for name, body in bodies.items() if calls_one_of(body, frozenset(flushes))}
-    return Named(frozenset(writes), frozenset(flushes), buffers)
+    flushed = {found[1] for lines in files for text in lines for found in FLUSHED.finditer(text.partition("//")[0])}
+    return Named(frozenset(writes), frozenset(flushes), buffers, frozenset(flushed))
 
 
 def bodies_of(lines: Lines) -> Iterator[tuple[str, str]]:

@@ -3,7 +3,7 @@ connection of net/http; and which goroutine could give that."""
 
 from typing import Hashable, Iterator, Optional
 
-from ..all_goroutines import A_CONDITION, A_WAIT_GROUP, MUTEXES
+from ..all_goroutines import A_CONDITION, A_SELECT, A_WAIT_GROUP, MUTEXES
 from ..waits import A_CONNECTION, A_RESPONSE, ALL_REQUESTS, LAST_USE, Name, Waiting, Waits
 from ..where import OF_THE_PROGRAM, Stack
 from .bodies_left_open import open_bodies
@@ -19,7 +19,7 @@ from .index import READING, Index, back
 from .groups import Groups
 from .ledger import Ledger
 from .need import Certainty, Need
-from .needs_of_channels import NeedsOfChannels
+from .needs_of_channels import NOBODY, NeedsOfChannels
 from .needs_of_mutexes import NeedsOfMutexes
 from .responses import SERVE, has, server_of, socket_of
 from .rpc_calls import dropped_by_rpc
@@ -39,6 +39,7 @@ class NeedsElsewhere:
         self._groups = Groups(index, waits, stacks, position)
         self._channels = NeedsOfChannels(self._recording, waits, self._ledger, waiters, dict(stacks), self._does)
         self._hands: dict[Hashable, list[Hand]] = {}  # that hand values on to those that wait at a line
+        self._later: dict[Hashable, Optional[Need]] = {}  # what ends the selects of a line
         self._conditions: dict[Hashable, list[str]] = {}  # what is said of waits, by their lines and objects
         self._mutexes = NeedsOfMutexes(self._recording, self._ledger, waiters, stacks, self._does)
 
@@ -77,7 +78,7 @@ class NeedsElsewhere:
         if len(wait.objects) == 1 and (balance := self._channels.of_balance(wait)):
             return balance
         more = self._of_condition(wait) if kind == A_CONDITION else []
-        if later := closed_later(self._recording, wait, self._stacks()):
+        if kind == A_SELECT and (later := self._closed_later(wait)):
             return later
         if by := self._ended_before(wait):
             more = more or (self._channels.more_of(wait, by) if kind != A_CONDITION else [])
@@ -122,6 +123,14 @@ class NeedsElsewhere:
             self._hands[own] = hands_of(self._recording, wait, self._waiters)
         found = dropped_answer(self._index, wait, self._hands[own])
         return found or dropped_request(self._recording, wait, self._waiters) or ended_hand(self._index, wait)
+
+    def _closed_later(self, wait: Waiting) -> Optional[Need]:
+        """Of a select: what another goroutine closes or cancels later, looked for once for those at the same line."""
+        key = "later", wait.stack.own()
+        if key not in self._later:
+            self._later[key] = closed_later(self._recording, wait._replace(name=NOBODY), self._stacks())
+        need = self._later[key]
+        return closed_later(self._recording, wait, self._stacks()) if need and need.by == wait.name else need
 
     def excess_of(self, names: set[Name]) -> list[str]:
         """Which calls of these goroutines gave something back to a channel more often than they took it."""

@@ -28,6 +28,17 @@ def files_of(recording: Recording, file: str) -> Iterator[tuple[str, Lines]]:
             yield os.path.join(folder, os.path.basename(path)), lines
 
 
+@lru_cache(maxsize=256)
+def places_with(recording: Recording, file: str, pattern: "re.Pattern[str]") -> tuple[str, ...]:
+    """The lines of the package that a file is in which have a pattern in their code."""
+    return tuple(
+        f"{path}:{number}"
+        for path, lines in files_of(recording, file)
+        for number, text in enumerate(lines, 1)
+        if pattern.search(text.partition("//")[0])
+    )
+
+
 @lru_cache(maxsize=64)
 def others_in(folder: str, name: str) -> tuple[str, ...]:
     """The other files of Go in a folder."""
