@@ -84,14 +84,15 @@ def of_timeout(index: Index, call: Call, begins: str) -> Cause:
     else:
         says.append(f"Its deadline was set{at}, {duration(time)} ahead{under(well, late, name_of(recording, call))}")
     need, cut = None, [*cut_says(index, call, call.last), *shared_says(index, call)]
+    chain = list[str]()
     if call.cause < call.first and not well and not late and time > 0 and not index.is_listening(call):
         if 0 < call.passed < call.first:
             says.append(f"It had passed before the {name_of(recording, call)} began.{between(index, call)}")
         else:
             need = Needs(index, {}, call.last).of_call(call)
             dropped = cut or dropped_datagram(index, call)
-            chain = [] if dropped else chain_says(index, call, need, call.last)
-            says += [*map(in_the_past, [*need.says, *([] if dropped else [*need.more, *chain])]), *dropped]
+            chain = [] if dropped else list(map(in_the_past, chain_says(index, call, need, call.last)))
+            says += [*map(in_the_past, [*need.says, *([] if dropped else need.more)]), *chain, *dropped]
     else:
         says += cut
     if is_of_write_timeout(index, call):
@@ -99,7 +100,7 @@ def of_timeout(index: Index, call: Call, begins: str) -> Cause:
     elif is_of_a_server(recording.lines.of(call.cause)):
         says.append("That is a ReadTimeout, ReadHeaderTimeout, WriteTimeout or IdleTimeout of its http.Server.")
     looks = [f"goto {call.cause}", f"history {side}d {call.descriptor}"]
-    return Cause(call, says, [call.first, call.cause], looks, need.stopped if need else 0)
+    return Cause(call, says, [call.first, call.cause], looks, need.stopped if need else 0, [], chain)
 
 
 def is_of_a_server(stack: Stack) -> bool:

@@ -23,6 +23,7 @@ from .shared_sockets import shared_says
 from .unaccepted import unaccepted
 from .unfinished_replies import unfinished_reply
 from .unheard import unheard
+from .unread import unread_answers
 from .waiters import Waiter
 from .words import came_of, place_of_step, told, waits_words
 
@@ -60,7 +61,7 @@ class Needs:
             return Need([f"Its other end, socket {other}, was {how}{where}."])
         need = self._of_other_end(call, other, is_reading)
         if not is_reading:
-            return need
+            return need._replace(more=[*need.more, *unread_answers(index, call, other, self._position)])
         if beside := held_back(index, call.socket, self._position):
             return need._replace(beside=tuple(beside))
         lost = left_reader(index, call, other, self._position) or thrown_away(index, call, other, self._position)
