@@ -17,6 +17,7 @@ from .gone_readers import without_reader
 from .index import MOVING, Cause, Index, index_of, went_well
 from .responses import SERVE, has
 from .sizes import are_known, moved_at, size_of
+from .unused_sockets import untaken_results
 from .words import came_of, is_of_go, place_of_step, told, waits_words
 
 
@@ -38,6 +39,7 @@ def leftovers_of(recording: Recording) -> list[Cause]:
         *without_reader(index),
         *never_read(index),
         *left_open(index),
+        *untaken_results(index),
         *early_ends(index),
         *mixed_writes(index),
     ]
