@@ -143,7 +143,7 @@ def conditions_of(lines: Lines, head: int) -> list[str]:
     """The conditions in the body of a loop that has none of its own."""
     texts = (lines[number - 1].partition("//")[0].strip() for number in body_of(lines, head))
     is_endless = lines[head - 1].strip() == "for {"
-    return [text for text in texts if text.startswith("if ")] if is_endless else []
+    return [text for text in texts if text.startswith(("if ", "for "))] if is_endless else []
 
 
 def conditions_in(lines: Lines, head: int) -> set[str]:

@@ -11,7 +11,7 @@ from .package_source import places_with
 
 OF_A_BODY, OF_A_LENGTH = "net/http.(*body).", "io.(*LimitedReader).Read"
 SETS_LENGTH = re.compile(r"[\"']Content-Length[\"']|\bContentLength *=")
-SERVES = "net/http.(*conn).serve"
+OF_A_CLIENT = "net/http.(*persistConn)."
 MOST = 2
 
 
@@ -27,12 +27,11 @@ def is_of_a_body(recording: Recording, call: Call) -> bool:
     return OF_A_LENGTH in functions and any(one.startswith(OF_A_BODY) for one in functions)
 
 
-def body_says(recording: Recording, call: Call) -> list[str]:
-    """That a body is shorter than its Content-Length, and which lines of the program set one."""
+def body_says(recording: Recording, call: Call, closed: Call) -> list[str]:
+    """That a body is shorter than its Content-Length, as the other end was closed, and which lines of the program set one."""
     file = next((one.file for one in recording.lines.of(call.first).calls if one.of == OF_THE_PROGRAM), "")
     places = places_with(recording, file, SETS_LENGTH) if file else []
     sets = f", which {' and '.join(places[:MOST])} set{'' if places[1:] else 's'}" if 0 < len(places) <= MOST else ""
-    is_of_a_server = any(one.function == SERVES for one in recording.lines.of(call.first).calls)
-    if is_of_a_server:
+    if any(one.function.startswith(OF_A_CLIENT) for one in recording.lines.of(closed.first).calls):
         return ["The body of the request ended before its Content-Length: the client closed the connection."]
     return [f"The body ended before its Content-Length{sets}: the server closed the connection."]

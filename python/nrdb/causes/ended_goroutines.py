@@ -96,15 +96,16 @@ def left_by(index: Index, call: OneCall) -> str:
     """The line by which a goroutine that has ended left the loop in which it made a call, as `ended_where` has it: if there are several, the first
     one after the line of that function at which it was last."""
     own = index.recording.lines.of(call.first).own()
-    leaves = leaves_of(index.recording, own[0]) if own and own[0].of == OF_THE_PROGRAM else []
+    leaves = every_leave(index.recording, own[0]) if own and own[0].of == OF_THE_PROGRAM else []
     if not own or not leaves:
         return ""
     passed = sorted(passed_by(index, Name(call.goroutine)), key=lambda one: (one.step, one.time))
     inside = (one for passage in passed for one in passage.stack.calls if one.function == own[0].function)
     last = max((one.line for one in inside if one.line in range(own[0].line, leaves[-1] + 1)), default=own[0].line)
     later = [number for number in leaves if number >= last] if last > own[0].line else []
-    ways = " and ".join(f"{own[0].file}:{number}" for number in later[:1] or leaves)
-    return f", from whose loop {ways} lead{'s' if ' and ' not in ways else ''}"
+    found = later[:1] or leaves
+    ways = " and ".join(f"{own[0].file}:{number}" for number in found)
+    return f", from whose loop {ways} lead{'' if found[1:] else 's'}" if len(found) <= MOST_LEAVES else ""
 
 
 def ranged_over(recording: Recording, call: Call) -> str:
@@ -117,16 +118,20 @@ def ranged_over(recording: Recording, call: Call) -> str:
 
 
 def leaves_of(recording: Recording, call: Call) -> list[int]:
-    """The lines that leave the innermost loop round a line of a function, if they are few and the loop doesn't end by itself: it is over
-    a channel or has no condition."""
+    """The lines that leave the innermost loop round a line of a function, if they are few."""
+    found = every_leave(recording, call)
+    return found if len(found) <= MOST_LEAVES else []
+
+
+def every_leave(recording: Recording, call: Call) -> list[int]:
+    """The lines that leave the innermost loop round a line of a function, if that doesn't end by itself: it is over a channel or has no condition."""
     lines = source_of(recording, call.file)
     within = range_of(lines, call) if lines else None
     head = loop_round(lines, within, call.line) if lines and within else 0
     if not lines or not head or not is_endless(lines[head - 1]):
         return []
     found = [number for number in body_of(lines, head) if LEAVES.match(lines[number - 1].partition("//")[0])]
-    found = [number for number in found if not is_inner_break(lines, head, number)]
-    return found if len(found) <= MOST_LEAVES else []
+    return [number for number in found if not is_inner_break(lines, head, number)]
 
 
 def loop_round(lines: Lines, within: range, line: int) -> int:

@@ -4,10 +4,12 @@ from collections import defaultdict
 from typing import Hashable
 
 from ..recording import Recording
+from .chains import chain_says
 from .ended_contexts import of_a_handler
-from .failing import served_says
+from .failing import in_the_past, served_says
 from .http_requests import CancelledRequest, cancelled_requests
-from .index import Cause, index_of, with_others
+from .index import Cause, Index, index_of, with_others
+from .unaccepted import unaccepted
 
 
 def requests_that_ended(recording: Recording, is_late: bool) -> list[Cause]:
@@ -23,6 +25,16 @@ def requests_that_ended(recording: Recording, is_late: bool) -> list[Cause]:
 def of_request(recording: Recording, ended: CancelledRequest) -> Cause:
     """A request that ended because its context did."""
     steps, looks = [ended.request.last, ended.step], [f"goto {ended.step}", f"calls sock {ended.request.socket}"]
-    served = served_says(index_of(recording), ended.closed, ended.closed.first)
+    index = index_of(recording)
+    served = served_says(index, ended.closed, ended.closed.first) or unserved_says(index, ended)
     handler = [] if ended.is_late else of_a_handler(recording, ended.request.goid)
     return Cause(ended.closed, [*ended.says(recording), *handler, *served], steps, looks)
+
+
+def unserved_says(index: Index, ended: CancelledRequest) -> list[str]:
+    """Of a request whose connection nobody had accepted: what the goroutine did that should have."""
+    step = ended.closed.first
+    reads = (one for one in index.by_socket[ended.request.socket] if one.name == "Read" and one.first < step)
+    read = next((one for one in reads if not 0 < one.last < step), None)
+    need = unaccepted(index, read, step) if read else None
+    return [in_the_past(line) for line in [*need.says, *chain_says(index, read, need, step)]] if read and need else []

@@ -9,7 +9,7 @@ from ..where import OF_THE_PROGRAM
 from .index import Index
 from .package_source import places_with
 from .responses import SERVE, has
-from .words import is_of_go
+from .words import is_of_go, told
 
 TO_THE_END = ("io.ReadAll", "io.copyBuffer", "io.Copy", "net.genericReadFrom", "internal/poll.Splice")
 CLOSES_WRITE, MOST_CLOSES = re.compile(r"\.CloseWrite\(\)"), 2
@@ -39,14 +39,15 @@ def end_says(index: Index, call: Call, other: int, position: int) -> list[str]:
 
 def half_closes(index: Index, socket: int, position: int) -> list[str]:
     """The lines of the program that close a connection for writing, of which none has done so at a socket."""
-    used = index.last_use(socket, position, ("Write", "Read"))
+    used = index.last_use(socket, position, ("Write",)) or index.last_use(socket, position, ("Read",))
     own = index.recording.lines.of(used.first).own() if used else None
     if own is None or own[0].of != OF_THE_PROGRAM:
         return []
     found = places_with(index.recording, own[0].file, CLOSES_WRITE)
     if not 0 < len(found) <= MOST_CLOSES:
         return []
-    return [f"CloseWrite is called at {' and '.join(found)}, and that hasn't come to socket {socket}."]
+    last = f", where {told(index.recording, used)} was the last" if used else ""
+    return [f"CloseWrite is called at {' and '.join(found)}, and that hasn't come to socket {socket}{last}."]
 
 
 def is_served(index: Index, socket: int, position: int) -> bool:
@@ -62,10 +63,11 @@ def bound_says(functions: set[str], other: int) -> str:
         return "It reads a body of net/http: perhaps fewer bytes came than the header says."
     if "io.CopyN" in functions:
         return "io.CopyN reads a number of bytes, which haven't all come."
+    if "io.ReadAll" in functions:
+        limit = ", or up to a limit" if functions.intersection(OF_A_COUNT) else ""
+        return f"io.ReadAll reads to the end of the stream{limit}: nobody has closed socket {other} for writing."
     if functions.intersection(OF_A_COUNT):
         return ""
-    if "io.ReadAll" in functions:
-        return f"io.ReadAll reads to the end of the stream: nobody has closed socket {other} for writing."
     if functions.intersection(TO_THE_END):
         copies = "has met no end of the stream" if SPLICE in functions else "reads to the end of the stream"
         return f"io.Copy {copies}: nobody has closed socket {other} for writing."

@@ -100,13 +100,21 @@ def of_timeout(index: Index, call: Call, begins: str) -> Cause:
             chain = [] if dropped else list(map(in_the_past, chain_says(index, call, need, call.last)))
             says += [*map(in_the_past, [*need.says, *([] if dropped else need.more)]), *chain, *dropped]
     else:
-        says += cut or endless_says(index, call)
+        says += cut or endless_says(index, call) or (found_says(index, call) if time > 0 else [])
     if is_of_write_timeout(index, call):
         says.append("That is the WriteTimeout of its http.Server.")
     elif is_of_a_server(recording.lines.of(call.cause)):
         says.append("That is a ReadTimeout, ReadHeaderTimeout, WriteTimeout or IdleTimeout of its http.Server.")
     looks = [f"goto {call.cause}", f"history {side}d {call.descriptor}"]
     return Cause(call, says, [call.first, call.cause], looks, need.stopped if need else 0, [], chain)
+
+
+def found_says(index: Index, call: Call) -> list[str]:
+    """What else is known of a Read or a Write under a deadline that others had kept: not what it waited for, but why that didn't come."""
+    if index.is_listening(call) or not call.first < call.last:
+        return []
+    need = Needs(index, {}, call.last).of_call(call)
+    return list(map(in_the_past, [*([] if need.is_plain else need.more), *chain_says(index, call, need, call.last)]))
 
 
 def endless_says(index: Index, call: Call) -> list[str]:
@@ -163,8 +171,8 @@ def of_close(index: Index, call: Call, begins: str, deep: int) -> Cause:
     what = "Its write side was closed" if call.outcome is Outcome.BROKEN_PIPE else "It was closed"
     when = ", while the call was under way" if call.first < call.cause else ", before the call began"
     says = [f"{begins}.", f"{what}{place_of_step(recording, call.cause, goroutine)}{when}."]
-    ended = context_says(index, call, by) or after_says(index, call.cause, goroutine)
-    says += ended
+    ended, after = context_says(index, call, by), after_says(index, call.cause, goroutine)
+    says += ended or after
     others = [
         one for one in index.under_way(call.socket, call.cause)
         if one is not call and one.name != CLOSE and one.goroutine != goroutine
@@ -172,7 +180,7 @@ def of_close(index: Index, call: Call, begins: str, deep: int) -> Cause:
     if others:
         says.append(f"{told(recording, others[0])} was inside too.")
     says += [] if ended else given_up_says(index, call, by)
-    before = Before([], []) if ended else why(index, by, deep)
+    before = Before([], []) if ended or after else why(index, by, deep)
     looks = [f"goto {call.cause}", f"calls sock {call.socket}"]
     return Cause(call, [*says, *before.says], [call.first, call.cause], looks, 0, before.calls)
 
@@ -243,7 +251,7 @@ def of_the_other_end(index: Index, call: Call, begins: str, deep: int) -> Cause:
         f"The other end, socket {other}, was {what}{place_of_step(recording, by.first, by.goroutine)}.",
     ]
     looks, before = [f"goto {by.first}", f"calls sock {other}"], why(index, by, deep)
-    says += [*(body_says(recording, call) if is_of_a_body(recording, call) else []), *before.says]
+    says += [*(body_says(recording, call, by) if is_of_a_body(recording, call) else []), *before.says]
     last = index.last_use(other, by.first, ("Read",)) if other is not None else None
     says += (long_line_says(index, last) or part_says(index, call, last)) if last else []
     if (late := late_write(index, call, by)) is not None:

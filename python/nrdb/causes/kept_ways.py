@@ -5,13 +5,14 @@ import re
 from operator import attrgetter
 from typing import Iterable, Optional
 
+from ..all_goroutines import FOR_ROOM
 from ..recording import Recording
 from ..waits import Waiting
 from ..where import OF_THE_PROGRAM, Call, Stack
 from .balances import Balance
 from .ended_goroutines import body_of, loop_round
 from .skipped_ways import Test, Way, has, is_text, nothing, skipped_ways, ways_are, ways_words
-from .source_functions import found_in, range_of, source_of, text_at
+from .source_functions import found_in, indent_of, range_of, source_of, text_at
 
 SEND, RECEIVE, CALLED = re.compile(r"([\w.\[\]]+) <- "), re.compile(r"<-([\w.\[\]]+)"), re.compile(r"(\w+)\(")
 LITERAL = re.compile(r"(?:defer |go )?func\(.*?\{")
@@ -54,8 +55,9 @@ def ways_with_an_error(recording: Recording, wait: Waiting) -> list[str]:
     own = wait.stack.own()
     if not own or own[0].of != OF_THE_PROGRAM or len(wait.objects) != 1:
         return []
-    text = text_at(recording, own[0]).strip()
-    put, took = SEND.match(text), RECEIVE.search(text)
+    line = case_of(recording, own[0], wait.objects[0].use)
+    own, text = (line, own[1]), text_at(recording, line).strip()
+    put, took = SEND.match(text.removeprefix("case ")), RECEIVE.search(text)
     back = rf"<-{re.escape(put[1])}(?![\w.])" if put else rf"{re.escape(took[1])} <- " if took else ""
     found = (
         [number for number, _ in found_in(recording, own[0], re.compile(back)) if number > own[0].line] if back else []
@@ -68,6 +70,22 @@ def ways_with_an_error(recording: Recording, wait: Waiting) -> list[str]:
     function = own[0].function.rpartition("/")[2].partition(".")[2]
     does = f"{ways_words(own[0].file, failing)} without {own[0].file}:{found[-1]}, which gives it back"
     return [f"Perhaps {function} keeps it {ways_are(failing)}: {does}."]
+
+
+def case_of(recording: Recording, line: Call, use: str) -> Call:
+    """The line of a select's first case that does at a channel what one waits for; of a line that is no select's, that itself."""
+    lines = source_of(recording, line.file)
+    if not lines or lines[line.line - 1].partition("//")[0].strip() != "select {":
+        return line
+    margin = indent_of(lines[line.line - 1])
+    pattern = SEND if use == FOR_ROOM else RECEIVE
+    for number in range(line.line + 1, len(lines) + 1):
+        text = lines[number - 1].partition("//")[0]
+        if indent_of(text) < margin or (indent_of(text) == margin and text.strip() == "}"):
+            break
+        if indent_of(text) == margin and pattern.search(text.strip().removeprefix("case ")):
+            return line._replace(line=number)
+    return line
 
 
 def gives_on_most_ways(recording: Recording, balances: Iterable[Balance]) -> bool:

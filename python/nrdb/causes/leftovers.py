@@ -13,6 +13,7 @@ from ..where import OF_THE_PROGRAM
 from .cut_datagrams import causes_of_cuts
 from .exchanges import is_cut
 from .failing import cause_of
+from .given_up_waits import given_up_waits
 from .gone_readers import without_reader
 from .index import MOVING, Cause, Index, index_of, went_well
 from .responses import SERVE, has
@@ -40,6 +41,7 @@ def leftovers_of(recording: Recording) -> list[Cause]:
         *never_read(index),
         *left_open(index),
         *untaken_results(index),
+        *given_up_waits(index),
         *early_ends(index),
         *mixed_writes(index),
     ]

@@ -1,0 +1,77 @@
+"""Waits at a channel that were given up, as of a pool whose slots are all taken: the channel was full, or empty, and is so to the end."""
+
+from operator import attrgetter
+from typing import Iterator
+
+from netrev_words.plurals import counted
+
+from ..all_goroutines import A_SELECT, FOR_ROOM, FOR_VALUE, PUT, TOOK, At
+from ..recording import Recording
+from ..waits import Waiting, waits_of
+from ..where import OF_THE_PROGRAM
+from .balances import balances_of
+from .balances_in_words import kept_says
+from .index import Cause, Index
+from .kept_ways import ways_with_an_error
+from .words import place_in
+
+A_WHILE = 20_000_000  # nanoseconds, as long as a wait has to be
+
+
+def given_up_waits(index: Index) -> Iterator[Cause]:
+    """The first of those at each channel with room: a select that went on by another case."""
+    recording, seen = index.recording, set[int]()
+    every = [wait for some in waits_of(recording).of.values() for wait in some]
+    for wait in sorted(every, key=attrgetter("first", "begin")):
+        for at in wait.objects if is_given_up(recording, wait) else ():
+            calls = [one for one in index.book.calls if one.first <= max(wait.last or 0, 1)]
+            if at.object in seen or not is_stuck(recording, at) or not calls:
+                continue
+            seen.add(at.object)
+            yield Cause(
+                calls[-1], says(recording, wait, at), [calls[-1].first], [f"goto {wait.last}", "info goroutines"]
+            )
+
+
+def is_given_up(recording: Recording, wait: Waiting) -> bool:
+    """Whether a goroutine of the program waited in a select for a while, and went on."""
+    own, last = wait.stack.own(), wait.last
+    ended = next(
+        (
+            park.end
+            for parks in recording.lines.parks.values()
+            for park in parks
+            if park.begin == wait.begin and park.last == last
+        ),
+        0,
+    )
+    is_select = wait.kind == A_SELECT and own is not None and own[0].of == OF_THE_PROGRAM
+    return is_select and last is not None and ended - wait.begin >= A_WHILE
+
+
+def is_stuck(recording: Recording, at: At) -> bool:
+    """Whether a channel with room is full at the end, for one that waits for room, or empty, for one that waits for a value."""
+    known, uses = recording.lines.objects.get(at.object), recording.lines.uses.get(at.object, ())
+    put, took = (sum(use.often for use in uses if use.what == what) for what in (PUT, TOOK))
+    if known is None or known.room <= 0 or not put or not recording.lines.made:
+        return False
+    return (
+        put - took == known.room if at.use == FOR_ROOM else at.use == FOR_VALUE and put == took and took >= known.room
+    )
+
+
+def says(recording: Recording, wait: Waiting, at: At) -> list[str]:
+    """It in sentences."""
+    room = recording.lines.objects[at.object].room
+    what = (
+        f"for room in a channel that has {counted(room, 'value')}, as many as it has room for"
+        if at.use == FOR_ROOM
+        else "for a value from a channel that is empty"
+    )
+    kept = kept_says(recording, balances_of(recording, at.object, {})) or ways_with_an_error(
+        recording, wait._replace(objects=(at,))
+    )
+    return [
+        f"{str(wait.name).capitalize()} waited{place_in(wait.stack)} {what}, from step {wait.first} to {wait.last}, and went on without.",
+        *kept,
+    ]
