@@ -1,7 +1,7 @@
 #!/usr/bin/env python3
 """Writes a man page to standard output:  scripts/man.py [netrev | nrdb | netrev-go] > netrev.1
 
-That of netrev is docs/use/COMMANDS.md: headings become sections, and each row of a table an entry. Those of nrdb and netrev-go have the
+That of netrev is docs/reference/COMMANDS.md: headings become sections, and each row of a table an entry. Those of nrdb and netrev-go have the
 options that these take, and the rows of their pages' tables of statuses. So they go stale with nothing."""
 
 from __future__ import annotations
@@ -13,7 +13,7 @@ import sys
 from collections.abc import Iterator
 
 ROOT = pathlib.Path(__file__).resolve().parents[1]
-COMMANDS = ROOT / "docs/use/COMMANDS.md"
+COMMANDS = ROOT / "docs/reference/COMMANDS.md"
 sys.path.insert(0, str(ROOT / "python"))
 
 from netrev_go import options, usage  # noqa: E402

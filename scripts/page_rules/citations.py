@@ -1,4 +1,4 @@
-"""Each function, clause and definition that docs/believe/PROMISES.md cites is there, and so is what other pages name as theirs.
+"""Each function, clause and definition that docs/proof/PROMISES.md cites is there, and so is what other pages name as theirs.
 
 The right column of PROMISES names functions and, behind a colon, the labels of their clauses: `Snaps::load`: `film`, `good`.
 What comes behind "against", "over", "with" and the like is a definition. "The same" is what the table named before.
@@ -11,7 +11,7 @@ from page_rules.markdown import CODE, Block, blocks, codes, prose
 from page_rules.sources import Crate, crates_of
 from page_rules.tree import Finding, Tree
 
-PROMISES = "docs/believe/PROMISES.md"
+PROMISES = "docs/proof/PROMISES.md"
 # what of a cell is the label of a clause: all in code font up to one of these words
 UP_TO = re.compile(r"\b(?:against|over|with|by|of|within|in|which|for|whatever)\b|\(")
 NAME = re.compile(r"(?:\w+::)*[\w-]+")

@@ -1,4 +1,4 @@
-"""Words that docs/GLOSSARY.md gives up stand nowhere.
+"""Words that docs/internals/GLOSSARY.md gives up stand nowhere.
 
 The table under its heading "Words given up" has in its first column the words of a row, in its last one where they are looked for:
 `pages`, `Python`, `source`, or `by eye`, where no script can tell the meaning that is given up from another. A word counts as
@@ -13,11 +13,11 @@ from dataclasses import dataclass
 from page_rules.markdown import CODE, LINK, blocks, prose
 from page_rules.tree import Finding, Tree, line_at
 
-GLOSSARY = "docs/GLOSSARY.md"
+GLOSSARY = "docs/internals/GLOSSARY.md"
 GIVEN_UP = "Words given up"
 PAGES, PYTHON, SOURCE, BY_EYE = "pages", "Python", "source", "by eye"
 # pages that quote the source, so that they change with it; and the page of what was
-WITH_SOURCE = {"docs/believe/THEOREM.md"}
+WITH_SOURCE = {"docs/proof/THEOREM.md"}
 HISTORY = "CHANGELOG.md"
 # names of the toolchain's library that have such a word
 OF_LIBRARY = {"eqb_tells"}
