@@ -7,7 +7,6 @@ The gate runs all rules. These are of pages and Python, and of what pages say of
     beliefs              the reading list of docs/proof/THEOREM.md is what scripts/beliefs.py prints, and no longer than it may be
     verdict              docs/proof/TRUSTED.md has what the verdict on netrev takes as given, and nothing that it calls may wait
     raw-calls            calls that get at a stream or a caller are made where docs/proof/TRUSTED.md has them read by eye
-    words                words that docs/internals/GLOSSARY.md gives up are nowhere in pages and Python, as its table says
     promises, names      the functions, clauses and definitions that pages cite are there
     in-files             a name is in the file that a page says it is in: `Step` in `nr_rev/src/step.rt`
     links, paths         each link, anchor and path leads somewhere
@@ -16,11 +15,9 @@ The gate runs all rules. These are of pages and Python, and of what pages say of
     diagram              the crates of docs/internals/ARCHITECTURE.md are those of crates.txt
     imports              packages of Python import what the table of CONTRIBUTING.md says, and none that is below them there
     docstrings           no docstring leans on what is before it
-    sentences            no sentence of a page has more than 40 words
 
 And these of the source itself:
 
-    source-words         words that are given up, in the crates, and on docs/proof/THEOREM.md, which quotes them
     modules              the two groups of a specs/Lib.antt are what callers need, and what is inside
     comments             no comment leans on the one before it: "The same."
     lines                no line of specs/ has more than 100 columns
@@ -39,6 +36,7 @@ from pathlib import Path
 
 from page_rules import (
     citations,
+    comments,
     definitions,
     imports,
     links,
@@ -47,9 +45,7 @@ from page_rules import (
     quotes,
     raw_calls,
     reading,
-    sentences,
     verdict,
-    words,
 )
 from page_rules.tree import Finding, Tree
 
@@ -66,12 +62,6 @@ NEEDED = (
 )
 
 
-def given_up(tree: Tree) -> Iterator[Finding]:
-    """Words that are given up, in pages and in Python."""
-    yield from words.in_pages(tree)
-    yield from words.in_python(tree)
-
-
 RULES: dict[str, Rule] = {
     "quotes": quotes.quotes,
     "texts": quotes.texts,
@@ -79,7 +69,6 @@ RULES: dict[str, Rule] = {
     "beliefs": reading.reading_list,
     "verdict": verdict.verdict,
     "raw-calls": raw_calls.raw_calls,
-    "words": given_up,
     "promises": citations.promises,
     "names": citations.names,
     "in-files": citations.in_files,
@@ -89,12 +78,10 @@ RULES: dict[str, Rule] = {
     "tables": lists.named_many,
     "diagram": lists.diagram,
     "imports": imports.imports,
-    "docstrings": sentences.leaning_docstrings,
-    "sentences": sentences.long_sentences,
-    "source-words": words.in_source,
+    "docstrings": comments.leaning_docstrings,
     "modules": definitions.groups,
-    "comments": sentences.leaning_comments,
-    "lines": sentences.long_lines,
+    "comments": comments.leaning_comments,
+    "lines": comments.long_lines,
     "forgotten": memory.forgotten,
     "refused": memory.refused,
 }

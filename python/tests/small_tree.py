@@ -77,19 +77,11 @@ rt: counting proved
 GLOSSARY = """\
 # Glossary
 
-A word has one meaning: [words given up](#words-given-up).
+Names may be shared: [the list](#names-that-several-crates-have).
 
 ## Names that several crates have
 
 - `total` is in `counting` and in `adding`.
-
-## Words given up
-
-| Given up | Now | Looked for in |
-|---|---|---|
-| want of memory | out of memory | pages, Python, source |
-| told, tells | says | pages, source |
-| row, of reports | report | by eye |
 """
 PROMISES = """\
 # Promises
@@ -171,7 +163,7 @@ one = record {
 CONTRIBUTING = """\
 # Contributing
 
-## What is written in Python
+## Python
 
 | Package | What it is | Imports |
 |---|---|---|

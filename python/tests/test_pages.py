@@ -4,8 +4,6 @@ import unittest
 
 from tests.small_tree import LOG, PAGES, TREE, SmallTree
 
-LONG = " ".join(["word"] * 41)
-
 # a mistake: the rule that finds it, the file, what is there, what is put in its place, and what is said of it
 PLANTED: list[tuple[str, str, str, str, str]] = [
     (
@@ -77,10 +75,6 @@ PLANTED: list[tuple[str, str, str, str, str]] = [
         "rt.forever()",
         ".forever( stands 1 times in count, and 0 are known",
     ),
-    ("words", "README.md", "It counts", "For want of\nmemory it counts", "'want of memory' is given up"),
-    ("words", "README.md", "It counts", "It tells", "'tells' is given up"),
-    ("words", "python/nrdb/counting.py", "Counts.", "Want of memory.", "python/nrdb/counting.py:1"),
-    ("words", "docs/internals/GLOSSARY.md", "pages, source", "pages, proofs", "which is no place"),
     ("promises", "docs/proof/PROMISES.md", "`sum`", "`whole`", "there is no clause whole"),
     ("promises", "docs/proof/PROMISES.md", "`count`:", "`counted`:", "there is no counted"),
     ("promises", "docs/proof/PROMISES.md", "`total` |", "`totals` |", "there is no totals"),
@@ -88,7 +82,7 @@ PLANTED: list[tuple[str, str, str, str, str]] = [
     ("names", "README.md", "It counts", "`count_all` counts", "nothing here has the name count_all"),
     ("in-files", "README.md", "in `crates", "`total_of` in `crates", "src/lib.rt doesn't have total_of"),
     ("links", "README.md", "docs/internals/GLOSSARY.md", "docs/WORDS.md", "leads nowhere"),
-    ("links", "docs/internals/GLOSSARY.md", "#words-given-up", "#given-up", "has no such heading"),
+    ("links", "docs/internals/GLOSSARY.md", "#names-that-several-crates-have", "#shared", "has no such heading"),
     ("paths", "README.md", "src/lib.rt", "src/main.rt", "there is no crates/counting/src/main.rt"),
     ("shared-names", "docs/internals/GLOSSARY.md", " and in `adding`", "", "total is defined in adding, counting"),
     ("tables", "docs/internals/ARCHITECTURE.md", ", and so does `counting/src/table.rt`", "", "names 26 kinds"),
@@ -113,10 +107,6 @@ PLANTED: list[tuple[str, str, str, str, str]] = [
     ("imports", "CONTRIBUTING.md", "| `words` | words | |\n", "", "has no row for it"),
     ("imports", "CONTRIBUTING.md", "Python", "C", "no table under"),
     ("docstrings", "python/nrdb/counting.py", "Counts.", "The same of two.", "leans on the comment before it"),
-    ("sentences", "README.md", "It counts", f"It counts {LONG}", "a sentence of"),
-    ("sentences", "docs/proof/PROMISES.md", "The count is", f"{LONG} is", "a sentence of 44 words"),
-    ("source-words", "crates/counting/src/lib.rt", "fn count", "fn told_count", "'told' is given up"),
-    ("source-words", "crates/counting/src/lib.rt", "How many", "For want of memory, how many", "'want of memory'"),
     ("modules", "crates/counting/specs/Lib.antt", "need\n", "need\npub mod Spare\n", "imports Spare"),
     ("modules", "crates/adding/specs/Lib.antt", "use\n", "use\npub mod Sum\n", "callers need Sum"),
     ("modules", "crates/counting/src/lib.rt", "pub fn count", "fn count", "no public contract cites it"),
@@ -173,7 +163,7 @@ PLANTED: list[tuple[str, str, str, str, str]] = [
 class Pages(SmallTree):
     def test_finds_nothing_where_there_is_no_mistake(self) -> None:
         self.keep(LOG)
-        self.assertEqual(self.run_over(), (0, "pages: 7 pages, 24 rules, 0 findings\n"))
+        self.assertEqual(self.run_over(), (0, "pages: 7 pages, 21 rules, 0 findings\n"))
 
     def test_each_mistake_is_found_by_its_rule(self) -> None:
         for rule, path, old, new, says in PLANTED:
@@ -217,13 +207,3 @@ class Pages(SmallTree):
 
     def test_an_unknown_rule_is_refused(self) -> None:
         self.assertIn("there is no rule sums", self.run_over("sums")[1])
-
-    def test_what_programs_print_is_not_read_as_prose(self) -> None:
-        printed = f"It counts `told`:\n\n    told {LONG}\n\n```\ntold {LONG}\n```\n"
-        self.write("README.md", TREE["README.md"].replace("It counts", printed))
-        self.assertEqual(self.run_over("words", "sentences")[0], 0)
-
-    def test_a_long_table_row_is_a_sentence_for_each_cell(self) -> None:
-        half = " ".join(["word"] * 30)
-        self.write("README.md", TREE["README.md"] + f"\n| a | b |\n|---|---|\n| {half} | {half} |\n")
-        self.assertEqual(self.run_over("sentences")[0], 0)

@@ -100,9 +100,9 @@ def promises(tree: Tree) -> Iterator[Finding]:
 
 
 # names of Go, Python and the system
-ELSEWHERE = {"RuntimeError", "O_NONBLOCK", "ReadTimeout"}
-# the page of what was, whose names needn't be there any more, and the part of the glossary that is of such names
-HISTORY, GIVEN_UP = "CHANGELOG.md", "Words given up"
+ELSEWHERE = {"TestMain", "RuntimeError", "O_NONBLOCK", "ReadTimeout"}
+# the page of what was, whose names needn't be there any more
+HISTORY = "CHANGELOG.md"
 # a name that a page gives to something of the sources: with an owner, or of more than one word
 OURS = re.compile(r"[A-Za-z]\w*(?:::\w+)+|[a-z]+(?:_[a-z0-9]+)+|(?:[A-Z][a-z0-9]+){2,}|[A-Z]+(?:_[A-Z]+)+")
 
@@ -113,8 +113,7 @@ def names(tree: Tree) -> Iterator[Finding]:
     words = {*tree.crates, *ELSEWHERE, *re.findall(r"\w+", "".join(map(tree.text, sources)))}
     for page in tree.pages:
         for block, code in codes(tree.text(page)) if page != HISTORY else ():
-            is_given_up = block.heading == GIVEN_UP and block.column == 0
-            if OURS.fullmatch(code) and not is_given_up and not words.issuperset(code.split("::")):
+            if OURS.fullmatch(code) and not words.issuperset(code.split("::")):
                 yield Finding(page, block.line, f"nothing here has the name {code}")
 
 
