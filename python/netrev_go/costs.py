@@ -49,6 +49,9 @@ ROUNDS = (
     "condition",  # two goroutines take turns by a sync.Cond
     "goroutine",  # a goroutine is made, and a WaitGroup waits for its end
     "timer",  # a timer is made and stopped
+    "mutex",  # a mutex that is free is locked and unlocked
+    "read lock",  # the same of an RWMutex, for reading
+    "channel",  # a channel is made
 )
 
 

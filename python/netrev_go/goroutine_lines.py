@@ -3,14 +3,17 @@
 
 from __future__ import annotations
 
+import errno
 from collections import Counter
 from collections.abc import Callable, Iterable, Iterator
 from dataclasses import dataclass, field
 from itertools import compress
 
+from .beside import address_words
+
 from .goroutines import (
-    ADDED, CONDITION, DONE, MUTEX, OF_A_WAIT_GROUP, OTHER, READ_LOCK, ROOM, SEMAPHORE, UNENDED, VALUE, WAIT_GROUP, WRITE_LOCK, Goroutines, Park,
-    Span, Timer, Used,
+    ADDED, CONDITION, DONE, MUTEX, OF_A_WAIT_GROUP, OTHER, READ_LOCK, ROOM, SEMAPHORE, UNENDED, VALUE, WAIT_GROUP, WRITE_LOCK, FailedDial,
+    Goroutines, Held, Park, Span, Timer, Used,
 )  # fmt: skip
 from .lines import OF_GO, OF_THE_PROGRAM, Calls
 
@@ -22,6 +25,8 @@ REASONS = (
 )  # fmt: skip
 FOR = {VALUE: "value", ROOM: "room"}
 CHANNEL = "channel"
+HELD = "held"  # the line of locked mutexes, which says something without a row too: that none is known
+TIMED_OUT, CANCELLED = -1, -2  # why a connect failed, if for no error of the system's
 SORTS = {
     MUTEX: "mutex", READ_LOCK: "RWMutex", WRITE_LOCK: "RWMutex", WAIT_GROUP: "WaitGroup", CONDITION: "condition",
     SEMAPHORE: "semaphore",
@@ -66,11 +71,14 @@ def semaphore_at(what: int, found: int, calls: Calls | None) -> int:
 
 @dataclass
 class Kept:
-    """What is kept: waits, uses, timers, and how many waits were left out, by what for, stack, and whether they have ended."""
+    """What is kept: waits, uses, timers, connects that failed, the mutexes that are locked (None: not known), and how many waits were left out, by
+    what for, stack, and whether they have ended."""
 
     parks: list[Park] = field(default_factory=list)
     uses: list[tuple[Used, Span]] = field(default_factory=list)
     timers: list[Timer] = field(default_factory=list)
+    dials: list[FailedDial] = field(default_factory=list)
+    held: list[Held] | None = None
     left: Counter[tuple[int, int, bool]] = field(default_factory=Counter)
 
 
@@ -119,7 +127,26 @@ def kept(found: Goroutines, numbers: dict[int, int], calls: dict[int, Calls], mo
     made.uses = list(compress(uses, newest([use.address in at_end for use, _ in uses], most)))
     timers = [timer for timer in found.timers if is_concerned(timer.goroutine, timer.stack)]
     made.timers = list(compress(timers, newest([timer.address in at_end for timer in timers], most)))
+    made.dials = [dial for dial in found.dials if is_concerned(dial.goroutine, dial.stack)][-most:]
+    if found.held is not None:
+        mutexes = {park.stack: calls.get(park.stack) for park in made.parks if park.last == UNENDED}
+        waited_at = {
+            mutex_at(at.address, park.what, mutexes[park.stack]) for park in made.parks if park.last == UNENDED for at in park.objects
+        }  # fmt: skip
+        made.held = [
+            held for held in found.held if held.address in waited_at or is_concerned(held.goroutine, held.stack)
+        ][-most:]
     return made
+
+
+def why_words(number: int) -> str:
+    """Why a connect failed; empty if that isn't known."""
+    return errno.errorcode.get(number, "") or {TIMED_OUT: "timeout", CANCELLED: "cancelled"}.get(number, "")
+
+
+def mutex_at(address: int, what: int, calls: Calls | None) -> int:
+    """The address of the object at whose semaphore a goroutine waits."""
+    return address - semaphore_at(what, waited_for(what, calls), calls)
 
 
 class Objects:
@@ -166,11 +193,30 @@ class Everybody:
             (objects.number(one.address, CHANNEL) if one.address else 0, one.goroutine, stack(one.stack), *one[3:])
             for one in self.kept.timers
         ]
+        made: list[tuple[object, ...]] = [
+            (objects.numbers[address], one.goroutine, stack(one.stack), one.step, one.time)
+            for address, one in self.found.made.items() if address in objects.numbers
+        ]  # fmt: skip
+        dials: list[tuple[object, ...]] = [
+            (
+                one.goroutine, stack(one.stack), one.step, one.time, why_words(one.why), address_words(one.address),
+                objects.number(one.context, CHANNEL) if one.context else 0,
+            )
+            for one in self.kept.dials
+        ]  # fmt: skip
+        held: list[tuple[object, ...]] = [
+            (objects.number(one.address, SORTS[MUTEX]), one.goroutine, "read" if one.is_reader else "", stack(one.stack), one.step)
+            for one in self.kept.held or ()
+        ]  # fmt: skip
         yield "goroutines", [self.goroutine(goid, call(key)) for goid, key in self.goroutines(most).items()]
         yield "objects", list(objects.lines())
         yield "parks", parks
         yield "uses", uses
         yield "timers", timers
+        yield "channels", made
+        yield "failed_dials", dials
+        if self.kept.held is not None:
+            yield HELD, held
         yield "left_out", [
             (REASONS[waited_for(what, calls.get(key))], stack(key), *self.left(what, key))
             for what, key in dict.fromkeys((what, key) for what, key, _ in self.kept.left)
@@ -206,9 +252,12 @@ class Everybody:
             if park.by:
                 stacks.setdefault(park.by, 0)
         others = [(use.goroutine, use.stack) for use, _ in self.kept.uses]
-        for goid, stack in others + [(timer.goroutine, timer.stack) for timer in self.kept.timers]:
+        others += [(timer.goroutine, timer.stack) for timer in self.kept.timers]
+        for goid, stack in others + [(dial.goroutine, dial.stack) for dial in self.kept.dials]:
             if not stacks.get(goid):
                 stacks[goid] = stack
+        for held in self.kept.held or ():
+            stacks.setdefault(held.goroutine, 0)
         waiting = {park.goroutine for park in self.kept.parks if park.last == UNENDED}
         in_order = sorted(stacks)
         choice = newest([goid in self.numbers or goid in waiting for goid in in_order], most)

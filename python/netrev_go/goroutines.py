@@ -3,20 +3,24 @@ it and when it ends, and what goroutines did at channels. They have Go's own nam
 
 from __future__ import annotations
 
+from bisect import bisect_left
 from collections.abc import Container, Iterable
-from dataclasses import dataclass, field
+from dataclasses import dataclass, field, replace
+from operator import itemgetter
 from typing import NamedTuple
 
 from .orders import Made
-from .points import ORDERING, WAITING, Kind, Point
+from .points import ORDERING, WAITING, Holder, Kind, Point
 
 READY, SENT, RECEIVED, MET, CLOSED, FOUND_CLOSED = map(
     int, (Kind.READY, Kind.SENT, Kind.RECEIVED, Kind.MET, Kind.CHANNEL_CLOSED, Kind.FOUND_CLOSED)
 )
-PARKS, GOES_ON, CASES, HANDED, ENDS, TIMER, GROUP, STOPPED = map(
+PARKS, GOES_ON, CASES, HANDED, ENDS, TIMER, GROUP, STOPPED, MAKES, DIAL_FAILED = map(
     int,
-    (Kind.PARKS, Kind.GOES_ON, Kind.CASES, Kind.HANDED, Kind.ENDS, Kind.TIMER, Kind.GROUP, Kind.STOPPED),
-)
+    (
+        Kind.PARKS, Kind.GOES_ON, Kind.CASES, Kind.HANDED, Kind.ENDS, Kind.TIMER, Kind.GROUP, Kind.STOPPED, Kind.MAKES, Kind.DIAL_FAILED,
+    ),
+)  # fmt: skip
 CONCERNED = ORDERING | WAITING
 BY_GO = 1  # of a point READY: made by a `go` statement
 GIVES, TAKES = 1, 2  # of a point MET: which way the value goes; 0 in logs of before
@@ -30,6 +34,7 @@ OF_KIND = {SENT: PUT, RECEIVED: TOOK, CLOSED: CLOSES, FOUND_CLOSED: ENDED}
     OTHER, VALUE, ROOM, SELECT, CONDITION, SLEEP, MUTEX, READ_LOCK, WRITE_LOCK, WAIT_GROUP, SEMAPHORE, NIL_CHANNEL, NO_CASES,
 ) = range(13)  # fmt: skip
 UNENDED = -1
+GENERATION = 48  # the bit of a channel's key from which on it counts how many were made at its address
 BEHIND = 2**64, 0, 0  # a step behind the last point
 
 
@@ -95,9 +100,43 @@ class Span(NamedTuple):
     end: int
 
 
+class Making(NamedTuple):
+    """Which goroutine made a channel, from which stack, behind which step, and when."""
+
+    goroutine: int
+    stack: int
+    step: int
+    time: int
+
+
+class Held(NamedTuple):
+    """A mutex that is locked to the log's end: its address, which goroutine locked it, whether for reading, from which stack, and behind which
+    step."""
+
+    address: int
+    goroutine: int
+    is_reader: bool
+    stack: int
+    step: int
+
+
+class FailedDial(NamedTuple):
+    """A dial of a goroutine that failed: from which stack, behind which step, when, why, the address as the recorder packs it, and the channel of its
+    context (0: it has none)."""
+
+    goroutine: int
+    stack: int
+    step: int
+    time: int
+    why: int
+    address: int
+    context: int
+
+
 @dataclass
 class Goroutines:
-    """What a log has of all goroutines. Waits have the order in which they begin."""
+    """What a log has of all goroutines. Waits have the order in which they begin. A channel is known by its address; one that was made at an
+    address of an older one, by a key of its own. `held` is None if the log doesn't say which mutexes are locked."""
 
     parks: list[Park] = field(default_factory=list)
     finished: list[int] = field(default_factory=list)  # the places of those that ended, in the order of their ends
@@ -106,11 +145,15 @@ class Goroutines:
     uses: dict[Used, Span] = field(default_factory=dict)
     rooms: dict[int, int] = field(default_factory=dict)  # of channels, by their addresses
     timers: list[Timer] = field(default_factory=list)
+    made: dict[int, Making] = field(default_factory=dict)  # of channels, by their keys
+    dials: list[FailedDial] = field(default_factory=list)
+    held: list[Held] | None = None
 
     def stacks(self) -> set[int]:
-        """Those of waits, uses and timers."""
-        timers = {timer.stack for timer in self.timers}
-        return {park.stack for park in self.parks} | {use.stack for use in self.uses} | timers
+        """Those of waits, uses, timers, channels, connects that failed and locked mutexes."""
+        waiting = {park.stack for park in self.parks} | {use.stack for use in self.uses}
+        making = {timer.stack for timer in self.timers} | {making.stack for making in self.made.values()}
+        return waiting | making | {dial.stack for dial in self.dials} | {held.stack for held in self.held or ()}
 
     def during(self, begin: int, end: int | None) -> Goroutines:
         """Those waits and uses that overlap a time, and the timers that were made by its end."""
@@ -121,7 +164,8 @@ class Goroutines:
         parks = [park for park in self.parks if overlaps(park.begin, park.end)]
         uses = {use: span for use, span in self.uses.items() if overlaps(span.begin, span.end)}
         timers = [timer for timer in self.timers if end is None or timer.time <= end]
-        return Goroutines(parks, [], self.born, self.ended, uses, self.rooms, timers)
+        dials = [dial for dial in self.dials if overlaps(dial.time, dial.time)]
+        return replace(self, parks=parks, finished=[], uses=uses, timers=timers, dials=dials)
 
     def goroutines(self) -> set[int]:
         """The goroutines that wait, use a channel or make a timer."""
@@ -133,7 +177,8 @@ class Goroutines:
         parks = [park for park in self.parks if park.goroutine not in others]
         uses = {use: span for use, span in self.uses.items() if use.goroutine not in others}
         timers = [timer for timer in self.timers if timer.goroutine not in others]
-        return Goroutines(parks, [], self.born, self.ended, uses, self.rooms, timers)
+        dials = [dial for dial in self.dials if dial.goroutine not in others]
+        return replace(self, parks=parks, finished=[], uses=uses, timers=timers, dials=dials)
 
 
 def objects_of(what: int, at: int, b: int, c: int) -> tuple[At, ...]:
@@ -173,11 +218,13 @@ class Passing:
         self._ready: dict[int, int] = {}
         self._cases: dict[int, tuple[At, ...]] = {}
         self._uses: dict[tuple[int, int, str, int], list[int]] = {}
+        self._keys: dict[int, int] = {}  # of channels that were made at an address, the last one's
 
     def point(self, point: Point, step: int) -> None:
         """The next point, before which `step` is the last that was made."""
         _, kind, g, at, a, b, c, clock, stack = point
         time = max(clock - self._begin, 0)  # (logs of before have no times)
+        channel = self._keys.get(at, at)
         if kind == READY:
             if b != BY_GO:
                 self._ready[a] = g
@@ -189,20 +236,24 @@ class Passing:
             if g in self._parked:
                 self._ends(g, self._parked.pop(g), step, time)
         elif kind == SENT or kind == RECEIVED or kind == FOUND_CLOSED:
-            self.found.rooms[at] = b
-            self._used(at, g, OF_KIND[kind], stack, step, time)
+            self.found.rooms[channel] = b
+            self._used(channel, g, OF_KIND[kind], stack, step, time)
         elif kind == CLOSED:
-            self._used(at, g, CLOSES, stack, step, time)
+            self._used(channel, g, CLOSES, stack, step, time)
         elif kind == MET or kind == HANDED:
             self._met(point, step, time)
         elif kind == CASES:
-            self._cases[g] = self._cases.get(g, ()) + objects_of(a, at, b, c)
+            self._cases[g] = self._cases.get(g, ()) + self._objects(a, at, b, c)
+        elif kind == MAKES:
+            self._makes(point, step, time)
+        elif kind == DIAL_FAILED:
+            self.found.dials.append(FailedDial(g, stack, step, time, a, b, channel))
         elif kind == ENDS:
             self.found.ended[g] = step, time
         elif kind == TIMER:
-            self.found.timers.append(Timer(at, g, stack, step, time, max(a - self._begin, 0)))
+            self.found.timers.append(Timer(channel, g, stack, step, time, max(a - self._begin, 0)))
         elif kind == STOPPED:
-            self.found.timers.append(Timer(at, g, stack, step, time, NEVER))
+            self.found.timers.append(Timer(channel, g, stack, step, time, NEVER))
         elif kind == GROUP:
             self._used(at + OF_A_WAIT_GROUP, g, ADDED if a > 0 else DONE, stack, step, time, abs(a))
 
@@ -214,16 +265,32 @@ class Passing:
         self.found.uses = {Used(*use): Span(*span) for use, span in self._uses.items()}
         return self.found
 
+    def _makes(self, point: Point, step: int, time: int) -> None:
+        """A goroutine makes a channel."""
+        key = self._keys.get(point.at, point.at)
+        if key in self.found.made or key in self.found.rooms:
+            key += 1 << GENERATION
+            self._keys[point.at] = key
+        self.found.made[key] = Making(point.goroutine, point.stack, step, time)
+        self.found.rooms[key] = point.b
+
+    def _objects(self, what: int, at: int, b: int, c: int) -> tuple[At, ...]:
+        """The objects of a wait: channels by their keys."""
+        keys = self._keys
+        return tuple(
+            At(keys.get(one.address, one.address), one.use) if one.use else one for one in objects_of(what, at, b, c)
+        )
+
     def _parks(self, point: Point, step: int, time: int) -> None:
         """A goroutine begins to wait. One that waits already does so to the end: its log was damaged."""
         _, _, g, at, a, b, c, _, stack = point
         what = a & 255
         self._ready.pop(g, None)
-        objects = objects_of(a, at, b, c)
+        objects = self._objects(a, at, b, c)
         if g in self._cases:
             objects = self._cases.pop(g) + objects
         if at and (what == VALUE or what == ROOM):
-            self.found.rooms[at] = b
+            self.found.rooms[self._keys.get(at, at)] = b
         due = b - self._begin if what == SLEEP else 0
         if g in self._parked:
             self.parks[self._parked[g].place] = self._park(g, self._parked[g], UNENDED, UNENDED, 0)
@@ -243,6 +310,7 @@ class Passing:
     def _met(self, point: Point, step: int, time: int) -> None:
         """A value goes from one goroutine to another, which waits for that."""
         _, kind, g, at, other, b, _, _, stack = point
+        at = self._keys.get(at, at)
         way = b if kind == MET else GIVES
         if way != GIVES and way != TAKES:  # of a log of before
             what = self._parked[other].what if other in self._parked else OTHER
@@ -266,8 +334,11 @@ class Passing:
             self._uses[use] = [often, step, step, time, time]
 
 
-def goroutines_of(points: Iterable[Point], steps: list[Made], begin: int) -> Goroutines:
-    """All goroutines of the points that are concerned. `steps` has the steps that were made of a point, in the points' order."""
+def goroutines_of(
+    points: Iterable[Point], steps: list[Made], begin: int, holders: list[Holder] | None = None
+) -> Goroutines:
+    """All goroutines of the points that are concerned, and of the mutexes that are locked. `steps` has the steps that were made of a point, in the
+    points' order."""
     passing = Passing(begin)
     pass_point = passing.point
     following = iter((*steps, BEHIND))
@@ -276,4 +347,11 @@ def goroutines_of(points: Iterable[Point], steps: list[Made], begin: int) -> Gor
         while upcoming[0] < point[0]:
             step, upcoming = upcoming[2], next(following)
         pass_point(point, step)
-    return passing.all()
+    found = passing.all()
+    if holders is not None:
+        found.held = [
+            Held(one.address, one.goroutine, one.is_reader, one.stack, steps[made - 1][2] if made else 0)
+            for one in holders
+            for made in [bisect_left(steps, one.passed, key=itemgetter(0))]
+        ]
+    return found

@@ -14,17 +14,21 @@ from itertools import compress
 from typing import BinaryIO, cast
 from operator import xor
 
-from .points import KINDS, Log, Point, Stack
+from .points import KINDS, Holder, Log, Point, Stack
 
 MAGIC = 0x31676F6C7665726E
 HEADER_BYTES = 4096
 STACK_WORDS = 32
+HOLDER_WORDS = 16
+HOLDER_CALL = 4  # the word of the first call
 POINT_WORDS = 8
 WORD = 8
-STACK_BYTES, POINT_BYTES = STACK_WORDS * WORD, POINT_WORDS * WORD
+STACK_BYTES, HOLDER_BYTES, POINT_BYTES = STACK_WORDS * WORD, HOLDER_WORDS * WORD, POINT_WORDS * WORD
 AT_ONCE = 2**16  # points
 MOST_POINTS = 2**24
 MOST_STACKS = 2**20
+MOST_HOLDERS = 2**20  # rows of the table of locked mutexes
+HOLDER_BEGUN = 1  # in place of an address, in a row that is being written
 # As many points may be under way on other processors while one is written.
 UNDER_WAY = 64
 LOW = 2**32 - 1
@@ -39,9 +43,9 @@ class Header:
     """The first words of a log."""
 
     def __init__(self, text: bytes) -> None:
-        if len(text) < 12 * WORD:
+        if len(text) < 15 * WORD:
             raise NoLog("it is too short for a log")
-        words = struct.unpack_from("<12Q", text)
+        words = struct.unpack_from("<15Q", text)
         if words[0] != MAGIC:
             raise NoLog("it isn't a log of netrev-go's")
         self.passed, self.points, self.stacks = words[1:4]
@@ -49,7 +53,10 @@ class Header:
         self.program = f"{words[7]}.{words[8]}"
         self.ended, self.stacks_lost = words[9:11]
         self.has_orders = words[11] == 1
-        if not 0 < self.points <= MOST_POINTS or self.stacks > MOST_STACKS or self.begin >= 2**63:
+        self.holders = words[12]
+        self.knows_holders = words[14] == 1 and not words[13]
+        are_possible = 0 < self.points <= MOST_POINTS and self.stacks <= MOST_STACKS and self.holders <= MOST_HOLDERS
+        if not are_possible or self.begin >= 2**63:
             raise NoLog("its header can't be a log's")
         if self.ended:
             self.passed = min(self.passed, self.ended - 1)
@@ -66,6 +73,28 @@ def read_stacks(file: BinaryIO, count: int) -> dict[int, Stack]:
         if filled and calls <= STACK_WORDS - 4:
             stacks[slot + 1] = Stack(made, started, struct.unpack_from(f"<{calls}Q", text, 4 * WORD))
     return stacks
+
+
+def read_holders(file: BinaryIO, count: int, stacks: dict[int, Stack]) -> list[Holder]:
+    """The table of locked mutexes, of so many rows. Their stacks are added to those of points, with numbers of their own."""
+    found: dict[tuple[int, int], Holder] = {}
+    for row in range(count):
+        text = file.read(HOLDER_BYTES)
+        if len(text) < HOLDER_BYTES:
+            break
+        address, whose, passed, calls = struct.unpack_from("<4Q", text)
+        if address in (0, HOLDER_BEGUN) or calls > HOLDER_WORDS - HOLDER_CALL:
+            continue
+        number = MOST_STACKS + 1 + row if calls else 0
+        if calls:
+            stacks[number] = Stack(0, 0, struct.unpack_from(f"<{calls}Q", text, HOLDER_CALL * WORD))
+        holder = Holder(address, whose >> 1, whose & 1 == 1, passed, number)
+        key = address, row if holder.is_reader else -1
+        if (
+            key not in found or found[key].passed < passed
+        ):  # (the memory of a mutex that was left locked may be another's)
+            found[key] = holder
+    return list(found.values())
 
 
 def whole_points(file: BinaryIO, header: Header) -> tuple[list[Point], int]:
@@ -164,11 +193,13 @@ def log_of(file: BinaryIO) -> Log:
     """The log that an open file is."""
     header = Header(file.read(HEADER_BYTES))
     stacks = read_stacks(file, header.stacks)
+    holders = read_holders(file, header.holders, stacks)
     read, held = whole_points(file, header)
     points = behind_the_last_gap(read)
     kept = min(header.passed, header.points)
     log = Log(points, stacks, header.begin, header.process, header.text, header.program)
     log.has_orders = header.has_orders
+    log.holders = holders if header.knows_holders else None
     log.from_the_start = header.passed <= header.points and len(points) == len(read)
     if header.ended:
         log.notes.append("there was no room for more of the log: it ends before the program did")

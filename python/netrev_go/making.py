@@ -98,7 +98,7 @@ def make(
     if found.cut:
         notes.append(f"reads and writes count at most {FEW_BYTES} bytes each: --all-bytes counts all")
     orders = orders_of(log.of_kinds(ORDERING), converter.made) if log.has_orders else None
-    everybody = goroutines_of(log.of_kinds(CONCERNED), converter.made, log.begin)
+    everybody = goroutines_of(log.of_kinds(CONCERNED), converter.made, log.begin, log.holders)
     converter.beside.waits = waits_of(everybody, converter.goroutines)
     converter.beside.pair_unix()
     converter.beside.sizes = [

@@ -56,6 +56,8 @@ class Kind(IntEnum):
     TIMER = 129
     GROUP = 130
     STOPPED = 131
+    MAKES = 132
+    DIAL_FAILED = 133
 
 
 # Sets of plain numbers, as points have them: an enumeration's members are compared much more slowly.
@@ -63,10 +65,8 @@ KINDS = frozenset(map(int, Kind))
 # Points at which the program itself puts goroutines in order, and which are at no socket.
 ORDERING = frozenset(range(Kind.READY, Kind.FOUND_CLOSED + 1))
 # Points at which a goroutine begins to wait outside of the poller, goes on, gets a value that it waits for, makes or stops a timer, adds to
-# a WaitGroup, and ends.
-WAITING = frozenset(
-    map(int, (Kind.PARKS, Kind.GOES_ON, Kind.CASES, Kind.HANDED, Kind.ENDS, Kind.TIMER, Kind.GROUP, Kind.STOPPED))
-)
+# a WaitGroup, makes a channel, fails to connect a socket, and ends.
+WAITING = frozenset(range(Kind.PARKS, Kind.DIAL_FAILED + 1))
 AT_A_SOCKET = KINDS - ORDERING - WAITING
 LOCKING = frozenset(map(int, (Kind.INCREF, Kind.INCREF_CLOSE, Kind.DECREF, Kind.RW_LOCK, Kind.RW_UNLOCK)))
 # Points at a lock word's address. All others but INIT are at a descriptor's.
@@ -102,9 +102,20 @@ class Stack(NamedTuple):
     calls: tuple[int, ...]
 
 
+class Holder(NamedTuple):
+    """A mutex that was locked as the log ended: its address, which goroutine had locked it, whether for reading, how many points had been passed
+    then, and the stack from which it was locked (0: none is known)."""
+
+    address: int
+    goroutine: int
+    is_reader: bool
+    passed: int
+    stack: int
+
+
 @dataclass
 class Log:
-    """A log as it was read."""
+    """A log as it was read. `holders` is None if the log doesn't say which mutexes are locked."""
 
     points: list[Point]
     stacks: dict[int, Stack] = field(default_factory=dict)
@@ -115,6 +126,7 @@ class Log:
     from_the_start: bool = True  # no point is missing before the first
     has_orders: bool = False  # of the program
     notes: list[str] = field(default_factory=list)
+    holders: list[Holder] | None = None
 
     @cached_property
     def kinds(self) -> bytes:

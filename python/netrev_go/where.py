@@ -9,7 +9,7 @@ from collections.abc import Iterable, Sequence
 from netrev_words.files import written_whole
 
 from .beside import Beside
-from .goroutine_lines import Everybody
+from .goroutine_lines import HELD, Everybody
 from .lines import OF_A_LIBRARY, OF_THE_PROGRAM, Call, Calls
 from .orders import parts
 from .times import deltas
@@ -91,6 +91,8 @@ def write_where(
     for first in range(0, len(later), STEPS_A_LINE):
         numbered.add({"times": later[first : first + STEPS_A_LINE]})
     for what, values in everybody.lines(calls, numbered.stack, numbered.made) if everybody else ():
+        if what == HELD and not values:
+            numbered.add({what: []})
         for first in range(0, len(values), STEPS_A_LINE):
             numbered.add({what: values[first : first + STEPS_A_LINE]})
     written_whole(name, "".join(numbered.lines).encode("ascii"))

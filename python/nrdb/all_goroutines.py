@@ -6,7 +6,9 @@ from typing import TYPE_CHECKING, Any, Container, Iterator, NamedTuple, Optional
 if TYPE_CHECKING:
     from .where import Call
 
-OF_GOROUTINES = frozenset(("goroutines", "parks", "objects", "uses", "timers", "left_out"))  # lines of the file
+OF_GOROUTINES = frozenset(
+    ("goroutines", "parks", "objects", "uses", "timers", "left_out", "channels", "failed_dials", "held")
+)  # lines of the file
 STILL = -1  # of a wait, in place of its end
 # What goroutines wait for outside of the poller.
 A_RECEIVER = "a receiver at a channel"  # in place of room, if it has none of its own
@@ -107,6 +109,42 @@ class Timer(NamedTuple):
         return self.due < 0
 
 
+class Making(NamedTuple):
+    """Which goroutine made a channel, from which stack, behind which step, and when."""
+
+    object: int
+    goid: int
+    stack: int
+    step: int
+    time: int
+
+
+class FailedDial(NamedTuple):
+    """A dial of a goroutine that failed: from which stack, behind which step, when, why (the name of the system's error, `timeout`, `cancelled`,
+    or empty), the address (empty: not known), and the channel of its context (0: it has none)."""
+
+    goid: int
+    stack: int
+    step: int
+    time: int
+    why: str
+    address: str
+    context: int
+
+
+class Held(NamedTuple):
+    """A mutex that is locked to the recording's end: which goroutine locked it, READ if for reading, from which stack, and behind which step."""
+
+    object: int
+    goid: int
+    how: str
+    stack: int
+    step: int
+
+
+READ = "read"  # how an RWMutex is held
+
+
 class LeftOut(NamedTuple):
     """How many waits of a reason and a stack there was no room for, by whether they last to the end."""
 
@@ -124,6 +162,9 @@ OF_OBJECT: tuple[type, ...] = (int, str, int)
 OF_USE: tuple[type, ...] = (int, int, str, int, int, int, int, int, int)
 OF_TIMER: tuple[type, ...] = (int,) * 6
 OF_LEFT_OUT: tuple[type, ...] = (str, int, int, int)
+OF_MAKING: tuple[type, ...] = (int,) * 5
+OF_FAILED_DIAL: tuple[type, ...] = (int, int, int, int, str, str, int)
+OF_HELD: tuple[type, ...] = (int, int, str, int, int)
 
 
 class AllGoroutines:
@@ -137,6 +178,9 @@ class AllGoroutines:
         self.uses: dict[int, list[Use]] = {}  # by object
         self.timers: dict[int, list[Timer]] = {}  # by channel
         self.left_out: list[LeftOut] = []
+        self.made: dict[int, Making] = {}  # by channel
+        self.failed_dials: dict[int, list[FailedDial]] = {}  # by goroutine
+        self.held: Optional[dict[int, list[Held]]] = None  # by mutex; None if it isn't known which are locked
         self._goids: dict[int, int] = {}  # by the recording's numbers
 
     def add_goroutines(self, line: dict[str, Any], calls: dict[int, "Call"], stacks: Container[int]) -> None:
@@ -167,6 +211,18 @@ class AllGoroutines:
             objects, goids, of_stacks, *rest = columns(line["timers"], OF_TIMER)
             for timer in map(Timer._make, zip(objects, goids, known(of_stacks), *rest)):
                 self.timers.setdefault(timer.object, []).append(timer)
+        elif "channels" in line:
+            objects, goids, of_stacks, *rest = columns(line["channels"], OF_MAKING)
+            self.made.update(zip(objects, map(Making._make, zip(objects, goids, known(of_stacks), *rest))))
+        elif "failed_dials" in line:
+            goids, of_stacks, *rest = columns(line["failed_dials"], OF_FAILED_DIAL)
+            for failed in map(FailedDial._make, zip(goids, known(of_stacks), *rest)):
+                self.failed_dials.setdefault(failed.goid, []).append(failed)
+        elif "held" in line:
+            self.held = {} if self.held is None else self.held
+            objects, goids, how, of_stacks, steps = columns(line["held"], OF_HELD)
+            for held in map(Held._make, zip(objects, goids, how, known(of_stacks), steps)):
+                self.held.setdefault(held.object, []).append(held)
         else:
             reasons, of_stacks, *rest = columns(line["left_out"], OF_LEFT_OUT)
             self.left_out += map(LeftOut._make, zip(reasons, known(of_stacks), *rest))

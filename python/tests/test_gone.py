@@ -16,7 +16,7 @@ from nrdb.causes.dropped_requests import dropped_request
 from nrdb.causes.ended_goroutines import leaves_of
 from nrdb.causes.first import failures_of, has_to_do_with, in_order
 from nrdb.causes.group_counts import Count, count_of, count_says, ended_says
-from nrdb.causes.handed_over import written_for
+from nrdb.causes.handed_over import puts_of, written_for
 from nrdb.causes.index import index_of
 from nrdb.causes.ledger import Ledger
 from nrdb.causes.needs_of_channels import NeedsOfChannels
@@ -440,11 +440,10 @@ def test_a_request_that_another_goroutine_wrote() -> None:
             Use(99, goid, what, 10_000, 1, step, step, 0, wait.begin)
             for goid, what in ((5, PUT), (lines.goid_of(0), TOOK))
         )
-        assert written_for(index, wait._replace(name=Name(5, True)), wrote.socket) is None
-        lines.uses[99] = [put, took]
-        assert written_for(index, wait._replace(name=Name(5, True)), wrote.socket) == wrote
-        lines.uses[99] = [put]
-        assert written_for(index, wait._replace(name=Name(5, True)), wrote.socket) is None
+        for uses, request in (([], None), ([put, took], wrote), ([put], None)):
+            lines.uses[99] = uses
+            puts_of.cache_clear()
+            assert written_for(index, wait._replace(name=Name(5, True)), wrote.socket) == request
 
 
 @pytest.mark.parametrize("is_used", [False, True])

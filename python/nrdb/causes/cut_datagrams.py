@@ -1,5 +1,6 @@
 """Datagrams that were longer than the buffer into which they were read: the system throws the rest away, and says nothing."""
 
+import re
 from collections import defaultdict
 from functools import lru_cache
 from operator import attrgetter
@@ -8,12 +9,18 @@ from typing import Iterator, NamedTuple
 from netrev_words.plurals import counted
 
 from ..one_call import Call
+from ..where import Stack
 from .asked import asked_of
-from .sizes import size_of
+from .flushes import ways_without_an_answer
 from .index import Cause, Index
+from .sizes import size_of
+from .source_functions import found_in, text_at
 from .unaccepted import is_datagram
 from .unheard import is_same, sent_at
 from .words import told
+
+
+INTO = re.compile(r"\.Read\w*\((\w+)")
 
 
 class CutDatagram(NamedTuple):
@@ -26,8 +33,20 @@ class CutDatagram(NamedTuple):
         """It in sentences."""
         recording, length = index.recording, counted(size_of(index, self.read), "byte")
         wrote = f"{told(recording, self.wrote)} sent a datagram of {counted(size_of(index, self.wrote), 'byte')} in {self.wrote.steps()}"
-        read = f"{told(recording, self.read)} read it into a buffer of {length}, in step {self.read.last}"
+        made = made_at(index, self.read)
+        read = f"{told(recording, self.read)} read it into a buffer of {length}{made}, in step {self.read.last}"
         return [f"{wrote}; {read}: the rest was thrown away."]
+
+
+def made_at(index: Index, read: Call) -> str:
+    """The line at which a function makes the buffer that it reads into: ` (a.go:30)`; empty if that isn't known."""
+    own = index.recording.lines.of(read.first).own()
+    into = INTO.search(text_at(index.recording, own[0])) if own else None
+    if not own or not into:
+        return ""
+    makes = re.compile(rf"\b{re.escape(into[1])}\b *(?::?= *make\(\[\]byte|\[\w+\]byte)")
+    made = [number for number, _ in found_in(index.recording, own[0], makes) if number <= own[0].line]
+    return f" ({own[0].file}:{made[-1]})" if made else ""
 
 
 @lru_cache(maxsize=2)
@@ -86,8 +105,19 @@ def cut_says(index: Index, call: Call, position: int) -> list[str]:
     following = next((one for one in own if one.first > pair.read.last), None)
     says = pair.says(index)
     if following and following.name == "Read" and following.socket == pair.read.socket:
-        says.append(f"That goroutine sent no answer: it read on in step {following.first}.")
+        ways = ways_without_an_answer(
+            index.recording, index.recording.lines.of(pair.read.first), writes_of(index, pair.read)
+        )
+        says.append(
+            f"That goroutine sent no answer: it read on in step {following.first}{f' ({ways})' if ways else ''}."
+        )
     return says
+
+
+def writes_of(index: Index, read: Call) -> set[Stack]:
+    """The stacks from which the goroutine of a Read has written at its socket."""
+    calls = (one for one in index.by_socket[read.socket] if one.goroutine == read.goroutine and one.name == "Write")
+    return {index.recording.lines.of(one.first) for one in calls}
 
 
 def last_cut(index: Index, call: Call) -> list[str]:

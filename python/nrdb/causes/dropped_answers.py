@@ -2,6 +2,7 @@
 answer on, as the clients of many RPC protocols do."""
 
 import re
+from collections import defaultdict
 from typing import Mapping, NamedTuple, Optional
 
 from netrev_words.plurals import counted
@@ -11,7 +12,7 @@ from ..one_call import Call
 from ..recording import Recording
 from ..waits import Name, Waiting, name_of_goid
 from ..where import OF_THE_PROGRAM, Call as LineCall, Stack
-from .handed_over import written_for
+from .handed_over import asked_at, written_for
 from .index import MOVING, Index
 from .lost_entries import entry_says
 from .need import Need
@@ -39,10 +40,11 @@ def is_for_values(wait: Waiting) -> bool:
     return bool(wait.objects) and all(at.use == FOR_VALUE for at in wait.objects)
 
 
-def dropped_answer(index: Index, wait: Waiting, hands: list[Hand]) -> Optional[Need]:
-    """The need of a goroutine that waits for an answer which one of some goroutines read and handed to nobody; None if that isn't known to be
-    so."""
-    for hand in hands:
+def dropped_answer(index: Index, wait: Waiting, hands: Mapping[int, list[Hand]]) -> Optional[Need]:
+    """The need of a goroutine that waits for an answer which one of some goroutines, by their sockets, read and handed to nobody; None if that isn't
+    known to be so."""
+    sockets = asked_at(index, wait) if hands else set()
+    for hand in (hand for socket in sorted(sockets) for hand in hands.get(socket, ())):
         wrote = request_of(index, wait, hand.call.socket)
         read = read_since(index, hand, wrote) if wrote else None
         if wrote and read and not has_put(index.recording, wait, read) and is_answered(index, wrote):
@@ -72,6 +74,14 @@ def hands_of(recording: Recording, wait: Waiting, waiters: Mapping[Name, Waiter]
             if any(call.function == hand.line.function for call in reader.stack.calls):
                 found.setdefault(name, hand_of(reader, hand.line))
     return list(found.values()) or by_source(recording, wait, readers)
+
+
+def by_socket(hands: list[Hand]) -> dict[int, list[Hand]]:
+    """The goroutines by the sockets at which they read."""
+    found: dict[int, list[Hand]] = defaultdict(list)
+    for hand in hands:
+        found[hand.call.socket].append(hand)
+    return found
 
 
 def hand_of(reader: Waiter, line: LineCall) -> Hand:

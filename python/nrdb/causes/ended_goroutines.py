@@ -43,6 +43,7 @@ def passed_by(index: Index, name: Name) -> Iterator[Passed]:
     lines, calls = recording.lines, index.by_goroutine.get(name.number, []) if not name.is_goid else []
     found = [Passed(call.first, time_of(recording, call.first), lines.of(call.first)) for call in calls[-3:]]
     found += [Passed(park.last, park.end, lines.stacks[park.stack]) for park in lines.parks.get(goid, ())[-3:]]
+    found += [Passed(one.step, one.time, lines.stacks[one.stack]) for one in lines.failed_dials.get(goid, ())[-3:]]
     for uses in lines.uses.values():
         found += [Passed(use.last, use.end, lines.stacks[use.stack]) for use in uses if use.goid == goid]
     for passed in found:
@@ -69,7 +70,10 @@ def ended_where(index: Index, name: Name, known: Optional[Stack] = None) -> str:
         f", called at {own[-1].place()} in {short(own[-1].function)}" if own[0].function != own[-1].function else ""
     )
     last = "" if is_known else f", last known at {own[0].place()} in {short(own[0].function)}{called}"
-    return f"{last}{ways_out(index.recording, own[-1])}"
+    failed = next(iter(index.recording.lines.failed_dials.get(goid_of(index.recording, name), ())[-1:]), None)
+    is_refused = failed is not None and index.recording.lines.stacks[failed.stack] == stack
+    why = f", where its Dial failed ({failed.why})" if failed and is_refused and failed.why else ""
+    return f"{last}{why}{ways_out(index.recording, own[-1])}"
 
 
 def loop_words(recording: Recording, stack: Stack) -> str:

@@ -2,16 +2,18 @@
 
 from typing import Iterator, NamedTuple, Optional
 
+from ..all_goroutines import CLOSED, FailedDial
 from ..one_call import CLOSE, OPEN, Call
 from ..recording import Recording
-from .index import Cause, Index
+from ..waits import name_of_goid
+from .index import Cause, Index, index_of
 from .unaccepted import CONNECTS, accepts_at, closed, is_dialed
 from .words import place_in, place_of_step
 
 FAILED = "net.socket"  # closes a socket that it couldn't connect
 
 
-class FailedDial(NamedTuple):
+class UnconnectedSocket(NamedTuple):
     """The Close of a socket that wasn't connected."""
 
     close: Call
@@ -21,7 +23,7 @@ class FailedDial(NamedTuple):
         return f"Dial{place_in(recording.lines.of(self.close.first))} failed (step {self.close.first})"
 
 
-def failed_dial(index: Index, goroutine: int) -> Optional[FailedDial]:
+def failed_dial(index: Index, goroutine: int) -> Optional[UnconnectedSocket]:
     """The last Dial of a goroutine if that failed; None if a later one, of the same line, went well."""
     lines, calls = index.recording.lines, index.by_goroutine.get(goroutine, ())
     failed = [
@@ -34,7 +36,46 @@ def failed_dial(index: Index, goroutine: int) -> Optional[FailedDial]:
         one for one in calls
         if one.name == OPEN and one.first > failed[-1].first and any(CONNECTS in call.function for call in lines.of(one.first).calls)
     ]  # fmt: skip
-    return None if opened else FailedDial(failed[-1])
+    return None if opened else UnconnectedSocket(failed[-1])
+
+
+def refused(recording: Recording, goid: int) -> Optional[FailedDial]:
+    """The last connect of a goroutine that the system refused, or that was given up, if no later one of it went well, as far as steps show."""
+    failed = recording.lines.failed_dials.get(goid, ())
+    number = recording.lines.goroutines[goid].number if goid in recording.lines.goroutines else -1
+    later = (call for call in index_of(recording).by_goroutine.get(number, ()) if call.name == OPEN)
+    if not failed or any(call.first > failed[-1].step for call in later):
+        return None
+    return failed[-1]
+
+
+def refused_words(recording: Recording, failed: FailedDial) -> str:
+    """A connect that failed in words: `Dial at a.go:3 in ask (goid 4, step 9) failed: ECONNREFUSED, 127.0.0.1:80`."""
+    name, stack = name_of_goid(recording.lines, failed.goid), recording.lines.stacks[failed.stack]
+    why = ", ".join(word for word in (failed.why, failed.address) if word)
+    return f"Dial{place_in(stack)} ({name}, step {failed.step}) failed" + (f": {why}" if why else "")
+
+
+def ended_says(recording: Recording, failed: FailedDial) -> list[str]:
+    """Of a dial that was given up because its context had ended: who cancelled that, and where."""
+    lines = recording.lines
+    closes = [use for use in lines.uses.get(failed.context, ()) if use.what == CLOSED and use.begin <= failed.time]
+    stack = lines.stacks[closes[0].stack] if failed.context and closes else None
+    if stack is None or not stack.own():
+        return []
+    name = name_of_goid(lines, closes[0].goid)
+    return [f"Its context had been cancelled{place_in(stack)} ({name}, step {closes[0].last})."]
+
+
+def refused_dials(recording: Recording) -> Iterator[FailedDial]:
+    """The last connects of goroutines that were refused at a line of the program, one for each line and address."""
+    lines, seen = recording.lines, set[tuple[Optional[str], str]]()
+    for goid in sorted(lines.failed_dials):
+        failed = refused(recording, goid)
+        own = lines.stacks[failed.stack].own() if failed else None
+        if failed and own and (own[0].place(), failed.address) not in seen:
+            seen.add((own[0].place(), failed.address))
+            yield failed
 
 
 def failed_dials(index: Index) -> Iterator[Cause]:

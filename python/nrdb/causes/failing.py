@@ -12,6 +12,8 @@ from ..waits import Name, waits_of
 from ..where import Stack
 from .asked import asked_of
 from .cancels import cancel_before, cancel_says, deferred_says, under_way
+from .chains import chain_says
+from .cut_bodies import body_says, is_of_a_body
 from .cut_datagrams import cut_says
 from .datagrams import dropped_datagram
 from .exchanges import MOST_ASKED, is_client
@@ -19,14 +21,16 @@ from .http_requests import cancelled_requests
 from .index import READING, Cause, Index, index_of, went_well
 from .late_answers import is_of_write_timeout
 from .long_lines import long_line_says
+from .need import Need
 from .needs import Needs
+from .responses import server_of
 from .shared_sockets import shared_says
 from .sizes import are_known, moved_at, size_of
-from .words import ENDED, duration, name_of, place_of_step, told, waits_words
+from .words import ENDED, duration, is_of_go, name_of, place_of_step, told, waits_words
 
 PAST = {
     "sleeps": "slept", "waits": "waited", "it is now in": "it was then in", "is itself under way": "was itself under way", "It needs": "It needed",
-    "has no room": "had no room", "isn't being": "wasn't being", "is being": "was being", "it is in no call": "it was in no call",
+    "has no room": "had no room", "isn't being": "wasn't being", "is being": "was being", "it is in no call": "it was in no call", ", is in": ", was in",
     "now it reads on": "then it read on", "has written": "had written", "has closed": "had closed", "haven't all come": "hadn't all come",
 }  # fmt: skip
 OF_A_SERVER = ("net/http.(*conn).readRequest", "net/http.(*conn).serve")
@@ -86,7 +90,8 @@ def of_timeout(index: Index, call: Call, begins: str) -> Cause:
         else:
             need = Needs(index, {}, call.last).of_call(call)
             dropped = cut or dropped_datagram(index, call)
-            says += [*map(in_the_past, [*need.says, *([] if dropped else need.more)]), *dropped]
+            chain = [] if dropped else chain_says(index, call, need, call.last)
+            says += [*map(in_the_past, [*need.says, *([] if dropped else [*need.more, *chain])]), *dropped]
     else:
         says += cut
     if is_of_write_timeout(index, call):
@@ -144,9 +149,18 @@ def of_close(index: Index, call: Call, begins: str, deep: int) -> Cause:
     ]  # fmt: skip
     if others:
         says.append(f"{told(recording, others[0])} was inside too.")
+    says += [] if ended else given_up_says(index, call, by)
     before = Before([], []) if ended else why(index, by, deep)
     looks = [f"goto {call.cause}", f"calls sock {call.socket}"]
     return Cause(call, [*says, *before.says], [call.first, call.cause], looks, 0, before.calls)
+
+
+def given_up_says(index: Index, call: Call, by: Optional[Call]) -> list[str]:
+    """What a call waited for while Go's own code closed its descriptor, as it does to a connection whose context has ended."""
+    if by is None or not call.first < call.cause or not is_of_go(index.recording, by) or by.goroutine == call.goroutine:
+        return []
+    need = Needs(index, {}, call.cause).of_call(call)
+    return list(map(in_the_past, [*need.says, *need.more, *chain_says(index, call, need, call.cause)]))
 
 
 def context_says(index: Index, call: Call, by: Optional[Call]) -> list[str]:
@@ -168,8 +182,9 @@ def context_says(index: Index, call: Call, by: Optional[Call]) -> list[str]:
 
 def served_says(index: Index, call: Call, step: int) -> list[str]:
     """What the goroutine did at a step that served the request of a call's connection; nothing if that isn't known."""
-    served = under_way(index, call, step)
-    return [in_the_past(served)] if served else []
+    server, served = server_of(index, call.socket, step), under_way(index, call, step)
+    chain = chain_says(index, call, Need([served], server), step) if server else []
+    return list(map(in_the_past, [*([served] if served else []), *chain]))
 
 
 def of_the_other_end(index: Index, call: Call, begins: str, deep: int) -> Cause:
@@ -186,7 +201,7 @@ def of_the_other_end(index: Index, call: Call, begins: str, deep: int) -> Cause:
         f"The other end, socket {other}, was {what}{place_of_step(recording, by.first, by.goroutine)}.",
     ]
     looks, before = [f"goto {by.first}", f"calls sock {other}"], why(index, by, deep)
-    says += before.says
+    says += [*(body_says(recording, call) if is_of_a_body(recording, call) else []), *before.says]
     last = index.last_use(other, by.first, ("Read",)) if other is not None else None
     says += (long_line_says(index, last) or part_says(index, call, last)) if last else []
     if (late := late_write(index, call, by)) is not None:

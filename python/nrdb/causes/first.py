@@ -11,10 +11,11 @@ from ..all_goroutines import FOR_VALUE
 from ..one_call import CLOSE, Call, Outcome
 from ..recording import Recording
 from ..waits import Name
+from .cut_bodies import cut_bodies
 from .ended_contexts import causes_of_ended
 from .ended_goroutines import goid_of
 from .ended_requests import requests_that_ended
-from .failed_dials import failed_dials
+from .failed_dials import ended_says, failed_dials, refused_dials, refused_words
 from .failing import cause_of, failed_at, is_late
 from .hang_words import hang_looks, hang_says, tree_lines
 from .gone_readers import ended_behind
@@ -53,6 +54,14 @@ def first_words(recording: Recording, name: str) -> list[str]:
         perhaps = [one for one in perhaps if not any(one.says[0].endswith(line.strip()) for line in lines)]
         looks += [one.looks for one in perhaps]
         lines += [line for one in perhaps for line in paragraph([*one.says, *text_after(recording, one.stopped)])]
+    if not lines:
+        refused = list(refused_dials(recording))[:MOST_FAILED]
+        lines += [
+            line
+            for one in refused
+            for line in paragraph([f"{refused_words(recording, one)}.", *ended_says(recording, one)])
+        ]
+        looks += [[f"goto {one.step}", "info goroutines"] for one in refused]
     if looks:
         words = [file_word(name), *(word for look in looks[0] for word in ("-ex", look))]
         lines.append(f"{NEXT}{command_line('nrdb', *words)}")
@@ -183,7 +192,7 @@ def telling_failures(recording: Recording) -> list[Cause]:
     index, alike = index_of(recording), dict[Hashable, list[Call]]()
     of_line: dict[Hashable, list[Call]] = defaultdict(list)
     stacks = recording.lines.steps
-    for call in [*late_reads(index), *failed_at(index, recording.length)]:
+    for call in [*late_reads(index), *cut_bodies(index), *failed_at(index, recording.length)]:
         if is_telling(recording, call):
             of_line[call.goroutine, call.outcome, stacks[call.first - 1] if recording.lines else call.first].append(
                 call

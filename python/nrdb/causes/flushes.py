@@ -6,12 +6,14 @@ from typing import Iterable, Optional
 
 from ..recording import Recording
 from ..where import OF_THE_PROGRAM, Stack
+from .left_in_buffers import Named, calls_one_of, is_write, names_near
 from .skipped_ways import Test, has, is_text, skipped_ways, that_stay, ways_words
-from .source_functions import Lines, range_of, source_of
+from .source_functions import Lines, indent_of, range_of, source_of
 
 FLUSH = re.compile(r"([\w.]+)\.Flush\(\)")
 CALLED = re.compile(r"[\w.]+\(")
 WRITES = r"\bFprint\w*\(|\.Write\w*\(|\.Encode\(|\bio\.Copy\w*\("
+OTHER_CASES = ("case ", "default:", "} else")
 BUFFERED = re.compile(r"bufio\.NewWriter|bufio\.NewReadWriter|\.Flush\(\)")
 
 
@@ -24,12 +26,44 @@ def ways_round_a_flush(recording: Recording, stack: Stack) -> str:
         return ""
     flushes = [(number, found[1]) for number in within if (found := FLUSH.search(code(lines, number)))]
     flush, writer = next(((number, name) for number, name in flushes if number > own[0].line), (0, ""))
+    if not flushes and (written := unflushed_line(lines, within, own[0].line, names_near(recording, own[0].file))):
+        return (
+            f" ({own[0].file}:{written} writes into it, and nothing flushes that before {own[0].place()} reads again)"
+        )
     if not flush or any("defer" in code(lines, number) for number, _ in flushes):
         return ""
     text = " ".join(code(lines, number).strip() for number in within)
     flush_of = has(rf"(?<![\w.]){re.escape(writer)}\.Flush\(")
     ways = that_stay(skipped_ways(lines, within, writes_to(writer, text), flush_of, has(r"\.Buffered\(\)")))
     return f" ({ways_words(own[0].file, ways)} without {own[0].file}:{flush}, which flushes)" if ways else ""
+
+
+def unflushed_line(lines: Lines, within: range, read: int, named: Named) -> int:
+    """The line of a function after its read that writes into a buffer which nothing flushes before it reads again, though it calls functions that flush
+    on other ways; 0 if there is none."""
+    later = range(read + 1, within.stop)
+    habit = any(calls_one_of(code(lines, number), named.flushes) for number in later)
+    for number in later if habit else ():
+        text = code(lines, number)
+        is_flushed = calls_one_of(text, named.flushes) or flushes_after(lines, within, read, number, named)
+        if is_write(text, named.buffers) and not is_flushed:
+            return number
+    return 0
+
+
+def flushes_after(lines: Lines, within: range, read: int, written: int, named: Named) -> bool:
+    """Whether a line after one, on the way to the next read, calls a function that flushes: not one of another case."""
+    margin, is_other = indent_of(lines[written - 1]), False
+    for number in range(written + 1, within.stop):
+        text = code(lines, number)
+        indent = indent_of(text)
+        if indent < indent_of(lines[read - 1]):
+            return False
+        if indent <= margin:
+            margin, is_other = indent, text.lstrip().startswith(OTHER_CASES)
+        if not is_other and calls_one_of(text, named.flushes):
+            return True
+    return False
 
 
 def ways_without_an_answer(recording: Recording, stack: Stack, writes: Iterable[Stack]) -> str:

@@ -6,7 +6,7 @@ from typing import Callable, Container, NamedTuple, Optional
 
 from ..waits import Name, Waits, name_of_goid, of_names
 from ..where import OF_THE_PROGRAM, Call, Stack
-from .failed_dials import failed_dial
+from .failed_dials import failed_dial, refused, refused_words
 from .group_counts import Count, count_of, count_says, ended_names, ended_says, started_by
 from .index import Index
 from .need import Certainty, Need
@@ -172,5 +172,7 @@ class Groups:
 
     def _failed_dial(self, goid: int) -> str:
         """That a goroutine's Dial failed; empty if none did."""
+        if failed := refused(self._recording, goid):
+            return f"its {refused_words(self._recording, failed)}"
         dial = failed_dial(self._index, self._recording.lines.goroutines[goid].number)
         return f"its {dial.words(self._recording)}" if dial else ""

@@ -1,5 +1,7 @@
 """Requests that a goroutine put into a channel, from which another took them: as one that writes all requests of a connection."""
 
+from collections import defaultdict
+from functools import lru_cache
 from typing import Optional
 
 from ..all_goroutines import PUT, TOOK, Use
@@ -14,15 +16,32 @@ from .ledger import END
 
 def put_before(recording: Recording, wait: Waiting) -> Optional[Use]:
     """The last value that a goroutine put into another channel before it waits, from a function that it is in yet."""
-    goid, at = goid_of(recording, wait.name), {one.object for one in wait.objects}
-    inside, found = functions_of(wait.stack), list[Use]()
-    for number, uses in recording.lines.uses.items():
-        if number not in at:
-            found += [
-                use for use in uses
-                if use.goid == goid and use.what == PUT and use.end <= wait.begin and functions_of(recording.lines.stacks[use.stack]) & inside
-            ]  # fmt: skip
+    at, inside = {one.object for one in wait.objects}, functions_of(wait.stack)
+    found = (
+        use for use in puts_of(recording).get(goid_of(recording, wait.name), ())
+        if use.object not in at and use.end <= wait.begin and functions_of(recording.lines.stacks[use.stack]) & inside
+    )  # fmt: skip
     return max(found, key=END, default=None)
+
+
+@lru_cache(maxsize=2)
+def puts_of(recording: Recording) -> dict[int, list[Use]]:
+    """What each goroutine put into channels, by Go's own numbers."""
+    found: dict[int, list[Use]] = defaultdict(list)
+    for uses in recording.lines.uses.values():
+        for use in uses:
+            if use.what == PUT:
+                found[use.goid].append(use)
+    return found
+
+
+def asked_at(index: Index, wait: Waiting) -> set[int]:
+    """The sockets at which a goroutine wrote, or those that took what it put into a channel before it waits."""
+    lines, put = index.recording.lines, put_before(index.recording, wait)
+    takers = {use.goid for use in lines.uses.get(put.object, ()) if use.what == TOOK} if put else set()
+    known = (lines.goroutines.get(goid) for goid in takers)
+    numbers = {one.number for one in known if one} | (set() if wait.name.is_goid else {wait.name.number})
+    return {call.socket for number in numbers for call in index.by_goroutine.get(number, ()) if call.name == "Write"}
 
 
 def functions_of(stack: Stack) -> set[str]:

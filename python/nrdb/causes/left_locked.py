@@ -52,6 +52,19 @@ def left_locked(recording: Recording, lock: Call) -> list[str]:
     ]
 
 
+def returns_locked(recording: Recording, lock: Call) -> list[str]:
+    """What is said of the function that locked a mutex in a call and left it locked: at which line it returns without an Unlock, or that it has none."""
+    lines, name = source_of(recording, lock.file), LOCK.search(text_at(recording, lock))
+    own = next((one for one in functions_of(lines, lock) if lock.line in one.within), None) if lines else None
+    field = field_of(own, name[1]) if own and name else None
+    leak = leak_of(lines, own, field) if lines and own and field else None
+    if leak is None:
+        return []
+    if leak.returns:
+        return [f"{leak.function} returns at {lock.file}:{leak.returns} without an Unlock."]
+    return [f"{leak.function} never unlocks it."]
+
+
 def functions_of(lines: Lines, near: Call) -> Iterator[Function]:
     """The functions of a file, in which a call is."""
     for number, text in enumerate(lines, 1):

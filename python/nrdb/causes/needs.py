@@ -14,6 +14,7 @@ from .exchanges import lacking, unanswered, unasked
 from .held_back import held_back
 from .index import READING, Index
 from .left_in_buffers import left_in_buffer
+from .left_sockets import left_socket
 from .need import Certainty, Need
 from .new_readers import left_reader, thrown_away
 from .needs_elsewhere import NeedsElsewhere
@@ -64,6 +65,7 @@ class Needs:
             return need._replace(beside=tuple(beside))
         lost = left_reader(index, call, other, self._position) or thrown_away(index, call, other, self._position)
         more = lost or self._of_exchange(call, other) or partial_reads(index, call)
+        more = more or left_socket(index, other, self._position)
         ends = [] if more else end_says(index, call, other, self._position)
         return need._replace(more=more or ends, beside=tuple(lost), is_plain=bool(ends))
 

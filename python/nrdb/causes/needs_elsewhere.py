@@ -10,7 +10,7 @@ from .bodies_left_open import open_bodies
 from .closed_later import closed_later
 from .conditions import one_alone, unsignalled
 from .contextless import contextless_says
-from .dropped_answers import Hand, dropped_answer, hands_of, is_for_values
+from .dropped_answers import Hand, by_socket, dropped_answer, hands_of, is_for_values
 from .dropped_requests import dropped_request
 from .ended_goroutines import ended_where
 from .ended_hands import ended_hand
@@ -18,9 +18,12 @@ from .held_back import held_back
 from .index import READING, Index, back
 from .groups import Groups
 from .ledger import Ledger
+from .made_channels import without_receiver
+from .mutex_holders import MutexHolders
 from .need import Certainty, Need
 from .needs_of_channels import NOBODY, NeedsOfChannels
 from .needs_of_mutexes import NeedsOfMutexes
+from .own_readers import of_own_reader
 from .responses import SERVE, has, server_of, socket_of
 from .rpc_calls import dropped_by_rpc
 from .stopped_timers import of_timers, timers_of_select
@@ -38,10 +41,11 @@ class NeedsElsewhere:
         stacks = list(self._stacks())
         self._groups = Groups(index, waits, stacks, position)
         self._channels = NeedsOfChannels(self._recording, waits, self._ledger, waiters, dict(stacks), self._does)
-        self._hands: dict[Hashable, list[Hand]] = {}  # that hand values on to those that wait at a line
+        self._hands: dict[Hashable, dict[int, list[Hand]]] = {}  # that hand values on to those that wait at a line
         self._later: dict[Hashable, Optional[Need]] = {}  # what ends the selects of a line
         self._conditions: dict[Hashable, list[str]] = {}  # what is said of waits, by their lines and objects
         self._mutexes = NeedsOfMutexes(self._recording, self._ledger, waiters, stacks, self._does)
+        self._holders = MutexHolders(self._recording, waiters, position, self._does)
 
     def _stacks(self) -> Iterator[tuple[Name, Stack]]:
         """The goroutines that wait or sleep, with their stacks."""
@@ -53,7 +57,10 @@ class NeedsElsewhere:
     def of(self, waiter: Waiter, wait: Waiting) -> Need:
         """The need of a waiter."""
         need = self._of(waiter, wait)
+        if need.certainty == Certainty.PERHAPS or not (need.by or need.says):
+            need = of_own_reader(self._index, wait, self._position) or need
         more = [*timers_of_select(self._recording, wait), *self._channels.besides(wait)]
+        more += without_receiver(self._index, wait, self._position)
         beside = dropped_by_rpc(self._recording, wait)
         return need._replace(more=[*need.more, *more], beside=(*need.beside, *beside)) if more or beside else need
 
@@ -65,6 +72,8 @@ class NeedsElsewhere:
             return stopped._replace(is_odd=True)
         if certain := self._of_answer(wait):
             return certain
+        if kind in MUTEXES and wait.objects and self._holders.are_known:
+            return self._holders.need(wait)
         if kind in MUTEXES and (need := self._mutexes.of(waiter, wait)):
             return need
         if kind == A_CONNECTION and (bodies := open_bodies(self._recording, self._ledger, self._waits, self._position)):
@@ -120,7 +129,7 @@ class NeedsElsewhere:
             return None
         own = wait.stack.own()
         if own not in self._hands:
-            self._hands[own] = hands_of(self._recording, wait, self._waiters)
+            self._hands[own] = by_socket(hands_of(self._recording, wait, self._waiters))
         found = dropped_answer(self._index, wait, self._hands[own])
         return found or dropped_request(self._recording, wait, self._waiters) or ended_hand(self._index, wait)
 
@@ -203,7 +212,10 @@ class NeedsElsewhere:
     def _ended_before(self, wait: Waiting, elsewhere: bool = False) -> Optional[Name]:
         """The goroutine that ended the last wait of the same goroutine at the same line, and that itself waits now: at the same channel or
         mutex, or at whichever."""
-        earlier = (one for one in reversed(self._waits.of[wait.name]) if one.last is not None and one.by is not None)
+        earlier = (
+            one for one in reversed(self._waits.of[wait.name])
+            if one.last is not None and one.by is not None and one.last <= wait.first
+        )  # fmt: skip
         same = (
             one.by
             for one in earlier

@@ -2,6 +2,7 @@
 once into a slice of just the length that is wanted. A Read returns what is there."""
 
 import re
+from typing import Optional
 
 from ..one_call import Call
 from ..where import OF_THE_PROGRAM
@@ -29,13 +30,22 @@ def partial_reads(index: Index, call: Call) -> list[str]:
         found = [
             number
             for number in (partial_lines(lines, within) if lines and within else [])
-            if (one.function, number) in passed or WHOLE.search(lines[number - 1] if lines else "")
+            if (one.function, number) in passed or is_of_a_length(lines, within, number)
         ]
         if found:
             places = " and ".join(f"{one.file}:{number}" for number in found[:MOST])
             reads = "read" if found[1:] else "reads"
             return [f"Perhaps a part was taken for the whole: {places} {reads} once, and a Read returns what is there."]
     return []
+
+
+def is_of_a_length(lines: Optional[Lines], within: Optional[range], number: int) -> bool:
+    """Whether a line reads into a slice of a length that the line itself names, or that was computed as the slice was made."""
+    text = lines[number - 1].partition("//")[0] if lines else ""
+    read = READ.search(text)
+    made = re.compile(rf"\b{re.escape(read[1])} :?= make\(\[\]byte, [\w.]*\(") if read else None
+    is_computed = made and any(made.search(lines[at - 1]) for at in within or () if lines)
+    return WHOLE.search(text) is not None or bool(is_computed)
 
 
 def partial_lines(lines: Lines, within: range) -> list[int]:

@@ -10,7 +10,7 @@ from ..waits import Name, Waiting
 from ..where import OF_THE_PROGRAM, Call, Stack
 from .locks import owner
 from .need import Certainty, Need
-from .source_functions import Lines, is_inside, is_same_variable, range_of, source_of, text_at
+from .source_functions import Lines, begin_of_literal, is_inside, is_same_variable, range_of, source_of, text_at
 
 PUTS = re.compile(r"([\w.]+(?:\[[^\]]*\])?) ?<- ?(?=\S)")
 TAKES = re.compile(r"(?:<- ?|\brange )([\w.]+)(?![\w.(])")
@@ -45,7 +45,22 @@ def later_giver(recording: Recording, wait: Waiting, stacks: Iterable[tuple[Name
                 if call.file == own[0].file and is_before and is_inside(source, call, giving.within):
                     how = f"perhaps {{by}} {does} later, at {own[0].file}:{giving.number}"
                     return Need([], goroutine, how, Certainty.PERHAPS)
+                if call.file == own[0].file and is_deferred_in(source, call, giving.number):
+                    how = f"perhaps {{by}} {does} as it ends, at {own[0].file}:{giving.number}"
+                    return Need([], goroutine, how, Certainty.PERHAPS)
     return None
+
+
+def is_deferred_in(lines: Lines, call: Call, number: int) -> bool:
+    """Whether a line is of a function literal that the function of a call has deferred before."""
+    within = range_of(lines, call)
+    return within is not None and number in within and number < call.line and is_deferred(lines, number)
+
+
+def is_deferred(lines: Lines, number: int) -> bool:
+    """Whether a line runs as its function ends."""
+    begin = begin_of_literal(lines, number)
+    return any(lines[at - 1].lstrip().startswith("defer ") for at in (number, begin) if at)
 
 
 def givings_at(recording: Recording, wait: Waiting) -> list[Giving]:

@@ -9,8 +9,8 @@ from ..recording import Recording
 from ..waits import Name, Waiting, name_of_goid
 from ..where import OF_THE_PROGRAM, Call, Stack
 from .need import Certainty, Need
-from .senders import Giving, givings_at
-from .source_functions import Lines, begin_of_literal, range_of, source_of
+from .senders import Giving, givings_at, is_deferred
+from .source_functions import Lines, range_of, source_of
 from .words import short
 
 FUNCTION = re.compile(r"func (?:\([^)]*\) )?(\w+)[(\[]")
@@ -86,12 +86,6 @@ def leaving_line(lines: Lines, call: Call, leavings: list[Giving]) -> int:
         if gives and (number > call.line or is_deferred(lines, number)) and not FUNCTION.match(text):
             return number
     return 0
-
-
-def is_deferred(lines: Lines, number: int) -> bool:
-    """Whether a line runs as its function ends."""
-    begin = begin_of_literal(lines, number)
-    return any(lines[at - 1].lstrip().startswith("defer ") for at in (number, begin) if at)
 
 
 def of_slots(

@@ -3,12 +3,12 @@
 from typing import Iterator, NamedTuple, Optional
 
 from ..one_call import CLOSE, OPEN, Call
-from ..waits import Name
+from ..waits import Name, waits_of
 from .balances import has_ended
 from .ended_goroutines import ended_where, left_by
 from .index import ACCEPTS, Index, back
 from .need import Certainty, Need
-from .words import place_of, told
+from .words import place_of, told, waits_words
 
 CONNECTS = "net.(*netFD).connect"
 DATAGRAMS = ("dialUDP", "listenUDP", "DialUDP", "ListenUDP")
@@ -35,10 +35,13 @@ def unaccepted(index: Index, call: Call, position: int) -> Optional[Need]:
     how = f"{perhaps}{{by}}, which accepts{at}, hasn't accepted its connection"
     certainty = Certainty.KNOWN if listener.is_sure else Certainty.PERHAPS
     name, now = Name(accept.goroutine), index.inside(accept.goroutine, position)
+    wait = waits_of(index.recording).at(name, position)
     where = f"{name}, which accepts{at},"
     does = (
         f"is in {told(index.recording, now)} since step {now.first}"
         if now
+        else f"{waits_words(wait)} since step {wait.first}"
+        if wait
         else f"has ended{left_by(index, accept) or ended_where(index, name)}"
         if has_ended(index.recording, name)
         else "is in no call of a socket"

@@ -53,6 +53,20 @@ def waiters_at(index: Index, position: int) -> dict[Name, Waiter]:
     return found
 
 
+def waiters_during(index: Index, position: int) -> dict[Name, Waiter]:
+    """The goroutines that wait at a position, whether or not they go on later, but for listeners, sleepers, and those of Go's own code alone outside
+    of the poller."""
+    recording, found = index.recording, dict[Name, Waiter]()
+    for wait in waits_of(recording).all_at(position):
+        if is_of_the_program(wait.stack) and not is_of_a_lock(wait.stack) and not wait.is_asleep:
+            found[wait.name] = Waiter(wait.name, wait.first, wait.stack, None, wait)
+    for goroutine in index.by_goroutine:
+        call = index.inside(goroutine, position)
+        if call and call.name in READING + WRITING and not index.is_listening(call):
+            found[Name(goroutine)] = Waiter(Name(goroutine), call.first, recording.lines.of(call.first), call)
+    return found
+
+
 def is_timed(recording: Recording, wait: Waiting) -> bool:
     """Whether a wait ends by itself: at a ticker's channel, or at a timer's that is to go off after all that the recording has."""
     lines = recording.lines

@@ -8,20 +8,22 @@ import "unsafe"
 
 // Kinds of points. Of a channel a is how many values it held just before, and b how many it has room for.
 const (
-	netrevReadyKind    = 117 // a is whom the goroutine made ready, or made where b is 1
-	netrevSentKind     = 118
-	netrevReceivedKind = 119
-	netrevMetKind      = 120 // a is the other goroutine: a value went from one to the other, and neither goes on before; b says which way
-	netrevClosedKind   = 121
-	netrevEndedKind    = 122 // the channel was found closed, with nothing in it
-	netrevParksKind    = 124 // the goroutine begins to wait: a is for what, and where, netrevAt and netrevSelects say
-	netrevGoesOnKind   = 125 // a goroutine that waited goes on
-	netrevCasesKind    = 126 // further cases of the select at which the goroutine is about to wait
-	netrevHandedKind   = 127 // a value for a buffered channel goes to goroutine a, which waits for it
-	netrevEndsKind     = 128 // the goroutine ends
-	netrevTimerKind    = 129 // the goroutine makes a timer that goes off at a, with its channel, if it has one, or sets it anew
-	netrevGroupKind    = 130 // the goroutine adds a to a WaitGroup, whose counter is b then; Done adds -1
-	netrevStoppedKind  = 131 // the goroutine stops a timer that has a channel
+	netrevReadyKind      = 117 // a is whom the goroutine made ready, or made where b is 1
+	netrevSentKind       = 118
+	netrevReceivedKind   = 119
+	netrevMetKind        = 120 // a is the other goroutine: a value went from one to the other, and neither goes on before; b says which way
+	netrevClosedKind     = 121
+	netrevEndedKind      = 122 // the channel was found closed, with nothing in it
+	netrevParksKind      = 124 // the goroutine begins to wait: a is for what, and where, netrevAt and netrevSelects say
+	netrevGoesOnKind     = 125 // a goroutine that waited goes on
+	netrevCasesKind      = 126 // further cases of the select at which the goroutine is about to wait
+	netrevHandedKind     = 127 // a value for a buffered channel goes to goroutine a, which waits for it
+	netrevEndsKind       = 128 // the goroutine ends
+	netrevTimerKind      = 129 // the goroutine makes a timer that goes off at a, with its channel, if it has one, or sets it anew
+	netrevGroupKind      = 130 // the goroutine adds a to a WaitGroup, whose counter is b then; Done adds -1
+	netrevStoppedKind    = 131 // the goroutine stops a timer that has a channel
+	netrevMakesKind      = 132 // the goroutine makes a channel
+	netrevDialFailedKind = 133 // a dial of the goroutine's failed, whose context has this channel: a is the error, b the address, as internal/poll has them
 )
 
 // Which way a value goes at a netrevMetKind.
@@ -204,6 +206,13 @@ func netrevTimerStopped(c *hchan) {
 //go:linkname sync_runtime_netrevGroup sync.runtime_netrevGroup
 func sync_runtime_netrevGroup(group unsafe.Pointer, delta, count int64) {
 	netrevOrder(netrevGroupKind, netrevGoroutine(), group, delta, count, 0)
+}
+
+// A dial of a goroutine's failed; done is the channel of its context.
+//
+//go:linkname net_runtime_netrevUnconnected net.runtime_netrevUnconnected
+func net_runtime_netrevUnconnected(done unsafe.Pointer, why, address int64) {
+	netrevOrder(netrevDialFailedKind, netrevGoroutine(), done, why, address, 0)
 }
 
 // netrevMade is a goroutine that a `go` statement has made, before it runs.

@@ -146,6 +146,8 @@ func netrevSends(fd *FD, to syscall.Sockaddr) {
 
 // netrevAddress is an address and its port: of IPv4 1, the address and the port; of IPv6 2, 40 bits of a number for the address, and the port,
 // or 3 for the address ::1, and 4 for ::. It is 0 for what is neither.
+//
+//go:linkname netrevAddress
 func netrevAddress(name syscall.Sockaddr) int64 {
 	switch end := name.(type) {
 	case *syscall.SockaddrInet4:

@@ -2,7 +2,7 @@
 //
 // With NETREV_LOG=PATH in its environment a program writes the file PATH.PID, which is mapped: whatever way the process ends, the
 // kernel keeps what was written, and it may be read while the process runs. Words are of 64 bits. A header comes first, then
-// the stacks, then a ring of points. Without it nothing is done but a look at netrevOn.
+// the stacks, then the table of mutexes that are locked (holders.go), then a ring of points. Without it nothing is done but a look at netrevOn.
 //
 // The program runs as it would without the log: no descriptor is open while it runs, since it may close all that it doesn't know and
 // have their numbers again for files of its own, and nothing is printed.
@@ -23,6 +23,8 @@ const (
 	netrevStacks      = 1 << 14
 	netrevStackWords  = 32
 	netrevFrames      = netrevStackWords - 4
+	netrevStacksBytes = netrevStacks * netrevStackWords * 8
+	netrevRingBegin   = netrevHeaderBytes + netrevStacksBytes + netrevHolders*netrevHolderWords*8
 	netrevPointWords  = 8
 	netrevChunk       = 1 << 14 // points that get their room at once
 	netrevMostPoints  = 1 << 20
@@ -41,7 +43,10 @@ const (
 	netrevHeadProgramTime
 	netrevHeadEnded // the number of the first point that found no room, and 1; else 0
 	netrevHeadStacksLost
-	netrevHeadOrders // 1 where the log has points of the program's orders
+	netrevHeadOrders       // 1 where the log has points of the program's orders
+	netrevHeadHolders      // how many rows the table of locked mutexes has
+	netrevHeadHoldersLost  // how many times a mutex found no row
+	netrevHeadHoldersKnown // 1 where the table is written
 )
 
 // Kinds of points, numbered as the steps of a recording are; above 100 is what is no step. orders.go has the others.
@@ -64,8 +69,8 @@ const (
 	netrevOpenFailed  = 116
 )
 
-// netrevStacked are the other kinds that have a stack, a bit for each from netrevOpenFailed on: 118 to 122, 124, 127 and 129 to 131 of orders.go.
-const netrevStacked = 0x1f<<2 | 1<<8 | 1<<11 | 7<<13
+// netrevStacked are the other kinds that have a stack, a bit for each from netrevOpenFailed on: 118 to 122, 124, 127 and 129 to 133 of orders.go.
+const netrevStacked = 0x1f<<2 | 1<<8 | 1<<11 | 0x1f<<13
 
 // What marks a semaphore of a lock word, in the arguments of the runtime's own functions.
 const (
@@ -255,7 +260,7 @@ func netrevUnrecorded(path string, process, why uint64) {
 
 // netrevMap gives the log its size and its header; fewer points where a file of this process may not be so long.
 func netrevMap(file uintptr, process uint64) (errno uintptr) {
-	const ring, pointBytes = netrevHeaderBytes + netrevStacks*netrevStackWords*8, netrevPointWords * 8
+	const ring, pointBytes = netrevRingBegin, netrevPointWords * 8
 	points := uintptr(netrevMostPoints)
 	if n := netrevNumber(gogetenv("NETREV_POINTS")); n >= netrevChunk {
 		points = uintptr(n)
@@ -282,6 +287,7 @@ func netrevMap(file uintptr, process uint64) (errno uintptr) {
 	*netrevWord(netrevHeadBegin) = uint64(netrevBegin)
 	*netrevWord(netrevHeadProcess) = process
 	*netrevWord(netrevHeadText) = uint64(firstmoduledata.text)
+	*netrevWord(netrevHeadHolders) = netrevHolders
 	atomic.Store64(netrevWord(netrevHeadMagic), netrevMagic)
 	return 0
 }

@@ -70,6 +70,20 @@ func wanted() []fitting {
 	for _, r := range groups {
 		all = append(all, fitting{rule: r, without: ofGroups})
 	}
+	for _, r := range makings {
+		all = append(all, fitting{rule: r, without: ofMaking})
+	}
+	for _, r := range dials {
+		all = append(all, fitting{rule: r, without: ofDials})
+	}
+	for _, file := range mutexFiles {
+		for _, r := range mutexRules(file) {
+			all = append(all, fitting{rule: r, without: ofHolders})
+		}
+	}
+	for _, r := range readers {
+		all = append(all, fitting{rule: r, without: ofHolders})
+	}
 	for _, r := range tests {
 		all = append(all, fitting{rule: r, without: ofTests})
 	}
@@ -93,14 +107,46 @@ func fitAll(folder string) (map[string]*source, []fitting) {
 			fittings[i].fit(sources[file])
 		}
 	}
-	return sources, withoutElse(fittings)
+	return sources, withoutElse(withoutOther(fittings, mutexFiles))
+}
+
+// withoutOther leaves out the rules of the other files if all of one file fit: a release has one of them.
+func withoutOther(fittings []fitting, files []string) []fitting {
+	whole := ""
+	for _, file := range files {
+		fits := true
+		for _, f := range fittings {
+			fits = fits && (f.rule.file != file || f.variant != nil)
+		}
+		if fits && whole == "" {
+			whole = file
+		}
+	}
+	var kept []fitting
+	for _, f := range fittings {
+		if whole == "" || f.rule.file == whole || !contains(files, f.rule.file) {
+			kept = append(kept, f)
+		}
+	}
+	return kept
+}
+
+func contains(files []string, file string) bool {
+	for _, one := range files {
+		if one == file {
+			return true
+		}
+	}
+	return false
 }
 
 // together are what is recorded wholly or not at all.
-var together = map[string]bool{ofOrders: true, ofObjects: true, ofTests: true}
+var together = map[string]bool{ofOrders: true, ofObjects: true, ofDials: true, ofHolders: true, ofTests: true}
 
 // withOrders are what is recorded with the program's orders alone: a log with such points is taken for one that has the orders.
-var withOrders = map[string]bool{ofObjects: true, ofEnds: true, ofSleeps: true, ofTimers: true, ofStops: true, ofGroups: true}
+var withOrders = map[string]bool{
+	ofObjects: true, ofEnds: true, ofSleeps: true, ofTimers: true, ofStops: true, ofGroups: true, ofMaking: true, ofDials: true, ofHolders: true,
+}
 
 // withoutElse takes out what isn't needed: a way's rule that doesn't fit, where another for the same does; the rules of what is
 // recorded wholly or not at all, where one of them doesn't fit; and with the orders those of what is recorded with them.
@@ -110,7 +156,9 @@ func withoutElse(fittings []fitting) []fitting {
 		fits[f.without] = fits[f.without] || f.variant != nil
 		unfit[f.without] = unfit[f.without] || f.variant == nil
 	}
-	fits[""], fits[ofOrders], fits[ofObjects], fits[ofEnds], fits[ofTests] = false, false, false, false, false
+	for _, what := range []string{"", ofOrders, ofObjects, ofEnds, ofDials, ofHolders, ofTests} {
+		fits[what] = false
+	}
 	var kept []fitting
 	for _, f := range fittings {
 		if withOrders[f.without] && unfit[ofOrders] {

@@ -7,6 +7,8 @@ const (
 	ofTimers  = "timers"
 	ofStops   = "that timers are stopped or set anew"
 	ofGroups  = "what is added to WaitGroups"
+	ofMaking  = "where channels are made"
+	ofDials   = "dials that fail"
 )
 
 // What says at which channel, mutex, WaitGroup or condition a goroutine waits: gopark is given its address, or that of its lock. Where
@@ -81,6 +83,22 @@ func reset(channel string) string {
 var groups = []rule{
 	ordered(grouping, "Add",
 		one(before, "int32(state >> 32)", "if netrevOn != 0 { runtime_netrevGroup(unsafe.Pointer(wg), int64(delta), int64(int32(state>>32))) }")),
+}
+
+// Where a channel is made: what was done before at its address was done at an older one.
+var makings = []rule{
+	ordered(channels, "makechan",
+		one(behind, "lockInit(&c.lock, lockRankHchan)", "netrevChannel(netrevMakesKind, c)")),
+}
+
+const connecting, dialing = "net/sock_posix.go", "net/dial.go"
+
+// Dials that fail. A socket of which the system says so at once is never opened in the poller, and one whose context has ended isn't made.
+var dials = []rule{
+	ordered(connecting, "dial",
+		one(replace, "fd.connect(...)", "netrevDialed(ctx, $3)($0)")),
+	ordered(dialing, "dialSerial",
+		one(replace, "mapErr(ctx.Err())", "netrevNotDialed(ctx, $0)")),
 }
 
 // sends returns a timer's channel, if the timer calls a function that sends to it.

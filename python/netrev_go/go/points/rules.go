@@ -46,7 +46,10 @@ const (
 )
 
 // Which file gets which functions of ours.
-var appended = map[string]string{lockWords: "poll.go", polling: "runtime.go", channels: "orders.go", grouping: "groups.go", testing: "tests.go"}
+var appended = map[string]string{
+	lockWords: "poll.go", polling: "runtime.go", channels: "orders.go", queueing: "holders.go", grouping: "groups.go", testing: "tests.go",
+	mutexes: "mutexes.go", mutexesSince124: "mutexes.go", readWriting: "readers.go", connecting: "dials.go",
+}
 
 const swap = "atomic.CompareAndSwapUint64(&mu.state, old, new)"
 const isClosed = "old&mutexClosed != 0"

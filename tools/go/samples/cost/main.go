@@ -114,11 +114,16 @@ func byTurns() func() {
 	return func() { turn(true) }
 }
 
+// made is the last channel that was made.
+var made chan int
+
 func main() {
 	end, other := connected()
 	bytes := make([]byte, 16)
 	buffer := make(chan int, 1)
 	var group sync.WaitGroup
+	var free sync.Mutex
+	var readers sync.RWMutex
 	for _, call := range []func(){
 		func() {
 			end.Write(bytes)
@@ -140,6 +145,15 @@ func main() {
 			group.Wait()
 		},
 		func() { time.NewTimer(time.Hour).Stop() },
+		func() {
+			free.Lock()
+			free.Unlock()
+		},
+		func() {
+			readers.RLock()
+			readers.RUnlock()
+		},
+		func() { made = make(chan int) },
 	} {
 		fmt.Print(best(call), " ")
 	}

@@ -1,0 +1,49 @@
+"""What held up the goroutine for which a failed call waited, at the step at which it failed: the goroutine that one waited for, and so on."""
+
+from ..one_call import Call
+from ..waits import Name
+from .hang_words import capital, waiter_words
+from .index import Index
+from .ledger import GIVES
+from .need import Need
+from .needs import Needs
+from .waiters import Waiter, waiters_during
+from .words import place_in
+
+MOST_LINKS = 4
+
+
+def chain_says(index: Index, call: Call, need: Need, position: int) -> list[str]:
+    """The sentences about the goroutines in turn, from the one that a failed call needed."""
+    waiters = waiters_during(index, position)
+    needs, told = Needs(index, waiters, position), list(need.says)
+    says, seen, by = list[str](), {Name(call.goroutine)}, need.by
+    while by is not None and by in waiters and by not in seen and len(seen) <= MOST_LINKS:
+        seen.add(by)
+        waiter = waiters[by]
+        need = needs.of(waiter) if is_still_so(index, waiter, position) else Need([])
+        found = link_says(index, waiter, need, need.by in seen, told + says)
+        says += [line for line in found if line not in told + says]
+        by = need.by
+    return says
+
+
+def is_still_so(index: Index, waiter: Waiter, position: int) -> bool:
+    """Whether what goroutines did at the channels at which one waits is what they had done up to a step: nobody gave there later what it waits for."""
+    lines, objects = index.recording.lines, waiter.wait.objects if waiter.wait else ()
+    return not any(
+        use.what == GIVES.get(at.use) and use.last > position for at in objects for use in lines.uses.get(at.object, ())
+    )
+
+
+def link_says(index: Index, waiter: Waiter, need: Need, is_back: bool, told: list[str]) -> list[str]:
+    """The sentences about one goroutine. Of one that waits for the failed call's own goroutine only what is said besides that."""
+    more = [*need.says, *need.more] if not (is_back and waiter.call) else need.more
+    place = place_in(waiter.stack)
+    is_told = bool(place) and any(place in line for line in told)
+    how = need.how.format(by=need.by) if need.how and not is_back else ""
+    if is_told and waiter.call and more:
+        more = [f"Of socket {waiter.call.socket}: {more[0]}", *more[1:]]
+    if is_told:
+        return [*([f"{capital(how)}."] if how else []), *more]
+    return [f"{waiter_words(index.recording, waiter)}{f'; {how}' if how else ''}.", *more]

@@ -1,0 +1,34 @@
+"""Bodies of net/http that end before their Content-Length: a Read of the rest that met the end of the stream."""
+
+import re
+from typing import Iterator
+
+from ..one_call import Call, Outcome
+from ..recording import Recording
+from ..where import OF_THE_PROGRAM
+from .index import Index
+from .package_source import places_with
+
+OF_A_BODY, OF_A_LENGTH = "net/http.(*body).", "io.(*LimitedReader).Read"
+SETS_LENGTH = re.compile(r"[\"']Content-Length[\"']|\bContentLength *=")
+MOST = 2
+
+
+def cut_bodies(index: Index) -> Iterator[Call]:
+    """The Reads that met the end of a stream inside a body whose length was known."""
+    for call in index.book.calls:
+        if call.outcome is Outcome.EOF and call.last and is_of_a_body(index.recording, call):
+            yield call
+
+
+def is_of_a_body(recording: Recording, call: Call) -> bool:
+    functions = [one.function for one in recording.lines.of(call.first).calls]
+    return OF_A_LENGTH in functions and any(one.startswith(OF_A_BODY) for one in functions)
+
+
+def body_says(recording: Recording, call: Call) -> list[str]:
+    """That a body is shorter than its Content-Length, and which lines of the program set one."""
+    file = next((one.file for one in recording.lines.of(call.first).calls if one.of == OF_THE_PROGRAM), "")
+    places = places_with(recording, file, SETS_LENGTH) if file else []
+    sets = f", which {' and '.join(places[:MOST])} set{'' if places[1:] else 's'}" if 0 < len(places) <= MOST else ""
+    return [f"The body ended before its Content-Length{sets}: the server closed the connection."]

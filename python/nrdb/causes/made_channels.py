@@ -1,0 +1,46 @@
+"""Channels without room whose maker has returned: of a goroutine that waits for a receiver there, the function that made the channel for itself, as the recorder
+saw it, and by which lines that returns, by the program's source if that is here."""
+
+import re
+
+from ..all_goroutines import A_RECEIVER
+from ..waits import Name, Waiting, name_of_goid, waits_of
+from ..where import OF_THE_PROGRAM, Call
+from .balances import has_ended
+from .index import Index
+from .left_sockets import is_in, stack_at
+from .source_functions import found_in
+from .words import short
+
+RETURNS = re.compile(r"^\s*return\b")
+MOST = 2
+
+
+def without_receiver(index: Index, wait: Waiting, position: int) -> list[str]:
+    """What is said of a goroutine that waits for a receiver; nothing if the function that made the channel is under way, or isn't known."""
+    lines = index.recording.lines
+    made = lines.made.get(wait.objects[0].object) if len(wait.objects) == 1 else None
+    own = lines.stacks[made.stack].own() if made else None
+    if made is None or own is None or own[0].of != OF_THE_PROGRAM or wait.reason != A_RECEIVER:
+        return []
+    if not has_returned(index, name_of_goid(lines, made.goid), own[0], position):
+        return []
+    return [
+        f"{own[0].place()} in {short(own[0].function)} made that channel, without room for a value, and has returned{returns_says(index, own[0])}."
+    ]
+
+
+def has_returned(index: Index, maker: Name, line: Call, position: int) -> bool:
+    """Whether a goroutine has left the function of a line: it has ended, or is elsewhere."""
+    if has_ended(index.recording, maker):
+        return True
+    wait = waits_of(index.recording).at(maker, position)
+    now = wait.stack if wait else None if maker.is_goid else stack_at(index, maker.number, position)
+    return now is not None and bool(now.calls) and not is_in(now, line)
+
+
+def returns_says(index: Index, line: Call) -> str:
+    """The lines by which a function returns, if they are few."""
+    found = [number for number, _ in found_in(index.recording, line, RETURNS) if number > line.line]
+    places = " or ".join(f"{line.file}:{number}" for number in found)
+    return f", by {places}" if 0 < len(found) <= MOST else ""

@@ -1,0 +1,137 @@
+"""Which goroutine holds a mutex for which another waits, by the recorder's table of the mutexes that were locked to the end."""
+
+from typing import Callable, Iterator, Mapping, NamedTuple, Optional
+
+from ..all_goroutines import A_READ_LOCK, READ, Held
+from ..recording import Recording
+from ..waits import Name, Waiting, name_of_goid
+from ..where import OF_THE_PROGRAM, Call, Stack
+from .left_locked import returns_locked
+from .locks import LOCK, UNLOCK
+from .need import Certainty, Need
+from .source_functions import found_in, text_at
+from .waiters import Waiter
+from .words import place_in, short
+
+MUTEX_OF_GO = "sync.(*Mutex)."
+A_MOMENT = 50_000_000  # nanoseconds, within which a goroutine that was given a mutex may not have run yet
+
+
+class Holder(NamedTuple):
+    """A goroutine that holds a mutex, where it locked that, and behind which step."""
+
+    name: Name
+    stack: Stack
+    step: int
+    is_reader: bool
+
+    @property
+    def call(self) -> Optional[Call]:
+        """The call of the program that locked it."""
+        found = self.stack.own()
+        return found[0] if found and found[0].of == OF_THE_PROGRAM else None
+
+    @property
+    def locked(self) -> str:
+        """Where it was locked: `, locked at a.go:12`, with the caller of a function that only locks it."""
+        call = self.call
+        return f", locked at {call.place()}" if call else ""
+
+    @property
+    def how(self) -> str:
+        return "holds it for reading" if self.is_reader else "holds it"
+
+
+class MutexHolders:
+    """The holders of mutexes at a position."""
+
+    def __init__(
+        self, recording: Recording, waiters: Mapping[Name, Waiter], position: int, does: Callable[[Name], str]
+    ) -> None:
+        self._recording, self._waiters, self._position, self._does = recording, waiters, position, does
+
+    @property
+    def are_known(self) -> bool:
+        """Whether the recording has the holders of mutexes at this position: it has those of its end."""
+        return self._recording.lines.held is not None and self._position == self._recording.length
+
+    def need(self, wait: Waiting) -> Need:
+        """The need of a goroutine that waits for a mutex."""
+        holders = list(self._holders(wait))
+        mine = [one for one in holders if one.name == wait.name]
+        if mine and not self._is_pending(wait, mine[0]):
+            return self._of_itself(wait, mine[0])
+        others = [one for one in holders if one.name != wait.name]
+        return self._of_holder(wait, others[0], others[1:]) if others else self._of_nobody(wait)
+
+    def _holders(self, wait: Waiting) -> Iterator[Holder]:
+        """The goroutines for which one waits: the writer, or the readers for which a writer waits that has the mutex already; and the goroutine itself
+        if it is among them."""
+        held = [one for at in wait.objects for one in (self._recording.lines.held or {}).get(at.object, ())]
+        writers = [self._holder(one) for one in held if one.how != READ]
+        readers = [self._holder(one) for one in held if one.how == READ]
+        is_writer_to_be = any(one.name == wait.name and self._is_pending(wait, one) for one in writers)
+        if is_writer_to_be or not writers:
+            yield from readers
+        else:
+            yield from writers
+            yield from (one for one in readers if one.name == wait.name and wait.kind != A_READ_LOCK)
+
+    def _holder(self, held: Held) -> Holder:
+        lines = self._recording.lines
+        return Holder(name_of_goid(lines, held.goid), lines.stacks[held.stack], held.step, held.how == READ)
+
+    @staticmethod
+    def _is_pending(wait: Waiting, holder: Holder) -> bool:
+        """Whether a goroutine that waits in RWMutex.Lock has its mutex, and waits for readers."""
+        inside = [call.function for call in wait.stack.calls if call.of != OF_THE_PROGRAM]
+        is_in_mutex = any(MUTEX_OF_GO in function for function in inside)
+        return not holder.is_reader and not is_in_mutex and any("sync.(*RWMutex).Lock" in one for one in inside)
+
+    def _of_itself(self, wait: Waiting, holder: Holder) -> Need:
+        """Of a mutex that the goroutine has locked before."""
+        if left := self._left_locked(holder, wait.stack):
+            return left
+        return Need([f"It {holder.how} itself{holder.locked}: Lock waits for its own goroutine."], is_odd=True)
+
+    def _of_holder(self, wait: Waiting, holder: Holder, more: list[Holder]) -> Need:
+        """Of a mutex that another goroutine holds."""
+        call, does = holder.call, self._does(holder.name)
+        if does.startswith("ended"):
+            left = returns_locked(self._recording, call) if call else []
+            says = [f"{locked_words(holder)} and {does}, without unlocking it.", *left]
+            return Need(says, is_odd=True, gone=holder.name)
+        waiter = self._waiters.get(holder.name)
+        if waiter and (need := self._left_locked(holder, waiter.stack)):
+            return need
+        others = f" (so do {len(more)} more readers)" if more and holder.is_reader else ""
+        if holder.name in self._waiters:
+            return Need([], holder.name, f"{{by}} {holder.how}{holder.locked}{others}", Certainty.KNOWN)
+        doing = f", which {does}" if does else ""
+        return Need([f"{str(holder.name).capitalize()} {holder.how}{holder.locked}{others}{doing}."], is_odd=True)
+
+    def _left_locked(self, holder: Holder, now: Stack) -> Optional[Need]:
+        """That the holder has left the function that locked, which unlocks that mutex on other ways, by where it is now."""
+        call = holder.call
+        if call is None or not now.calls or any(one.function == call.function for one in now.calls):
+            return None
+        name = LOCK.search(text_at(self._recording, call))
+        if name is None or name[1] not in [found[1] for _, found in found_in(self._recording, call, UNLOCK)]:
+            return None
+        says = f"{locked_words(holder)}, and returned from {short(call.function)} with it locked."
+        return Need([says, *returns_locked(self._recording, call)], is_odd=True, gone=holder.name)
+
+    def _of_nobody(self, wait: Waiting) -> Need:
+        """Of a mutex that nobody holds: a copy of one that was locked then, if the goroutine has waited for more than a moment."""
+        times = self._recording.lines.times
+        if not times or times[-1] - wait.begin < A_MOMENT:
+            return Need([])
+        return Need(
+            ["No goroutine has locked it. Perhaps it is a copy of a mutex that was locked as it was copied."],
+            is_odd=True,
+        )
+
+
+def locked_words(holder: Holder) -> str:
+    """That a goroutine locked a mutex, and where."""
+    return f"{str(holder.name).capitalize()} locked it{place_in(holder.stack)} (step {holder.step})"

@@ -1,0 +1,35 @@
+"""Goroutines that wait for what they alone would read: each is in the function that reads a connection, as one that serves its requests itself, and
+bytes are unread there."""
+
+from typing import Optional
+
+from netrev_words.plurals import counted
+
+from ..waits import Waiting
+from ..where import OF_THE_PROGRAM
+from .index import Index
+from .need import Need
+from .unread import unread
+from .words import place_in, told
+
+
+def of_own_reader(index: Index, wait: Waiting, position: int) -> Optional[Need]:
+    """The need of a goroutine that waits in a function which reads a connection; None if others read there too, or nothing is unread."""
+    inside = {call.function for call in wait.stack.calls if call.of == OF_THE_PROGRAM}
+    if wait.name.is_goid:
+        return None
+    for found in unread(index, position):
+        reads = [
+            call for call in index.by_socket.get(found.socket, ()) if call.name == "Read" and call.first <= position
+        ]
+        readers = {call.goroutine for call in reads}
+        if readers != {wait.name.number} or found.wrote.goroutine == wait.name.number:
+            continue
+        stack = index.recording.lines.of(reads[-1].first)
+        if any(call.function in inside for call in stack.calls if call.of == OF_THE_PROGRAM):
+            says = (
+                f"Perhaps it waits for itself: {counted(found.bytes, 'byte')} of {told(index.recording, found.wrote)} are unread on socket {found.socket}, "
+                f"and only {wait.name} reads there,{place_in(stack)}."
+            )
+            return Need([says], is_odd=True)
+    return None
