@@ -440,10 +440,10 @@ def test_a_request_that_another_goroutine_wrote() -> None:
             Use(99, goid, what, 10_000, 1, step, step, 0, wait.begin)
             for goid, what in ((5, PUT), (lines.goid_of(0), TOOK))
         )
-        for uses, request in (([], None), ([put, took], wrote), ([put], None)):
+        for uses, is_found in (list[Use](), False), ([put, took], True), ([put], False):
             lines.uses[99] = uses
             puts_of.cache_clear()
-            assert written_for(index, wait._replace(name=Name(5, True)), wrote.socket) == request
+            assert written_for(index, wait._replace(name=Name(5, True)), wrote.socket) == (wrote if is_found else None)
 
 
 @pytest.mark.parametrize("is_used", [False, True])

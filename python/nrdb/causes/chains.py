@@ -21,11 +21,19 @@ def chain_says(index: Index, call: Call, need: Need, position: int) -> list[str]
     while by is not None and by in waiters and by not in seen and len(seen) <= MOST_LINKS:
         seen.add(by)
         waiter = waiters[by]
+        if is_elsewhere(index, call, waiter, need):
+            break
         need = needs.of(waiter) if is_still_so(index, waiter, position) else Need([])
         found = link_says(index, waiter, need, need.by in seen, told + says)
         says += [line for line in found if line not in told + says]
         by = need.by
     return says
+
+
+def is_elsewhere(index: Index, call: Call, waiter: Waiter, need: Need) -> bool:
+    """Whether a goroutine is needed just because it used the other end, and is in a call of another connection."""
+    ends = (call.socket, index.other_end(call.socket))
+    return waiter.call is not None and waiter.call.socket not in ends and need.how.endswith("the other end last")
 
 
 def is_still_so(index: Index, waiter: Waiter, position: int) -> bool:

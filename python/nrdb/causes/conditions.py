@@ -60,7 +60,8 @@ def mistaken_signal(recording: Recording, wait: Waiting) -> list[str]:
     own = wait.stack.own()
     lines = source_of(recording, own[0].file) if own else None
     head = head_of(lines, own[0]) if own and lines else 0
-    entry = ENTRY.search(lines[head - 1]) if lines and head else None
+    looks = [lines[head - 1], *conditions_of(lines, head)] if lines and head else []
+    entry = next((found for text in looks if (found := ENTRY.search(text))), None)
     others = sorted({place for place in places_of_waits(recording, wait) if own and place != own[0].place()})
     if own and others:
         return [
@@ -138,10 +139,16 @@ def fields_of(lines: Lines, call: Call) -> set[str]:
     return set()
 
 
+def conditions_of(lines: Lines, head: int) -> list[str]:
+    """The conditions in the body of a loop that has none of its own."""
+    texts = (lines[number - 1].partition("//")[0].strip() for number in body_of(lines, head))
+    is_endless = lines[head - 1].strip() == "for {"
+    return [text for text in texts if text.startswith("if ")] if is_endless else []
+
+
 def conditions_in(lines: Lines, head: int) -> set[str]:
     """The fields in the conditions of a loop that has none of its own."""
-    texts = (lines[number - 1].partition("//")[0].strip() for number in body_of(lines, head))
-    return {field for text in texts if text.startswith("if ") for field in FIELD.findall(text)}
+    return {field for text in conditions_of(lines, head) for field in FIELD.findall(text)}
 
 
 def functions_of(lines: Lines) -> list[tuple[str, range]]:

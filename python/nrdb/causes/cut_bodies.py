@@ -11,6 +11,7 @@ from .package_source import places_with
 
 OF_A_BODY, OF_A_LENGTH = "net/http.(*body).", "io.(*LimitedReader).Read"
 SETS_LENGTH = re.compile(r"[\"']Content-Length[\"']|\bContentLength *=")
+SERVES = "net/http.(*conn).serve"
 MOST = 2
 
 
@@ -31,4 +32,7 @@ def body_says(recording: Recording, call: Call) -> list[str]:
     file = next((one.file for one in recording.lines.of(call.first).calls if one.of == OF_THE_PROGRAM), "")
     places = places_with(recording, file, SETS_LENGTH) if file else []
     sets = f", which {' and '.join(places[:MOST])} set{'' if places[1:] else 's'}" if 0 < len(places) <= MOST else ""
+    is_of_a_server = any(one.function == SERVES for one in recording.lines.of(call.first).calls)
+    if is_of_a_server:
+        return ["The body of the request ended before its Content-Length: the client closed the connection."]
     return [f"The body ended before its Content-Length{sets}: the server closed the connection."]

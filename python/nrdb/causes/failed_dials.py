@@ -10,6 +10,7 @@ from .index import Cause, Index, index_of
 from .unaccepted import CONNECTS, accepts_at, closed, is_dialed
 from .words import place_in, place_of_step
 
+ONCE = "sync.(*Once).Do"
 FAILED = "net.socket"  # closes a socket that it couldn't connect
 
 
@@ -57,10 +58,12 @@ def refused_words(recording: Recording, failed: FailedDial) -> str:
 
 
 def ended_says(recording: Recording, failed: FailedDial) -> list[str]:
-    """Of a dial that was given up because its context had ended: who cancelled that, and where."""
+    """Of a dial that failed: who had cancelled its context, and where; or that a sync.Once made it, which isn't made again."""
     lines = recording.lines
     closes = [use for use in lines.uses.get(failed.context, ()) if use.what == CLOSED and use.begin <= failed.time]
     stack = lines.stacks[closes[0].stack] if failed.context and closes else None
+    if any(call.function == ONCE for call in lines.stacks[failed.stack].calls):
+        return ["That was in a sync.Once, which calls its function once alone: no later call dials again."]
     if stack is None or not stack.own():
         return []
     name = name_of_goid(lines, closes[0].goid)

@@ -2,16 +2,18 @@
 or a broken connection who closed the other end."""
 
 import re
+from operator import attrgetter
 from typing import NamedTuple, Optional
 
 from netrev_words.plurals import counted
 
+from ..all_goroutines import CLOSED
 from ..one_call import CLOSE, Call, Outcome
 from ..recording import Recording
-from ..waits import Name, waits_of
+from ..waits import Name, name_of_goid, waits_of
 from ..where import Stack
 from .asked import asked_of
-from .cancels import cancel_before, cancel_says, deferred_says, under_way
+from .cancels import OF_A_CONTEXT, Cancel, cancel_before, cancel_says, deferred_says, under_way
 from .chains import chain_says
 from .cut_bodies import body_says, is_of_a_body
 from .cut_datagrams import cut_says
@@ -23,10 +25,12 @@ from .late_answers import is_of_write_timeout
 from .long_lines import long_line_says
 from .need import Need
 from .needs import Needs
-from .responses import server_of
+from .package_source import places_with
+from .responses import has, server_of
 from .shared_sockets import shared_says
 from .sizes import are_known, moved_at, size_of
-from .words import ENDED, duration, is_of_go, name_of, place_of_step, told, waits_words
+from .unused_sockets import unused_since
+from .words import ENDED, duration, is_of_go, name_of, place_in, place_of_step, told, waits_words
 
 PAST = {
     "sleeps": "slept", "waits": "waited", "it is now in": "it was then in", "is itself under way": "was itself under way", "It needs": "It needed",
@@ -37,6 +41,8 @@ OF_A_SERVER = ("net/http.(*conn).readRequest", "net/http.(*conn).serve")
 OF_CONNECTIONS = ("internal/poll.", "net.", "crypto/tls.")
 OF_A_FILE = "os.(*File)."
 CONN_READ = "net.(*conn).Read"
+AFTER_FUNC = "context.(*afterFuncCtx).cancel"
+DUPLICATES = re.compile(r"\.File\(\)|\bsyscall\.Dup")
 DEEP = 3  # causes of causes that are told
 
 
@@ -84,22 +90,38 @@ def of_timeout(index: Index, call: Call, begins: str) -> Cause:
     else:
         says.append(f"Its deadline was set{at}, {duration(time)} ahead{under(well, late, name_of(recording, call))}")
     need, cut = None, [*cut_says(index, call, call.last), *shared_says(index, call)]
+    chain = list[str]()
     if call.cause < call.first and not well and not late and time > 0 and not index.is_listening(call):
         if 0 < call.passed < call.first:
             says.append(f"It had passed before the {name_of(recording, call)} began.{between(index, call)}")
         else:
             need = Needs(index, {}, call.last).of_call(call)
             dropped = cut or dropped_datagram(index, call)
-            chain = [] if dropped else chain_says(index, call, need, call.last)
-            says += [*map(in_the_past, [*need.says, *([] if dropped else [*need.more, *chain])]), *dropped]
+            chain = [] if dropped else list(map(in_the_past, chain_says(index, call, need, call.last)))
+            says += [*map(in_the_past, [*need.says, *([] if dropped else need.more)]), *chain, *dropped]
     else:
-        says += cut
+        says += cut or endless_says(index, call)
     if is_of_write_timeout(index, call):
         says.append("That is the WriteTimeout of its http.Server.")
     elif is_of_a_server(recording.lines.of(call.cause)):
         says.append("That is a ReadTimeout, ReadHeaderTimeout, WriteTimeout or IdleTimeout of its http.Server.")
     looks = [f"goto {call.cause}", f"history {side}d {call.descriptor}"]
-    return Cause(call, says, [call.first, call.cause], looks, need.stopped if need else 0)
+    return Cause(call, says, [call.first, call.cause], looks, need.stopped if need else 0, [], chain)
+
+
+def endless_says(index: Index, call: Call) -> list[str]:
+    """Of a Read whose other end was closed before it ended, and that met no end of the stream: another descriptor has the connection."""
+    other = index.other_end(call.socket)
+    by = index.closing(other, call.last, whole=True) if other is not None and call.name in READING else None
+    if by is None or by.last >= call.last:
+        return []
+    own = index.recording.lines.of(by.first).own()
+    places = places_with(index.recording, own[0].file, DUPLICATES) if own else ()
+    at = f", as {' and '.join(places[:2])} make{'' if places[1:] else 's'} it" if places else ""
+    return [
+        f"Its other end, socket {other}, was closed{place_of_step(index.recording, by.first, by.goroutine)}, and the end of the stream didn't come. "
+        f"Perhaps a second descriptor of it is open{at}: the connection ends as the last one is closed."
+    ]
 
 
 def is_of_a_server(stack: Stack) -> bool:
@@ -141,7 +163,7 @@ def of_close(index: Index, call: Call, begins: str, deep: int) -> Cause:
     what = "Its write side was closed" if call.outcome is Outcome.BROKEN_PIPE else "It was closed"
     when = ", while the call was under way" if call.first < call.cause else ", before the call began"
     says = [f"{begins}.", f"{what}{place_of_step(recording, call.cause, goroutine)}{when}."]
-    ended = context_says(index, call, by)
+    ended = context_says(index, call, by) or after_says(index, call.cause, goroutine)
     says += ended
     others = [
         one for one in index.under_way(call.socket, call.cause)
@@ -153,6 +175,26 @@ def of_close(index: Index, call: Call, begins: str, deep: int) -> Cause:
     before = Before([], []) if ended else why(index, by, deep)
     looks = [f"goto {call.cause}", f"calls sock {call.socket}"]
     return Cause(call, [*says, *before.says], [call.first, call.cause], looks, 0, before.calls)
+
+
+def after_says(index: Index, step: int, goroutine: int) -> list[str]:
+    """Of a step by a goroutine that context.AfterFunc had started: who had cancelled the context, and where."""
+    lines = index.recording.lines
+    known = lines.goroutines.get(lines.goid_of(goroutine))
+    if known is None or known.made is None or not known.made.function.startswith(AFTER_FUNC):
+        return []
+    closes = [
+        use for uses in lines.uses.values() for use in uses
+        if use.what == CLOSED and use.goid == known.maker and use.end <= known.begin and has(lines.stacks[use.stack], OF_A_CONTEXT)
+    ]  # fmt: skip
+    last = max(closes, key=attrgetter("end"), default=None)
+    place = place_in(lines.stacks[last.stack]) if last else ""
+    name = name_of_goid(lines, known.maker)
+    defers = deferred_says(index, Cancel(goroutine, last, [])) if last else []
+    return [
+        f"context.AfterFunc called that as its context ended: {name} had cancelled it{place} (step {known.first}).",
+        *defers,
+    ]
 
 
 def given_up_says(index: Index, call: Call, by: Optional[Call]) -> list[str]:
@@ -208,6 +250,7 @@ def of_the_other_end(index: Index, call: Call, begins: str, deep: int) -> Cause:
         says.append(
             f"{told(recording, late)} came after the other end was closed, in step {late.first}: nobody read it."
         )
+    says += unused_since(index, call, by.first)
     return Cause(call, says, [call.first, by.first], looks, 0, before.calls)
 
 

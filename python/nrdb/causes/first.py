@@ -93,7 +93,8 @@ def topic_lines(graph: WaitGraph, topic: Topic, shown: set[int]) -> list[str]:
     of_hang = hang_lines(graph, topic.hang, shown) if topic.hang else []
     if cause is None or not of_hang:
         return [*(cause.says if cause else []), *left, *source, *of_hang]
-    return [*cause.says, *source, *(left or [topic.because]), *(f"  {line}" for line in of_hang)]
+    says = [line for line in cause.says if line not in cause.beyond]
+    return [*says, *source, *(left or [topic.because]), *(f"  {line}" for line in of_hang)]
 
 
 def in_order(graph: WaitGraph, failed: list[Cause], hangs: list[Hang]) -> list[Union[Cause, Hang]]:

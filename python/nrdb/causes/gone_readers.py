@@ -3,6 +3,7 @@
 from typing import Iterator, NamedTuple, Optional
 
 from ..one_call import CLOSE, Call, Outcome
+from .ended_goroutines import left_by
 from .index import Cause, Index
 from .long_lines import long_line_says
 from .words import came_of, is_of_go, told
@@ -55,3 +56,17 @@ def without_reader(index: Index) -> Iterator[Cause]:
             continue
         looks = [f"goto {one.read.last}", f"calls sock {one.read.socket}"]
         yield Cause(one.read, one.says(index), [one.read.first, one.wrote.first], looks, one.read.last)
+
+
+def ended_reader(index: Index, call: Call, other: int, position: int) -> list[str]:
+    """Of a Read that waits for an answer: that the goroutine has ended which alone had read at the other end, and by which lines it left its loop."""
+    gone = next((one for one in gone_readers(index, position) if one.read.socket == other), None)
+    wrote = index.last_use(call.socket, position, ("Write",))
+    if gone is None or gone.read.outcome is not Outcome.DONE or wrote is None or wrote.goroutine != call.goroutine:
+        return []
+    read = gone.read
+    return [
+        f"Nobody reads at socket {other} any more: goroutine {read.goroutine}, whose last was {told(index.recording, read)}, ended after step "
+        f"{gone.ended}{left_by(index, read)}.",
+        *long_line_says(index, read),
+    ]

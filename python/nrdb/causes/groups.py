@@ -9,13 +9,16 @@ from ..where import OF_THE_PROGRAM, Call, Stack
 from .failed_dials import failed_dial, refused, refused_words
 from .group_counts import Count, count_of, count_says, ended_names, ended_says, started_by
 from .index import Index
+from .made_channels import has_returned
 from .need import Certainty, Need
 from .skipped_done import skipped_done
 from .siblings import lines_words, odd_ones
-from .source_functions import found_in, is_last_line, is_same_variable, text_at
+from .source_functions import found_in, indent_of, is_last_line, is_same_variable, source_of, text_at
 from .waiters import Waiter
+from .words import short
 
 LITERAL = re.compile(r"\.(?:func\d+|gowrap\d+|deferwrap\d+)(?:\..*)?\Z")
+ADD = re.compile(r"([\w.\[\]]+)\.Add\(")
 WAIT, DONE = re.compile(r"([\w.\[\]]+)\.Wait\(\)"), re.compile(r"(defer )?(?:func\(\) \{ )?([\w.\[\]]+)\.Done\(\)")
 MOST_MEMBERS = 50  # that are looked at
 STARTED_BY_GROUP = "sync.(*WaitGroup).Go"
@@ -53,6 +56,8 @@ class Groups:
             at = f"{itself.line.file}:{itself.number}"
             when = self._when(itself) or " after that"
             return Need([f"It waits for itself: it calls Done at {at} only{when}.", count_says(self._recording, count)])
+        if count and (passed := self._passed_by(count, does)):
+            return Need(passed, is_odd=True)
         skipped = skipped_done(self._recording, self._waits, count, self._position) if count else []
         if skipped:
             return Need(skipped)
@@ -70,6 +75,36 @@ class Groups:
                 return Need([f"Perhaps it waits for {member.name}, {self._how(waiter, member)}, and which {words}."])
         says = self._of_ended(waiter)
         return Need(says) if says else None
+
+    def _passed_by(self, count: Count, does: Callable[[Name], str]) -> list[str]:
+        """That a goroutine added in a function which calls Done itself, later and not deferred, and has left that without it."""
+        lines = self._recording.lines
+        if not count.done_by <= {use.goid for use in count.added}:
+            return []
+        for use in count.added:
+            own, name = lines.stacks[use.stack].own(), name_of_goid(lines, use.goid)
+            done = sum(one.often for one in count.done if one.goid == use.goid)
+            if not own or own[0].of != OF_THE_PROGRAM or done >= use.often or use.last > self._position:
+                continue
+            added = ADD.search(text_at(self._recording, own[0]))
+            found = [
+                (number, one) for number, one in found_in(self._recording, own[0], DONE)
+                if added and number > own[0].line and one[2] == added[1] and self._are_level(own[0], number)
+            ]  # fmt: skip
+            if len(found) != 1 or found[0][1][1] or not has_returned(self._index, name, own[0], self._position):
+                continue
+            ended, function = does(name), short(own[0].function)
+            since = f"; it {ended}" if ended else ""
+            return [
+                f"{str(name).capitalize()} added at {own[0].place()} in {function}, and left {function} without the Done at {own[0].file}:{found[0][0]}, "
+                f"which isn't deferred: a panic passes by it{since}."
+            ]
+        return []
+
+    def _are_level(self, call: Call, number: int) -> bool:
+        """Whether two lines of a function are in no deeper block than one another."""
+        lines = source_of(self._recording, call.file)
+        return lines is not None and indent_of(lines[call.line - 1]) == indent_of(lines[number - 1])
 
     def _count(self, waiter: Waiter) -> Optional[Count]:
         """What was added to the WaitGroup, and who called Done, if the recording has that."""

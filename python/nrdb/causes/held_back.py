@@ -93,18 +93,20 @@ def flushed_in_vain(recording: Recording, stack: Stack) -> str:
 def unflushed(recording: Recording, stack: Stack) -> Iterator[tuple[str, bool]]:
     """The lines of a stack's functions that write to a ResponseWriter which none of them flushes, and whether each is sure to have been passed."""
     found: list[tuple[str, bool]] = []
+    innermost = next((call for call in stack.calls if call.of == OF_THE_PROGRAM), None)
     for call in stack.calls:
         lines = source_of(recording, call.file) if call.of == OF_THE_PROGRAM else None
         within = range_of(lines, call) if lines else None
         if lines and within:
             if any(FLUSHES.search(code_at(lines, number)) for number in within):
                 return
-            found += writes_of(lines, call, within)
+            found += writes_of(lines, call, within, call == innermost)
     yield from found
 
 
-def writes_of(lines: Lines, call: LineCall, within: range) -> Iterator[tuple[str, bool]]:
-    """The lines of a function that write to its ResponseWriter, the last one before the line where it is first."""
+def writes_of(lines: Lines, call: LineCall, within: range, is_innermost: bool) -> Iterator[tuple[str, bool]]:
+    """The lines of a function that write to its ResponseWriter, the last one before the line where it is first. That line itself is one if no
+    function of the program is called there, which may give what is to be written."""
     named = next((match[1] for number in within if (match := WRITER.search(code_at(lines, number)))), None)
     if named is None:
         return
@@ -118,7 +120,7 @@ def writes_of(lines: Lines, call: LineCall, within: range) -> Iterator[tuple[str
         is_in_loop = (
             number >= call.line and loop_round(lines, within, number) >= loop_round(lines, within, call.line) > 0
         )
-        if number <= call.line or is_in_loop:
+        if number < call.line or is_in_loop or (number == call.line and is_innermost):
             yield f"{call.file}:{number}", number < call.line and is_passed(lines, number, call.line)
 
 

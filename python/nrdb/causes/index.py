@@ -25,6 +25,7 @@ class Cause(NamedTuple):
     looks: list[str]
     stopped: int = 0  # the step behind which a goroutine that could have woken it did nothing any more
     chain: list[Call] = []  # the failed calls that the sentences give as its causes
+    beyond: list[str] = []  # the sentences about goroutines beyond the one that the call needed
 
 
 def with_more(cause: Cause, more: list[str]) -> Cause:

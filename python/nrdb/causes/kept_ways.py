@@ -125,7 +125,7 @@ def ways_past_close(recording: Recording, stacks: Iterable[Stack]) -> list[str]:
             found = TAKEN.match(text)
             closes = CLOSES.format(name=found[1]) if found else ""
             ways = ways_of(recording, call, text, has(closes), value_of(text, TO_OTHERS)) if found else []
-            if found and (deferred := closed_in_a_loop(recording, call, found[1])):
+            if found and (deferred := closed_in_a_loop(recording, call, f"{found[1]}.Body")):
                 says[deferred] = None
                 break
             if ways:
@@ -137,12 +137,12 @@ def ways_past_close(recording: Recording, stacks: Iterable[Stack]) -> list[str]:
 
 
 def closed_in_a_loop(recording: Recording, call: Call, name: str) -> str:
-    """That a body is closed only as the function returns, though the line of its request is in a loop of that: the Close is deferred. Empty if it
+    """That something is closed only as the function returns, though the line that made it is in a loop of that: its Close is deferred. Empty if it
     isn't so."""
     lines = source_of(recording, call.file)
     within = range_of(lines, call) if lines else None
     head = loop_round(lines, within, call.line) if lines and within else 0
-    defers = re.compile(rf"\bdefer {re.escape(name)}\.Body\.Close\(\)")
+    defers = re.compile(rf"\bdefer {re.escape(name)}\.Close\(\)")
     found = [number for number in body_of(lines, head) if defers.search(lines[number - 1])] if lines and head else []
     function = call.function.rpartition("/")[2].partition(".")[2]
     return (

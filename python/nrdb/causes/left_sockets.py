@@ -9,7 +9,7 @@ from ..waits import Name, waits_of
 from ..where import OF_THE_PROGRAM, Stack
 from ..where import Call as LineCall
 from .index import Index, back
-from .kept_ways import value_of, ways_of
+from .kept_ways import closed_in_a_loop, value_of, ways_of
 from .skipped_ways import has, ways_are, ways_words
 from .source_functions import text_at
 
@@ -26,8 +26,21 @@ def left_socket(index: Index, socket: int, position: int) -> list[str]:
     now = stack_at(index, opened.goroutine, position)
     for call in index.recording.lines.of(opened.first).calls:
         if call.of == OF_THE_PROGRAM:
-            return left_by(index, opened, call) if now and not is_in(now, call) else []
+            return (
+                []
+                if now is None
+                else kept_by(index, opened, call)
+                if is_in(now, call)
+                else left_by(index, opened, call)
+            )
     return []
+
+
+def kept_by(index: Index, opened: Call, line: LineCall) -> list[str]:
+    """That a function which is under way closes a socket only as it returns, and opens one in each round of a loop."""
+    taken = TAKEN.match(text_at(index.recording, line).strip())
+    deferred = closed_in_a_loop(index.recording, line, taken[1]) if taken else ""
+    return [f"Socket {opened.socket}, opened at {line.place()}, is still open. {deferred}"] if deferred else []
 
 
 def left_by(index: Index, opened: Call, line: LineCall) -> list[str]:

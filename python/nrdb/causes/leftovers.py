@@ -8,14 +8,17 @@ from netrev_words.plurals import counted
 
 from ..one_call import CLOSE, Call, Outcome
 from ..recording import Recording
+from ..waits import Name, waits_of
 from ..where import OF_THE_PROGRAM
 from .cut_datagrams import causes_of_cuts
 from .exchanges import is_cut
 from .failing import cause_of
 from .gone_readers import without_reader
 from .index import MOVING, Cause, Index, index_of, went_well
+from .responses import SERVE, has
 from .sizes import are_known, moved_at, size_of
-from .words import came_of, is_of_go, place_of_step, told
+from .unused_sockets import untaken_results
+from .words import came_of, is_of_go, place_of_step, told, waits_words
 
 
 FAREWELL = "crypto/tls.(*Conn).closeNotify"  # which nobody has to read
@@ -36,6 +39,7 @@ def leftovers_of(recording: Recording) -> list[Cause]:
         *without_reader(index),
         *never_read(index),
         *left_open(index),
+        *untaken_results(index),
         *early_ends(index),
         *mixed_writes(index),
     ]
@@ -102,7 +106,19 @@ def left_open(index: Index) -> Iterator[Cause]:
             f"{told(recording, last)} was the last to use it, {last.steps()}.",
             f"Its other end was closed{place_of_step(recording, by.first, by.goroutine)}.",
         ]
+        says += serves_on(recording, last)
         yield Cause(last, says, [last.first, by.first], [f"goto {last.last}", f"calls sock {socket}"], last.first)
+
+
+def serves_on(recording: Recording, last: Call) -> list[str]:
+    """Of a socket of a server of net/http whose client has gone: where the handler waits yet, that was the last to use it."""
+    wait = waits_of(recording).at(Name(last.goroutine), recording.length)
+    if wait is None or not has(wait.stack, SERVE) or not wait.stack.own():
+        return []
+    alone = (
+        ", and for nothing else: the end of the request's context doesn't end that" if len(wait.objects) == 1 else ""
+    )
+    return [f"Goroutine {last.goroutine}, which serves it, {waits_words(wait)} since step {wait.first}{alone}."]
 
 
 def early_ends(index: Index) -> Iterator[Cause]:

@@ -9,9 +9,10 @@ from ..where import OF_THE_PROGRAM, Call
 from .balances import has_ended
 from .index import Index
 from .left_sockets import is_in, stack_at
-from .source_functions import found_in
+from .source_functions import found_in, text_at
 from .words import short
 
+MAKES = re.compile(r"\s*(\w+) := make\(chan\b")
 RETURNS = re.compile(r"^\s*return\b")
 MOST = 2
 
@@ -23,11 +24,21 @@ def without_receiver(index: Index, wait: Waiting, position: int) -> list[str]:
     own = lines.stacks[made.stack].own() if made else None
     if made is None or own is None or own[0].of != OF_THE_PROGRAM or wait.reason != A_RECEIVER:
         return []
-    if not has_returned(index, name_of_goid(lines, made.goid), own[0], position):
+    if not is_local(index, own[0]) or not has_returned(index, name_of_goid(lines, made.goid), own[0], position):
         return []
     return [
         f"{own[0].place()} in {short(own[0].function)} made that channel, without room for a value, and has returned{returns_says(index, own[0])}."
     ]
+
+
+def is_local(index: Index, line: Call) -> bool:
+    """Whether a line makes a channel for a variable that its function neither returns nor stores elsewhere."""
+    made = MAKES.match(text_at(index.recording, line))
+    if made is None:
+        return False
+    name = re.escape(made[1])
+    keeps = re.compile(rf"\breturn\b.*\b{name}\b|[:=] *{name}\b *[,}}]?$|\w: *{name}\b|append\(.*\b{name}\b")
+    return not found_in(index.recording, line, keeps)
 
 
 def has_returned(index: Index, maker: Name, line: Call, position: int) -> bool:

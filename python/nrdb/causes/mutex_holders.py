@@ -2,18 +2,19 @@
 
 from typing import Callable, Iterator, Mapping, NamedTuple, Optional
 
-from ..all_goroutines import A_READ_LOCK, READ, Held
+from ..all_goroutines import READ, Held
 from ..recording import Recording
 from ..waits import Name, Waiting, name_of_goid
 from ..where import OF_THE_PROGRAM, Call, Stack
 from .left_locked import returns_locked
 from .locks import LOCK, UNLOCK
 from .need import Certainty, Need
+from .responses import has
 from .source_functions import found_in, text_at
 from .waiters import Waiter
 from .words import place_in, short
 
-MUTEX_OF_GO = "sync.(*Mutex)."
+MUTEX_OF_GO, READS, WRITES = "sync.(*Mutex).", "sync.(*RWMutex).RLock", "sync.(*RWMutex).Lock"
 A_MOMENT = 50_000_000  # nanoseconds, within which a goroutine that was given a mutex may not have run yet
 
 
@@ -75,7 +76,7 @@ class MutexHolders:
             yield from readers
         else:
             yield from writers
-            yield from (one for one in readers if one.name == wait.name and wait.kind != A_READ_LOCK)
+            yield from (one for one in readers if one.name == wait.name and not has(wait.stack, READS))
 
     def _holder(self, held: Held) -> Holder:
         lines = self._recording.lines
@@ -86,7 +87,7 @@ class MutexHolders:
         """Whether a goroutine that waits in RWMutex.Lock has its mutex, and waits for readers."""
         inside = [call.function for call in wait.stack.calls if call.of != OF_THE_PROGRAM]
         is_in_mutex = any(MUTEX_OF_GO in function for function in inside)
-        return not holder.is_reader and not is_in_mutex and any("sync.(*RWMutex).Lock" in one for one in inside)
+        return not holder.is_reader and not is_in_mutex and any(WRITES in one for one in inside)
 
     def _of_itself(self, wait: Waiting, holder: Holder) -> Need:
         """Of a mutex that the goroutine has locked before."""
@@ -105,7 +106,14 @@ class MutexHolders:
         if waiter and (need := self._left_locked(holder, waiter.stack)):
             return need
         others = f" (so do {len(more)} more readers)" if more and holder.is_reader else ""
-        if holder.name in self._waiters:
+        if (
+            waiter
+            and waiter.wait
+            and self._is_pending(waiter.wait, holder)
+            and set(waiter.wait.objects) & set(wait.objects)
+        ):
+            return Need([], holder.name, "{by} waits to lock it for writing, and goes first", Certainty.KNOWN)
+        if waiter:
             return Need([], holder.name, f"{{by}} {holder.how}{holder.locked}{others}", Certainty.KNOWN)
         doing = f", which {does}" if does else ""
         return Need([f"{str(holder.name).capitalize()} {holder.how}{holder.locked}{others}{doing}."], is_odd=True)

@@ -11,7 +11,9 @@ from .cut_datagrams import cut_says
 from .datagrams import unanswered_datagram
 from .ends_of_reads import end_says
 from .exchanges import lacking, unanswered, unasked
+from .gone_readers import ended_reader
 from .held_back import held_back
+from .idle_listeners import idle_listeners
 from .index import READING, Index
 from .left_in_buffers import left_in_buffer
 from .left_sockets import left_socket
@@ -20,9 +22,10 @@ from .new_readers import left_reader, thrown_away
 from .needs_elsewhere import NeedsElsewhere
 from .partial_reads import partial_reads
 from .shared_sockets import shared_says
-from .unaccepted import unaccepted
+from .unaccepted import is_dialed, unaccepted
 from .unfinished_replies import unfinished_reply
 from .unheard import unheard
+from .unread import unread_answers
 from .waiters import Waiter
 from .words import came_of, place_of_step, told, waits_words
 
@@ -51,6 +54,8 @@ class Needs:
         other = index.other_end(call.socket)
         if other is None:
             need = unheard(index, call, self._position) if is_reading else None
+            if is_dialed(index, call.socket) and (idle := idle_listeners(index, self._position)):
+                return Need(idle, is_odd=True)
             need = need or unaccepted(index, call, self._position)
             of_datagram = cut_says(index, call, self._position) or unanswered_datagram(index, call, self._position)
             return need or Need([], more=[*of_datagram, *shared_says(index, call)])
@@ -60,12 +65,12 @@ class Needs:
             return Need([f"Its other end, socket {other}, was {how}{where}."])
         need = self._of_other_end(call, other, is_reading)
         if not is_reading:
-            return need
+            return need._replace(more=[*need.more, *unread_answers(index, call, other, self._position)])
         if beside := held_back(index, call.socket, self._position):
             return need._replace(beside=tuple(beside))
         lost = left_reader(index, call, other, self._position) or thrown_away(index, call, other, self._position)
         more = lost or self._of_exchange(call, other) or partial_reads(index, call)
-        more = more or left_socket(index, other, self._position)
+        more = more or left_socket(index, other, self._position) or ended_reader(index, call, other, self._position)
         ends = [] if more else end_says(index, call, other, self._position)
         return need._replace(more=more or ends, beside=tuple(lost), is_plain=bool(ends))
 

@@ -2,10 +2,10 @@
 
 from typing import Iterator, NamedTuple, Optional
 
-from ..one_call import Call
+from ..one_call import OPEN, Call
 from .index import Index
 from .need import Need
-from .words import told
+from .words import place_in, told
 
 UNSPECIFIED = ("0.0.0.0:", "[::]:")
 
@@ -41,10 +41,17 @@ def unheard(index: Index, call: Call, position: int) -> Optional[Need]:
         return None
     says = [
         f"{told(index.recording, sent.wrote)} sent a datagram to its address, {own}, in {sent.wrote.steps()}, from socket {sent.wrote.socket}, "
-        f"{sent.source}.",
+        f"{sent.source}{opened_at(index, sent.wrote.socket)}.",
         f"Socket {call.socket} is connected to {peer}: the system drops what comes from any other address.",
     ]
     return Need(says, is_odd=True)
+
+
+def opened_at(index: Index, socket: int) -> str:
+    """Where a socket was opened: `, which was opened at a.go:41 in answer`; empty if that isn't known."""
+    opened = next((one for one in index.by_socket.get(socket, ()) if one.name == OPEN), None)
+    stack = index.recording.lines.of(opened.first) if opened else None
+    return f", which was opened{place_in(stack)}" if stack and stack.own() else ""
 
 
 def is_same(one: str, other: str) -> bool:

@@ -48,3 +48,18 @@ def unread_says(index: Index, names: Iterable[Name], position: int) -> list[str]
                 f"{many} of {told(index.recording, found.wrote)} {'is' if is_one else 'are'} unread: nobody reads on socket {found.socket}."
             ]
     return []
+
+
+def unread_answers(index: Index, call: Call, other: int, position: int) -> list[str]:
+    """Of a Write that waits for room: that its own goroutine hasn't read what was written at the other end."""
+    count = moved_at(index, other, "Write", position) - moved_at(index, call.socket, "Read", position)
+    wrote, calls = index.last_use(other, position, ("Write",)), index.by_socket.get(call.socket, ())
+    readers = {one.goroutine for one in calls if one.name == "Read"}
+    if count <= 0 or wrote is None or readers - {call.goroutine}:
+        return []
+    if not are_known(index) and is_cut(index.recording, index, (call.socket, other)):
+        return []
+    return [
+        f"{counted(count, 'byte')} of {told(index.recording, wrote)} {'is' if count == 1 else 'are'} unread on socket {call.socket}: goroutine "
+        f"{call.goroutine}, which reads there, writes on."
+    ]

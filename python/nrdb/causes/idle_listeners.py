@@ -1,0 +1,52 @@
+"""Listeners that are open and at which nobody has called Accept, while goroutines that one `go` statement made accept at another one together."""
+
+from collections import defaultdict
+
+from ..one_call import OPEN
+from ..waits import Name, of_names
+from ..where import Call as LineCall
+from .index import Index
+from .loop_variables import shared_variables
+from .unaccepted import accepts_at, closed
+
+LISTENS = "net.(*netFD).listen"
+
+
+def idle_listeners(index: Index, position: int) -> list[str]:
+    """What is said of them to a goroutine that waits at a connection which nobody has accepted; nothing if no such goroutines accept together."""
+    listeners = [
+        socket for socket in index.by_socket if is_listener(index, socket) and not closed(index, socket, position)
+    ]
+    idle = [socket for socket in listeners if not accepts_at(index, socket)]
+    for socket in listeners if idle else ():
+        for made, names in makers_at(index, socket).items():
+            if len(names) > 1:
+                sockets = f"socket{'s' if idle[1:] else ''} {', '.join(map(str, idle))}"
+                return [
+                    f"Nobody has called Accept at the listener{'s' if idle[1:] else ''}, {sockets}. {capital(of_names(names))}, started at {made.place()}, "
+                    f"all accept at the same one, socket {socket}.",
+                    *shared_variables(index.recording, made.file),
+                ]
+    return []
+
+
+def capital(words: str) -> str:
+    return words[0].upper() + words[1:]
+
+
+def is_listener(index: Index, socket: int) -> bool:
+    """Whether a socket was opened to listen, as a stream."""
+    opened = index.by_socket[socket][0]
+    calls = index.recording.lines.of(opened.first).calls
+    return opened.name == OPEN and any(call.function.startswith(LISTENS) for call in calls)
+
+
+def makers_at(index: Index, socket: int) -> dict[LineCall, set[Name]]:
+    """The goroutines that have called Accept at a listener, by the `go` statements that made them."""
+    found: dict[LineCall, set[Name]] = defaultdict(set)
+    lines = index.recording.lines
+    for call in accepts_at(index, socket):
+        known = lines.goroutines.get(lines.goid_of(call.goroutine))
+        if known and known.made:
+            found[known.made].add(Name(call.goroutine))
+    return found
