@@ -43,7 +43,7 @@ run: ready
 	@echo
 	@sh examples/play.sh first
 
-# Opens FILE=my.jsonl in nrdb, with the proved netrev, which is built first (docs/use/NRDB.md).
+# Opens FILE=my.jsonl in nrdb, with the proved netrev, which is built first (docs/reference/NRDB.md).
 hunt: ready
 	@./nrdb $(FILE)
 

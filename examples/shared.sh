@@ -1,5 +1,5 @@
 #!/bin/sh
-# Plays the session of docs/use/SERVING.md:  examples/shared.sh
+# Plays the session of docs/guide/sharing.md:  examples/shared.sh
 #
 # Two people share examples/first.jsonl, each by an `nc` of their own, and take turns as examples/shared.script says. It
 # shows each line with its reply, and fails where the replies, and what is printed in the end, aren't those of

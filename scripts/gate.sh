@@ -3,7 +3,7 @@
 #
 # First `rt ci`, whose log is kept in out/gate.log, and what it took, crate by crate, in out/minutes.tsv. What an earlier run on
 # this machine passed, and has not changed since, a kit that keeps it neither proves nor tries again, unless it is told
-# --anew, a word that no other kit knows. Its verdicts are kept in out/verdicts.json, for what docs/believe/TRUSTED.md says of them. Where it passes, each edit that must fail has to have been refused for what it
+# --anew, a word that no other kit knows. Its verdicts are kept in out/verdicts.json, for what docs/proof/TRUSTED.md says of them. Where it passes, each edit that must fail has to have been refused for what it
 # means: not one that can't be tried, or that the prover gave up on, or that is refused only because a proof file names what
 # the edit takes away. Then all tests in Python are run, and the scripts among them (scripts/tests.sh): what python/tests/program plays
 # with the program that was built, scripts/refused.sh, each example and examples/shared.sh, the tests of nrdb, the companion,

@@ -1,7 +1,7 @@
 #!/usr/bin/env python3
 """Writes a man page to standard output:  scripts/man.py [netrev | nrdb | netrev-go] > netrev.1
 
-That of netrev is docs/use/COMMANDS.md: headings become sections, and each row of a table an entry. Those of nrdb and netrev-go have the
+That of netrev is docs/reference/COMMANDS.md: headings become sections, and each row of a table an entry. Those of nrdb and netrev-go have the
 options that these take, and the rows of their pages' tables of statuses. So they go stale with nothing."""
 
 from __future__ import annotations
@@ -13,13 +13,14 @@ import sys
 from collections.abc import Iterator
 
 ROOT = pathlib.Path(__file__).resolve().parents[1]
-COMMANDS = ROOT / "docs/use/COMMANDS.md"
+COMMANDS = ROOT / "docs/reference/COMMANDS.md"
 sys.path.insert(0, str(ROOT / "python"))
 
 from netrev_go import options, usage  # noqa: E402
 from netrev_words.version import VERSION  # noqa: E402
 from nrdb import cli  # noqa: E402
 
+CODE = "    "  # what each line of a block of code begins with
 TITLE = f'.TH NETREV 1 "" "netrev {VERSION}" "User commands"\n'
 HEAD = r""".SH NAME
 netrev \- walk a recorded schedule of a Go program's network poller in both directions
@@ -55,7 +56,7 @@ netrev \- walk a recorded schedule of a Go program's network poller in both dire
 
 TAIL = r""".SH SEE ALSO
 .BR gdb (1),
-and the pages of netrev's docs folder: HUNTING, RECORDING, MACHINE, SERVING, INSTRUMENTING.
+and the pages of netrev's docs folder: the guide, COMMANDS, RECORDING, MACHINE, INSTRUMENTING.
 """
 
 
@@ -87,12 +88,16 @@ def entries(table: list[str]) -> list[str]:
 
 
 def block(lines: list[str]) -> list[str]:
-    """One paragraph, list or table of Markdown, or a heading."""
+    """One paragraph, list, table or block of code of Markdown, or a heading."""
     first = lines[0]
     if first.startswith("# "):
         return []
     if first.startswith("## "):
         return [f".SH {first[3:].upper()}"]
+    if first.startswith("### "):
+        return [f".SS {text(first[4:])}"]
+    if all(line.startswith(CODE) for line in lines):
+        return [".PP", ".nf", *(text(line.removeprefix(CODE)) for line in lines), ".fi"]
     if first.startswith("|"):
         return entries(lines)
     whole = " ".join(line.strip() for line in lines)

@@ -3,24 +3,21 @@
 
 The gate runs all rules. These are of pages and Python, and of what pages say of the source:
 
-    quotes, texts, runs  what docs/believe/THEOREM.md quotes, and the computed sessions, are as in their files
-    beliefs              the reading list of docs/believe/THEOREM.md is what scripts/beliefs.py prints, and no longer than it may be
-    verdict              docs/believe/TRUSTED.md has what the verdict on netrev takes as given, and nothing that it calls may wait
-    raw-calls            calls that get at a stream or a caller are made where docs/believe/TRUSTED.md has them read by eye
-    words                words that docs/GLOSSARY.md gives up are nowhere in pages and Python, as its table says
+    quotes, texts, runs  what docs/proof/THEOREM.md quotes, and the computed sessions, are as in their files
+    beliefs              the reading list of docs/proof/THEOREM.md is what scripts/beliefs.py prints, and no longer than it may be
+    verdict              docs/proof/TRUSTED.md has what the verdict on netrev takes as given, and nothing that it calls may wait
+    raw-calls            calls that get at a stream or a caller are made where docs/proof/TRUSTED.md has them read by eye
     promises, names      the functions, clauses and definitions that pages cite are there
     in-files             a name is in the file that a page says it is in: `Step` in `nr_rev/src/step.rt`
     links, paths         each link, anchor and path leads somewhere
     shared-names         a name that two crates define is in the glossary's list, with each of these crates
-    tables               a file that names most kinds, cells or commands is in a list of docs/change/ARCHITECTURE.md
-    diagram              the crates of docs/change/ARCHITECTURE.md are those of crates.txt
+    tables               a file that names most kinds, cells or commands is in a list of docs/internals/ARCHITECTURE.md
+    diagram              the crates of docs/internals/ARCHITECTURE.md are those of crates.txt
     imports              packages of Python import what the table of CONTRIBUTING.md says, and none that is below them there
     docstrings           no docstring leans on what is before it
-    sentences            no sentence of a page has more than 40 words
 
 And these of the source itself:
 
-    source-words         words that are given up, in the crates, and on docs/believe/THEOREM.md, which quotes them
     modules              the two groups of a specs/Lib.antt are what callers need, and what is inside
     comments             no comment leans on the one before it: "The same."
     lines                no line of specs/ has more than 100 columns
@@ -39,6 +36,7 @@ from pathlib import Path
 
 from page_rules import (
     citations,
+    comments,
     definitions,
     imports,
     links,
@@ -47,9 +45,7 @@ from page_rules import (
     quotes,
     raw_calls,
     reading,
-    sentences,
     verdict,
-    words,
 )
 from page_rules.tree import Finding, Tree
 
@@ -57,19 +53,13 @@ Rule = Callable[[Tree], Iterator[Finding]]
 
 # what the rules of pages are about: without one of them they would find nothing
 NEEDED = (
-    "docs/believe/THEOREM.md",
-    "docs/believe/TRUSTED.md",
-    "docs/GLOSSARY.md",
-    "docs/believe/PROMISES.md",
-    "docs/change/ARCHITECTURE.md",
+    "docs/proof/THEOREM.md",
+    "docs/proof/TRUSTED.md",
+    "docs/internals/GLOSSARY.md",
+    "docs/proof/PROMISES.md",
+    "docs/internals/ARCHITECTURE.md",
     "crates.txt",
 )
-
-
-def given_up(tree: Tree) -> Iterator[Finding]:
-    """Words that are given up, in pages and in Python."""
-    yield from words.in_pages(tree)
-    yield from words.in_python(tree)
 
 
 RULES: dict[str, Rule] = {
@@ -79,7 +69,6 @@ RULES: dict[str, Rule] = {
     "beliefs": reading.reading_list,
     "verdict": verdict.verdict,
     "raw-calls": raw_calls.raw_calls,
-    "words": given_up,
     "promises": citations.promises,
     "names": citations.names,
     "in-files": citations.in_files,
@@ -89,12 +78,10 @@ RULES: dict[str, Rule] = {
     "tables": lists.named_many,
     "diagram": lists.diagram,
     "imports": imports.imports,
-    "docstrings": sentences.leaning_docstrings,
-    "sentences": sentences.long_sentences,
-    "source-words": words.in_source,
+    "docstrings": comments.leaning_docstrings,
     "modules": definitions.groups,
-    "comments": sentences.leaning_comments,
-    "lines": sentences.long_lines,
+    "comments": comments.leaning_comments,
+    "lines": comments.long_lines,
     "forgotten": memory.forgotten,
     "refused": memory.refused,
 }

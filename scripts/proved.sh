@@ -5,4 +5,4 @@
 set -eu
 cd "$(dirname "$0")/.."
 sha256sum < "$1" | cut -d ' ' -f 1
-rt version 2> /dev/null || sed -n 's/^    \(rattle-kit-.*\)$/\1/p' README.md | head -n 1
+rt version 2> /dev/null || sed -n 's/.*`\(rattle-kit-[^`]*\)`.*/\1/p' README.md | head -n 1

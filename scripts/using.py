@@ -1,5 +1,5 @@
 #!/usr/bin/env python3
-"""Tries the programs of docs/use/USING.md:  scripts/using.py [NAME ..]
+"""Tries the programs of docs/reference/LIBRARY.md:  scripts/using.py [NAME ..]
 
 Makes a repository in a folder of its own, of copies of the crates and of the page's programs, and runs each, or those of these
 names, by `rt try` over examples/first.jsonl. Ends with status 1 where one prints something else than the page says. Nothing is
@@ -15,7 +15,7 @@ from pathlib import Path
 from typing import NamedTuple
 
 ROOT = Path(__file__).resolve().parent.parent
-PAGE = ROOT / "docs/use/USING.md"
+PAGE = ROOT / "docs/reference/LIBRARY.md"
 FIRST = ROOT / "examples/first.jsonl"
 PROGRAM = re.compile(r"`(using_(\w+)): ([\w ]+)`\n\n```rust\n(.*?)```\n\nIt prints:\n\n((?:    [^\n]*\n)+)", re.DOTALL)
 SECONDS = 300

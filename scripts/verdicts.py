@@ -2,7 +2,7 @@
 """Keeps the verdicts that a log of `rt ci` has:  scripts/verdicts.py [LOG]
 
 Of each crate of which the log (out/gate.log) has one, with a sum of the files that it is of, in out/verdicts.json. Those of crates that
-were kept, of which a log has none, stay as they are. scripts/pages.py compares docs/believe/TRUSTED.md and crates.txt with them.
+were kept, of which a log has none, stay as they are. scripts/pages.py compares docs/proof/TRUSTED.md and crates.txt with them.
 """
 
 import argparse

@@ -1,1 +1,1 @@
-"""Benchmarks of netrev: programs that report figures, and test nothing (docs/use/BENCHMARKS.md, docs/use/MEASUREMENTS.md)."""
+"""Benchmarks of netrev: programs that report figures, and test nothing (docs/measurements/BENCHMARKS.md, docs/measurements/MEASUREMENTS.md)."""

@@ -84,6 +84,13 @@ def goroutines_of(dice: random.Random, ends: list[int], calls: int) -> list[Any]
         },
         {"uses": [[dice.randrange(3), dice.choice(goids), dice.choice(STRANGE), dice.randrange(5), *numbers(5)]]},
         {"timers": [[dice.randrange(3), dice.choice(goids), dice.randrange(5), *numbers(3)]]},
+        {"channels": [[dice.randrange(3), dice.choice(goids), dice.randrange(5), *numbers(2)]]},
+        {
+            "failed_dials": [
+                [dice.choice(goids), dice.randrange(5), *numbers(2), *dice.choices(STRANGE, k=2), dice.randrange(3)]
+            ]
+        },
+        {"held": [[dice.randrange(3), dice.choice(goids), dice.choice(["", "read"]), dice.randrange(5), *numbers(1)]]},
         {"left_out": [[*words, *numbers(2)]]},
     ]
 

@@ -1,4 +1,4 @@
-"""What other packages call at an FD of internal/poll, and which steps each call makes: the table of docs/use/INSTRUMENTING.md.
+"""What other packages call at an FD of internal/poll, and which steps each call makes: the table of docs/internals/INSTRUMENTING.md.
 
     python3 python netrev_go.calls_of_go            compares it with the calls that the installed Go has
     python3 python netrev_go.calls_of_go --table    prints it"""

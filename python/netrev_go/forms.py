@@ -1,4 +1,4 @@
-"""What came of each test, in the forms that machines read: a line of JSON, GitHub's annotations, JUnit's XML. docs/use/CI.md has them as
+"""What came of each test, in the forms that machines read: a line of JSON, GitHub's annotations, JUnit's XML. docs/reference/OPTIONS.md has them as
 tables."""
 
 from __future__ import annotations

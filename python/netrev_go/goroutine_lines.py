@@ -1,5 +1,5 @@
 """What of all goroutines NAME.where has: which waits, uses of channels and goroutines there is room for, and the lines for them
-(docs/use/RECORDING.md has their form)."""
+(docs/reference/RECORDING.md has their form)."""
 
 from __future__ import annotations
 

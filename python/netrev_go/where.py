@@ -1,4 +1,4 @@
-"""NAME.where, the file of lines beside a recording (docs/use/RECORDING.md has its form)."""
+"""NAME.where, the file of lines beside a recording (docs/reference/RECORDING.md has its form)."""
 
 from __future__ import annotations
 

@@ -1,6 +1,6 @@
 """A model of netrev in Python: the machine with its 31 kinds of step, and the shared debugger.
 
-The machine is written from docs/use/MACHINE.md, docs/use/RECORDING.md and docs/use/COMMANDS.md, and from nothing in crates/. Where it and
+The machine is written from docs/internals/MACHINE.md, docs/reference/RECORDING.md and docs/reference/COMMANDS.md, and from nothing in crates/. Where it and
 the program differ, a page says something else than the program does, and one of them has to change.
 
     machine, lockword, polling, steps   the machine and its steps

@@ -22,7 +22,7 @@ class Before(NamedTuple):
 
 
 def changed_cells(machine: Machine, with_queues: bool = False) -> list[str]:
-    """The cells that the last step changed, in the order of docs/use/COMMANDS.md, and of one name in that of numbers; with queues what
+    """The cells that the last step changed, in the order of docs/reference/COMMANDS.md, and of one name in that of numbers; with queues what
     `dump rq` and `dump wq` show too, last of all."""
     whole: dict[str, Any] = {}
     first: dict[str, dict[int, Any]] = {}  # what was there before the step

@@ -2,7 +2,7 @@
 
 `Recording` knows what stands at each position of a recording: the kinds of its steps by its text, and the replies of
 looks by one pass of `netrev run` over it. The words stand in the tables of netrev_words/vocabulary.py. What the commands do, and which
-line is answered what, is the model's own, as docs/use/COMMANDS.md tells it: `read_line` says what a line asks for, and
+line is answered what, is the model's own, as docs/reference/COMMANDS.md tells it: `read_line` says what a line asks for, and
 `Recording.answer` what it is answered in a state of the session, and the state behind it.
 """
 

@@ -1,4 +1,4 @@
-"""The machine's state, as docs/use/MACHINE.md tells it. A state is never changed: a step makes the next one of it.
+"""The machine's state, as docs/internals/MACHINE.md tells it. A state is never changed: a step makes the next one of it.
 
 A status is a tuple of what `print gor` shows: ("idle",), ("acquiring", 0, "r"), ("owing", 0, 2, 1). What there is one of
 for each side is a pair, reading first.

@@ -1,7 +1,7 @@
 """The 31 kinds of step: each a function of the state and the arguments that gives the next state and
-the answer, or raises Refused with the first reason, in the order of the table of docs/use/MACHINE.md.
+the answer, or raises Refused with the first reason, in the order of the table of docs/internals/MACHINE.md.
 
-Answers are as docs/use/MACHINE.md names them, in small letters; a number, a code, `got` and `put` carry theirs.
+Answers are as docs/internals/MACHINE.md names them, in small letters; a number, a code, `got` and `put` carry theirs.
 """
 
 from typing import Callable

@@ -1,4 +1,4 @@
-"""What `netrev suspects` prints over a recording, read off its definitions in docs/use/COMMANDS.md word by word: each question goes over
+"""What `netrev suspects` prints over a recording, read off its definitions in docs/reference/COMMANDS.md word by word: each question goes over
 the steps anew, with the states before and after each of them. So it is quadratic, and meant for short recordings.
 
     passed deadline  a `fire` by which the deadline of a side passes, with the `setdeadline` that it is due to

@@ -1,4 +1,4 @@
-"""What holds of each state, by the list "What always holds" of docs/use/MACHINE.md. The fuzzer holds the model to it, at each
+"""What holds of each state, by the list "What always holds" of docs/internals/MACHINE.md. The fuzzer holds the model to it, at each
 state that a recording reaches: where one breaks it, the pages contradict each other, or the model is wrong.
 
 `breaches` names what doesn't hold.

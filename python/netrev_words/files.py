@@ -9,7 +9,7 @@ from typing import IO, Any, Iterator
 
 STREAMS = tuple(map(Path, ("/dev", "/dev/fd", "/proc/self/fd")))
 MOST_LINKS = 40  # as the kernel follows
-OF_LINES = b'{"where":'  # a file of lines beside a recording begins so (docs/use/RECORDING.md)
+OF_LINES = b'{"where":'  # a file of lines beside a recording begins so (docs/reference/RECORDING.md)
 
 
 def beside(path: Path) -> Path:

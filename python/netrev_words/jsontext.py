@@ -1,4 +1,4 @@
-"""A line of JSON, read as strictly as docs/use/RECORDING.md says, over Python's `json`. Where Python is laxer:
+"""A line of JSON, read as strictly as docs/reference/RECORDING.md says, over Python's `json`. Where Python is laxer:
 
 - `NaN` and `Infinity` are no JSON, nor is a number too great for a floating-point one, or half of a surrogate pair;
 - arrays and objects nested 128 deep are none either;

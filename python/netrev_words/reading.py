@@ -1,4 +1,4 @@
-"""A text of bytes as a recording, or its first fault, as docs/use/RECORDING.md tells it."""
+"""A text of bytes as a recording, or its first fault, as docs/reference/RECORDING.md tells it."""
 
 import re
 from functools import lru_cache

@@ -1,5 +1,5 @@
 """The words of recordings and commands, each table once: kinds of steps with their arguments, cells, dumps, reasons,
-faults and the header's keys. docs/use/MACHINE.md, docs/use/RECORDING.md and docs/use/COMMANDS.md tell what they mean."""
+faults and the header's keys. docs/internals/MACHINE.md, docs/reference/RECORDING.md and docs/reference/COMMANDS.md tell what they mean."""
 
 from dataclasses import dataclass
 from enum import Enum

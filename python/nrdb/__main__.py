@@ -1,4 +1,4 @@
-"""nrdb as a program: `./nrdb FILE` (docs/use/NRDB.md)."""
+"""nrdb as a program: `./nrdb FILE` (docs/reference/NRDB.md)."""
 
 from netrev_words.leaving import ended_by
 

@@ -1,4 +1,4 @@
-"""All goroutines of a log, as NAME.where has them (docs/use/RECORDING.md has its form): also those that never touch a socket, by Go's own
+"""All goroutines of a log, as NAME.where has them (docs/reference/RECORDING.md has its form): also those that never touch a socket, by Go's own
 names, with each wait outside of the poller and the objects at which they wait."""
 
 from typing import TYPE_CHECKING, Any, Container, Iterator, NamedTuple, Optional, Sequence

@@ -1,4 +1,4 @@
-"""The shapes of netrev's replies, as docs/use/COMMANDS.md has them. Each reply is held against that of its question, so that none
+"""The shapes of netrev's replies, as docs/reference/COMMANDS.md has them. Each reply is held against that of its question, so that none
 is taken for the reply to another; what has no such shape wasn't said by netrev."""
 
 import re

@@ -1,4 +1,4 @@
-"""NAME.where, the lines of a program's source beside a recording of it (docs/use/RECORDING.md has its form). netrev never reads
+"""NAME.where, the lines of a program's source beside a recording of it (docs/reference/RECORDING.md has its form). netrev never reads
 it, and a recording without it is as good."""
 
 import json
@@ -110,7 +110,7 @@ class Lines(AllGoroutines):
     def why_unused(self, path: str) -> str:
         """What is said of a file that can't be used."""
         name = Path(path).with_suffix(".where").name
-        return f"{name} isn't used: {self.fault}; docs/use/RECORDING.md has its form, and the recording is as good without it"
+        return f"{name} isn't used: {self.fault}; docs/reference/RECORDING.md has its form, and the recording is as good without it"
 
     def _begin(self) -> None:
         """No line is known."""

@@ -77,19 +77,11 @@ rt: counting proved
 GLOSSARY = """\
 # Glossary
 
-A word has one meaning: [words given up](#words-given-up).
+Names may be shared: [the list](#names-that-several-crates-have).
 
 ## Names that several crates have
 
 - `total` is in `counting` and in `adding`.
-
-## Words given up
-
-| Given up | Now | Looked for in |
-|---|---|---|
-| want of memory | out of memory | pages, Python, source |
-| told, tells | says | pages, source |
-| row, of reports | report | by eye |
 """
 PROMISES = """\
 # Promises
@@ -171,7 +163,7 @@ one = record {
 CONTRIBUTING = """\
 # Contributing
 
-## What is written in Python
+## Python
 
 | Package | What it is | Imports |
 |---|---|---|
@@ -180,12 +172,12 @@ CONTRIBUTING = """\
 | `nrdb/cli.py`, `nrdb/__main__.py` | how it is called | all above |
 """
 TREE = {
-    "README.md": "# Read me\n\nIt counts ([how](docs/GLOSSARY.md)), in `crates/counting/src/lib.rt`.\n\n    rattle-kit-1 logic d0e1\n",
-    "docs/believe/THEOREM.md": THEOREM,
-    "docs/believe/TRUSTED.md": TRUSTED,
-    "docs/GLOSSARY.md": GLOSSARY,
-    "docs/believe/PROMISES.md": PROMISES,
-    "docs/change/ARCHITECTURE.md": ARCHITECTURE,
+    "README.md": "# Read me\n\nIt counts ([how](docs/internals/GLOSSARY.md)), in `crates/counting/src/lib.rt`.\n\n    rattle-kit-1 logic d0e1\n",
+    "docs/proof/THEOREM.md": THEOREM,
+    "docs/proof/TRUSTED.md": TRUSTED,
+    "docs/internals/GLOSSARY.md": GLOSSARY,
+    "docs/proof/PROMISES.md": PROMISES,
+    "docs/internals/ARCHITECTURE.md": ARCHITECTURE,
     "crates.txt": "adding:\ncounting: adding arrayvec\n",
     "crates/adding/src/lib.rt": "//! Adds.\n",
     "crates/adding/specs/Lib.antt": f"{READING.BELIEVED}\npub mod Sum\n-- inner: what only definitions use\npub mod Inside\n",

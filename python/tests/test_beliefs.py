@@ -12,16 +12,16 @@ class Beliefs(SmallTree):
 
     def test_tables_that_are_old_are_written_anew(self) -> None:
         self.write(
-            "docs/believe/THEOREM.md", THEOREM.replace("`Sum` 5", "`Sum` 4").replace("| counting | 4", "| counting | 5")
+            "docs/proof/THEOREM.md", THEOREM.replace("`Sum` 5", "`Sum` 4").replace("| counting | 4", "| counting | 5")
         )
         self.beliefs("--write")
-        self.assertEqual((self.top / "docs/believe/THEOREM.md").read_text(encoding="utf-8"), THEOREM)
+        self.assertEqual((self.top / "docs/proof/THEOREM.md").read_text(encoding="utf-8"), THEOREM)
 
     def test_a_page_without_tables_is_left_as_it_is(self) -> None:
         bare = THEOREM.partition("| Law")[0]
-        self.write("docs/believe/THEOREM.md", bare)
+        self.write("docs/proof/THEOREM.md", bare)
         self.beliefs("--write")
-        self.assertEqual((self.top / "docs/believe/THEOREM.md").read_text(encoding="utf-8"), bare)
+        self.assertEqual((self.top / "docs/proof/THEOREM.md").read_text(encoding="utf-8"), bare)
 
     def test_beliefs_of_a_definition_are_those_below_it(self) -> None:
         self.assertIn("| `total` | 2 | 4 |  | 1 | 1 | 1 |\n", self.beliefs("adding/Sum:total"))

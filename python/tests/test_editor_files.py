@@ -17,7 +17,7 @@ ROOT = Path(__file__).resolve().parents[2]
 sys.path.append(str(ROOT / "scripts"))
 import vsix  # noqa: E402
 
-PAGE = next((ROOT / "docs").rglob("EDITORS.md"))
+PAGE = next((ROOT / "docs").rglob("editors.md"))
 TOML = re.compile(r"\n((?:    .*\n)*    \[\[language\]\]\n(?:    .*\n)*)")
 
 

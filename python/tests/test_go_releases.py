@@ -94,7 +94,7 @@ class Releases(unittest.TestCase):
 
 class Calls(unittest.TestCase):
     def test_the_page_has_the_table(self) -> None:
-        page = (ROOT / "docs/use/INSTRUMENTING.md").read_text().splitlines()
+        page = (ROOT / "docs/internals/INSTRUMENTING.md").read_text().splitlines()
         rows, begin = table(), page.index(table()[0])
         self.assertEqual(page[begin : begin + len(rows) + 1], [*rows, ""])
 
@@ -105,12 +105,12 @@ class Calls(unittest.TestCase):
 
 
 class Page(unittest.TestCase):
-    """The table of releases on docs/use/MEASUREMENTS.md."""
+    """The table of releases on docs/measurements/MEASUREMENTS.md."""
 
     HEADING = f"| Go | {' | '.join(results.OF_RELEASES)} |"
 
     def setUp(self) -> None:
-        lines = (ROOT / "docs/use/MEASUREMENTS.md").read_text().splitlines()
+        lines = (ROOT / "docs/measurements/MEASUREMENTS.md").read_text().splitlines()
         begin = lines.index(self.HEADING)
         rows = [
             [cell.strip() for cell in line.strip("|").split("|")] for line in lines[begin + 2 : lines.index("", begin)]

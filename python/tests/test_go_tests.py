@@ -325,8 +325,8 @@ def as_github_reads(line: str) -> tuple[dict[str, str], str]:
 
 
 def keys_of_the_page() -> list[str]:
-    """The keys of a line of JSON, as docs/use/CI.md has them."""
-    page = (PYTHON.parent / "docs/use/CI.md").read_text()
+    """The keys of a line of JSON, as docs/reference/OPTIONS.md has them."""
+    page = (PYTHON.parent / "docs/reference/OPTIONS.md").read_text()
     table = page[page.index("| Key | Says |") : page.index("`--github` prints")]
     return [word for row in table.splitlines()[2:] for word in re.findall(r"`(\w+)`", row.split("|")[1] if row else "")]
 
@@ -379,7 +379,7 @@ class Forms(unittest.TestCase):
         self.assertEqual(Told("p", "T", "failed", 3, 1).outcome(), "failed in 1 of 3 runs")
 
     def test_the_page_has_each_key_and_element(self) -> None:
-        page = (PYTHON.parent / "docs/use/CI.md").read_text()
+        page = (PYTHON.parent / "docs/reference/OPTIONS.md").read_text()
         self.assertEqual(sorted(keys_of_the_page()), sorted(asdict(Told("p", "T"))))
         table = page[page.index("| Element | Has |") : page.index("`--html` writes")]
         named = set(re.findall(r"`(\w+)`", table))

@@ -31,7 +31,7 @@ def shown(world: World) -> dict[str, object]:
 
 
 def in_order(cells: set[str]) -> list[str]:
-    """Cells in the order of docs/use/COMMANDS.md, with the queues behind them."""
+    """Cells in the order of docs/reference/COMMANDS.md, with the queues behind them."""
     names = [*CELLS, *SHOWS_QUEUES]
     return sorted(cells, key=lambda cell: (names.index(cell.split()[0]), int(cell.partition(" ")[2] or 0)))
 

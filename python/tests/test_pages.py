@@ -4,18 +4,16 @@ import unittest
 
 from tests.small_tree import LOG, PAGES, TREE, SmallTree
 
-LONG = " ".join(["word"] * 41)
-
 # a mistake: the rule that finds it, the file, what is there, what is put in its place, and what is said of it
 PLANTED: list[tuple[str, str, str, str, str]] = [
     (
         "quotes",
-        "docs/believe/THEOREM.md",
+        "docs/proof/THEOREM.md",
         "result ≡ total",
         "result ≢ total",
         "this is not in crates/counting/src/lib.rt",
     ),
-    ("quotes", "docs/believe/THEOREM.md", "`crates/counting/src/lib.rt`:\n", "", "no line above it"),
+    ("quotes", "docs/proof/THEOREM.md", "`crates/counting/src/lib.rt`:\n", "", "no line above it"),
     ("texts", "examples/one.script", "stepi", "continue", "one_commands has other bytes than examples/one.script"),
     ("runs", "examples/one.jsonl", "0,4]", "0,5]", "one isn't the run of examples/one.jsonl"),
     ("runs", "examples/one.jsonl", '"buf":8', '"buf":9', "one isn't the run"),
@@ -43,25 +41,25 @@ PLANTED: list[tuple[str, str, str, str, str]] = [
         "",
         "Total: the files that the laws rest on, and no",
     ),
-    ("beliefs", "docs/believe/THEOREM.md", "`Sum` 5", "`Sum` 4", "has '| `adding` | `Sum` 4 | 5 |'"),
-    ("beliefs", "docs/believe/THEOREM.md", "| `counting` | `Count` 4 | 4 |\n", "", "has 'no row'"),
+    ("beliefs", "docs/proof/THEOREM.md", "`Sum` 5", "`Sum` 4", "has '| `adding` | `Sum` 4 | 5 |'"),
+    ("beliefs", "docs/proof/THEOREM.md", "| `counting` | `Count` 4 | 4 |\n", "", "has 'no row'"),
     (
         "beliefs",
-        "docs/believe/TRUSTED.md",
+        "docs/proof/TRUSTED.md",
         "4 definitions",
         "5 definitions",
         "no law rests on 5 definitions in 7 lines",
     ),
     (
         "verdict",
-        "docs/believe/TRUSTED.md",
+        "docs/proof/TRUSTED.md",
         "    logic=proved",
         "    logic=refused",
         "the page has 0 lines of a verdict",
     ),
-    ("verdict", "docs/believe/TRUSTED.md", "sum=d0e1", "sum=d0e2", "README.md names d0e1"),
-    ("verdict", "docs/believe/TRUSTED.md", "main=Threads", "main=Threads+Wait", "the verdict has leave to wait"),
-    ("verdict", "docs/believe/TRUSTED.md", "axioms=3", "axioms=3 may-wait=1", "the verdict has leave to wait"),
+    ("verdict", "docs/proof/TRUSTED.md", "sum=d0e1", "sum=d0e2", "README.md names d0e1"),
+    ("verdict", "docs/proof/TRUSTED.md", "main=Threads", "main=Threads+Wait", "the verdict has leave to wait"),
+    ("verdict", "docs/proof/TRUSTED.md", "axioms=3", "axioms=3 may-wait=1", "the verdict has leave to wait"),
     ("verdict", "crates.txt", "adding:\n", "adding may_wait=1:\n", "1 functions of adding that may wait, and not 0"),
     (
         "raw-calls",
@@ -77,23 +75,19 @@ PLANTED: list[tuple[str, str, str, str, str]] = [
         "rt.forever()",
         ".forever( stands 1 times in count, and 0 are known",
     ),
-    ("words", "README.md", "It counts", "For want of\nmemory it counts", "'want of memory' is given up"),
-    ("words", "README.md", "It counts", "It tells", "'tells' is given up"),
-    ("words", "python/nrdb/counting.py", "Counts.", "Want of memory.", "python/nrdb/counting.py:1"),
-    ("words", "docs/GLOSSARY.md", "pages, source", "pages, proofs", "which is no place"),
-    ("promises", "docs/believe/PROMISES.md", "`sum`", "`whole`", "there is no clause whole"),
-    ("promises", "docs/believe/PROMISES.md", "`count`:", "`counted`:", "there is no counted"),
-    ("promises", "docs/believe/PROMISES.md", "`total` |", "`totals` |", "there is no totals"),
-    ("promises", "docs/believe/PROMISES.md", "the same", "the same: `none`", "there is no clause none"),
+    ("promises", "docs/proof/PROMISES.md", "`sum`", "`whole`", "there is no clause whole"),
+    ("promises", "docs/proof/PROMISES.md", "`count`:", "`counted`:", "there is no counted"),
+    ("promises", "docs/proof/PROMISES.md", "`total` |", "`totals` |", "there is no totals"),
+    ("promises", "docs/proof/PROMISES.md", "the same", "the same: `none`", "there is no clause none"),
     ("names", "README.md", "It counts", "`count_all` counts", "nothing here has the name count_all"),
     ("in-files", "README.md", "in `crates", "`total_of` in `crates", "src/lib.rt doesn't have total_of"),
-    ("links", "README.md", "docs/GLOSSARY.md", "docs/WORDS.md", "leads nowhere"),
-    ("links", "docs/GLOSSARY.md", "#words-given-up", "#given-up", "has no such heading"),
+    ("links", "README.md", "docs/internals/GLOSSARY.md", "docs/WORDS.md", "leads nowhere"),
+    ("links", "docs/internals/GLOSSARY.md", "#names-that-several-crates-have", "#shared", "has no such heading"),
     ("paths", "README.md", "src/lib.rt", "src/main.rt", "there is no crates/counting/src/main.rt"),
-    ("shared-names", "docs/GLOSSARY.md", " and in `adding`", "", "total is defined in adding, counting"),
-    ("tables", "docs/change/ARCHITECTURE.md", ", and so does `counting/src/table.rt`", "", "names 26 kinds"),
+    ("shared-names", "docs/internals/GLOSSARY.md", " and in `adding`", "", "total is defined in adding, counting"),
+    ("tables", "docs/internals/ARCHITECTURE.md", ", and so does `counting/src/table.rt`", "", "names 26 kinds"),
     ("diagram", "crates.txt", "counting: adding", "counting:", "the diagram isn't what"),
-    ("diagram", "docs/change/ARCHITECTURE.md", "`crates/adding`, ", "", "leaves adding out"),
+    ("diagram", "docs/internals/ARCHITECTURE.md", "`crates/adding`, ", "", "leaves adding out"),
     ("imports", "python/words/plain.py", '"""\n', '"""\n\nimport nrdb.counting\n', "nrdb is below words"),
     (
         "imports",
@@ -113,10 +107,6 @@ PLANTED: list[tuple[str, str, str, str, str]] = [
     ("imports", "CONTRIBUTING.md", "| `words` | words | |\n", "", "has no row for it"),
     ("imports", "CONTRIBUTING.md", "Python", "C", "no table under"),
     ("docstrings", "python/nrdb/counting.py", "Counts.", "The same of two.", "leans on the comment before it"),
-    ("sentences", "README.md", "It counts", f"It counts {LONG}", "a sentence of"),
-    ("sentences", "docs/believe/PROMISES.md", "The count is", f"{LONG} is", "a sentence of 44 words"),
-    ("source-words", "crates/counting/src/lib.rt", "fn count", "fn told_count", "'told' is given up"),
-    ("source-words", "crates/counting/src/lib.rt", "How many", "For want of memory, how many", "'want of memory'"),
     ("modules", "crates/counting/specs/Lib.antt", "need\n", "need\npub mod Spare\n", "imports Spare"),
     ("modules", "crates/adding/specs/Lib.antt", "use\n", "use\npub mod Sum\n", "callers need Sum"),
     ("modules", "crates/counting/src/lib.rt", "pub fn count", "fn count", "no public contract cites it"),
@@ -173,7 +163,7 @@ PLANTED: list[tuple[str, str, str, str, str]] = [
 class Pages(SmallTree):
     def test_finds_nothing_where_there_is_no_mistake(self) -> None:
         self.keep(LOG)
-        self.assertEqual(self.run_over(), (0, "pages: 7 pages, 24 rules, 0 findings\n"))
+        self.assertEqual(self.run_over(), (0, "pages: 7 pages, 21 rules, 0 findings\n"))
 
     def test_each_mistake_is_found_by_its_rule(self) -> None:
         for rule, path, old, new, says in PLANTED:
@@ -204,9 +194,9 @@ class Pages(SmallTree):
         self.assertEqual((self.top / "CONTRIBUTING.md").read_text(encoding="utf-8"), page)
 
     def test_a_page_that_is_gone_is_missed(self) -> None:
-        (self.top / "docs/believe/THEOREM.md").unlink()
+        (self.top / "docs/proof/THEOREM.md").unlink()
         status, printed = self.run_over()
-        self.assertEqual((status, printed.split("\n")[0]), (1, "there is no docs/believe/THEOREM.md"))
+        self.assertEqual((status, printed.split("\n")[0]), (1, "there is no docs/proof/THEOREM.md"))
 
     def test_a_package_within_another_has_a_row_of_its_own(self) -> None:
         self.write("python/nrdb/views/__init__.py", '"""Views."""\n')
@@ -217,13 +207,3 @@ class Pages(SmallTree):
 
     def test_an_unknown_rule_is_refused(self) -> None:
         self.assertIn("there is no rule sums", self.run_over("sums")[1])
-
-    def test_what_programs_print_is_not_read_as_prose(self) -> None:
-        printed = f"It counts `told`:\n\n    told {LONG}\n\n```\ntold {LONG}\n```\n"
-        self.write("README.md", TREE["README.md"].replace("It counts", printed))
-        self.assertEqual(self.run_over("words", "sentences")[0], 0)
-
-    def test_a_long_table_row_is_a_sentence_for_each_cell(self) -> None:
-        half = " ".join(["word"] * 30)
-        self.write("README.md", TREE["README.md"] + f"\n| a | b |\n|---|---|\n| {half} | {half} |\n")
-        self.assertEqual(self.run_over("sentences")[0], 0)

@@ -7,7 +7,7 @@ import pytest
 from tests.small_tree import PAGES
 
 ROOT = Path(__file__).resolve().parents[2]
-TRUSTED = "docs/believe/TRUSTED.md"
+TRUSTED = "docs/proof/TRUSTED.md"
 LOGGED = "crates/nr_text/src/logged.rt"
 SERVING = "crates/nr_serving/src/logged.rt"
 LOOPBACK = "crates/netrev/src/loopback.rt"

@@ -1,4 +1,4 @@
-"""README.md is short, leads to each page and names what exists; `make help` lists each target; modules of nrdb are as short as CONTRIBUTING.md
+"""README.md leads to each page and names what exists; `make help` lists each target; modules of nrdb are as short as CONTRIBUTING.md
 says; and each crate's README says what a stranger may touch."""
 
 import re
@@ -13,7 +13,6 @@ from nrdb.options import parser as nrdb_parser
 
 ROOT = Path(__file__).resolve().parents[2]
 README = (ROOT / "README.md").read_text(encoding="utf-8")
-MOST_WORDS = 1100  # of README, without its blocks and the targets of its links
 MOST_LINES = 300  # of a module
 OF_OTHERS = {"ready", "install-files"}  # targets that only other targets use
 CODE = re.compile(r"`((?:make|nrdb|netrev-go) [^`]+)`")
@@ -35,11 +34,6 @@ def test_readme_leads_to_each_page() -> None:
     pages = {str(page.relative_to(ROOT)) for page in (ROOT / "docs").rglob("*.md")}
     assert len(pages) >= 15
     assert pages - set(re.findall(r"\]\(([\w/.-]+)", README)) == set()
-
-
-def test_readme_is_short() -> None:
-    prose = re.sub(r"^    .*\n|\]\([^)]*\)", " ", README, flags=re.MULTILINE)
-    assert len(re.findall(r"\S*\w\S*", prose)) <= MOST_WORDS
 
 
 def test_readme_has_the_limits() -> None:
@@ -81,9 +75,9 @@ def test_modules_of_nrdb_are_short() -> None:
 
 
 def test_a_term_of_the_glossary_has_one_row() -> None:
-    lines = (ROOT / "docs/GLOSSARY.md").read_text(encoding="utf-8").splitlines()
+    lines = (ROOT / "docs/internals/GLOSSARY.md").read_text(encoding="utf-8").splitlines()
     rows = [line.strip("|").split("|") for line in lines if line.startswith("|")]
-    terms = [row[0].strip() for row in rows if len(row) == 5 and row[0].strip("- ") not in ("", "Here")]
+    terms = [row[0].strip() for row in rows if len(row) == 4 and row[0].strip("- ") not in ("", "Here")]
     assert len(terms) > 100
     assert sorted(term for term in set(terms) if terms.count(term) > 1) == []
 

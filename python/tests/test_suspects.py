@@ -124,7 +124,7 @@ class Rules(unittest.TestCase):
                 self.assertEqual([suspect.sentence() for suspect in near if suspect.is_shown], [])
 
     def test_the_page_has_the_definition_of_each(self) -> None:
-        page = (EXAMPLES.parent / "docs" / "use" / "NRDB.md").read_text(encoding="utf-8")
+        page = (EXAMPLES.parent / "docs" / "reference" / "NRDB.md").read_text(encoding="utf-8")
         table = page.partition("| Rule | Definition |\n|---|---|\n")[2].partition("\n\n")[0].splitlines()
         rows = [f"| {rule.name} | {rule.definition} |" for rule in (*RULES, *RULES_OF_CALLS)]
         self.assertEqual(sorted(table), sorted(rows))

@@ -1,6 +1,7 @@
 """netrev_words.version has the version, and all that says one says that."""
 
 import json
+import re
 import subprocess
 import sys
 import unittest
@@ -32,4 +33,5 @@ class Version(unittest.TestCase):
 
     def test_the_newest_changes_are_of_it(self) -> None:
         headings = [line for line in (ROOT / "CHANGELOG.md").read_text().splitlines() if line.startswith("## ")]
-        self.assertEqual(next(line for line in headings if line != "## Unreleased"), f"## {VERSION}")
+        newest = next(line for line in headings if line != "## Unreleased")
+        self.assertRegex(newest, rf"^## {re.escape(VERSION)} - \d{{4}}-\d{{2}}-\d{{2}}$")

@@ -95,7 +95,7 @@ class Where(unittest.TestCase):
         for beginning in (b"", text_of(GOOD)):
             self.assertEqual(self.fault(beginning + b"\xff"), "it isn't text")
         said = self.lines().why_unused(str(self.recording))
-        self.assertTrue(said.startswith("x.where isn't used: it isn't text; docs/use/RECORDING.md"), said)
+        self.assertTrue(said.startswith("x.where isn't used: it isn't text; docs/reference/RECORDING.md"), said)
 
     def test_what_is_no_file_is_not_waited_for(self) -> None:
         begun = time.monotonic()

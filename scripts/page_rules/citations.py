@@ -1,4 +1,4 @@
-"""Each function, clause and definition that docs/believe/PROMISES.md cites is there, and so is what other pages name as theirs.
+"""Each function, clause and definition that docs/proof/PROMISES.md cites is there, and so is what other pages name as theirs.
 
 The right column of PROMISES names functions and, behind a colon, the labels of their clauses: `Snaps::load`: `film`, `good`.
 What comes behind "against", "over", "with" and the like is a definition. "The same" is what the table named before.
@@ -11,7 +11,7 @@ from page_rules.markdown import CODE, Block, blocks, codes, prose
 from page_rules.sources import Crate, crates_of
 from page_rules.tree import Finding, Tree
 
-PROMISES = "docs/believe/PROMISES.md"
+PROMISES = "docs/proof/PROMISES.md"
 # what of a cell is the label of a clause: all in code font up to one of these words
 UP_TO = re.compile(r"\b(?:against|over|with|by|of|within|in|which|for|whatever)\b|\(")
 NAME = re.compile(r"(?:\w+::)*[\w-]+")
@@ -100,9 +100,9 @@ def promises(tree: Tree) -> Iterator[Finding]:
 
 
 # names of Go, Python and the system
-ELSEWHERE = {"RuntimeError", "O_NONBLOCK", "ReadTimeout"}
-# the page of what was, whose names needn't be there any more, and the part of the glossary that is of such names
-HISTORY, GIVEN_UP = "CHANGELOG.md", "Words given up"
+ELSEWHERE = {"TestMain", "RuntimeError", "O_NONBLOCK", "ReadTimeout"}
+# the page of what was, whose names needn't be there any more
+HISTORY = "CHANGELOG.md"
 # a name that a page gives to something of the sources: with an owner, or of more than one word
 OURS = re.compile(r"[A-Za-z]\w*(?:::\w+)+|[a-z]+(?:_[a-z0-9]+)+|(?:[A-Z][a-z0-9]+){2,}|[A-Z]+(?:_[A-Z]+)+")
 
@@ -113,8 +113,7 @@ def names(tree: Tree) -> Iterator[Finding]:
     words = {*tree.crates, *ELSEWHERE, *re.findall(r"\w+", "".join(map(tree.text, sources)))}
     for page in tree.pages:
         for block, code in codes(tree.text(page)) if page != HISTORY else ():
-            is_given_up = block.heading == GIVEN_UP and block.column == 0
-            if OURS.fullmatch(code) and not is_given_up and not words.issuperset(code.split("::")):
+            if OURS.fullmatch(code) and not words.issuperset(code.split("::")):
                 yield Finding(page, block.line, f"nothing here has the name {code}")
 
 

@@ -13,7 +13,7 @@ from page_rules.markdown import CODE, blocks
 from page_rules.sources import DEFINED, FUNCTION, OWNER, functions_of, without_comments
 from page_rules.tree import Finding, Tree, has_word
 
-GLOSSARY = "docs/GLOSSARY.md"
+GLOSSARY = "docs/internals/GLOSSARY.md"
 SHARED = "Names that several crates have"
 FOR_CALLERS, INSIDE = "what callers need", "inner"
 

@@ -11,7 +11,7 @@ from page_rules.markdown import CODE, blocks
 from page_rules.tree import Finding, Tree
 
 PAGE = "CONTRIBUTING.md"
-HEADING = "What is written in Python"
+HEADING = "Python"
 PYTHON = "python/"
 ALL = "all above"
 PLACES, IMPORTS = 0, 2  # columns

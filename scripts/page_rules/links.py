@@ -12,11 +12,13 @@ from page_rules.tree import Finding, Tree
 # what in code font is a path: folders, or a file with one of these endings
 PATH = re.compile(r"(?:[\w.*-]+/)+[\w.*-]*|[\w.*-]+\.(?:rt|antt|md|py|sh|edit|jsonl|script|replies|nrdb|session|where)")
 # a part of a path that a reader fills in
-FILLED_IN = re.compile(r"[A-Z][A-Z0-9_]*(?:-[\w-]+)?(?:\.\w+)?|my\.\w+|\.\.\.")
+FILLED_IN = re.compile(r"[A-Z][A-Z0-9_]*(?:-[\w-]+)?(?:\.\w+){0,2}|my\.\w+|\.\.\.")
 # folders that a program makes, packages of Go's own sources, and types of what is sent over HTTP
-ELSEWHERE = re.compile(r"(?:.*/)?out/|(?:internal|runtime|net|encoding|go/parser|go/ast|std|text|application)(?:/|$)")
+ELSEWHERE = re.compile(
+    r"(?:.*/)?out/|recordings/|(?:internal|runtime|net|encoding|go/parser|go/ast|std|text|application)(?:/|$)"
+)
 # what is in an archive, what a page takes for an example, and a reader's own
-NAMED_ONLY = {"bin/nrdb", "src/m.rt", "bad.jsonl", "recording.jsonl", "recording.where", "./pkg"}
+NAMED_ONLY = {"bin/nrdb", "src/m.rt", "bad.jsonl", "recording.jsonl", "recording.where", "now.jsonl", "bug.md", "./pkg"}
 # the page of what was: its files needn't be there any more
 HISTORY = "CHANGELOG.md"
 

@@ -1,4 +1,4 @@
-"""What docs/change/ARCHITECTURE.md lists: the files that name most kinds, cells or commands, all crates, and how these import one another.
+"""What docs/internals/ARCHITECTURE.md lists: the files that name most kinds, cells or commands, all crates, and how these import one another.
 
 Whoever adds a kind, a cell or a command changes the files that name all of them. The page has a list for each of the three, and
 so each file that names most of them has to be there, among those to change or among those that needn't be.
@@ -11,7 +11,7 @@ from dataclasses import dataclass
 from page_rules.markdown import codes
 from page_rules.tree import Finding, Tree
 
-ARCHITECTURE = "docs/change/ARCHITECTURE.md"
+ARCHITECTURE = "docs/internals/ARCHITECTURE.md"
 CRATES = "Where things are"
 PROGRAM = "netrev"
 BEGIN, END = "```mermaid\n", "```"

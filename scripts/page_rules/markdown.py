@@ -9,8 +9,6 @@ ITEM = re.compile(r"^\s*(?:[-*]|\d+\.) ")
 LINK = re.compile(r"!?\[((?:[^\]\[]|\[[^\]]*\])*)\]\(([^)\s]+)\)")
 CODE = re.compile(r"`([^`]+)`")
 CELLS = re.compile(r"(?<!\\)\|")
-# where a sentence may end: at its mark, and at what closes behind it
-END = re.compile(r"(?<=[.?!])[\"')*_]*\s+")
 
 
 @dataclass(frozen=True)
@@ -67,12 +65,6 @@ def codes(text: str) -> Iterator[tuple[Block, str]]:
     for block in prose(text):
         for code in CODE.findall(block.text):
             yield block, code
-
-
-def sentences(block: Block) -> list[str]:
-    """The sentences of a part. Words in code font are one word, and a link is its text."""
-    plain = CODE.sub("code", LINK.sub(lambda link: link.group(1), block.text))
-    return [sentence for sentence in END.split(plain) if sentence]
 
 
 def anchor(heading: str) -> str:

@@ -1,4 +1,4 @@
-"""docs/believe/THEOREM.md and the computed sessions are what they are taken from, letter by letter.
+"""docs/proof/THEOREM.md and the computed sessions are what they are taken from, letter by letter.
 
     quotes  each block of code of the page stands in the file that the line above the block names
     texts   each file of examples/ that crates/nr_programs/specs/Examples.antt has as bytes
@@ -11,7 +11,7 @@ from collections.abc import Iterator
 
 from page_rules.tree import Finding, Tree, line_at
 
-PAGE = "docs/believe/THEOREM.md"
+PAGE = "docs/proof/THEOREM.md"
 EXAMPLES = "crates/nr_programs/specs/Examples.antt"
 SHORT = "crates/nr_programs/specs/ShortRuns.antt"
 

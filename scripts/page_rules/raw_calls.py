@@ -1,4 +1,4 @@
-"""The calls that get at a stream, a caller or a log are made where docs/believe/TRUSTED.md says so, and nowhere else.
+"""The calls that get at a stream, a caller or a log are made where docs/proof/TRUSTED.md says so, and nowhere else.
 
 The laws speak of logs. A call past the logs, as of a reader that was taken out of its source, would be in none of them, and a
 note that no call stands behind would be in one. So each such call of the program's sources is listed here with the functions that
@@ -13,7 +13,7 @@ from page_rules import verdict
 from page_rules.sources import lines_by_function, without_comments
 from page_rules.tree import Finding, Tree
 
-PAGE = "docs/believe/TRUSTED.md"
+PAGE = "docs/proof/TRUSTED.md"
 LOOPBACK = "crates/netrev/src/loopback.rt"
 
 # a call, and the functions that make it, each so often: of a raw stream, of what wraps it, or of a log

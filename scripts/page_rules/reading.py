@@ -1,4 +1,4 @@
-"""docs/believe/THEOREM.md has the reading list: the definitions that its laws rest on, by crate and file, and how many lines they are.
+"""docs/proof/THEOREM.md has the reading list: the definitions that its laws rest on, by crate and file, and how many lines they are.
 
 A file stands behind those that it rests on, and a crate behind those that it imports. Lines are those of definitions, without
 imports; a law's are counted without comments, and a file's with them, as it is read. What a law is only handed, as the premise that
@@ -16,10 +16,10 @@ from page_rules.believed import Beliefs, Place
 from page_rules.markdown import prose
 from page_rules.tree import Finding, Tree
 
-PAGE = "docs/believe/THEOREM.md"
+PAGE = "docs/proof/THEOREM.md"
 HEADING = "## What to read"
 # where else the numbers are, in words
-PAGES = (PAGE, "docs/believe/TRUSTED.md")
+PAGES = (PAGE, "docs/proof/TRUSTED.md")
 # under which a crate's specs/Lib.antt lists the files that the laws rest on
 BELIEVED = "-- what the laws of THEOREM.md rest on, whole files"
 LISTED = re.compile(r"pub mod (\w+)")

@@ -1,4 +1,4 @@
-"""docs/believe/TRUSTED.md says what the verdict on the program takes as given, and nothing that the program calls has leave to wait.
+"""docs/proof/TRUSTED.md says what the verdict on the program takes as given, and nothing that the program calls has leave to wait.
 
 The last line of a crate's check is its verdict. The gate keeps it (scripts/verdicts.py), with a sum of the files that it is of. Of a
 crate that `rt ci` took from what an earlier run proved no line is printed: then the one that is kept counts, as long as these
@@ -12,7 +12,7 @@ from collections.abc import Iterator
 
 from page_rules.tree import Finding, Tree
 
-PAGE, README, CRATES = "docs/believe/TRUSTED.md", "README.md", "crates.txt"
+PAGE, README, CRATES = "docs/proof/TRUSTED.md", "README.md", "crates.txt"
 KEPT = "out/verdicts.json"
 PROGRAM = "netrev"
 # functions that take `Wait` and that no program calls, by crate

@@ -104,7 +104,7 @@ def expect_walk(recording, replies):
 
 
 def expect_beginning(recording, replies):
-    """Sees that each reply is the right one, or that memory ran out for it as docs/use/COMMANDS.md says: of a look, which
+    """Sees that each reply is the right one, or that memory ran out for it as docs/reference/COMMANDS.md says: of a look, which
     may be asked again, or of a search, whose reply is owed then and given once by `resume`. Gives how many commands were
     placed, and what is shown of the position then."""
     state, placed, owed = State(), 0, None

@@ -103,7 +103,7 @@ def what_comes_of_calling(port):
 
 
 def play_only_port_taken(_folder):
-    """What docs/use/SERVING.md says of a port that is taken: netrev ends at once, and tells no reason."""
+    """What docs/guide/sharing.md says of a port that is taken: netrev ends at once, and tells no reason."""
     taken = socket.socket()
 
     def take(first):
@@ -157,7 +157,7 @@ def play_gone_with_lines(_folder):
 
 
 def play_request_of_a_page(_folder):
-    """What docs/use/SERVING.md warns of: a request's lines are no commands, and those of its body are."""
+    """What docs/guide/sharing.md warns of: a request's lines are no commands, and those of its body are."""
     body = "\nstepi 3\nwatch lock 0\nquit\n"
     lines = ["POST / HTTP/1.1", "Host: 127.0.0.1", f"Content-Length: {len(body)}", "Origin: https://example.org", ""]
     with Server(FIRST, connections=2) as server:

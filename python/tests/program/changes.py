@@ -59,7 +59,7 @@ REFUSED = (
 
 
 def cells_of(recording: Recording) -> list[str]:
-    """The cells of all that there is at the end, in the order of docs/use/COMMANDS.md."""
+    """The cells of all that there is at the end, in the order of docs/reference/COMMANDS.md."""
     kinds = [step[0] for step in recording.steps]
     made = {of: kinds.count(kind) + (of is Of.GOROUTINE) for of, kind in MADE_BY.items()}
     return [

@@ -28,7 +28,7 @@ VALUE = re.compile(r" *at (\d+) ([a-z]+(?: \d+)*) = (.+)")
 RECORDING = re.compile(r"[\w./-]+\.jsonl")
 SYSTEM = "/usr/bin:/bin:/usr/sbin:/sbin"
 DEBIAN, ARCHIVE, CLONE = "Debian on amd64", "Other Linux on x86-64", "A clone"  # parts of README's Install
-DEBUG, RECORD = "Debug a recording", "Record"  # further sections of README
+DEBUG, RECORD = "Find the bug", "Record a test"  # further sections of README
 
 
 @dataclass

@@ -1,7 +1,7 @@
 """Plays the built program at the greatest sizes that a recording and a session may have.
 
 A call may report that memory ran out, and a proof can't tell whether it was right to. So each is played here with ample memory
-and as much of everything as docs/use/RECORDING.md allows: none may say that memory ran out, and all replies have to be right.
+and as much of everything as docs/reference/RECORDING.md allows: none may say that memory ran out, and all replies have to be right.
 It takes 1 GB of memory.
 """
 
@@ -263,7 +263,7 @@ def greatest_memory(path: Path, steps: int) -> int:
 
 
 def play_copies(folder: Path) -> None:
-    """What docs/use/RECORDING.md says that a recording takes: the bytes held, once and not once a copy where they stay the same, and
+    """What docs/reference/RECORDING.md says that a recording takes: the bytes held, once and not once a copy where they stay the same, and
     some for each step. (The program itself, the rings and what lists grow by are in the rest.)"""
     steps = 100 * EACH_COPY
     turn = ['["sysread",0,0,1,["got",1]]', '["arrive",0,"ab","done"]']

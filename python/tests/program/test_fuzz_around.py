@@ -38,7 +38,7 @@ class Around(unittest.TestCase):
                 self.assertEqual(played(sort, cases), (0, ""))
 
     def test_each_kind_of_line_beside_a_recording_is_in_the_cases(self) -> None:
-        page = (ROOT / "docs/use/RECORDING.md").read_text().partition("## Lines of the program")[2]
+        page = (ROOT / "docs/reference/RECORDING.md").read_text().partition("## Lines of the program")[2]
         named = set(re.findall(r'^\| `\{"(\w+)":', page, re.MULTILINE))
         self.assertEqual(
             {next(iter(line)) for at in range(9) for line in side_files.lines_of(random.Random(at), 4)}, named

@@ -1,5 +1,6 @@
-"""Close without evict: who has closed a socket hasn't evicted its descriptor, and has paused for more than twice the longest pause that ended
-in this recording, or holds its reference for more than twice the longest such hold."""
+"""Close without evict: the goroutine that closed a socket hasn't evicted its descriptor, and has paused for more than
+twice the longest pause that ended in this recording, or holds its reference for more than twice the longest such
+hold."""
 
 from typing import Iterator
 

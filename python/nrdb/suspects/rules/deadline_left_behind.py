@@ -1,5 +1,5 @@
-"""Deadline left behind: a deadline passes that was set for both sides, and only the other side's was moved since; or whose setter went over
-to the other side. It weighs more where a call ended with that timeout."""
+"""Deadline left behind: a deadline passes that was set for both sides, and only the other side's was moved since; or
+its setter went over to the other side. It weighs more if a call ended with that timeout."""
 
 from typing import Iterator, Optional
 

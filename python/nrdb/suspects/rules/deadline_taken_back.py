@@ -1,4 +1,4 @@
-"""Deadline taken back too soon: a deadline that has passed is moved, while who was woken by it has not looked why."""
+"""Deadline taken back too soon: a deadline that has passed is moved before the goroutine that it woke has looked why."""
 
 from typing import Iterator, Optional
 

@@ -1,6 +1,7 @@
-"""Lock held: a goroutine sleeps for a lock whose holder is gone, or has paused for more than twice the longest pause that ended in this
-recording. A lock that Go's own Read, Write or SendFile has over a system call isn't suspected, where `NAME.where` says that the recording
-ended in it. Without `NAME.where` none is, whose holder's last step is the `pollreset`: the try follows, in Go's own calls."""
+"""Lock held: a goroutine sleeps for a lock whose holder is gone, or has paused for more than twice the longest pause
+that ended in this recording. A lock that Go's own Read, Write or SendFile holds over a system call isn't
+suspected, if `NAME.where` says that the recording ended in it. Without `NAME.where`, a lock whose holder's last
+step is `pollreset` isn't suspected, because Go tries the system call next."""
 
 from typing import Iterator
 

@@ -1,6 +1,7 @@
-"""Lost wake-up: a goroutine is parked at a side, the readiness of the side's last event was taken, and no try was answered EAGAIN since: netrev
-lists all of these. Or a `pollreset` threw an event away, and the goroutine is about to park for reading without a read in between. It weighs more
-where the goroutine hangs for it, and less where it has read or written since or where no step shows its tries."""
+"""Lost wake-up: a goroutine is parked at a side, the readiness of the side's last event was taken, and no try was
+answered EAGAIN since: netrev lists all of these. Or a `pollreset` discarded an event, and the goroutine is about
+to park for reading without a read in between. It weighs more if the goroutine hangs because of it, and less if it
+has read or written since, or if no step shows its tries."""
 
 from typing import Iterator, Optional
 

@@ -1,5 +1,5 @@
-"""Missed release: who owes a release of a semaphore has paused for more than twice the longest pause that ended in this recording at that
-place."""
+"""Missed release: a goroutine that owes a release of a semaphore has paused for more than twice the longest pause
+that ended in this recording at that place."""
 
 from typing import Iterator
 

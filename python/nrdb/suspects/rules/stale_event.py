@@ -1,4 +1,5 @@
-"""Stale event: a goroutine is parked for reading, bytes are unread or the peer has closed, and an event came with an old tag."""
+"""Stale event: a goroutine is parked for reading, bytes are unread or the peer has closed, and an event came with an
+old tag."""
 
 from typing import Iterator
 

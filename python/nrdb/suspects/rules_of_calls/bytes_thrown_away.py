@@ -1,5 +1,6 @@
-"""Bytes thrown away: a Read got some of the bytes that it asked for, and the Read for the rest timed out. The next Read of that goroutine
-there asks for all of them again: what had come is lost, and the stream is read from its middle."""
+"""Bytes thrown away: a Read got some of the bytes that it asked for, and the Read for the rest timed out. The
+goroutine's next Read there asks for all of them again, so the first bytes are lost, and the stream is read from
+its middle."""
 
 from typing import Iterator
 

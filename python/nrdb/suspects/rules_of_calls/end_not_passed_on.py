@@ -1,5 +1,5 @@
-"""End not passed on: a goroutine that only read at one connection and only wrote to another met the end of the stream and had written all; it
-never closed the other connection for writing, and the Read at its other end hangs."""
+"""End not passed on: a goroutine that only read one connection and only wrote to another met the end of the stream
+and had written everything; it never closed the other connection for writing, and the Read at its other end hangs."""
 
 from typing import Iterator
 

@@ -1,5 +1,5 @@
-"""Left open: the other end of a connection was closed, 50 steps or more before the end, and nobody closes this one, nor is anybody
-in a call there who would meet the end of the stream. Somebody may come back to it, so it says perhaps."""
+"""Left open: the other end of a connection was closed, 50 steps or more before the end. No goroutine closes this end,
+and none is in a call there that would meet the end of the stream. Perhaps one comes back to it."""
 
 from typing import Iterator
 

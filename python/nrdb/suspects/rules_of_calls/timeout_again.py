@@ -1,5 +1,5 @@
-"""Timeout again and again: a goroutine's calls at one side of a connection time out by the same deadline, 20 in a
-row, and nobody sets another: by that deadline each further call ends at once too."""
+"""Timeout again and again: 20 calls of a goroutine in a row, at one side of a connection, time out by the same
+deadline, and no goroutine sets another."""
 
 from typing import Iterator
 

@@ -1,5 +1,6 @@
-"""Two readers: a goroutine's Read had to wait for the lock that another's Read of the same connection had, and both got bytes. So who
-gets which bytes of the stream is chance. A listener, and a socket of datagrams, may have any number of readers. Perhaps."""
+"""Two readers: a goroutine's Read had to wait for the lock of another's Read of the same connection, and both got
+bytes. So it is chance which of them gets which bytes of the stream. Listeners and datagram sockets may have any
+number of readers. Perhaps."""
 
 from typing import Iterator
 

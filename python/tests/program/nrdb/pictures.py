@@ -1,4 +1,4 @@
-"""Makes the pictures of docs/use anew, which show the timeline's page in chromium:  python3 python tests.program.nrdb.pictures [FOLDER]
+"""Makes the pictures of docs/guide anew, which show the timeline's page in chromium:  python3 python tests.program.nrdb.pictures [FOLDER]
 
 With the words `--real FOLDER` it makes those of all recordings of examples/real in place of them, light, dark and on a phone."""
 
@@ -39,7 +39,7 @@ def taken(chromium: Chromium, page: str, file: Path, look: tuple[int, int, str, 
 
 def main(words: list[str]) -> None:
     is_real = words[:1] == ["--real"]
-    folder = Path(words[-1] if words else ROOT / "docs/use")
+    folder = Path(words[-1] if words else ROOT / "docs/guide")
     with Chromium() as chromium:
         if is_real:
             for name in BUGS:

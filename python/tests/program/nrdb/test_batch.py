@@ -64,7 +64,7 @@ class Batch(unittest.TestCase):
             path.with_suffix(".where").write_text("[" * 200_000)
             said = nrdb("--batch", "-ex", "where", path).splitlines()
             self.assertEqual(
-                said[2][:60], "| first.where isn't used: line 1 isn't one of its form; docs/use/RECORDING"[:60]
+                said[2][:60], "| first.where isn't used: line 1 isn't one of its form; docs/reference/RECORDING"[:60]
             )
             self.assertEqual(said[3], "(netrev) where")
             path.with_suffix(".where").unlink()

@@ -69,7 +69,7 @@ class Documents(unittest.TestCase):
         self.assertGreaterEqual(count, 12)
 
     def test_each_command_and_topic_has_its_row(self):
-        page = (ROOT / "docs/use/NRDB.md").read_text(encoding="utf-8")
+        page = (ROOT / "docs/reference/NRDB.md").read_text(encoding="utf-8")
         for name in (
             *OF_NRDB,
             *(f"info {topic.usage.split()[0]}" for topic in TOPICS.values() if topic.origin is Origin.NRDB),

@@ -144,7 +144,7 @@ class Reducing(unittest.TestCase):
         self.assertIn("accepted by netrev", nrdb("--batch", "-ex", f"reduce {out} lock 0 *", path))
 
     def test_the_page_has_what_is_left_of_recordings(self) -> None:
-        text = (ROOT / "docs/use/NRDB.md").read_text(encoding="utf-8")
+        text = (ROOT / "docs/reference/NRDB.md").read_text(encoding="utf-8")
         rows = re.findall(r"^\| `((?:hunts|real)/[\w-]+)` \| ([\d,]+) \| (\d+) \|$", text, re.MULTILINE)
         self.assertGreater(len(rows), 8)
         for name, steps, left in rows:

@@ -1,15 +1,12 @@
-"""Rules of single sentences and lines: none is too long, and no comment leans on the one before it."""
+"""Rules of comments and lines: no comment leans on the one before it, and no line of a definition is too long."""
 
 import re
 from collections.abc import Iterator
 
-from page_rules.markdown import prose, sentences
 from page_rules.tree import Finding, Tree
 
-MOST_WORDS = 40
 MOST_COLUMNS = 100
 
-WORD = re.compile(r"\w")
 # the first line of a comment: of a doc comment, of one of a definition, of a docstring
 FIRST = re.compile(r"^(?P<indent>\s*)(?P<mark>///|--|\"\"\") ?(?P<text>\S.*)$")
 # how a comment begins that says nothing alone
@@ -20,16 +17,6 @@ LEANS = re.compile(
     r"|the (?!.*\b(that|which|it|they)\b)\w[\w ]* (are|is|do|does|has|have)\.$",
     re.IGNORECASE,
 )
-
-
-def long_sentences(tree: Tree) -> Iterator[Finding]:
-    """Sentences of pages that have too many words."""
-    for path in tree.pages:
-        for block in prose(tree.text(path)):
-            for sentence in sentences(block):
-                words = sum(bool(WORD.search(word)) for word in sentence.split())
-                if words > MOST_WORDS:
-                    yield Finding(path, block.line, f"a sentence of {words} words: {sentence[:60]!r} ..")
 
 
 def long_lines(tree: Tree) -> Iterator[Finding]:
