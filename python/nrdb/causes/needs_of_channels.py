@@ -24,6 +24,7 @@ from .loop_variables import shared_variables
 from .need import Certainty, Need
 from .sibling_channels import given_at_siblings
 from .siblings import Kind, ended_words, kinds_of
+from .made_channels import is_filled_by_maker
 from .new_channels import made_since
 from .senders import later_giver
 from .slots import of_slots
@@ -86,7 +87,7 @@ class NeedsOfChannels:
         if not balances:
             return self._of_slots(wait) or self._of_nested(wait) if self.is_buffered(at) else None
         takes = balances[0].takes
-        if takes == wanted and self._is_filled_by_maker(at):
+        if takes == wanted and is_filled_by_maker(self._recording, at):
             return None
         if takes == wanted:  # it waits to give back: too much was
             return Need(excess_says(balances)) if any(one.missing < 0 for one in balances) else None
@@ -100,14 +101,6 @@ class NeedsOfChannels:
             f"{{by}} {'put a value there' if takes == PUT else 'took a value there'}, and has that yet",
             Certainty.LIKELY,
         )
-
-    def _is_filled_by_maker(self, at: At) -> bool:
-        """Whether all values were put into a channel by the function that made it."""
-        lines = self._recording.lines
-        made = lines.made.get(at.object)
-        own = lines.stacks[made.stack].own() if made else None
-        puts = [lines.stacks[use.stack].own() for use in lines.uses.get(at.object, ()) if use.what == PUT]
-        return own is not None and bool(puts) and all(put and put[0].function == own[0].function for put in puts)
 
     def _of_slots(self, wait: Waiting) -> Optional[Need]:
         """Of a semaphore whose slots nobody has given back yet: who has one."""
@@ -226,7 +219,7 @@ class NeedsOfChannels:
             ended = f"{did}; it {does}." if (does := self._does(one.name, one.stack)) else f"{did}."
             gone = one.name if has_ended(self._recording, one.name) else None
             return Need([ended, *((closing.more if closing else []) or have_ended(self._recording, wait))], gone=gone)
-        is_filled = any(self._is_filled_by_maker(at) for at in wait.objects)
+        is_filled = any(is_filled_by_maker(self._recording, at) for at in wait.objects)
         if not is_filled and (itself := only_itself(self._recording, wait)):
             return Need([itself])
         if left := self._once(("gone", wait.objects), lambda: self._gone(wait)):
