@@ -124,7 +124,10 @@ class Exchanges(unittest.TestCase):
             ),
             ({"io.CopyN", copy, "internal/poll.Splice"}, "io.CopyN reads a number of bytes, which haven't all come."),
             ({copy, "io.(*LimitedReader).Read", read}, ""),
-            ({"io.ReadAll", "io.(*LimitedReader).Read", read}, ""),
+            (
+                {"io.ReadAll", "io.(*LimitedReader).Read", read},
+                "io.ReadAll reads to the end of the stream, or up to a limit: nobody has closed socket 4 for writing.",
+            ),
             ({"io.ReadAtLeast", read}, ""),
         ):
             with self.subTest(words=words, functions=sorted(functions)):

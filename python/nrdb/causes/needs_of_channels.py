@@ -5,7 +5,7 @@ from itertools import islice
 from typing import Any, Callable, Hashable, Iterable, Iterator, Mapping, Optional, TypeVar
 
 
-from ..all_goroutines import CLOSED, FOR_ROOM, FOR_VALUE, PUT, TOOK, At
+from ..all_goroutines import FOR_ROOM, FOR_VALUE, PUT, TOOK, At
 from ..recording import Recording
 from ..waits import Name, Waiting, Waits, name_of_goid
 from ..where import OF_THE_PROGRAM, Stack
@@ -22,7 +22,7 @@ from .ledger import GAVE_BEFORE, GIVES, GIVES_WORDS, Given, Ledger
 from .kept_ways import gives_on_most_ways, ways_with_an_error
 from .loop_variables import shared_variables
 from .need import Certainty, Need
-from .sibling_channels import given_at_siblings
+from .sibling_channels import giver_at_siblings
 from .siblings import Kind, ended_words, kinds_of
 from .made_channels import is_filled_by_maker
 from .new_channels import made_since
@@ -33,7 +33,6 @@ from .unclosed import unclosed
 from .waiters import Waiter
 from .words import place_in
 
-DID_AT = {PUT: "put a value into", TOOK: "took one from"}
 DID = {PUT: "putting a value there", TOOK: "taking one there"}
 MOST_GIVEN = 50  # goroutines that are looked at for each that waits
 NOBODY = Name(-1)
@@ -167,8 +166,12 @@ class NeedsOfChannels:
         since = self._made_since(wait)
         given = [one for at in wait.objects for one in self._given(at) if one.name != wait.name and one.last >= since]
         closing = self._closing(wait)
-        if not given and not (closing and closing.by) and (need := self._of_sibling_channels(wait)):
-            return need
+        if (
+            not given
+            and not (closing and closing.by)
+            and (by := giver_at_siblings(self._recording, wait, self._waiters))
+        ):
+            return by._replace(more=self.more_of(wait, by.by)) if by.by else by
         if closing and (closing.by or not given):
             return closing
         if one := next((one for one in given if one.name in self._waiters), None):
@@ -188,17 +191,6 @@ class NeedsOfChannels:
         if says := self._of_siblings(wait):
             return Need(says, is_odd=True, ended=self._ended_siblings(wait))
         return self._of_the_past(wait, given[:1], closing)
-
-    def _of_sibling_channels(self, wait: Waiting) -> Optional[Need]:
-        """Of a channel at which nobody has given yet: the goroutine that waits, and gave at one before which the same line had made."""
-        lines = self._recording.lines
-        for use in given_at_siblings(self._recording, wait):
-            name, place = name_of_goid(lines, use.goid), place_in(lines.stacks[use.stack])
-            if name != wait.name and name in self._waiters and place:
-                did = "closed" if use.what == CLOSED else DID_AT[use.what]
-                how = f"perhaps {{by}}, which {did} the channel before{place}, that the same line had made"
-                return Need([], name, how, Certainty.PERHAPS, more=self.more_of(wait, name))
-        return None
 
     def _of_ended_takers(self, wait: Waiting) -> Need:
         """Of a select that would put a value into a channel: that all who took from that have ended."""
