@@ -6,7 +6,7 @@ use Rattle.std.proofs.lemmas.List.{take_more}
 use Rattle.nr_text.specs.Streams.{Outgoing, WritesAll}
 use Rattle.nr_command.specs.Command.{meaning_of}
 use Rattle.nr_front.specs.FrontState.{FrontState}
-use Rattle.nr_lines.specs.Batch.{AnswersBytes, Batch, Cut, FailsToPutOut, RunsLines, Stops, Turned}
+use Rattle.nr_lines.specs.Batch.{AnswersBytes, Batch, Cut, FailsToPutOut, RunsLines, StopsPrinting, Turned}
 use Rattle.nr_lines.specs.Engine.{has_quit}
 use Rattle.nr_lines.specs.LoopInvariant.{unfinished_line}
 use Rattle.nr_lines.specs.Outbox.{held_bytes, is_at_once}
@@ -128,7 +128,7 @@ line_quits at_once before bytes read bs d p p' old w w' box box' line line' whol
 
 -- a write failed when a line's text was printed
 pub line_cut : (before bytes read bs : List ℕ) (d p p' : FrontState) (old w w' : Outgoing) (box : Outbox) (held line line' : List ℕ) (whole mid whole' b : ℕ) (at_once : Bool) (e : LineEnd)
-    → GoneOver before read d p old w (held_bytes box) line whole mid → is_at_once box ≡ at_once → before ++ bytes ≡ read ++ b ∷ bs → nat_eq b 10 ≡ true → Stops p line p' w box w' mid e
+    → GoneOver before read d p old w (held_bytes box) line whole mid → is_at_once box ≡ at_once → before ++ bytes ≡ read ++ b ∷ bs → nat_eq b 10 ≡ true → StopsPrinting p line p' w box w' mid e
     → AnswersBytes at_once before bytes d p' old w' held line' whole whole' (Err e)
 line_cut before bytes read bs d p p' old w w' box held line line' whole mid whole' b at_once e g same there feed s =
     let rest : List ℕ = unfinished_line read in
@@ -189,7 +189,7 @@ one_runs at_once quits p p' w w' box box' line rest whole whole' none kept is tu
 
 -- a write failed when the text of one line was printed
 pub one_cut : (p p' : FrontState) (w w' : Outgoing) (box : Outbox) (line rest : List ℕ) (whole : ℕ) (e : LineEnd) → held_bytes box ≡ [] → line ≡ take 257 rest
-    → Stops p line p' w box w' whole e → Cut (is_at_once box) p p' w w' (rest ∷ []) whole e
+    → StopsPrinting p line p' w box w' whole e → Cut (is_at_once box) p p' w w' (rest ∷ []) whole e
 one_cut p p' w w' box line rest whole e none kept s =
     let first = subst (λ (h : List ℕ). Batch p p w w h [] whole whole) (sym none) (no_lines p w whole) in
     cut_printing p p p' w w w' (held_bytes box) [] [] (rest ∷ []) rest s.text whole whole s.part e (is_at_once box)

@@ -37,7 +37,7 @@ pub record Turned (d : FrontState) (line : List ℕ) (d' : FrontState) (old : Ou
   pub count : whole' ≡ count_with whole text
 
 -- A line had its turn, and a write failed when its text was printed.
-pub record Stops (d : FrontState) (line : List ℕ) (d' : FrontState) (old : Outgoing)
+pub record StopsPrinting (d : FrontState) (line : List ℕ) (d' : FrontState) (old : Outgoing)
     (before : Outbox) (new : Outgoing) (whole : ℕ) (e : LineEnd) : Type 0 where
   pub text : List ℕ
   pub part : ℕ
@@ -46,7 +46,8 @@ pub record Stops (d : FrontState) (line : List ℕ) (d' : FrontState) (old : Out
   pub ending : e ≡ Write whole part
 
 -- A write failed inside the bytes that were held.
-pub record FailsToPutOut (old new : Outgoing) (held : List ℕ) (whole : ℕ) (e : LineEnd) : Type 0 where
+pub record FailsToPutOut (old new : Outgoing) (held : List ℕ) (whole : ℕ) (e : LineEnd) :
+    Type 0 where
   pub part : ℕ
   pub cut : WritesPrefix old new held part
   pub ending : e ≡ Write whole part
@@ -60,7 +61,8 @@ pub record Batch (d d' : FrontState) (old new : Outgoing) (held : List ℕ)
   pub turns : Turns d lines texts d'
   pub split : concat texts ≡ out ++ held
   pub sends : Sends old new out
-  pub count : (n : ℕ) → whole ≡ saturating_count n → whole' ≡ saturating_count (n + some_count texts)
+  pub count : (n : ℕ) → whole ≡ saturating_count n
+      → whole' ≡ saturating_count (n + some_count texts)
 
 -- A write failed inside the text of a line, after the texts of those before it. The lines behind it
 -- had their turns too; where each reply goes out at once, no line had, and the counts are reported.
@@ -97,7 +99,8 @@ RunsLines at_once d d' old new held lines whole whole' (Ok true) =
     (front : List (List ℕ)) × (line : List ℕ) × (back : List (List ℕ))
     × (lines ≡ front ++ line ∷ back) × Batch d d' old new held (front ++ line ∷ []) whole whole'
     × (has_quit front ≡ false) × (is_quit (meaning_of line) ≡ true)
-RunsLines at_once d d' old new held lines whole whole' (Err e) = Cut at_once d d' old new lines whole e
+RunsLines at_once d d' old new held lines whole whole' (Err e) =
+    Cut at_once d d' old new lines whole e
 
 -- Behind the bytes that were read before, the lines that end among some more bytes had their turns.
 -- The line that is kept is what follows them, up to 257 bytes of it.

@@ -19,7 +19,8 @@ pub record GoesBehind (old : Outgoing) (held text : List ℕ) (new : Outgoing) (
 
 -- A text was to be added to the bytes that were held, and a write failed. The first n of all these
 -- are out, and not the next. Where none was held, this count reports n.
-pub record CutBehind (old : Outgoing) (held text : List ℕ) (new : Outgoing) (count : ℕ) : Type 0 where
+pub record CutBehind (old : Outgoing) (held text : List ℕ) (new : Outgoing) (count : ℕ) :
+    Type 0 where
   pub n : ℕ
   pub within : n < length (held ++ text)
   pub sends : Sends old new (take n (held ++ text))

@@ -19,11 +19,7 @@ pub(crate) enum Outbox {
 
 impl Outbox {
     /// Prints a text, behind what is held.
-    pub(crate) fn print<W: Write, T: Text>(
-        &mut self,
-        text: &T,
-        w: &mut Sink<W>,
-    ) -> Result<(), Part>
+    pub(crate) fn print<W: Write, T: Text>(&mut self, text: &T, w: &mut Sink<W>) -> Result<(), Part>
         ensures { Delivers w.old self.old w.new self.new (T.text text.now) result }
     {
         match self {

@@ -41,11 +41,7 @@ impl Page {
     }
 
     /// Prints a text: it is held, or goes out behind what is held, where there is no room for it.
-    pub(crate) fn print<W: Write, T: Text>(
-        &mut self,
-        text: &T,
-        w: &mut Sink<W>,
-    ) -> Result<(), Part>
+    pub(crate) fn print<W: Write, T: Text>(&mut self, text: &T, w: &mut Sink<W>) -> Result<(), Part>
         ensures { PrintsBehind w.old self.old w.new self.new (T.text text.now) result }
     {
         if self.hold(text) {

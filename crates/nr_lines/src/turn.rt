@@ -7,7 +7,7 @@ ghost use Rattle.nr_command.specs.declared.reply.Reply.TheVariants as replies;
 ghost use Rattle.nr_lines.specs.Turn.{is_quit};
 ghost use Rattle.nr_lines.specs.Auxiliary.Engine.{is_write_failure};
 ghost use Rattle.nr_lines.specs.Auxiliary.Turn.{MayReply, fault_reply, reply_given, resumed};
-ghost use Rattle.nr_lines.specs.Batch.{PrintsReply, Stops, Turned};
+ghost use Rattle.nr_lines.specs.Batch.{PrintsReply, StopsPrinting, Turned};
 ghost use Rattle.nr_lines.specs.Outbox.{Delivers, is_at_once};
 
 use crate::ending::LineEnd;
@@ -37,7 +37,7 @@ where
     ensures quits { IfOk result (λ quits. quits ≡ is_quit (meaning_of line.now)) }
     ensures ok { IfOk result (λ _. Turned front.old line.now front.new
         w.old outbox.old w.new outbox.new whole.old whole.new) }
-    ensures err { IfErr result (λ e. Stops front.old line.now front.new w.old outbox.old w.new whole.old e) }
+    ensures err { IfErr result (λ e. StopsPrinting front.old line.now front.new w.old outbox.old w.new whole.old e) }
     ensures kind { is_at_once outbox.new ≡ is_at_once outbox.old }
     ensures calm { OnOk result (w.new.failed ≡ w.old.failed) }
     ensures failed { IfErr result (λ e. (w.new.failed ≡ true) × (is_write_failure (Err e) ≡ true)) }
@@ -139,11 +139,7 @@ fn print_bye<W: Write>(outbox: &mut Outbox, w: &mut Sink<W>) -> Result<(), Part>
 }
 
 /// Prints the reply that says why nothing was done.
-fn print_fault<W: Write>(
-    fault: Fault,
-    outbox: &mut Outbox,
-    w: &mut Sink<W>,
-) -> Result<(), Part>
+fn print_fault<W: Write>(fault: Fault, outbox: &mut Outbox, w: &mut Sink<W>) -> Result<(), Part>
     ensures { Delivers w.old outbox.old w.new outbox.new (text_of (replies.Fault fault)) result }
 {
     outbox.print(&Reply::Fault(fault), w)
