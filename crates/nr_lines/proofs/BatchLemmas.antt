@@ -1,9 +1,9 @@
 -- The lines that came with one read: their texts, and where a write failed.
-use Rattle.std.proofs.Common.{◌≡◌, ℕ, suc, ◌+◌, ◌<◌, ◌≤◌, Bool, ◌||◌, true, false, List, [], ◌∷◌, ◌++◌, arith, length, take, drop, filter, refl, sym, ap, ◌∙◌, subst, nat_lt, append_assoc, append-nil, length-append, length-drop, take-append-drop, Ok, Err}
-use Rattle.std.proofs.lemmas.List.{take-append-le, take_at, drop_at, drop-append-le, length-take-le}
+use Rattle.std.proofs.Common.{◌≡◌, ℕ, ◌+◌, ◌<◌, ◌≤◌, Bool, ◌||◌, true, false, List, [], ◌∷◌, ◌++◌, arith, length, take, drop, refl, sym, ap, ◌∙◌, subst, nat_lt, append_assoc, append-nil, length-append, length-drop, take-append-drop}
+use Rattle.std.proofs.lemmas.List.{take-append-le, take_at, drop_at, drop-append-le}
 use Rattle.std.proofs.lemmas.Bool.{ltb-false, ltb-true, false≢true}
 use Rattle.std.specs.List.{concat}
-use Rattle.nr_text.specs.Streams.{Outgoing, Sends, WritesAll, WritesPrefix, saturating_count}
+use Rattle.nr_text.specs.Streams.{Outgoing, Sends, WritesAll, saturating_count}
 use Rattle.nr_text.proofs.StreamLemmas.{sends_none, sends_then}
 use Rattle.nr_command.specs.Command.{meaning_of}
 use Rattle.nr_front.specs.FrontState.{FrontState}

@@ -1,6 +1,5 @@
 -- The bytes that came with one read, gone over one by one.
-use Rattle.std.proofs.Common.{◌≡◌, ℕ, suc, ◌+◌, ◌<◌, ◌≤◌, Bool, ◌||◌, true, false, Ok, Err, List, [], ◌∷◌, ◌++◌, arith, length, take, drop, refl, sym, ap, ◌∙◌, subst, nat_eq, append_assoc, append-nil, get_or, take-append-drop, take_all, drop-cons}
-use Rattle.std.specs.Prelude.{Result}
+use Rattle.std.proofs.Common.{◌≡◌, ℕ, suc, ◌+◌, ◌<◌, ◌≤◌, Bool, ◌||◌, true, false, Ok, Err, List, [], ◌∷◌, ◌++◌, length, take, drop, refl, sym, ap, ◌∙◌, subst, nat_eq, append_assoc, append-nil, get_or, take-append-drop, take_all, drop-cons}
 use Rattle.std.proofs.lemmas.Bool.{false≢true}
 use Rattle.std.proofs.lemmas.List.{take_more}
 use Rattle.nr_text.specs.Streams.{Outgoing, WritesAll}
@@ -12,7 +11,6 @@ use Rattle.nr_lines.specs.LoopInvariant.{unfinished_line}
 use Rattle.nr_lines.specs.Outbox.{held_bytes, is_at_once}
 use Rattle.nr_lines.specs.Turn.{is_quit}
 use Rattle.nr_lines.specs.Auxiliary.Engine.{whole_lines}
-use Rattle.nr_lines.specs.Auxiliary.Turn.{Turn}
 use Rattle.nr_lines.specs.declared.ending.LineEnd.{LineEnd}
 use Rattle.nr_lines.specs.declared.outbox.Outbox.{Outbox}
 use Rattle.nr_lines.specs.declared.outbox.Outbox.TheVariants.{AtOnce, Held}

@@ -1,8 +1,8 @@
 -- What is out and what is held of the texts of replies.
-use Rattle.std.proofs.Common.{◌≡◌, ℕ, ◌+◌, ◌<◌, List, [], ◌∷◌, ◌++◌, arith, length, take, refl, sym, ap, ◌∙◌, subst, append-nil, length-append, Ok, Err, Result}
+use Rattle.std.proofs.Common.{◌≡◌, ℕ, ◌+◌, List, [], ◌++◌, arith, length, take, refl, sym, ap, ◌∙◌, subst, append-nil, length-append, Ok, Err, Result}
 use Rattle.std.proofs.lemmas.List.{take-append-le}
 use Rattle.std.proofs.Math.Seq.{take-append-add}
-use Rattle.nr_text.specs.Streams.{Outgoing, Sends, WritesAll, WritesPrefix, saturating_count}
+use Rattle.nr_text.specs.Streams.{Outgoing, Sends, WritesAll, WritesPrefix}
 use Rattle.nr_text.specs.Auxiliary.Streams.{Prints}
 use Rattle.nr_text.specs.declared.sink.Part.{Part}
 use Rattle.nr_text.proofs.StreamLemmas.{sends_none, sends_then}

@@ -1,5 +1,5 @@
 -- The lines that came with one read, and their texts.
-use Rattle.std.specs.Prelude.{◌≡◌, ℕ, ◌+◌, ◌<◌, Bool, true, false, List, [], ◌∷◌, ◌++◌, length, take, Option, Some, Result, Ok, Err}
+use Rattle.std.specs.Prelude.{◌≡◌, ℕ, ◌+◌, ◌<◌, Bool, true, false, List, [], ◌∷◌, ◌++◌, length, take, Some, Result, Ok, Err}
 use Rattle.std.specs.List.{concat}
 use Rattle.nr_text.specs.Streams.{Outgoing, Sends, WritesPrefix, saturating_count}
 use Rattle.nr_text.specs.declared.sink.Part.{Part}

@@ -48,7 +48,8 @@ class TestEnds(unittest.TestCase):
         return subprocess.run(WORDS, input=lines, stdout=subprocess.PIPE, timeout=PATIENCE, check=True).stdout
 
     def test_nothing_that_is_held_is_lost_at_the_end(self) -> None:
-        self.assertEqual(self.replies_to(b"stepi\nreverse-stepi\n" * 2_000 + b"stepi"), b"at 1\nat 0\n" * 2_000 + b"at 1\n")
+        replies = self.replies_to(b"stepi\nreverse-stepi\n" * 2_000 + b"stepi")
+        self.assertEqual(replies, b"at 1\nat 0\n" * 2_000 + b"at 1\n")
 
     def test_nothing_that_is_held_is_lost_behind_quit(self) -> None:
         self.assertEqual(self.replies_to(b"stepi\nstepi\nquit\nstepi\n"), b"at 1\nat 2\nbye\n")
