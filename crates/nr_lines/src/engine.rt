@@ -21,7 +21,7 @@ use std::sync::Wait;
 /// How many bytes are read at once.
 const CHUNK: usize = 512;
 
-/// Answers the lines of a source, up to the first `quit`, each by a write of its own. The last line may lack its line feed.
+/// Answers the lines of a source, up to the first `quit`, and writes each reply alone. The last line may lack its line feed.
 /// Before each read all whole lines that came are answered, and their replies are out.
 ///
 /// The source may be read past `quit`, or past the line whose reply was not written. Where a read failed, the whole
@@ -73,7 +73,7 @@ where
 }
 
 /// As `answer`, but the replies to the lines that came with one read are held, up to 4 KB, and go out in one write before the
-/// next read. If a write fails, lines that came with the same read may have been run behind the one whose reply was cut.
+/// next read. If a write fails, lines after the one whose reply was cut may have been run too.
 pub fn answer_together<R: Read, W: Write, S: Worlds + Drop + Sync, F: Finder>(
     r: &mut Source<R>,
     w: &mut Sink<W>,
