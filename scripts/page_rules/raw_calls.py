@@ -18,19 +18,20 @@ LOOPBACK = "crates/netrev/src/loopback.rt"
 
 # a call, and the functions that make it, each so often: of a raw stream, of what wraps it, or of a log
 CALLS: dict[str, dict[str, int]] = {
-    ".read(": {"LoggedReader::read": 1, "Source::read": 1, "answer": 1, "read_away": 1},
+    ".read(": {"LoggedReader::read": 1, "Source::read": 1, "answer_by": 1, "read_away": 1},
     ".write(": {"LoggedWriter::write": 1, "write_some": 1},
     ".into_inner(": {
         "Buffered::into_inner": 1,
         "Sink::into_inner": 1,
         "Source::into_inner": 1,
         "LoggedCallers::let_go": 2,
+        "Page::take": 1,
     },
     "read_away(": {"LoggedCallers::let_go": 1},
     "end_replies(": {"LoggedCallers::let_go": 1},
     "connections.next(": {"LoggedCallers::next": 1},
     "ports.open(": {"LoggedPorts::open": 1, "open_ports": 1},
-    ".give_up(": {"write_some": 1, "Source::read": 1, "Source::give_up": 1, "answer": 1, "serve_one": 1},
+    ".give_up(": {"write_some": 1, "Source::read": 1, "Source::give_up": 1, "answer_by": 1, "serve_one": 1},
     ".calls.and(": {
         "LoggedReader::read": 1,
         "LoggedReader::give_up": 1,
@@ -58,11 +59,12 @@ HELD = {
     "LoggedPorts::open",
     "LoggedReader::give_up",
     "LoggedWriter::give_up",
+    "Page::take",
     "Sink::into_inner",
     "Source::give_up",
     "Source::into_inner",
     "Source::read",
-    "answer",
+    "answer_by",
     "open_ports",
     "read_away",
     "serve_one",

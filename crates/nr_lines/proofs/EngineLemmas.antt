@@ -1,51 +1,45 @@
 -- What the line loop keeps, and how it ends.
-use Rattle.std.proofs.Common.{◌≡◌, ℕ, suc, ◌+◌, ◌<◌, ◌≤◌, min, Bool, ◌||◌, true, false, cond, Ok, Err, List, [], ◌∷◌, ◌++◌, arith, length, take, drop, refl, sym, ap, ◌∙◌, subst, nat_eq, append_assoc, append-nil, get_or, take-append-drop, take_all, drop-cons}
-use Rattle.std.proofs.lemmas.List.{length-take, take_more}
+use Rattle.std.proofs.Common.{◌≡◌, ℕ, ◌<◌, min, Bool, true, false, cond, Ok, Err, List, [], ◌∷◌, ◌++◌, arith, length, take, refl, sym, ap, ◌∙◌, subst, nat_eq, append_assoc, append-nil}
+use Rattle.std.specs.Prelude.{Result}
+use Rattle.std.proofs.lemmas.List.{length-take}
 use Rattle.std.proofs.lemmas.Bool.{lt-ltb, le-ltb, eqb-false, false≢true}
 use Rattle.std.specs.List.{All, concat}
 use Rattle.std.proofs.lemmas.List.Elements.{All-append, All-nil, All-weaker}
+use Rattle.std.proofs.lemmas.List.Folds.{concat-append}
 use Rattle.nr_text.specs.Moments.{Moment}
-use Rattle.nr_text.specs.Streams.{Incoming, IsOver, Outgoing, Passes, Receives, Sends}
+use Rattle.nr_text.specs.Streams.{Incoming, IsOver, Outgoing, Passes, Receives, Sends, saturating_count}
 use Rattle.nr_text.specs.Auxiliary.Streams.{IsNow, ReadsAt}
 use Rattle.nr_command.specs.Command.{meaning_of}
 use Rattle.nr_front.specs.FrontState.{FrontState}
 use Rattle.nr_text.proofs.StreamLemmas.{receives_none, receives_then, sends_none, sends_then}
+use Rattle.nr_lines.specs.declared.ending.End.{End}
 use Rattle.nr_lines.specs.declared.ending.End.TheVariants.{Closed, Quit}
 use Rattle.nr_lines.specs.declared.ending.LineEnd.{LineEnd}
 use Rattle.nr_lines.specs.declared.ending.LineEnd.TheVariants.{Read, Write}
+use Rattle.nr_lines.specs.declared.ending.StreamFailure.{StreamFailure}
+use Rattle.nr_lines.specs.declared.ending.StreamFailure.TheVariants as failures
+use Rattle.nr_lines.specs.Batch.{AnswersBytes, Batch, Cut, RunsLines}
 use Rattle.nr_lines.specs.Engine.{lines_of, has_quit}
-use Rattle.nr_lines.specs.Auxiliary.Engine.{Turns, Answered, AnswersLines, ArePrompt, IsPrompt, whole_lines}
+use Rattle.nr_lines.specs.Auxiliary.Engine.{Turns, Answered, AnswersLines, AnswersTogether, ArePrompt, IsPrompt, is_read_failure, is_write_failure, some_count, whole_lines, without_counts}
 use Rattle.nr_lines.specs.Turn.{is_quit}
-use Rattle.nr_lines.specs.Auxiliary.Turn.{Turn, count_with, StopsInside}
-use Rattle.nr_lines.specs.LoopInvariant.{GoesOn, LoopInvariant, unfinished_line}
-use Rattle.nr_lines.proofs.LineLemmas.{whole_lines-byte, unfinished_line-byte, whole_lines-feed, unfinished_line-feed, lines_at_end, meaning_of-take, kept_more}
-use Rattle.nr_lines.proofs.TurnLemmas.{counted_more, has_quit-append, concat_more, one_text_each, turns_more, turn_asks}
+use Rattle.nr_lines.specs.LoopInvariant.{AnswersBy, LoopInvariant, unfinished_line}
+use Rattle.nr_lines.proofs.LineLemmas.{lines_at_end}
+use Rattle.nr_lines.proofs.TurnLemmas.{has_quit-append, one_text_each, some_count-append, turns_append}
 
--- what a turn gave
-abbrev Turned : FrontState → List ℕ → FrontState → Outgoing → Outgoing → ℕ → ℕ → Type 0
-Turned p line p' w w' whole whole' = (text : List ℕ) × Turn p line text p' × Sends w w' text × (whole' ≡ count_with whole text)
-
-abbrev Failed : FrontState → List ℕ → FrontState → Outgoing → Outgoing → ℕ → LineEnd → Type 0
-Failed p line p' w w' whole e = (text : List ℕ) × Turn p line text p' × StopsInside e whole text w w'
-
--- the line that is kept asks for what the whole line does
-asks : (line read : List ℕ) → line ≡ take 257 (unfinished_line read) → meaning_of line ≡ meaning_of (unfinished_line read)
-asks line read kept = ap meaning_of kept ∙ meaning_of-take (unfinished_line read)
-
--- a read that was prompt is so still, where one line more has a text
-pub prompt_more : (from : Incoming) (old : Outgoing) (moments : List Moment) (lines texts : List (List ℕ)) (line text : List ℕ) → ArePrompt from old moments lines texts
-    → ArePrompt from old moments (lines ++ line ∷ []) (texts ++ text ∷ [])
-prompt_more from old moments lines texts line text all =
-    All-weaker (IsPrompt from old lines texts) (IsPrompt from old (lines ++ line ∷ []) (texts ++ text ∷ [])) (λ m p. record {
+-- a read that was prompt is so still, where more lines have texts
+pub prompt_more : (from : Incoming) (old : Outgoing) (moments : List Moment) (lines texts later more : List (List ℕ)) → ArePrompt from old moments lines texts
+    → ArePrompt from old moments (lines ++ later) (texts ++ more)
+prompt_more from old moments lines texts later more all =
+    All-weaker (IsPrompt from old lines texts) (IsPrompt from old (lines ++ later) (texts ++ more)) (λ m p. record {
       read = p.read;
       answers = p.answers;
-      lines_behind = p.lines_behind ++ line ∷ [];
-      texts_behind = p.texts_behind ++ text ∷ [];
+      lines_behind = p.lines_behind ++ later;
+      texts_behind = p.texts_behind ++ more;
       received = p.received;
       sent = p.sent;
       one_each = p.one_each;
-      of_lines = ap (λ (l : List (List ℕ)). l ++ line ∷ []) p.of_lines ∙ append_assoc (whole_lines p.read) p.lines_behind (line ∷ []);
-      of_texts = ap (λ (l : List (List ℕ)). l ++ text ∷ []) p.of_texts ∙ append_assoc p.answers p.texts_behind (text ∷ []);
+      of_lines = ap (λ (l : List (List ℕ)). l ++ later) p.of_lines ∙ append_assoc (whole_lines p.read) p.lines_behind later;
+      of_texts = ap (λ (l : List (List ℕ)). l ++ more) p.of_texts ∙ append_assoc p.answers p.texts_behind more;
       unended = p.unended;
     }) moments all
 
@@ -79,64 +73,179 @@ prompt_still r r' w w' p p' read line whole st unended now all =
     All-append (IsPrompt r w (whole_lines read) st.texts) st.moments now st.prompt
     (All-weaker (IsNow r' w') (IsPrompt r w (whole_lines read) st.texts) (prompt_now r r' w w' p p' read line whole st unended) now all)
 
--- a byte that is no line feed
-pub byte_more : (r r' : Incoming) (w w' : Outgoing) (p p' : FrontState) (came read line line' : List ℕ) (whole b : ℕ)
-    → LoopInvariant r r' w w' p p' came read line whole → nat_eq b 10 ≡ false → line' ≡ take 257 (line ++ b ∷ []) → LoopInvariant r r' w w' p p' came (read ++ b ∷ []) line' whole
-byte_more r r' w w' p p' came read line line' whole b st goes e = record {
-  texts = st.texts;
+-- what is written with more texts
+written_more : (old w w' : Outgoing) (texts more : List (List ℕ)) (out : List ℕ) → Sends old w (concat texts) → Sends w w' out → concat more ≡ out ++ [] → Sends old w' (concat (texts ++ more))
+written_more old w w' texts more out so_far later all =
+    subst (Sends old w') (ap (λ (l : List ℕ). concat texts ++ l) (sym (append-nil out) ∙ sym all) ∙ sym (concat-append texts more)) (sends_then old w w' (concat texts) out so_far later)
+
+-- the lines that came with one read were answered, and none was quit
+pub goes_on : (from left : Incoming) (old w w' : Outgoing) (d p p' : FrontState) (came read line line' : List ℕ) (lines : List (List ℕ)) (whole whole' : ℕ)
+    → LoopInvariant from left old w d p came read line whole → whole_lines came ≡ whole_lines read ++ lines → Batch p p' w w' [] lines whole whole' → has_quit lines ≡ false
+    → line' ≡ take 257 (unfinished_line came) → LoopInvariant from left old w' d p' came came line' whole'
+goes_on from left old w w' d p p' came read line line' lines whole whole' st lines_are b goes kept = record {
+  texts = st.texts ++ b.texts;
   moments = st.moments;
   reads = st.reads;
-  writes = st.writes;
+  writes = written_more old w w' st.texts b.texts b.out st.writes b.sends b.split;
   passes = st.passes;
-  prompt = subst (λ ls. ArePrompt r w st.moments ls st.texts) (sym (whole_lines-byte read b goes)) st.prompt;
-  turns = subst (λ ls. Turns p ls st.texts p') (sym (whole_lines-byte read b goes)) st.turns;
-  no_quit = ap has_quit (whole_lines-byte read b goes) ∙ st.no_quit;
-  kept = e ∙ ap (λ l. take 257 (l ++ b ∷ [])) st.kept ∙ kept_more (unfinished_line read) b ∙ ap (take 257) (sym (unfinished_line-byte read b goes));
-  count = st.count;
+  prompt = subst (λ (ls : List (List ℕ)). ArePrompt from old st.moments ls (st.texts ++ b.texts)) (sym lines_are) (prompt_more from old st.moments (whole_lines read) st.texts lines b.texts st.prompt);
+  turns = subst (λ (ls : List (List ℕ)). Turns d ls (st.texts ++ b.texts) p') (sym lines_are) (turns_append d (whole_lines read) st.texts p lines b.texts p' st.turns b.turns);
+  no_quit = ap has_quit lines_are ∙ has_quit-append (whole_lines read) lines st.no_quit ∙ goes;
+  kept = kept;
+  count = b.count (some_count st.texts) st.count ∙ ap saturating_count (sym (some_count-append st.texts b.texts));
 }
 
--- what is written with a turn more
-written_more : (w w' w'' : Outgoing) (texts : List (List ℕ)) (text : List ℕ) → Sends w w' (concat texts) → Sends w' w'' text → Sends w w'' (concat (texts ++ text ∷ []))
-written_more w w' w'' texts text so_far more = subst (Sends w w'') (sym (concat_more texts text)) (sends_then w w' w'' (concat texts) text so_far more)
-
-abbrev has_one : Bool → Bool
-has_one t = t || false
-
--- the line that is kept has its turn: so has the whole line, after those before it
-turns_after : (r r' : Incoming) (w w' : Outgoing) (p p' p'' : FrontState) (came read line text : List ℕ) (whole : ℕ) (st : LoopInvariant r r' w w' p p' came read line whole) → Turn p' line text p''
-    → Turns p (whole_lines read ++ unfinished_line read ∷ []) (st.texts ++ text ∷ []) p''
-turns_after r r' w w' p p' p'' came read line text whole st turn =
-    turns_more p (whole_lines read) st.texts p' (unfinished_line read) text p'' st.turns (turn_asks line (unfinished_line read) text p' p'' (asks line read st.kept) turn)
-
--- it isn't quit: so none of them is
-no_quit_after : (r r' : Incoming) (w w' : Outgoing) (p p' : FrontState) (came read line : List ℕ) (whole : ℕ) → LoopInvariant r r' w w' p p' came read line whole → is_quit (meaning_of line) ≡ false
-    → has_quit (whole_lines read ++ unfinished_line read ∷ []) ≡ false
-no_quit_after r r' w w' p p' came read line whole st goes =
-    has_quit-append (whole_lines read) (unfinished_line read ∷ []) st.no_quit ∙ ap (λ a. has_one (is_quit a)) (sym (asks line read st.kept)) ∙ ap has_one goes
-
--- a line feed, after a line that isn't quit
-pub line_more : (r r' : Incoming) (w w' w'' : Outgoing) (p p' p'' : FrontState) (came read line line' : List ℕ) (whole whole' b : ℕ)
-    → LoopInvariant r r' w w' p p' came read line whole → nat_eq b 10 ≡ true → is_quit (meaning_of line) ≡ false → Turned p' line p'' w' w'' whole whole' → line' ≡ []
-    → LoopInvariant r r' w w'' p p'' came (read ++ b ∷ []) line' whole'
-line_more r r' w w' w'' p p' p'' came read line line' whole whole' b st feed goes turned cleared =
-    let text = turned.0 in
-    let lines : whole_lines (read ++ b ∷ []) ≡ whole_lines read ++ unfinished_line read ∷ [] = whole_lines-feed read b [] feed in
+-- a line is quit: these lines, of which it is one
+pub quits : (from left : Incoming) (old w w' : Outgoing) (d p p' : FrontState) (came read kept : List ℕ) (front : List (List ℕ)) (line : List ℕ) (back : List (List ℕ)) (whole whole' : ℕ) (ended : Bool)
+    → LoopInvariant from left old w d p came read kept whole → lines_of ended came ≡ whole_lines read ++ (front ++ line ∷ back) → (ended ≡ true → IsOver left)
+    → Batch p p' w w' [] (front ++ line ∷ []) whole whole' → has_quit front ≡ false → is_quit (meaning_of line) ≡ true → AnswersLines from left old w' d p' (Ok Quit)
+quits from left old w w' d p p' came read kept front line back whole whole' ended st lines at_end b goes stops =
+    let before : List (List ℕ) = whole_lines read in
+    let same : before ++ (front ++ line ∷ []) ≡ (before ++ front) ++ line ∷ [] = sym (append_assoc before front (line ∷ [])) in
     record {
-      texts = st.texts ++ text ∷ [];
+      read = came;
+      out = concat (st.texts ++ b.texts);
+      ended = ended;
       moments = st.moments;
       reads = st.reads;
-      writes = written_more w w' w'' st.texts text st.writes turned.2;
+      writes = written_more old w w' st.texts b.texts b.out st.writes b.sends b.split;
       passes = st.passes;
-      prompt = subst (λ ls. ArePrompt r w st.moments ls (st.texts ++ text ∷ [])) (sym lines) (prompt_more r w st.moments (whole_lines read) st.texts (unfinished_line read) text st.prompt);
-      turns = subst (λ ls. Turns p ls (st.texts ++ text ∷ []) p'') (sym lines) (turns_after r r' w w' p p' p'' came read line text whole st turned.1);
-      no_quit = ap has_quit lines ∙ no_quit_after r r' w w' p p' came read line whole st goes;
-      kept = cleared ∙ ap (take 257) (sym (unfinished_line-feed read b feed));
-      count = turned.3 ∙ counted_more st.texts text whole st.count;
+      at_end = at_end;
+      ends = record {
+        front = before ++ front;
+        line = line;
+        back = back;
+        texts = st.texts ++ b.texts;
+        prompt = subst (λ (ls : List (List ℕ)). ArePrompt from old st.moments ls (st.texts ++ b.texts)) same (prompt_more from old st.moments before st.texts (front ++ line ∷ []) b.texts st.prompt);
+        split = lines ∙ sym (append_assoc before front (line ∷ back));
+        no_quit = has_quit-append before front st.no_quit ∙ goes;
+        quit = stops;
+        turns = subst (λ (ls : List (List ℕ)). Turns d ls (st.texts ++ b.texts) p') same (turns_append d before st.texts p (front ++ line ∷ []) b.texts p' st.turns b.turns);
+        written = refl;
+      };
     }
 
--- the lines of all that came, where a line feed ends a line in the middle
-lines_there : (read came bs : List ℕ) (b : ℕ) → came ≡ read ++ b ∷ bs → nat_eq b 10 ≡ true → lines_of false came ≡ whole_lines read ++ unfinished_line read ∷ whole_lines bs
-lines_there read came bs b e feed = ap whole_lines e ∙ whole_lines-feed read b bs feed
+-- a write failed, and lines up to the one whose text was cut are answered
+abbrev cut_lines : (from left : Incoming) (old w w' : Outgoing) (d p p' : FrontState) (came read kept : List ℕ) (lines : List (List ℕ)) (whole : ℕ) (ended at_once : Bool) (e : LineEnd)
+    → (st : LoopInvariant from left old w d p came read kept whole) → lines_of ended came ≡ whole_lines read ++ lines → (ended ≡ true → IsOver left) → (c : Cut at_once p p' w w' lines whole e)
+    → AnswersLines from left old w' d c.after (Err (Write (saturating_count (some_count (st.texts ++ c.texts))) (saturating_count c.n)))
+cut_lines from left old w w' d p p' came read kept lines whole ended at_once e st lines_are at_end c =
+    let before : List (List ℕ) = whole_lines read in
+    let bytes : List ℕ = take c.n c.text in
+    let out : concat st.texts ++ (concat c.texts ++ bytes) ≡ concat (st.texts ++ c.texts) ++ bytes =
+    sym (append_assoc (concat st.texts) (concat c.texts) bytes) ∙ ap (λ (l : List ℕ). l ++ bytes) (sym (concat-append st.texts c.texts)) in
+    record {
+      read = came;
+      out = concat (st.texts ++ c.texts) ++ bytes;
+      ended = ended;
+      moments = st.moments;
+      reads = st.reads;
+      writes = subst (Sends old w') out (sends_then old w w' (concat st.texts) (concat c.texts ++ bytes) st.writes c.sends);
+      passes = st.passes;
+      at_end = at_end;
+      ends = record {
+        front = before ++ c.front;
+        line = c.line;
+        back = c.behind ++ c.more;
+        texts = st.texts ++ c.texts;
+        prompt = prompt_more from old st.moments before st.texts c.front c.texts st.prompt;
+        text = c.text;
+        mid = c.mid;
+        n = c.n;
+        split = lines_are ∙ ap (λ (l : List (List ℕ)). before ++ l) c.split ∙ sym (append_assoc before c.front (c.line ∷ (c.behind ++ c.more)));
+        no_quit = has_quit-append before c.front st.no_quit ∙ c.no_quit;
+        turns = turns_append d before st.texts p c.front c.texts c.mid st.turns c.turns;
+        turn = c.turn;
+        count = refl;
+        part_is = refl;
+        within = c.within;
+        written = refl;
+      };
+    }
+
+reports_write : (e : LineEnd) (counted part : ℕ) → e ≡ Write counted part → without_counts (Err e) ≡ Err failures.Write
+reports_write e counted part is = ap (λ (x : LineEnd). without_counts (Err x)) is
+
+-- a write failed
+pub cut : (from left : Incoming) (old w w' : Outgoing) (d p p' : FrontState) (came read kept : List ℕ) (lines : List (List ℕ)) (whole : ℕ) (ended at_once : Bool) (e : LineEnd)
+    → LoopInvariant from left old w d p came read kept whole → lines_of ended came ≡ whole_lines read ++ lines → (ended ≡ true → IsOver left) → Cut at_once p p' w w' lines whole e
+    → AnswersBy at_once from left old w' d p' (Err e)
+cut from left old w w' d p p' came read kept lines whole ended at_once e st lines_are at_end c =
+    let before : List (List ℕ) = whole_lines read in
+    let answers = cut_lines from left old w w' d p p' came read kept lines whole ended at_once e st lines_are at_end c in
+    record {
+      ending = Err (Write (saturating_count (some_count (st.texts ++ c.texts))) (saturating_count c.n));
+      last = c.after;
+      behind = c.behind;
+      texts = c.texts_behind;
+      answers = answers;
+      reported = reports_write e c.is_write.0 c.is_write.1 c.is_write.2;
+      rest = c.rest;
+      came = (
+        before ++ (c.front ++ c.line ∷ []),
+        c.more,
+        lines_are ∙ ap (λ (l : List (List ℕ)). before ++ l) (c.split ∙ sym (append_assoc c.front (c.line ∷ []) (c.behind ++ c.more)))
+            ∙ sym (append_assoc before (c.front ++ c.line ∷ []) (c.behind ++ c.more)),
+      );
+      nothing_behind = λ (no : true ≡ false). absurd (false≢true (sym no));
+      exact = λ once.
+          let counts = (c.exact once).1 (some_count st.texts) st.count ∙ ap (λ (k : ℕ). Write (saturating_count k) (saturating_count c.n)) (sym (some_count-append st.texts c.texts)) in
+          subst (λ (x : LineEnd). AnswersLines from left old w' d p' (Err x)) (sym counts)
+          (subst (λ (x : FrontState). AnswersLines from left old w' d x (Err (Write (saturating_count (some_count (st.texts ++ c.texts))) (saturating_count c.n)))) (sym (c.exact once).0) answers);
+    }
+
+-- whether a read failed, and whether a write did, without the counts
+reads_of : Result End StreamFailure → Bool
+reads_of (Err failures.Read) = true
+reads_of _ = false
+
+writes_of : Result End StreamFailure → Bool
+writes_of (Err failures.Write) = true
+writes_of _ = false
+
+reads_same : (ending : Result End LineEnd) → is_read_failure ending ≡ reads_of (without_counts ending)
+unfolding reads_of
+reads_same (Ok end) = refl
+reads_same (Err Read) = refl
+reads_same (Err (Write whole part)) = refl
+
+writes_same : (ending : Result End LineEnd) → is_write_failure ending ≡ writes_of (without_counts ending)
+unfolding writes_of
+writes_same (Ok end) = refl
+writes_same (Err Read) = refl
+writes_same (Err (Write whole part)) = refl
+
+-- replies went out together, and the counts aren't reported
+pub together : (at_once : Bool) (from left : Incoming) (old new : Outgoing) (d d' : FrontState) (result : Result End LineEnd) (uncounted : Result End StreamFailure) → AnswersBy at_once from left old new d d' result
+    → left.failed ≡ is_read_failure result → new.failed ≡ is_write_failure result → without_counts result ≡ uncounted → AnswersTogether from left old new d d' uncounted
+together at_once from left old new d d' result uncounted a reading writing is = record {
+  ending = a.ending;
+  last = a.last;
+  behind = a.behind;
+  texts = a.texts;
+  answers = a.answers;
+  reported = sym is ∙ a.reported;
+  rest = a.rest;
+  came = a.came;
+  nothing_behind = a.nothing_behind;
+  reader = reading ∙ reads_same result ∙ ap reads_of a.reported ∙ sym (reads_same a.ending);
+  writer = writing ∙ writes_same result ∙ ap writes_of a.reported ∙ sym (writes_same a.ending);
+}
+
+-- no write failed
+pub uncut : (at_once : Bool) (from left : Incoming) (old new : Outgoing) (d d' : FrontState) (result : Result End LineEnd) → AnswersLines from left old new d d' result → AnswersBy at_once from left old new d d' result
+uncut at_once from left old new d d' result answers = record {
+  ending = result;
+  last = d';
+  behind = [];
+  texts = [];
+  answers = answers;
+  reported = refl;
+  rest = refl;
+  came = (lines_of answers.ended answers.read, [], sym (append-nil (lines_of answers.ended answers.read)));
+  nothing_behind = λ _. refl;
+  exact = λ _. answers;
+}
 
 -- the line that follows the last line feed, at the end
 last_line : (read line : List ℕ) → line ≡ take 257 (unfinished_line read) → 0 < length line → lines_of true read ≡ whole_lines read ++ unfinished_line read ∷ []
@@ -148,73 +257,6 @@ no_line : (read line : List ℕ) → line ≡ take 257 (unfinished_line read) �
 no_line read line kept none =
     let len : length line ≡ min 257 (length (unfinished_line read)) = ap length kept ∙ length-take 257 (unfinished_line read) in
     lines_at_end read ∙ ap (λ t. whole_lines read ++ cond t (unfinished_line read ∷ []) []) (le-ltb 0 (length (unfinished_line read)) (omega (arith, len, none))) ∙ append-nil (whole_lines read)
-
--- a line is quit: these lines, of which it is one
-quits : (r r' : Incoming) (w w' w'' : Outgoing) (p p' p'' : FrontState) (came read line : List ℕ) (back : List (List ℕ)) (whole whole' : ℕ) (ended : Bool)
-    → LoopInvariant r r' w w' p p' came read line whole → lines_of ended came ≡ whole_lines read ++ unfinished_line read ∷ back → (ended ≡ true → IsOver r') → is_quit (meaning_of line) ≡ true
-    → Turned p' line p'' w' w'' whole whole' → AnswersLines r r' w w'' p p'' (Ok Quit)
-quits r r' w w' w'' p p' p'' came read line back whole whole' ended st lines at_end stops turned =
-    let text = turned.0 in
-    record {
-      read = came;
-      out = concat (st.texts ++ text ∷ []);
-      ended = ended;
-      moments = st.moments;
-      reads = st.reads;
-      writes = written_more w w' w'' st.texts text st.writes turned.2;
-      passes = st.passes;
-      at_end = at_end;
-      ends = record {
-        front = whole_lines read;
-        line = unfinished_line read;
-        back = back;
-        texts = st.texts ++ text ∷ [];
-        prompt = prompt_more r w st.moments (whole_lines read) st.texts (unfinished_line read) text st.prompt;
-        split = lines;
-        no_quit = st.no_quit;
-        quit = ap is_quit (sym (asks line read st.kept)) ∙ stops;
-        turns = turns_after r r' w w' p p' p'' came read line text whole st turned.1;
-        written = refl;
-      };
-    }
-
--- a write failed
-cut : (r r' : Incoming) (w w' w'' : Outgoing) (p p' p'' : FrontState) (came read line : List ℕ) (back : List (List ℕ)) (whole : ℕ) (ended : Bool) (e : LineEnd)
-    → LoopInvariant r r' w w' p p' came read line whole → lines_of ended came ≡ whole_lines read ++ unfinished_line read ∷ back → (ended ≡ true → IsOver r')
-    → Failed p' line p'' w' w'' whole e → AnswersLines r r' w w'' p p'' (Err e)
-cut r r' w w' w'' p p' p'' came read line back whole ended Read st lines at_end failed = absurd failed.2
-cut r r' w w' w'' p p' p'' came read line back whole ended (Write n part) st lines at_end failed =
-    let same = asks line read st.kept in
-    let rest = unfinished_line read in
-    let stops = failed.2.1 in
-    record {
-      read = came;
-      out = concat st.texts ++ take stops.0 failed.0;
-      ended = ended;
-      moments = st.moments;
-      reads = st.reads;
-      writes = sends_then w w' w'' (concat st.texts) (take stops.0 failed.0) st.writes stops.3;
-      passes = st.passes;
-      at_end = at_end;
-      ends = record {
-        front = whole_lines read;
-        line = rest;
-        back = back;
-        texts = st.texts;
-        prompt = st.prompt;
-        text = failed.0;
-        mid = p';
-        n = stops.0;
-        split = lines;
-        no_quit = st.no_quit;
-        turns = st.turns;
-        turn = turn_asks line rest failed.0 p' p'' same failed.1;
-        count = failed.2.0 ∙ st.count;
-        part_is = stops.2;
-        within = stops.1;
-        written = refl;
-      };
-    }
 
 -- the reader is at its end, and no line is left
 pub closed : (r r' : Incoming) (w w' : Outgoing) (p p' : FrontState) (read line : List ℕ) (whole : ℕ) → LoopInvariant r r' w w' p p' read read line whole → IsOver r' → length line ≡ 0
@@ -255,55 +297,72 @@ pub none_now : (r r' : Incoming) (w : Outgoing) → Passes r r' [] → ReadsAt r
 none_now r r' w passes = (passes, All-nil (IsNow r w))
 
 -- the reader is at its end, and the last line isn't quit
-pub closed_after : (r r' : Incoming) (w w' w'' : Outgoing) (p p' p'' : FrontState) (read line : List ℕ) (whole whole' : ℕ) → LoopInvariant r r' w w' p p' read read line whole → IsOver r' → 0 < length line
-    → is_quit (meaning_of line) ≡ false → Turned p' line p'' w' w'' whole whole' → AnswersLines r r' w w'' p p'' (Ok Closed)
-closed_after r r' w w' w'' p p' p'' read line whole whole' st at_end some goes turned =
-    let text = turned.0 in
+pub closed_after : (from left : Incoming) (old w w' : Outgoing) (d p p' : FrontState) (read line : List ℕ) (whole whole' : ℕ) → LoopInvariant from left old w d p read read line whole → IsOver left → 0 < length line
+    → Batch p p' w w' [] (unfinished_line read ∷ []) whole whole' → has_quit (unfinished_line read ∷ []) ≡ false → AnswersLines from left old w' d p' (Ok Closed)
+closed_after from left old w w' d p p' read line whole whole' st at_end some b goes =
+    let before : List (List ℕ) = whole_lines read in
+    let last : List (List ℕ) = unfinished_line read ∷ [] in
     record {
       read = read;
-      out = concat (st.texts ++ text ∷ []);
+      out = concat (st.texts ++ b.texts);
       ended = true;
       moments = st.moments;
       reads = st.reads;
-      writes = written_more w w' w'' st.texts text st.writes turned.2;
+      writes = written_more old w w' st.texts b.texts b.out st.writes b.sends b.split;
       passes = st.passes;
       at_end = λ _. at_end;
       ends = (
         refl,
-        subst (λ ls. Answered (ArePrompt r w st.moments) p ls (concat (st.texts ++ text ∷ [])) p'') (sym (last_line read line st.kept some)) (record {
-          texts = st.texts ++ text ∷ [];
-          prompt = prompt_more r w st.moments (whole_lines read) st.texts (unfinished_line read) text st.prompt;
-          turns = turns_after r r' w w' p p' p'' read read line text whole st turned.1;
-          no_quit = no_quit_after r r' w w' p p' read read line whole st goes;
+        subst (λ ls. Answered (ArePrompt from old st.moments) d ls (concat (st.texts ++ b.texts)) p') (sym (last_line read line st.kept some)) (record {
+          texts = st.texts ++ b.texts;
+          prompt = prompt_more from old st.moments before st.texts last b.texts st.prompt;
+          turns = turns_append d before st.texts p last b.texts p' st.turns b.turns;
+          no_quit = has_quit-append before last st.no_quit ∙ goes;
           written = refl;
         }),
       );
     }
 
--- the last line, at the reader's end
-pub last_quits : (r r' : Incoming) (w w' w'' : Outgoing) (p p' p'' : FrontState) (read line : List ℕ) (whole whole' : ℕ) → LoopInvariant r r' w w' p p' read read line whole → IsOver r' → 0 < length line
-    → is_quit (meaning_of line) ≡ true → Turned p' line p'' w' w'' whole whole' → AnswersLines r r' w w'' p p'' (Ok Quit)
-last_quits r r' w w' w'' p p' p'' read line whole whole' st at_end some stops turned =
-    quits r r' w w' w'' p p' p'' read read line [] whole whole' true st (last_line read line st.kept some) (λ _. at_end) stops turned
+-- the last line isn't quit, or it is
+pub last_closes : (at_once quits : Bool) (from left : Incoming) (old w w' : Outgoing) (d p p' : FrontState) (read line : List ℕ) (whole whole' : ℕ) → LoopInvariant from left old w d p read read line whole → IsOver left
+    → 0 < length line → RunsLines at_once p p' w w' [] (unfinished_line read ∷ []) whole whole' (Ok quits) → quits ≡ false → AnswersBy at_once from left old w' d p' (Ok Closed)
+last_closes at_once false from left old w w' d p p' read line whole whole' st at_end some runs goes =
+    uncut at_once from left old w' d p' (Ok Closed) (closed_after from left old w w' d p p' read line whole whole' st at_end some runs.0 runs.1)
+last_closes at_once true from left old w w' d p p' read line whole whole' st at_end some runs goes = absurd (false≢true (sym goes))
 
-pub last_cut : (r r' : Incoming) (w w' w'' : Outgoing) (p p' p'' : FrontState) (read line : List ℕ) (whole : ℕ) (e : LineEnd) → LoopInvariant r r' w w' p p' read read line whole → IsOver r'
-    → 0 < length line
-    → Failed p' line p'' w' w'' whole e → AnswersLines r r' w w'' p p'' (Err e)
-last_cut r r' w w' w'' p p' p'' read line whole e st at_end some failed =
-    cut r r' w w' w'' p p' p'' read read line [] whole true e st (last_line read line st.kept some) (λ _. at_end) failed
+pub last_quits : (at_once quits : Bool) (from left : Incoming) (old w w' : Outgoing) (d p p' : FrontState) (read line : List ℕ) (whole whole' : ℕ) → LoopInvariant from left old w d p read read line whole → IsOver left
+    → 0 < length line → RunsLines at_once p p' w w' [] (unfinished_line read ∷ []) whole whole' (Ok quits) → quits ≡ true → AnswersBy at_once from left old w' d p' (Ok Quit)
+last_quits at_once true from left old w w' d p p' read line whole whole' st at_end some (front, quit, back, split, b, goes, stops) is =
+    uncut at_once from left old w' d p' (Ok Quit)
+    (quits from left old w w' d p p' read read line front quit back whole whole' true st (last_line read line st.kept some ∙ ap (λ (l : List (List ℕ)). whole_lines read ++ l) split) (λ _. at_end) b goes stops)
+last_quits at_once false from left old w w' d p p' read line whole whole' st at_end some runs is = absurd (false≢true is)
 
--- a line that ends by a line feed
-pub line_quits : (r r' : Incoming) (w w' w'' : Outgoing) (p p' p'' : FrontState) (came read line bs : List ℕ) (whole whole' b : ℕ) → LoopInvariant r r' w w' p p' came read line whole → came ≡ read ++ b ∷ bs
-    → nat_eq b 10 ≡ true
-    → is_quit (meaning_of line) ≡ true → Turned p' line p'' w' w'' whole whole' → AnswersLines r r' w w'' p p'' (Ok Quit)
-line_quits r r' w w' w'' p p' p'' came read line bs whole whole' b st e feed stops turned =
-    quits r r' w w' w'' p p' p'' came read line (whole_lines bs) whole whole' false st (lines_there read came bs b e feed) (λ (h : false ≡ true). cc) stops turned
+-- or a write failed
+pub last_cut : (at_once : Bool) (from left : Incoming) (old w w' : Outgoing) (d p p' : FrontState) (read line : List ℕ) (whole : ℕ) (e : LineEnd) → LoopInvariant from left old w d p read read line whole → IsOver left
+    → 0 < length line → Cut at_once p p' w w' (unfinished_line read ∷ []) whole e → AnswersBy at_once from left old w' d p' (Err e)
+last_cut at_once from left old w w' d p p' read line whole e st at_end some c =
+    cut from left old w w' d p p' read read line (unfinished_line read ∷ []) whole true at_once e st (last_line read line st.kept some) (λ _. at_end) c
 
-pub line_cut : (r r' : Incoming) (w w' w'' : Outgoing) (p p' p'' : FrontState) (came read line bs : List ℕ) (whole b : ℕ) (err : LineEnd) → LoopInvariant r r' w w' p p' came read line whole
-    → came ≡ read ++ b ∷ bs → nat_eq b 10 ≡ true
-    → Failed p' line p'' w' w'' whole err → AnswersLines r r' w w'' p p'' (Err err)
-line_cut r r' w w' w'' p p' p'' came read line bs whole b err st e feed failed =
-    cut r r' w w' w'' p p' p'' came read line (whole_lines bs) whole false err st (lines_there read came bs b e feed) (λ (h : false ≡ true). cc) failed
+-- some bytes came, and the lines that end among them were answered: none is quit, or one is
+pub bytes_go_on : (at_once quits : Bool) (from left : Incoming) (old w w' : Outgoing) (d p p' : FrontState) (read bytes line line' : List ℕ) (whole whole' : ℕ) → LoopInvariant from left old w d p (read ++ bytes) read line whole
+    → AnswersBytes at_once read bytes p p' w w' [] line' whole whole' (Ok quits) → quits ≡ false → LoopInvariant from left old w' d p' (read ++ bytes) (read ++ bytes) line' whole'
+bytes_go_on at_once false from left old w w' d p p' read bytes line line' whole whole' st a goes =
+    goes_on from left old w w' d p p' (read ++ bytes) read line line' a.lines whole whole' st a.lines_are a.runs.0 a.runs.1 (a.kept refl)
+bytes_go_on at_once true from left old w w' d p p' read bytes line line' whole whole' st a goes = absurd (false≢true (sym goes))
+
+pub bytes_quit : (at_once quits : Bool) (from left : Incoming) (old w w' : Outgoing) (d p p' : FrontState) (read bytes line line' : List ℕ) (whole whole' : ℕ) → LoopInvariant from left old w d p (read ++ bytes) read line whole
+    → AnswersBytes at_once read bytes p p' w w' [] line' whole whole' (Ok quits) → quits ≡ true → AnswersBy at_once from left old w' d p' (Ok Quit)
+bytes_quit at_once true from left old w w' d p p' read bytes line line' whole whole' st a is =
+    let (front, quit, back, split, b, goes, stops) = a.runs in
+    uncut at_once from left old w' d p' (Ok Quit)
+    (quits from left old w w' d p p' (read ++ bytes) read line front quit back whole whole' false st (a.lines_are ∙ ap (λ (l : List (List ℕ)). whole_lines read ++ l) split) (λ (h : false ≡ true). cc) b goes stops)
+bytes_quit at_once false from left old w w' d p p' read bytes line line' whole whole' st a is = absurd (false≢true is)
+
+-- or a write failed
+pub bytes_cut : (at_once : Bool) (from left : Incoming) (old w w' : Outgoing) (d p p' : FrontState) (read bytes line line' : List ℕ) (whole whole' : ℕ) (e : LineEnd) → LoopInvariant from left old w d p (read ++ bytes) read line whole
+    → AnswersBytes at_once read bytes p p' w w' [] line' whole whole' (Err e) → AnswersBy at_once from left old w' d p' (Err e)
+bytes_cut at_once from left old w w' d p p' read bytes line line' whole whole' e st a =
+    cut from left old w w' d p p' (read ++ bytes) read line a.lines whole false at_once e st a.lines_are (λ (h : false ≡ true). cc) a.runs
 
 -- nothing came yet
 pub invariant_at_first : (r : Incoming) (w : Outgoing) (p : FrontState) (line : List ℕ) → line ≡ [] → LoopInvariant r r w w p p [] [] line 0
@@ -336,17 +395,6 @@ came_more r r' r'' w w' p p' read line bytes whole st unended more moments now =
   count = st.count;
 }
 
--- none of the bytes are done with
-pub none_done : (r r' : Incoming) (w w' : Outgoing) (p p' : FrontState) (came before line : List ℕ) (whole : ℕ) → LoopInvariant r r' w w' p p' came before line whole
-    → LoopInvariant r r' w w' p p' came (before ++ []) line whole
-none_done r r' w w' p p' came before line whole st = subst (λ read. LoopInvariant r r' w w' p p' came read line whole) (sym (append-nil before)) st
-
--- all of them are
-pub all_done : (r r' : Incoming) (w w' : Outgoing) (p p' : FrontState) (before bytes came line : List ℕ) (whole i : ℕ) → LoopInvariant r r' w w' p p' came (before ++ take i bytes) line whole
-    → length bytes ≤ i
-    → LoopInvariant r r' w w' p p' came (before ++ bytes) line whole
-all_done r r' w w' p p' before bytes came line whole i st h = subst (λ done. LoopInvariant r r' w w' p p' came (before ++ done) line whole) (take_all i bytes h) st
-
 -- the line by another name
 pub relined : (r r' : Incoming) (w w' : Outgoing) (p p' : FrontState) (came read line slice : List ℕ) (whole : ℕ) → LoopInvariant r r' w w' p p' came read line whole → slice ≡ line
     → LoopInvariant r r' w w' p p' came read slice whole
@@ -360,30 +408,9 @@ last_invariant r r' r'' w w' p p' read line slice buf whole n st unended more mo
     (subst (λ came. LoopInvariant r r'' w w' p p' came read line whole) (append-nil read)
     (came_more r r' r'' w w' p p' read line [] whole st unended (subst (λ m. Receives r' r'' (take m buf)) none more) moments now)) e
 
--- what came, at the byte at i
-pub came_at : (before bytes : List ℕ) (i : ℕ) → i < length bytes → before ++ bytes ≡ (before ++ take i bytes) ++ get_or bytes i 0 ∷ drop (suc i) bytes
-came_at before bytes i h =
-    ap (λ bs. before ++ bs) (sym (take-append-drop i bytes) ∙ ap (λ bs. take i bytes ++ bs) (drop-cons bytes i 0 h)) ∙ sym (append_assoc before (take i bytes) (get_or bytes i 0 ∷ drop (suc i) bytes))
-
--- what is read, with the byte at i
-pub read_at : (before bytes : List ℕ) (i : ℕ) → i < length bytes → (before ++ take i bytes) ++ get_or bytes i 0 ∷ [] ≡ before ++ take (i + 1) bytes
-read_at before bytes i h = append_assoc before (take i bytes) (get_or bytes i 0 ∷ []) ∙ ap (λ bs. before ++ bs) (sym (take_more bytes i 0 h))
-
 -- a line that isn't empty
 pub some_left : (items slice : List ℕ) (r : Bool) → r ≡ nat_eq (length items) 0 → r ≡ false → slice ≡ items → 0 < length slice
 some_left items slice r tested false_r same =
     let differs = eqb-false (length items) 0 (sym tested ∙ false_r) in
     let len : length slice ≡ length items = ap length same in
     omega (arith, differs, len)
-
--- more was gone over, and one of its lines was quit
-pub goes_quit : (from left : Incoming) (old new : Outgoing) (d d' : FrontState) (came line : List ℕ) (whole : ℕ) (quits : Bool) → GoesOn from left old new d d' came line whole (Ok quits) → quits ≡ true
-    → AnswersLines from left old new d d' (Ok Quit)
-goes_quit from left old new d d' came line whole true goes e = goes
-goes_quit from left old new d d' came line whole false goes e = absurd (false≢true e)
-
--- or none was
-pub goes_further : (from left : Incoming) (old new : Outgoing) (d d' : FrontState) (came line : List ℕ) (whole : ℕ) (quits : Bool) → GoesOn from left old new d d' came line whole (Ok quits) → quits ≡ false
-    → LoopInvariant from left old new d d' came came line whole
-goes_further from left old new d d' came line whole true goes e = absurd (false≢true (sym e))
-goes_further from left old new d d' came line whole false goes e = goes

@@ -1,5 +1,5 @@
 -- The answers to lines that go on.
-use Rattle.std.proofs.Common.{◌≡◌, ℕ, suc, ◌+◌, Bool, true, false, cond, ◌||◌, List, [], ◌∷◌, ◌++◌, arith, length, filter, refl, sym, ap, ◌∙◌, subst, nat_lt, append-nil, length-append}
+use Rattle.std.proofs.Common.{◌≡◌, ℕ, suc, ◌+◌, Bool, true, false, cond, ◌||◌, List, [], ◌∷◌, ◌++◌, arith, length, filter, refl, ap, ◌∙◌, subst, nat_lt, append-nil, length-append}
 use Rattle.std.specs.List.{concat}
 use Rattle.std.proofs.lemmas.List.Folds.{concat-append}
 use Rattle.std.proofs.lemmas.List.Elements.{filter-append}
@@ -14,16 +14,14 @@ use Rattle.nr_lines.specs.Auxiliary.Engine.{Turns, some_count}
 abbrev some : List ℕ → Bool
 some text = nat_lt 0 (length text)
 
-counted_text : (whole n : ℕ) (text : List ℕ) → whole ≡ saturating_count n → count_with whole text ≡ saturating_count (n + length (filter some (text ∷ [])))
+pub counted_text : (whole n : ℕ) (text : List ℕ) → whole ≡ saturating_count n → count_with whole text ≡ saturating_count (n + some_count (text ∷ []))
 counted_text whole n text h =
     elim (nat_lt 0 (length text)) as (λ t. cond t (saturating_count (whole + 1)) whole ≡ saturating_count (n + length (cond t (text ∷ []) [])))
     [ true ↦ omega (arith, h) | false ↦ omega (arith, h) ]
 
--- the count of the texts that aren't empty goes on
-pub counted_more : (texts : List (List ℕ)) (text : List ℕ) (whole : ℕ) → whole ≡ saturating_count (some_count texts) → count_with whole text ≡ saturating_count (some_count (texts ++ text ∷ []))
-counted_more texts text whole h =
-    counted_text whole (some_count texts) text h
-    ∙ ap saturating_count (sym (ap length (filter-append some texts (text ∷ [])) ∙ length-append (filter some texts) (filter some (text ∷ []))))
+-- how many of these texts and of those aren't empty
+pub some_count-append : (xs ys : List (List ℕ)) → some_count (xs ++ ys) ≡ some_count xs + some_count ys
+some_count-append xs ys = ap length (filter-append some xs ys) ∙ length-append (filter some xs) (filter some ys)
 
 pub has_quit-append : (xs ys : List (List ℕ)) → has_quit xs ≡ false → has_quit (xs ++ ys) ≡ has_quit ys
 has_quit-append [] ys = λ h. refl
@@ -39,6 +37,13 @@ turns_more p [] [] mid line text p' here turn = (p', subst (λ m. Turn m line te
 turns_more p [] (t ∷ ts) mid line text p' here turn = absurd here
 turns_more p (l ∷ ls) [] mid line text p' here turn = absurd here
 turns_more p (l ∷ ls) (t ∷ ts) mid line text p' here turn = (here.0, here.1, turns_more here.0 ls ts mid line text p' here.2 turn)
+
+pub turns_append : (p : FrontState) (lines texts : List (List ℕ)) (mid : FrontState) (later more : List (List ℕ)) (p' : FrontState) → Turns p lines texts mid → Turns mid later more p'
+    → Turns p (lines ++ later) (texts ++ more) p'
+turns_append p [] [] mid later more p' here then = subst (λ m. Turns m later more p') here then
+turns_append p [] (t ∷ ts) mid later more p' here then = absurd here
+turns_append p (l ∷ ls) [] mid later more p' here then = absurd here
+turns_append p (l ∷ ls) (t ∷ ts) mid later more p' here then = (here.0, here.1, turns_append here.0 ls ts mid later more p' here.2 then)
 
 -- each line has one text
 pub one_text_each : (p : FrontState) (lines texts : List (List ℕ)) (p' : FrontState) → Turns p lines texts p' → length texts ≡ length lines

@@ -1,12 +1,12 @@
 -- The state of the line loop between two lines.
-use Rattle.std.specs.Prelude.{◌≡◌, ℕ, ◌==◌, Bool, true, false, List, [], ◌∷◌, take, Result, Ok, Err}
+use Rattle.std.specs.Prelude.{◌≡◌, ℕ, ◌==◌, Bool, true, false, List, [], ◌∷◌, ◌++◌, take, Result}
 use Rattle.std.specs.List.{concat, slice_split}
 use Rattle.nr_text.specs.Moments.{Moment}
 use Rattle.nr_text.specs.Streams.{Incoming, Outgoing, Passes, Receives, Sends, saturating_count}
 use Rattle.nr_front.specs.FrontState.{FrontState}
-use Rattle.nr_lines.specs.Engine.{has_quit}
-use Rattle.nr_lines.specs.Auxiliary.Engine.{AnswersLines, ArePrompt, Turns, some_count, whole_lines}
-use Rattle.nr_lines.specs.declared.ending.End.TheVariants.{Quit}
+use Rattle.nr_lines.specs.Engine.{has_quit, lines_of}
+use Rattle.nr_lines.specs.Auxiliary.Engine.{AnswersLines, ArePrompt, Turns, is_write_failure, some_count, whole_lines, without_counts}
+use Rattle.nr_lines.specs.declared.ending.End.{End}
 use Rattle.nr_lines.specs.declared.ending.LineEnd.{LineEnd}
 
 -- the last part, empty where there is none
@@ -35,12 +35,18 @@ pub record LoopInvariant (from left : Incoming) (old new : Outgoing) (d d' : Fro
   pub kept : line ≡ take 257 (unfinished_line read)
   pub count : whole ≡ saturating_count (some_count texts)
 
--- How it goes on when all that came was gone over: it is behind all of it, or it was quit, or a
--- write failed.
-abbrev pub GoesOn : Incoming → Incoming → Outgoing → Outgoing
-    → FrontState → FrontState → List ℕ → List ℕ → ℕ → Result Bool LineEnd → Type 0
-GoesOn from left old new d d' came line whole (Ok false) =
-    LoopInvariant from left old new d d' came came line whole
-GoesOn from left old new d d' came line whole (Ok true) =
-    AnswersLines from left old new d d' (Ok Quit)
-GoesOn from left old new d d' came line whole (Err e) = AnswersLines from left old new d d' (Err e)
+-- How the loop ended. Where each reply goes out at once, no line is behind the one whose text was
+-- cut, and the counts are reported.
+pub record AnswersBy (at_once : Bool) (from left : Incoming) (old new : Outgoing)
+    (d d' : FrontState) (result : Result End LineEnd) : Type 0 where
+  pub ending : Result End LineEnd
+  pub last : FrontState
+  pub behind : List (List ℕ)
+  pub texts : List (List ℕ)
+  pub answers : AnswersLines from left old new d last ending
+  pub reported : without_counts result ≡ without_counts ending
+  pub rest : Turns last behind texts d'
+  pub came : (front : List (List ℕ)) × (more : List (List ℕ))
+      × (lines_of answers.ended answers.read ≡ front ++ (behind ++ more))
+  pub nothing_behind : is_write_failure ending ≡ false → behind ≡ []
+  pub exact : at_once ≡ true → AnswersLines from left old new d d' result

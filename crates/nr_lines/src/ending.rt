@@ -18,3 +18,12 @@ pub enum LineEnd {
     /// Each count stays at `u64::MAX`.
     Write { whole: u64, part: u64 },
 }
+
+/// Which stream failed, where replies go out together: how many of them are out is not counted.
+#[derive(Clone, Copy, Debug, PartialEq, Eq)]
+pub enum StreamFailure {
+    /// A read failed.
+    Read,
+    /// A write failed, or took nothing.
+    Write,
+}

@@ -1,10 +1,13 @@
 //! Lines in, replies out: answers the lines of a reader by a front of the shared session.
 #![tactic(auto)]
 
+mod batch;
 mod ending;
 mod engine;
 pub mod laws;
+mod outbox;
+mod page;
 mod turn;
 
-pub use ending::{End, LineEnd};
-pub use engine::{answer, serve};
+pub use ending::{End, LineEnd, StreamFailure};
+pub use engine::{answer, answer_together, serve};

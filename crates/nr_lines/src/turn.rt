@@ -1,15 +1,17 @@
 //! One line and its answer.
 
-ghost use Rattle.std.specs.Prelude.{◌≡◌, ℕ, List, true, None, IfErr, IfNone, IfOk, IfSome, OnErr, OnOk};
-ghost use Rattle.nr_text.specs.Streams.{Sends};
-ghost use Rattle.nr_text.specs.Auxiliary.Streams.{Prints};
+ghost use Rattle.std.specs.Prelude.{◌≡◌, true, Err, None, IfErr, IfNone, IfOk, IfSome, OnOk};
 ghost use Rattle.nr_command.specs.Command.{meaning_of};
 ghost use Rattle.nr_command.specs.Reply.{text_of};
 ghost use Rattle.nr_command.specs.declared.reply.Reply.TheVariants as replies;
 ghost use Rattle.nr_lines.specs.Turn.{is_quit};
-ghost use Rattle.nr_lines.specs.Auxiliary.Turn.{MayReply, PrintsReply, StopsInside, Turn, count_with, fault_reply, reply_given, resumed};
+ghost use Rattle.nr_lines.specs.Auxiliary.Engine.{is_write_failure};
+ghost use Rattle.nr_lines.specs.Auxiliary.Turn.{MayReply, fault_reply, reply_given, resumed};
+ghost use Rattle.nr_lines.specs.Batch.{PrintsReply, StopsPrinting, Turned};
+ghost use Rattle.nr_lines.specs.Outbox.{Delivers, is_at_once};
 
 use crate::ending::LineEnd;
+use crate::outbox::Outbox;
 use nr_command::{Command, Fault, Line, LineFault, Reply};
 use nr_front::{Front, FrontFault};
 use nr_journal::Journal;
@@ -18,9 +20,10 @@ use nr_search::Finder;
 use nr_text::{Part, Sink};
 use std::io::Write;
 
-/// Answers a line, and says whether it is `quit`. `whole` counts the texts that went out whole.
+/// Answers a line, and says whether it is `quit`. `whole` counts the texts that were printed whole.
 pub(crate) fn turn<W: Write, S: Worlds + Drop + Sync, F: Finder>(
     line: &[u8],
+    outbox: &mut Outbox,
     w: &mut Sink<W>,
     front: &mut Front<'_, S, F>,
     journal: &Journal,
@@ -32,18 +35,15 @@ where
     requires { front.old.table ≡ journal.now }
     ensures table { front.new.table ≡ front.old.table }
     ensures quits { IfOk result (λ quits. quits ≡ is_quit (meaning_of line.now)) }
-    ensures ok { IfOk result (λ _. (text : List ℕ)
-        × Turn front.old line.now text front.new
-        × Sends w.old w.new text
-        × (whole.new ≡ count_with whole.old text)) }
-    ensures err { IfErr result (λ e. (text : List ℕ)
-        × Turn front.old line.now text front.new
-        × StopsInside e whole.old text w.old w.new) }
+    ensures ok { IfOk result (λ _. Turned front.old line.now front.new
+        w.old outbox.old w.new outbox.new whole.old whole.new) }
+    ensures err { IfErr result (λ e. StopsPrinting front.old line.now front.new w.old outbox.old w.new whole.old e) }
+    ensures kind { is_at_once outbox.new ≡ is_at_once outbox.old }
     ensures calm { OnOk result (w.new.failed ≡ w.old.failed) }
-    ensures failed { OnErr result (w.new.failed ≡ true) }
+    ensures failed { IfErr result (λ e. (w.new.failed ≡ true) × (is_write_failure (Err e) ≡ true)) }
 {
     let asked = Command::parse(line);
-    let Some(printed) = print_reply(asked, w, front, journal) else {
+    let Some(printed) = print_reply(asked, outbox, w, front, journal) else {
         return Ok(false);
     };
     match printed {
@@ -74,6 +74,7 @@ fn is_quit(asked: Result<Line, LineFault>) -> bool
 /// Prints the reply; `None` where there is none, since the line is empty.
 fn print_reply<W: Write, S: Worlds + Drop + Sync, F: Finder>(
     asked: Result<Line, LineFault>,
+    outbox: &mut Outbox,
     w: &mut Sink<W>,
     front: &mut Front<'_, S, F>,
     journal: &Journal,
@@ -83,58 +84,65 @@ where
     S::Snapshot: Drop + Sync,
     requires { front.old.table ≡ journal.now }
     ensures table { front.new.table ≡ front.old.table }
-    ensures printed { IfSome result (λ printed. PrintsReply asked front.old front.new w.old w.new printed) }
+    ensures printed { IfSome result (λ printed. PrintsReply asked front.old front.new
+        w.old outbox.old w.new outbox.new printed) }
     ensures silent { IfNone result (MayReply asked front.old None front.new) }
     ensures nothing { IfNone result (w.new ≡ w.old) }
+    ensures none { IfNone result (outbox.new ≡ outbox.old) }
 {
     let line = match asked {
         Ok(line) => line,
-        Err(fault) => return Some(print_fault(Fault::Line(fault), w)),
+        Err(fault) => return Some(print_fault(Fault::Line(fault), outbox, w)),
     };
     match line {
-        Line::Run(command) => Some(print_given(&front.exec(journal, command), w)),
-        Line::Look(query) => Some(print_given(&front.look(journal, query), w)),
-        Line::Resume => Some(print_resumed(&front.resume(), w)),
-        Line::Quit => Some(print_bye(w)),
+        Line::Run(command) => Some(print_given(&front.exec(journal, command), outbox, w)),
+        Line::Look(query) => Some(print_given(&front.look(journal, query), outbox, w)),
+        Line::Resume => Some(print_resumed(&front.resume(), outbox, w)),
+        Line::Quit => Some(print_bye(outbox, w)),
         Line::Empty => None,
     }
 }
 
 /// Prints the reply to a command or to a look.
-fn print_given<W: Write>(given: &Result<Reply, FrontFault>, w: &mut Sink<W>) -> Result<(), Part>
-    ensures { Prints w.old w.new (text_of (reply_given given.now)) result }
+fn print_given<W: Write>(
+    given: &Result<Reply, FrontFault>,
+    outbox: &mut Outbox,
+    w: &mut Sink<W>,
+) -> Result<(), Part>
+    ensures { Delivers w.old outbox.old w.new outbox.new (text_of (reply_given given.now)) result }
 {
     match given {
-        Ok(reply) => w.print(reply),
-        Err(fault) => print_fault(fault_of(*fault), w),
+        Ok(reply) => outbox.print(reply, w),
+        Err(fault) => print_fault(fault_of(*fault), outbox, w),
     }
 }
 
 /// Prints the reply where one was asked for once more.
 fn print_resumed<W: Write>(
     given: &Result<Option<Reply>, FrontFault>,
+    outbox: &mut Outbox,
     w: &mut Sink<W>,
 ) -> Result<(), Part>
-    ensures { Prints w.old w.new (text_of (resumed given.now)) result }
+    ensures { Delivers w.old outbox.old w.new outbox.new (text_of (resumed given.now)) result }
 {
     match given {
-        Ok(Some(reply)) => w.print(reply),
-        Ok(None) => w.print(&Reply::NothingOwed),
-        Err(fault) => print_fault(fault_of(*fault), w),
+        Ok(Some(reply)) => outbox.print(reply, w),
+        Ok(None) => outbox.print(&Reply::NothingOwed, w),
+        Err(fault) => print_fault(fault_of(*fault), outbox, w),
     }
 }
 
-fn print_bye<W: Write>(w: &mut Sink<W>) -> Result<(), Part>
-    ensures { Prints w.old w.new (text_of replies.Bye) result }
+fn print_bye<W: Write>(outbox: &mut Outbox, w: &mut Sink<W>) -> Result<(), Part>
+    ensures { Delivers w.old outbox.old w.new outbox.new (text_of replies.Bye) result }
 {
-    w.print(&Reply::Bye)
+    outbox.print(&Reply::Bye, w)
 }
 
 /// Prints the reply that says why nothing was done.
-fn print_fault<W: Write>(fault: Fault, w: &mut Sink<W>) -> Result<(), Part>
-    ensures { Prints w.old w.new (text_of (replies.Fault fault)) result }
+fn print_fault<W: Write>(fault: Fault, outbox: &mut Outbox, w: &mut Sink<W>) -> Result<(), Part>
+    ensures { Delivers w.old outbox.old w.new outbox.new (text_of (replies.Fault fault)) result }
 {
-    w.print(&Reply::Fault(fault))
+    outbox.print(&Reply::Fault(fault), w)
 }
 
 /// What a front's fault is reported as.

@@ -11,3 +11,4 @@ pub mod SuspectsLemmas
 pub mod SharedLemmas
 mod TranscriptLemmas
 pub mod UpgradeLemmas
+pub mod WalkLemmas

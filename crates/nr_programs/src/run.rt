@@ -13,7 +13,7 @@ ghost use Rattle.nr_programs.specs.declared.run.ExitStatus.TheVariants as status
 use crate::opening::{COPY_EVERY, open, open_given};
 use nr_front::Front;
 use nr_journal::Journal;
-use nr_lines::answer;
+use nr_lines::answer_together;
 use nr_recording::OutOfMemory;
 use nr_rev::Worlds;
 use nr_search::OneWorker;
@@ -135,7 +135,7 @@ where
         Ok(front) => front,
         Err((_, refused)) => return refuse(&OutOfMemory(refused), output),
     };
-    match answer(input, output, &mut front, &journal) {
+    match answer_together(input, output, &mut front, &journal) {
         Ok(_) => ExitStatus::Done,
         Err(_) => ExitStatus::StreamFailed,
     }

@@ -12,6 +12,8 @@ use Rattle.nr_lines.specs.declared.ending.End.{End}
 use Rattle.nr_lines.specs.declared.ending.End.TheVariants.{Closed, Quit}
 use Rattle.nr_lines.specs.declared.ending.LineEnd.{LineEnd}
 use Rattle.nr_lines.specs.declared.ending.LineEnd.TheVariants.{Read, Write}
+use Rattle.nr_lines.specs.declared.ending.StreamFailure.{StreamFailure}
+use Rattle.nr_lines.specs.declared.ending.StreamFailure.TheVariants as failures
 use Rattle.nr_lines.specs.Engine.{has_quit, lines_of}
 
 -- the lines of a text that end by a line feed
@@ -134,3 +136,27 @@ is_read_failure _ = false
 abbrev pub is_write_failure : Result End LineEnd → Bool
 is_write_failure (Err (Write whole part)) = true
 is_write_failure _ = false
+
+-- how serving ended, without the counts
+abbrev pub without_counts : Result End LineEnd → Result End StreamFailure
+without_counts (Ok ending) = Ok ending
+without_counts (Err Read) = Err failures.Read
+without_counts (Err (Write whole part)) = Err failures.Write
+
+-- As AnswersLines, by a front that was `last` behind the lines that were answered, with counts that
+-- aren't reported. If a write failed, lines behind the one whose text was cut may have had their
+-- turns too.
+pub record AnswersTogether (from left : Incoming) (old new : Outgoing) (d d' : FrontState)
+    (result : Result End StreamFailure) : Type 0 where
+  pub ending : Result End LineEnd
+  pub last : FrontState
+  pub behind : List (List ℕ)
+  pub texts : List (List ℕ)
+  pub answers : AnswersLines from left old new d last ending
+  pub reported : result ≡ without_counts ending
+  pub rest : Turns last behind texts d'
+  pub came : (front : List (List ℕ)) × (more : List (List ℕ))
+      × (lines_of answers.ended answers.read ≡ front ++ (behind ++ more))
+  pub nothing_behind : is_write_failure ending ≡ false → behind ≡ []
+  pub reader : left.failed ≡ is_read_failure ending
+  pub writer : new.failed ≡ is_write_failure ending

@@ -1,10 +1,7 @@
 -- Beside `Turn`: what contracts and proofs cite, and no law of THEOREM.md rests on.
-use Rattle.std.specs.Prelude.{◌≡◌, ℕ, ◌+◌, ◌<◌, nat_lt, List, length, take, Option, Some, None, Result, Ok, Err, if◌then◌else◌}
+use Rattle.std.specs.Prelude.{◌≡◌, ℕ, ◌+◌, nat_lt, List, length, Option, Some, None, Result, Ok, Err, if◌then◌else◌}
 use Rattle.nr_command.specs.Command.{meaning_of}
-use Rattle.nr_text.specs.Streams.{Outgoing, Sends, saturating_count}
-use Rattle.nr_text.specs.Auxiliary.Streams.{Prints}
-use Rattle.nr_text.specs.declared.sink.Part.{Part}
-use Rattle.nr_command.specs.Reply.{text_of}
+use Rattle.nr_text.specs.Streams.{saturating_count}
 use Rattle.nr_command.specs.declared.command.Line.{Line}
 use Rattle.nr_command.specs.declared.command.Line.TheVariants.{Run, Look, Resume, Quit, Empty}
 use Rattle.nr_command.specs.declared.command.LineFault.{LineFault}
@@ -15,8 +12,6 @@ use Rattle.nr_front.specs.FrontState.{FrontState}
 use Rattle.nr_front.specs.Front.{Executes, Looks, Resumes}
 use Rattle.nr_front.specs.declared.fault.FrontFault.{FrontFault}
 use Rattle.nr_front.specs.declared.fault.FrontFault.TheVariants.{Memory, Placed, Full}
-use Rattle.nr_lines.specs.declared.ending.LineEnd.{LineEnd}
-use Rattle.nr_lines.specs.declared.ending.LineEnd.TheVariants as ends
 use Rattle.nr_lines.specs.Turn.{text_or_none}
 
 -- the reply that says why there is none
@@ -49,13 +44,6 @@ MayReply (Ok Quit) d reply d' = (reply ≡ Some Bye) × (d' ≡ d)
 MayReply (Ok Empty) d reply d' = (reply ≡ None) × (d' ≡ d)
 MayReply (Err fault) d reply d' = (reply ≡ Some (Fault (faults.Line fault))) × (d' ≡ d)
 
--- A front that is asked this may return this reply, and be so then. The reply was printed, or how
--- much of it is out is reported.
-abbrev pub PrintsReply : Result Line LineFault → FrontState → FrontState → Outgoing → Outgoing
-    → Result (Unit {0}) Part → Type 0
-PrintsReply asked d d' old new printed =
-    (reply : Reply) × MayReply asked d (Some reply) d' × Prints old new (text_of reply) printed
-
 -- One line: its text, and the front after it.
 abbrev pub Turn : FrontState → List ℕ → List ℕ → FrontState → Type 0
 Turn d line text d' =
@@ -64,13 +52,3 @@ Turn d line text d' =
 -- the count with one text more, if it isn't empty
 abbrev pub count_with : ℕ → List ℕ → ℕ
 count_with n text = if nat_lt 0 (length text) then saturating_count (n + 1) else n
-
--- The first n bytes of the text are out, and not the next, and this count reports n.
-abbrev pub StopsAt : Outgoing → Outgoing → List ℕ → ℕ → Type 0
-StopsAt old new text part =
-    (n : ℕ) × (n < length text) × (part ≡ saturating_count n) × Sends old new (take n text)
-
--- A write failed inside this text, and that was reported, with the count of the whole texts before.
-abbrev pub StopsInside : LineEnd → ℕ → List ℕ → Outgoing → Outgoing → Type 0
-StopsInside ends.Read count text old new = ⊥
-StopsInside (ends.Write whole part) count text old new = (whole ≡ count) × StopsAt old new text part

@@ -1,6 +1,6 @@
 use Rattle.std.proofs.Common.{◌≡◌, ◌<◌, ◌∷◌, ◌++◌, [], length, arith, rules, sym, ◌∙◌, take_all, length-append}
 use Rattle.std.proofs.lemmas.List.{take_at}
-use Rattle.nr_lines.proofs.engine.keep.Goals as goal
+use Rattle.nr_lines.proofs.batch.keep.Goals as goal
 
 pub returns-then-not-is_full : goal.returns-then-not-is_full
 returns-then-not-is_full c =

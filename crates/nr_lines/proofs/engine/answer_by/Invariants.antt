@@ -1,15 +1,18 @@
--- What came from the source is answered, up to the line that is kept, and neither a read nor a write failed. No read found the
--- end, and each turn of the loop made one.
-use Rattle.std.proofs.Common.{◌≡◌, ◌≤◌, ℕ, List, length, false}
+-- What came from the source is answered, up to the line that is kept, nothing is held, and neither a read nor a write failed. No
+-- read found the end, and each turn of the loop made one.
+use Rattle.std.proofs.Common.{◌≡◌, ◌≤◌, ℕ, List, [], length, false}
 use Rattle.nr_lines.proofs.EngineLemmas.{StaysOpen}
 use Rattle.nr_lines.specs.LoopInvariant.{LoopInvariant}
-use Rattle.nr_lines.proofs.engine.answer.Given as goal
+use Rattle.nr_lines.specs.Outbox.{held_bytes, is_at_once}
+use Rattle.nr_lines.proofs.engine.answer_by.Given as goal
 
 abbrev pub invariant-loop : goal.invariant-loop
 invariant-loop g l = record {
   table : l.front.table ≡ l.journal;
   reader : l.r.failed ≡ false;
   writer : l.w.failed ≡ false;
+  empty : held_bytes l.outbox ≡ [];
+  kind : is_at_once l.outbox ≡ is_at_once l.fn.outbox;
   unended : StaysOpen l.fn.r l.r;
   reads : l.counter ≤ length l.r.moments;
   read : List ℕ;

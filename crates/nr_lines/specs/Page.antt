@@ -1,0 +1,34 @@
+-- The bytes of replies that are held, and those that are out.
+use Rattle.std.specs.Prelude.{◌≡◌, ℕ, ◌<◌, true, List, [], ◌++◌, length, take, Option, Some, None, Result, Ok, Err}
+use Rattle.nr_text.specs.Streams.{Outgoing, Sends, saturating_count}
+use Rattle.nr_text.specs.declared.sink.Part.{Part}
+
+-- the bytes, where they are known
+abbrev pub known_bytes : Option (List ℕ) → List ℕ
+known_bytes None = []
+known_bytes (Some bytes) = bytes
+
+-- A text was added to the bytes that were held. The first of all these are out now, and the rest is
+-- held.
+pub record GoesBehind (old : Outgoing) (held text : List ℕ) (new : Outgoing) (still : List ℕ) :
+    Type 0 where
+  pub out : List ℕ
+  pub split : held ++ text ≡ out ++ still
+  pub sends : Sends old new out
+  pub calm : new.failed ≡ old.failed
+
+-- A text was to be added to the bytes that were held, and a write failed. The first n of all these
+-- are out, and not the next. Where none was held, this count reports n.
+pub record CutBehind (old : Outgoing) (held text : List ℕ) (new : Outgoing) (count : ℕ) :
+    Type 0 where
+  pub n : ℕ
+  pub within : n < length (held ++ text)
+  pub sends : Sends old new (take n (held ++ text))
+  pub failed : new.failed ≡ true
+  pub count_is : held ≡ [] → count ≡ saturating_count n
+
+-- A text was printed behind the bytes that were held, or a write failed.
+abbrev pub PrintsBehind : Outgoing → List ℕ → Outgoing → List ℕ → List ℕ
+    → Result (Unit {0}) Part → Type 0
+PrintsBehind old held new still text (Ok _) = GoesBehind old held text new still
+PrintsBehind old held new still text (Err part) = CutBehind old held text new part.0

@@ -1,0 +1,84 @@
+//! Replies that are held.
+
+ghost use Rattle.std.specs.Prelude.{◌≡◌, ◌++◌, [], false, true};
+ghost use Rattle.nr_text.specs.Auxiliary.Streams.{Prints};
+ghost use Rattle.nr_lines.specs.Page.{PrintsBehind};
+
+use arrayvec::ArrayVec;
+use nr_text::{Part, Sink, Text};
+use std::io::Write;
+use std::marker::Model;
+use std::mem::replace;
+
+/// How many bytes of replies are held at most.
+const ROOM: usize = 4096;
+
+/// Replies that are held, one after the other.
+#[derive(Drop)]
+pub(crate) struct Page {
+    sink: Sink<ArrayVec<u8, ROOM>>,
+}
+
+impl Model for Page {
+    ghost use Rattle.std.specs.Prelude.{◌≡◌, ℕ, List, Some};
+    ghost use Rattle.nr_lines.specs.Page.{known_bytes};
+
+    ghost Value = { List ℕ };
+
+    ghost view = { λ p. known_bytes p.sink.contents };
+
+    ghost invariant = { λ p. p.sink.contents ≡ Some (known_bytes p.sink.contents) };
+}
+
+impl Page {
+    /// An empty page.
+    pub(crate) fn new() -> Page
+        ensures { result ≡ [] }
+    {
+        Page {
+            sink: Sink::new(ArrayVec::new()),
+        }
+    }
+
+    /// Prints a text: it is held, or goes out behind what is held, where there is no room for it.
+    pub(crate) fn print<W: Write, T: Text>(&mut self, text: &T, w: &mut Sink<W>) -> Result<(), Part>
+        ensures { PrintsBehind w.old self.old w.new self.new (T.text text.now) result }
+    {
+        if self.hold(text) {
+            return Ok(());
+        }
+        self.put_out(w)?;
+        w.print(text)
+    }
+
+    /// Holds a text, if there is room for it.
+    fn hold<T: Text>(&mut self, text: &T) -> bool
+        ensures holds { result ≡ true → self.new ≡ self.old ++ T.text text.now }
+        ensures leaves { result ≡ false → self.new ≡ self.old }
+    {
+        let Err(Part(part)) = self.sink.print(text) else {
+            return true;
+        };
+        let mut bytes = self.take();
+        bytes.truncate(bytes.len() - part as usize);
+        self.sink = Sink::new(bytes);
+        false
+    }
+
+    /// Puts out what is held, in one write where the writer takes all of it.
+    pub(crate) fn put_out<W: Write>(&mut self, w: &mut Sink<W>) -> Result<(), Part>
+        ensures prints { Prints w.old w.new self.old result }
+        ensures empty { self.new ≡ [] }
+    {
+        let bytes = self.take();
+        w.print(&bytes.as_slice())
+    }
+
+    /// Takes what is held.
+    fn take(&mut self) -> ArrayVec<u8, ROOM>
+        ensures bytes { result.items ≡ self.old }
+        ensures empty { self.new ≡ [] }
+    {
+        replace(&mut self.sink, Sink::new(ArrayVec::new())).into_inner()
+    }
+}
