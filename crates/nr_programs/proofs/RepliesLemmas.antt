@@ -343,7 +343,7 @@ module _ (r : Recording) (s : SessionState) (d d' : FrontState) (here : IsInStat
         met = met;
         ran = h.front ++ h.line ∷ [];
         prompt = subst (ArePrompt from old moments (h.front ++ h.line ∷ [])) (sym (texts_with r s d h.front h.line h.texts h.text h.mid d' on last))
-            (prompt_more from old moments h.front h.texts h.line h.text h.prompt);
+            (prompt_more from old moments h.front h.texts (h.line ∷ []) (h.text ∷ []) h.prompt);
         first = (later.0, later.1 ∙ sym (append_assoc h.front (h.line ∷ []) later.0));
         nothing_else = (
           drop h.n h.text,
