@@ -7,6 +7,7 @@ import unittest
 from typing import Any
 
 from netrev_go.beside import OF_IPV4
+from netrev_go.cutting import goroutines_of
 from netrev_go.goroutine_lines import CANCELLED, TIMED_OUT
 
 from netrev_go.goroutines import (
@@ -14,6 +15,7 @@ from netrev_go.goroutines import (
 )  # fmt: skip
 from netrev_go.lines import OF_GO, OF_THE_PROGRAM, Call, Calls, is_ours, outside_the_runtime
 from netrev_go.points import Kind
+from netrev_go.ran import Ran
 from nrdb import all_goroutines as where
 from nrdb.where import Lines
 
@@ -134,6 +136,13 @@ class Dials(unittest.TestCase):
 
     def test_those_of_other_goroutines_are_left_out(self) -> None:
         self.assertEqual([dial.goroutine for dial in self.dials().found().without({7, 9}).dials], [8])
+
+    def test_a_dial_of_another_test_is_none_of_a_tests(self) -> None:
+        """Also if its goroutine did nothing else."""
+        tests = [Ran("p", "TestFirst", 8, 0, 0), Ran("p", "TestSecond", 9, 0, 0)]
+        for test, goroutines in zip(tests, ([7, 8], [7, 9])):
+            found = goroutines_of(test, self.dials().found(), tests, {})
+            self.assertEqual([dial.goroutine for dial in found.dials], goroutines)
 
     def test_nrdb_reads_why_they_failed(self) -> None:
         lines = written(self.dials().found(), {**CALLS, 6: Calls((CALL_OF_GO,), None)})
