@@ -97,12 +97,16 @@ func hand(end net.Conn) {
 func pass(end net.Conn) {
 	keep("it", end)
 }
+
+func run(each func(name, line string), end net.Conn) {
+	kept["it"] = end
+}
 """
 
 
 @pytest.mark.parametrize(
     "function, place, is_so",
-    [("ask", 0, True), ("finish", 0, False), ("keep", 1, False), ("hand", 0, False), ("pass", 0, False), ("unknown", 0, False), ("ask", 2, False)],
+    [("ask", 0, True), ("finish", 0, False), ("keep", 1, False), ("hand", 0, False), ("pass", 0, False), ("run", 1, False), ("unknown", 0, False), ("ask", 2, False)],
 )  # fmt: skip
 def test_functions_that_only_use_a_connection(tmp_path: Path, function: str, place: int, is_so: bool) -> None:
     file = tmp_path / "a.go"

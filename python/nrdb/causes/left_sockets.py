@@ -95,7 +95,7 @@ def only_uses(recording: Recording, file: str, function: str, place: int) -> boo
     path, lines, number, head = found[0]
     parameters = [one.strip().partition(" ")[0] for one in head[4].split(",")]
     within = range_of(lines, LineCall(function, path, number, OF_THE_PROGRAM))
-    if within is None or place >= len(parameters):
+    if within is None or place >= len(parameters) or "(" in head[4]:  # (a parameter is a function)
         return False
     keeps = re.compile(rf"{TO_OTHERS.format(name=parameters[place])}|\b{parameters[place]}\.Close\b")
     return not any(keeps.search(USES.sub("(", code_at(lines, at))) for at in within[1:])
