@@ -6,16 +6,22 @@ from pathlib import Path
 
 import pytest
 
+from nrdb.all_goroutines import A_VALUE, FOR_VALUE, PUT, TOOK, At
+from nrdb.causes.chains import is_elsewhere, is_still_so
 from nrdb.causes.copied_structs import copies_of
 from nrdb.causes.first import first_words
 from nrdb.causes.left_sockets import only_uses
 from nrdb.causes.made_channels import is_local
 from nrdb.causes.index import index_of
+from nrdb.causes.need import Need
+from nrdb.causes.waiters import Waiter
+from nrdb.one_call import Outcome
 from nrdb.recording import Recording
-from nrdb.where import OF_THE_PROGRAM, Call
+from nrdb.waits import Name, Waiting
+from nrdb.where import OF_THE_PROGRAM, Call, Stack
 from tests.go_caused import CHAINS, NAMES, bug_line
-from tests.test_causes import in_the_folder_of_the_source
-from tests.test_needs import stored
+from tests.test_causes import TWO_ENDS, in_the_folder_of_the_source, with_lines
+from tests.test_needs import stored, use
 
 # Of each program what the first cause says, with {bug} for the line of the bug, and the reason, which no good run has.
 SAYS = {
@@ -72,6 +78,29 @@ def test_the_limit_of_a_context_had_passed() -> None:
     made = r"the limit of a context, 200 ms, had passed since that was made at main\.go:\d+ in handshake \(goroutine 0, step \d+\)\."
     assert re.search(rf"context\.AfterFunc called that as its context ended: {made}", first)
     assert "had cancelled it" not in first
+
+
+@pytest.mark.parametrize(
+    "what, position, is_so", [(PUT, 0, False), (PUT, 1, True), (TOOK, 0, True)]
+)  # fmt: skip
+def test_what_was_put_into_a_channel_later_counts_not_yet(what: str, position: int, is_so: bool) -> None:
+    recording = with_lines(TWO_ENDS)
+    recording.lines.uses[1] = [use(7, what, 0)]  # behind step 1
+    wait = Waiting(Name(0), 0, None, A_VALUE, Stack((), None), None, (At(1, FOR_VALUE),))
+    waiter = Waiter(wait.name, 0, wait.stack, None, wait)
+    assert is_still_so(index_of(recording), waiter, position) is is_so
+
+
+def test_a_goroutine_that_used_the_other_end_and_waits_at_another_connection_is_elsewhere() -> None:
+    index = index_of(stored("probed-bad"))
+    failed = next(call for call in index.book.calls if call.outcome is Outcome.TIMED_OUT)
+    other = next(
+        call for call in index.book.calls if call.socket not in (failed.socket, index.other_end(failed.socket))
+    )
+    used, opened = "{by} wrote to the other end last", "perhaps {by} should use the other end"
+    for call, how, is_so in ((other, used, True), (failed, used, False), (other, opened, False)):
+        waiter = Waiter(Name(call.goroutine), call.first, Stack((), None), call)
+        assert is_elsewhere(index, failed, waiter, Need([], waiter.name, how)) is is_so
 
 
 USERS = """\
