@@ -10,7 +10,7 @@ from nrdb.all_goroutines import FOR_VALUE, PUT, TOOK, At, GoGoroutine, Object, P
 from nrdb.causes.balances import balances_of, give_back, has_ended
 from nrdb.causes.ends_of_reads import bound_says, end_says
 from nrdb.causes.exchanges import unanswered, unasked
-from nrdb.causes.failing import in_the_past
+from nrdb.causes.past_tense import in_the_past
 from nrdb.causes.failed_dials import failed_dials
 from nrdb.causes.index import index_of
 from nrdb.causes.siblings import odd_ones
@@ -124,7 +124,10 @@ class Exchanges(unittest.TestCase):
             ),
             ({"io.CopyN", copy, "internal/poll.Splice"}, "io.CopyN reads a number of bytes, which haven't all come."),
             ({copy, "io.(*LimitedReader).Read", read}, ""),
-            ({"io.ReadAll", "io.(*LimitedReader).Read", read}, ""),
+            (
+                {"io.ReadAll", "io.(*LimitedReader).Read", read},
+                "io.ReadAll reads to the end of the stream, or up to a limit: nobody has closed socket 4 for writing.",
+            ),
             ({"io.ReadAtLeast", read}, ""),
         ):
             with self.subTest(words=words, functions=sorted(functions)):

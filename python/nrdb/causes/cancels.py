@@ -23,6 +23,7 @@ OF_CONTEXTS = ("context.", "runtime.")
 OF_A_LIMIT = "context.WithDeadlineCause"
 OF_A_CLIENT = "net/http.setRequestCancel"
 DEFERRED = ".deferwrap"
+AFTER_FUNC = "context.(*afterFuncCtx).cancel"
 DEFERS, MAKES = re.compile(r"defer (\w+)\("), re.compile(r", (\w+) :?= context\.With\w+\(")
 LATE = 1_000_000_000  # nanoseconds by which a timer may be late
 
@@ -169,3 +170,23 @@ def under_way(index: Index, call: Call, step: int) -> str:
     server = server_of(index, call.socket, step)
     wait = waits_of(index.recording).at(server, step) if server else None
     return f"{str(server).capitalize()}, which serves the request, {waits_words(wait)}." if wait else ""
+
+
+def after_says(index: Index, step: int, goroutine: int) -> list[str]:
+    """Of a step by a goroutine that context.AfterFunc had started: who had cancelled the context, and where."""
+    lines = index.recording.lines
+    known = lines.goroutines.get(lines.goid_of(goroutine))
+    if known is None or known.made is None or not known.made.function.startswith(AFTER_FUNC):
+        return []
+    closes = [
+        use for uses in lines.uses.values() for use in uses
+        if use.what == CLOSED and use.goid == known.maker and use.end <= known.begin and has(lines.stacks[use.stack], OF_A_CONTEXT)
+    ]  # fmt: skip
+    last = max(closes, key=attrgetter("end"), default=None)
+    place = place_in(lines.stacks[last.stack]) if last else ""
+    name = name_of_goid(lines, known.maker)
+    defers = deferred_says(index, Cancel(goroutine, last, [])) if last else []
+    return [
+        f"context.AfterFunc called that as its context ended: {name} had cancelled it{place} (step {known.first}).",
+        *defers,
+    ]

@@ -6,9 +6,10 @@ from typing import Hashable
 from ..recording import Recording
 from .chains import chain_says
 from .ended_contexts import of_a_handler
-from .failing import in_the_past, served_says
+from .failing import served_says
 from .http_requests import CancelledRequest, cancelled_requests
 from .index import Cause, Index, index_of, with_others
+from .past_tense import in_the_past
 from .unaccepted import unaccepted
 
 

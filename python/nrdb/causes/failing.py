@@ -1,19 +1,16 @@
 """Each call that failed, with what brought that about: of a timeout the deadline, of a closed descriptor who closed it, of an end
 or a broken connection who closed the other end."""
 
-import re
-from operator import attrgetter
 from typing import NamedTuple, Optional
 
 from netrev_words.plurals import counted
 
-from ..all_goroutines import CLOSED
 from ..one_call import CLOSE, Call, Outcome
 from ..recording import Recording
-from ..waits import Name, name_of_goid, waits_of
+from ..waits import Name, waits_of
 from ..where import Stack
 from .asked import asked_of
-from .cancels import OF_A_CONTEXT, Cancel, cancel_before, cancel_says, deferred_says, under_way
+from .cancels import after_says, cancel_before, cancel_says, deferred_says, under_way
 from .chains import chain_says
 from .cut_bodies import body_says, is_of_a_body
 from .cut_datagrams import cut_says
@@ -25,24 +22,18 @@ from .late_answers import is_of_write_timeout
 from .long_lines import long_line_says
 from .need import Need
 from .needs import Needs
-from .package_source import places_with
-from .responses import has, server_of
+from .past_tense import in_the_past
+from .responses import server_of
 from .shared_sockets import shared_says
 from .sizes import are_known, moved_at, size_of
+from .unmet_needs import endless_says, found_says, given_up_says
 from .unused_sockets import unused_since
-from .words import ENDED, duration, is_of_go, name_of, place_in, place_of_step, told, waits_words
+from .words import ENDED, duration, name_of, place_of_step, told, waits_words
 
-PAST = {
-    "sleeps": "slept", "waits": "waited", "it is now in": "it was then in", "is itself under way": "was itself under way", "It needs": "It needed",
-    "has no room": "had no room", "isn't being": "wasn't being", "is being": "was being", "it is in no call": "it was in no call", ", is in": ", was in",
-    "now it reads on": "then it read on", "has written": "had written", "has closed": "had closed", "haven't all come": "hadn't all come",
-}  # fmt: skip
 OF_A_SERVER = ("net/http.(*conn).readRequest", "net/http.(*conn).serve")
 OF_CONNECTIONS = ("internal/poll.", "net.", "crypto/tls.")
 OF_A_FILE = "os.(*File)."
 CONN_READ = "net.(*conn).Read"
-AFTER_FUNC = "context.(*afterFuncCtx).cancel"
-DUPLICATES = re.compile(r"\.File\(\)|\bsyscall\.Dup")
 DEEP = 3  # causes of causes that are told
 
 
@@ -109,29 +100,6 @@ def of_timeout(index: Index, call: Call, begins: str) -> Cause:
     return Cause(call, says, [call.first, call.cause], looks, need.stopped if need else 0, [], chain)
 
 
-def found_says(index: Index, call: Call) -> list[str]:
-    """What else is known of a Read or a Write under a deadline that others had kept: not what it waited for, but why that didn't come."""
-    if index.is_listening(call) or not call.first < call.last:
-        return []
-    need = Needs(index, {}, call.last).of_call(call)
-    return list(map(in_the_past, [*([] if need.is_plain else need.more), *chain_says(index, call, need, call.last)]))
-
-
-def endless_says(index: Index, call: Call) -> list[str]:
-    """Of a Read whose other end was closed before it ended, and that met no end of the stream: another descriptor has the connection."""
-    other = index.other_end(call.socket)
-    by = index.closing(other, call.last, whole=True) if other is not None and call.name in READING else None
-    if by is None or by.last >= call.last:
-        return []
-    own = index.recording.lines.of(by.first).own()
-    places = places_with(index.recording, own[0].file, DUPLICATES) if own else ()
-    at = f", as {' and '.join(places[:2])} make{'' if places[1:] else 's'} it" if places else ""
-    return [
-        f"Its other end, socket {other}, was closed{place_of_step(index.recording, by.first, by.goroutine)}, and the end of the stream didn't come. "
-        f"Perhaps a second descriptor of it is open{at}: the connection ends as the last one is closed."
-    ]
-
-
 def is_of_a_server(stack: Stack) -> bool:
     """Whether a server of net/http itself set a deadline. The innermost function outside of connections did: a handler may, by its
     http.ResponseController too, and the server is below each of them."""
@@ -147,13 +115,6 @@ def between(index: Index, call: Call) -> str:
         return ""
     last = some[-1]
     return f" Before that, its goroutine {in_the_past(waits_words(last))}."
-
-
-def in_the_past(words: str) -> str:
-    """A sentence of what is, as one of what was."""
-    for now, then in PAST.items():
-        words = re.sub(rf"\b{now}\b", then, words)
-    return words
 
 
 def under(well: list[Call], late: list[Call], name: str) -> str:
@@ -183,34 +144,6 @@ def of_close(index: Index, call: Call, begins: str, deep: int) -> Cause:
     before = Before([], []) if ended or after else why(index, by, deep)
     looks = [f"goto {call.cause}", f"calls sock {call.socket}"]
     return Cause(call, [*says, *before.says], [call.first, call.cause], looks, 0, before.calls)
-
-
-def after_says(index: Index, step: int, goroutine: int) -> list[str]:
-    """Of a step by a goroutine that context.AfterFunc had started: who had cancelled the context, and where."""
-    lines = index.recording.lines
-    known = lines.goroutines.get(lines.goid_of(goroutine))
-    if known is None or known.made is None or not known.made.function.startswith(AFTER_FUNC):
-        return []
-    closes = [
-        use for uses in lines.uses.values() for use in uses
-        if use.what == CLOSED and use.goid == known.maker and use.end <= known.begin and has(lines.stacks[use.stack], OF_A_CONTEXT)
-    ]  # fmt: skip
-    last = max(closes, key=attrgetter("end"), default=None)
-    place = place_in(lines.stacks[last.stack]) if last else ""
-    name = name_of_goid(lines, known.maker)
-    defers = deferred_says(index, Cancel(goroutine, last, [])) if last else []
-    return [
-        f"context.AfterFunc called that as its context ended: {name} had cancelled it{place} (step {known.first}).",
-        *defers,
-    ]
-
-
-def given_up_says(index: Index, call: Call, by: Optional[Call]) -> list[str]:
-    """What a call waited for while Go's own code closed its descriptor, as it does to a connection whose context has ended."""
-    if by is None or not call.first < call.cause or not is_of_go(index.recording, by) or by.goroutine == call.goroutine:
-        return []
-    need = Needs(index, {}, call.cause).of_call(call)
-    return list(map(in_the_past, [*need.says, *need.more, *chain_says(index, call, need, call.cause)]))
 
 
 def context_says(index: Index, call: Call, by: Optional[Call]) -> list[str]:

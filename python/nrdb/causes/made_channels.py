@@ -3,7 +3,8 @@ saw it, and by which lines that returns, by the program's source if that is here
 
 import re
 
-from ..all_goroutines import A_RECEIVER
+from ..all_goroutines import A_RECEIVER, PUT, At
+from ..recording import Recording
 from ..waits import Name, Waiting, name_of_goid, waits_of
 from ..where import OF_THE_PROGRAM, Call
 from .balances import has_ended
@@ -55,3 +56,12 @@ def returns_says(index: Index, line: Call) -> str:
     found = [number for number, _ in found_in(index.recording, line, RETURNS) if number > line.line]
     places = " or ".join(f"{line.file}:{number}" for number in found)
     return f", by {places}" if 0 < len(found) <= MOST else ""
+
+
+def is_filled_by_maker(recording: Recording, at: At) -> bool:
+    """Whether all values were put into a channel by the function that made it, as into a bucket of tokens."""
+    lines = recording.lines
+    made = lines.made.get(at.object)
+    own = lines.stacks[made.stack].own() if made else None
+    puts = [lines.stacks[use.stack].own() for use in lines.uses.get(at.object, ()) if use.what == PUT]
+    return own is not None and bool(puts) and all(put and put[0].function == own[0].function for put in puts)

@@ -5,7 +5,7 @@ from itertools import islice
 from typing import Any, Callable, Hashable, Iterable, Iterator, Mapping, Optional, TypeVar
 
 
-from ..all_goroutines import CLOSED, FOR_ROOM, FOR_VALUE, PUT, TOOK, At
+from ..all_goroutines import FOR_ROOM, FOR_VALUE, PUT, TOOK, At
 from ..recording import Recording
 from ..waits import Name, Waiting, Waits, name_of_goid
 from ..where import OF_THE_PROGRAM, Stack
@@ -22,8 +22,9 @@ from .ledger import GAVE_BEFORE, GIVES, GIVES_WORDS, Given, Ledger
 from .kept_ways import gives_on_most_ways, ways_with_an_error
 from .loop_variables import shared_variables
 from .need import Certainty, Need
-from .sibling_channels import given_at_siblings
+from .sibling_channels import giver_at_siblings
 from .siblings import Kind, ended_words, kinds_of
+from .made_channels import is_filled_by_maker
 from .new_channels import made_since
 from .senders import later_giver
 from .slots import of_slots
@@ -32,7 +33,6 @@ from .unclosed import unclosed
 from .waiters import Waiter
 from .words import place_in
 
-DID_AT = {PUT: "put a value into", TOOK: "took one from"}
 DID = {PUT: "putting a value there", TOOK: "taking one there"}
 MOST_GIVEN = 50  # goroutines that are looked at for each that waits
 NOBODY = Name(-1)
@@ -86,7 +86,7 @@ class NeedsOfChannels:
         if not balances:
             return self._of_slots(wait) or self._of_nested(wait) if self.is_buffered(at) else None
         takes = balances[0].takes
-        if takes == wanted and self._is_filled_by_maker(at):
+        if takes == wanted and is_filled_by_maker(self._recording, at):
             return None
         if takes == wanted:  # it waits to give back: too much was
             return Need(excess_says(balances)) if any(one.missing < 0 for one in balances) else None
@@ -100,14 +100,6 @@ class NeedsOfChannels:
             f"{{by}} {'put a value there' if takes == PUT else 'took a value there'}, and has that yet",
             Certainty.LIKELY,
         )
-
-    def _is_filled_by_maker(self, at: At) -> bool:
-        """Whether all values were put into a channel by the function that made it."""
-        lines = self._recording.lines
-        made = lines.made.get(at.object)
-        own = lines.stacks[made.stack].own() if made else None
-        puts = [lines.stacks[use.stack].own() for use in lines.uses.get(at.object, ()) if use.what == PUT]
-        return own is not None and bool(puts) and all(put and put[0].function == own[0].function for put in puts)
 
     def _of_slots(self, wait: Waiting) -> Optional[Need]:
         """Of a semaphore whose slots nobody has given back yet: who has one."""
@@ -174,8 +166,12 @@ class NeedsOfChannels:
         since = self._made_since(wait)
         given = [one for at in wait.objects for one in self._given(at) if one.name != wait.name and one.last >= since]
         closing = self._closing(wait)
-        if not given and not (closing and closing.by) and (need := self._of_sibling_channels(wait)):
-            return need
+        if (
+            not given
+            and not (closing and closing.by)
+            and (by := giver_at_siblings(self._recording, wait, self._waiters))
+        ):
+            return by._replace(more=self.more_of(wait, by.by)) if by.by else by
         if closing and (closing.by or not given):
             return closing
         if one := next((one for one in given if one.name in self._waiters), None):
@@ -196,17 +192,6 @@ class NeedsOfChannels:
             return Need(says, is_odd=True, ended=self._ended_siblings(wait))
         return self._of_the_past(wait, given[:1], closing)
 
-    def _of_sibling_channels(self, wait: Waiting) -> Optional[Need]:
-        """Of a channel at which nobody has given yet: the goroutine that waits, and gave at one before which the same line had made."""
-        lines = self._recording.lines
-        for use in given_at_siblings(self._recording, wait):
-            name, place = name_of_goid(lines, use.goid), place_in(lines.stacks[use.stack])
-            if name != wait.name and name in self._waiters and place:
-                did = "closed" if use.what == CLOSED else DID_AT[use.what]
-                how = f"perhaps {{by}}, which {did} the channel before{place}, that the same line had made"
-                return Need([], name, how, Certainty.PERHAPS, more=self.more_of(wait, name))
-        return None
-
     def _of_ended_takers(self, wait: Waiting) -> Need:
         """Of a select that would put a value into a channel: that all who took from that have ended."""
         for at in wait.objects:
@@ -226,7 +211,7 @@ class NeedsOfChannels:
             ended = f"{did}; it {does}." if (does := self._does(one.name, one.stack)) else f"{did}."
             gone = one.name if has_ended(self._recording, one.name) else None
             return Need([ended, *((closing.more if closing else []) or have_ended(self._recording, wait))], gone=gone)
-        is_filled = any(self._is_filled_by_maker(at) for at in wait.objects)
+        is_filled = any(is_filled_by_maker(self._recording, at) for at in wait.objects)
         if not is_filled and (itself := only_itself(self._recording, wait)):
             return Need([itself])
         if left := self._once(("gone", wait.objects), lambda: self._gone(wait)):

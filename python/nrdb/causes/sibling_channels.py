@@ -1,9 +1,25 @@
 """Channels that one line makes anew each time: of a goroutine that waits at one of them, which goroutine gave at those before, as the recorder saw it."""
 
-from ..all_goroutines import CLOSED, FOR_VALUE, Use
+from typing import Container, Optional
+
+from ..all_goroutines import CLOSED, FOR_VALUE, PUT, TOOK, Use
 from ..recording import Recording
-from ..waits import Waiting
+from ..waits import Name, Waiting, name_of_goid
 from .ledger import END, GIVES
+from .need import Certainty, Need
+from .words import place_in
+
+DID = {PUT: "put a value into", TOOK: "took one from", CLOSED: "closed"}
+
+
+def giver_at_siblings(recording: Recording, wait: Waiting, waiters: Container[Name]) -> Optional[Need]:
+    """The need of a goroutine that waits at a channel at which nobody has given yet: another that waits, and gave at one before."""
+    for use in given_at_siblings(recording, wait):
+        name, place = name_of_goid(recording.lines, use.goid), place_in(recording.lines.stacks[use.stack])
+        if name != wait.name and name in waiters and place:
+            how = f"perhaps {{by}}, which {DID[use.what]} the channel before{place}, that the same line had made"
+            return Need([], name, how, Certainty.PERHAPS)
+    return None
 
 
 def given_at_siblings(recording: Recording, wait: Waiting) -> list[Use]:

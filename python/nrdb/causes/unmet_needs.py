@@ -1,0 +1,46 @@
+"""What a failed call lacked besides what ended it: of a call whose descriptor was closed, of a Read under a deadline that others had kept, and of one that met no
+end of the stream."""
+
+import re
+from typing import Optional
+
+from ..one_call import Call
+from .chains import chain_says
+from .index import READING, Index
+from .needs import Needs
+from .package_source import places_with
+from .past_tense import in_the_past
+from .words import is_of_go, place_of_step
+
+DUPLICATES = re.compile(r"\.File\(\)|\bsyscall\.Dup")
+
+
+def given_up_says(index: Index, call: Call, by: Optional[Call]) -> list[str]:
+    """What a call waited for while Go's own code closed its descriptor, as it does to a connection whose context has ended."""
+    if by is None or not call.first < call.cause or not is_of_go(index.recording, by) or by.goroutine == call.goroutine:
+        return []
+    need = Needs(index, {}, call.cause).of_call(call)
+    return list(map(in_the_past, [*need.says, *need.more, *chain_says(index, call, need, call.cause)]))
+
+
+def found_says(index: Index, call: Call) -> list[str]:
+    """What else is known of a Read or a Write under a deadline that others had kept: not what it waited for, but why that didn't come."""
+    if index.is_listening(call) or not call.first < call.last:
+        return []
+    need = Needs(index, {}, call.last).of_call(call)
+    return list(map(in_the_past, [*([] if need.is_plain else need.more), *chain_says(index, call, need, call.last)]))
+
+
+def endless_says(index: Index, call: Call) -> list[str]:
+    """Of a Read whose other end was closed before it ended, and that met no end of the stream: another descriptor has the connection."""
+    other = index.other_end(call.socket)
+    by = index.closing(other, call.last, whole=True) if other is not None and call.name in READING else None
+    if by is None or by.last >= call.last:
+        return []
+    own = index.recording.lines.of(by.first).own()
+    places = places_with(index.recording, own[0].file, DUPLICATES) if own else ()
+    at = f", as {' and '.join(places[:2])} make{'' if places[1:] else 's'} it" if places else ""
+    return [
+        f"Its other end, socket {other}, was closed{place_of_step(index.recording, by.first, by.goroutine)}, and the end of the stream didn't come. "
+        f"Perhaps a second descriptor of it is open{at}: the connection ends as the last one is closed."
+    ]
