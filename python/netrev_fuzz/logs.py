@@ -3,14 +3,25 @@ the line of each address, and one for each point, as `netrev_go.points.Point` ha
 
 import json
 import struct
-from typing import Iterable, Optional
+from typing import Iterable, NamedTuple, Optional, Sequence
 
-from netrev_go.logfile import HEADER_BYTES, MAGIC
+from netrev_go.logfile import HEADER_BYTES, HOLDER_BYTES, HOLDER_CALL, MAGIC
 from netrev_go.points import Log, Point, Stack
 
 STACKS = 256
 FULL = 2**64 - 1
 Symbols = dict[int, tuple[str, str, int]]
+
+
+class HolderRow(NamedTuple):
+    """A row of the table of locked mutexes: the mutex (0: the row is free), which goroutine holds it, whether for reading, how many points were passed
+    before, and the addresses behind the calls that locked it."""
+
+    address: int
+    goroutine: int = 0
+    is_reader: bool = False
+    passed: int = 0
+    calls: tuple[int, ...] = ()
 
 
 def binary(
@@ -19,20 +30,33 @@ def binary(
     begin: int = 0,
     room: int = 0,
     passed: Optional[int] = None,
+    holders: Optional[Sequence[HolderRow]] = None,
+    holders_lost: int = 0,
 ) -> bytes:
-    """The log that has these points, each in the place of its number. `room` is how many there are places for."""
+    """The log that has these points, each in the place of its number. `room` is how many there are places for. `holders` is the table of locked mutexes
+    (None: the log has none), for which there was no room `holders_lost` times."""
     points = list(points)
     room = room or max((point.number for point in points), default=0) + 1
     last = max((point.number for point in points), default=-1) + 1
-    header = struct.pack("<11Q", MAGIC, last if passed is None else passed, room, STACKS, begin, 1, 0, 0, 0, 0, 0)
+    words = (MAGIC, last if passed is None else passed, room, STACKS, begin, 1, 0, 0, 0, 0, 0)
+    of_holders = (len(holders or ()), holders_lost, 0 if holders is None else 1)
+    header = struct.pack("<15Q", *words, 0, *of_holders)
     table = bytearray(STACKS * 256)
     for number, (made, started, calls) in (stacks or {}).items():
-        words = (number, len(calls), made, started, *calls)
-        struct.pack_into(f"<{len(words)}Q", table, (number - 1) * 256, *words)
+        of_stack = (number, len(calls), made, started, *calls)
+        struct.pack_into(f"<{len(of_stack)}Q", table, (number - 1) * 256, *of_stack)
     ring = bytearray(room * 64)
     for point in points:
         ring[point.number % room * 64 : point.number % room * 64 + 64] = packed(point)
-    return header.ljust(HEADER_BYTES, b"\0") + bytes(table) + bytes(ring)
+    held = b"".join(map(packed_holder, holders or ()))
+    return header.ljust(HEADER_BYTES, b"\0") + bytes(table) + held + bytes(ring)
+
+
+def packed_holder(row: HolderRow) -> bytes:
+    """The bytes of a row of the table of locked mutexes."""
+    words = (row.address, row.goroutine << 1 | row.is_reader, row.passed, len(row.calls), *row.calls)
+    assert len(row.calls) <= HOLDER_BYTES // 8 - HOLDER_CALL
+    return struct.pack(f"<{len(words)}Q", *words).ljust(HOLDER_BYTES, b"\0")
 
 
 def packed(point: Point) -> bytes:

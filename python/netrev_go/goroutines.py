@@ -168,9 +168,9 @@ class Goroutines:
         return replace(self, parks=parks, finished=[], uses=uses, timers=timers, dials=dials)
 
     def goroutines(self) -> set[int]:
-        """The goroutines that wait, use a channel or make a timer."""
+        """The goroutines that wait, use a channel, make a timer or failed to dial."""
         waiting, timing = {park.goroutine for park in self.parks}, {timer.goroutine for timer in self.timers}
-        return waiting | timing | {use.goroutine for use in self.uses}
+        return waiting | timing | {use.goroutine for use in self.uses} | {dial.goroutine for dial in self.dials}
 
     def without(self, others: Container[int]) -> Goroutines:
         """What all but these goroutines did."""

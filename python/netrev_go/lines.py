@@ -101,8 +101,8 @@ class Roots:
 
 
 def is_ours(call: Call) -> bool:
-    """Whether a function among Go's own is the recorder's."""
-    return call.of == OF_GO and "etrev" in call.function.rpartition(".")[2]
+    """Whether a function among Go's own is the recorder's, or a literal of one."""
+    return call.of == OF_GO and "etrev" in call.function.rpartition("/")[2].partition(".")[2]
 
 
 def outside_the_runtime(calls: list[Call]) -> tuple[Call, ...]:

@@ -1,4 +1,4 @@
-"""Records the programs of tools/go/samples/causes, oversights, roots, turns, gone, skips, joins, sizes, sources and hands with the `go` on the PATH, bad and good, and says whether the
+"""Records the programs of tools/go/samples/causes, oversights, roots, turns, gone, skips, joins, sizes, sources, hands and chains with the `go` on the PATH, bad and good, and says whether the
 line of each bug stands in what is printed first:
 
     python3 python tests.go_caused [FOLDER]    keeps the recordings in FOLDER, as in python/tests/caused"""
@@ -22,9 +22,21 @@ from nrdb.causes import first_words
 from nrdb.recording import Recording
 from nrdb.suspects.ranking import all_suspects_of
 
-SOURCE, OVERSIGHTS, ROOTS, TURNS, GONE, SKIPS, JOINS, SIZES, SOURCES, HANDS = (
+SOURCE, OVERSIGHTS, ROOTS, TURNS, GONE, SKIPS, JOINS, SIZES, SOURCES, HANDS, CHAINS = (
     SAMPLES / name / "main.go"
-    for name in ("causes", "oversights", "roots", "turns", "gone", "skips", "joins", "sizes", "sources", "hands")
+    for name in (
+        "causes",
+        "oversights",
+        "roots",
+        "turns",
+        "gone",
+        "skips",
+        "joins",
+        "sizes",
+        "sources",
+        "hands",
+        "chains",
+    )
 )
 NAMES = {
     SOURCE: ("idleClose", "half", "stale", "left", "once", "pool", "piece", "both", "body"),
@@ -48,6 +60,10 @@ NAMES = {
         "mixed", "spins", "unheard", "signalled", "seated", "partly",
     ),
     HANDS: ("severed", "dismissed", "repeated", "deferred", "hidden", "mingled", "stranded"),
+    CHAINS: (
+        "probed", "looped", "callback", "locked", "abandoned", "readers", "copied", "withdrawn", "remembered", "refused", "shortened",
+        "fanned", "latecomer", "handshake", "verb", "header", "panicked", "lengthy", "duplicated", "shared",
+    ),
 }  # fmt: skip
 
 

@@ -15,6 +15,7 @@ from unittest import mock
 
 from netrev_go import calls_of_go
 from netrev_go.fetching import here
+from netrev_go.logfile import HEADER_BYTES, HOLDER_BYTES, STACK_BYTES, Header
 from netrev_go.toolchain import CHANGED, SOURCES, TRIED, find_go, overlay, points_program, quiet_go, release_of
 from netrev_words.built import netrev_program
 from nrdb.where import Lines
@@ -44,6 +45,12 @@ def program(body: str, *imports: str) -> str:
     """A program whose main has this body."""
     names = "".join(f'\t"{name}"\n' for name in sorted({"net", *imports}))
     return f"package main\n\nimport (\n{names})\n{PAIR}\nfunc main() {{\n\ta, b := pair()\n{body}\n\t_, _ = a, b\n}}\n"
+
+
+def begin_of_ring(text: bytes) -> int:
+    """Where the points of a log begin, after its two tables."""
+    header = Header(text)
+    return HEADER_BYTES + header.stacks * STACK_BYTES + header.holders * HOLDER_BYTES
 
 
 HANGS = program("\tb.Read(make([]byte, 1))")
@@ -280,7 +287,7 @@ class RunningOn(Tool):
             self.assertIn(f"main.go:{READ_LINE}: ", said)
         self.assertIsNone(process.poll())
         text = log.read_bytes()
-        log.write_bytes(text[: 4096 + 2**22 + 64 * 20 + 5])
+        log.write_bytes(text[: begin_of_ring(text) + 64 * 20 + 5])
         self.assertIn("the log is cut short or damaged", self.called("convert", log.name)[1])
         log.write_bytes(b"other")
         self.assertIn("it is too short for a log", self.called("convert", log.name)[1])

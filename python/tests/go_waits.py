@@ -28,6 +28,17 @@ func sleeps()                         { time.Sleep(time.Hour) }
 func locks(m *sync.Mutex)             { m.Lock() }
 func readLocks(m *sync.RWMutex)       { m.RLock() }
 func writeLocks(m *sync.RWMutex)      { m.Lock() }
+func pends(m *sync.RWMutex)           { m.Lock() }
+func reads(m *sync.RWMutex)           { m.RLock() }
+func receivesOfMade(c chan int)       { <-c }
+func makes() chan int                 { return make(chan int, 3) }
+func isRefused()                      { net.Dial("tcp", "127.0.0.1:1") }
+func isCancelled() {
+	ctx, cancel := context.WithCancel(context.Background())
+	ctx.Done() // that has a channel of its own from then on
+	cancel()
+	new(net.Dialer).DialContext(ctx, "tcp", "127.0.0.1:1")
+}
 func waits(g *sync.WaitGroup)         { g.Wait() }
 func receivesOfNil()                  { var c chan int; <-c }
 func hasNoCases()                     { select {} }
@@ -38,12 +49,19 @@ func ends(c chan int)                 { <-c }
 func closes(c chan int)               { close(c) }
 """
 BODY = """
-	var mutex sync.Mutex
-	var shared sync.RWMutex
+	var mutex, unlocked sync.Mutex
+	var shared, read sync.RWMutex
 	var group sync.WaitGroup
 	condition := sync.NewCond(new(sync.Mutex))
 	mutex.Lock()
 	shared.Lock()
+	unlocked.Lock()
+	unlocked.Unlock()
+	reads(&read)
+	reads(&read)
+	made := makes()
+	isRefused()
+	isCancelled()
 	group.Add(1)
 	full, done := make(chan int, 2), make(chan int)
 	for i := 0; i < 2; i++ {
@@ -60,6 +78,8 @@ BODY = """
 		go receives(five[0])
 	}
 	go readLocks(&shared)
+	go pends(&read)
+	go receivesOfMade(made)
 	time.Sleep(50 * time.Millisecond)
 	go writeLocks(&shared)
 	go sends(full)
@@ -76,11 +96,12 @@ BODY = """
 	time.Sleep(200 * time.Millisecond)
 	a.Write([]byte("x"))
 	b.Read(make([]byte, 1))"""
-PROGRAM = program(BODY, "sync", "time").replace("\nfunc main", FUNCTIONS + "\nfunc main")
+PROGRAM = program(BODY, "context", "sync", "time").replace("\nfunc main", FUNCTIONS + "\nfunc main")
 
 # What each function waits for, at which sort of object, of a channel with how many values of room, and for what there.
 WAITS: dict[str, tuple[str, list[tuple[str, int, str]]]] = {
     "receives": (where.A_VALUE, [("channel", 0, where.FOR_VALUE)]),
+    "receivesOfMade": (where.A_VALUE, [("channel", 3, where.FOR_VALUE)]),
     "sends": (where.ROOM, [("channel", 2, where.FOR_ROOM)]),
     "selects": (where.A_SELECT, [("channel", -1, use) for use in ("room", "room", "value", "value", "value")]),
     "awaits": (where.A_CONDITION, [("condition", -1, "")]),
@@ -88,6 +109,7 @@ WAITS: dict[str, tuple[str, list[tuple[str, int, str]]]] = {
     "locks": (where.A_MUTEX, [("mutex", -1, "")]),
     "readLocks": (where.A_READ_LOCK, [("RWMutex", -1, "")]),
     "writeLocks": (where.A_WRITE_LOCK, [("RWMutex", -1, "")]),
+    "pends": (where.A_WRITE_LOCK, [("RWMutex", -1, "")]),
     "waits": (where.A_WAIT_GROUP, [("WaitGroup", -1, "")]),
     "receivesOfNil": (where.A_NIL_CHANNEL, []),
     "hasNoCases": (where.NO_CASES, []),
@@ -113,6 +135,9 @@ class Waits(Tool):
                 self.look_at_waits()
                 self.look_at_timers()
                 self.look_at_channels()
+                self.look_at_makings()
+                self.look_at_holders()
+                self.look_at_dials()
 
     def function_of(self, stack: int) -> str:
         """The innermost function of the program in a stack."""
@@ -170,6 +195,45 @@ class Waits(Tool):
         (ended,) = self.ended("ends")
         self.assertGreaterEqual(ended.end, closed.begin)
         self.assertEqual(self.ended("locks"), [])
+
+    def look_at_makings(self) -> None:
+        found = self.parks()
+        made = {
+            name: self.lines.made[found[name][0].objects[0].object] for name in ("receivesOfMade", "receives", "ticks")
+        }
+        functions = {name: self.function_of(making.stack) for name, making in made.items()}
+        self.assertEqual(functions, {"receivesOfMade": "makes", "receives": "main", "ticks": "ticks"})
+        self.assertEqual(made["ticks"].goid, found["ticks"][0].goid)
+        self.assertEqual(made["receives"].goid, made["receivesOfMade"].goid)
+        for making in made.values():
+            self.assertGreater(making.time, 0)
+
+    def look_at_holders(self) -> None:
+        """What is locked at the end: two that main locked, and one of two readers and a writer that waits for them."""
+        found, held = self.parks(), self.lines.held
+        assert held is not None
+        (at,) = {park.objects[0].object for park in found["locks"]}
+        (shared,) = {park.objects[0].object for park in found["readLocks"]}
+        (read,) = {park.objects[0].object for park in found["pends"]}
+        functions = {
+            number: sorted((one.how, self.function_of(one.stack)) for one in rows) for number, rows in held.items()
+        }
+        readers = [(where.READ, "reads"), (where.READ, "reads")]
+        self.assertEqual(functions, {at: [("", "main")], shared: [("", "main")], read: [("", "pends"), *readers]})
+        main = {one.goid for rows in held.values() for one in rows if self.function_of(one.stack) != "pends"}
+        self.assertEqual(
+            main, {made.goid for made in self.lines.made.values() if self.function_of(made.stack) == "makes"}
+        )
+        self.assertIn(found["pends"][0].goid, {one.goid for one in held[read]})
+
+    def look_at_dials(self) -> None:
+        dials = [dial for several in self.lines.failed_dials.values() for dial in several]
+        found = {self.function_of(dial.stack): (dial.why, dial.address) for dial in dials}
+        self.assertEqual(found, {"isRefused": ("ECONNREFUSED", "127.0.0.1:1"), "isCancelled": ("cancelled", "")})
+        (cancelled,) = (dial for dial in dials if self.function_of(dial.stack) == "isCancelled")
+        (closed,) = (use for use in self.lines.uses[cancelled.context] if use.what == where.CLOSED)
+        self.assertEqual(self.function_of(closed.stack), "isCancelled")
+        self.assertLessEqual(closed.end, cancelled.time)
 
     def ended(self, name: str) -> list[GoGoroutine]:
         """The goroutines that waited in a function and have ended."""

@@ -105,9 +105,14 @@ def limits_of(recording: Recording, use: Use, goid: int) -> list[Timer]:
     stack = recording.lines.stacks[use.stack]
     if stack.own() or not any(call.function.startswith(OF_A_LIMIT) for call in stack.calls):
         return []
+    return limits_before(recording, use.begin, goid)
+
+
+def limits_before(recording: Recording, time: int, goid: int) -> list[Timer]:
+    """The timers of contexts that went off just before a time; those of a goroutine if it has one, the last one first."""
     timers = [
         timer for timer in recording.lines.timers.get(0, ())
-        if has(recording.lines.stacks[timer.stack], OF_A_LIMIT) and timer.due <= use.begin < timer.due + LATE
+        if has(recording.lines.stacks[timer.stack], OF_A_LIMIT) and timer.due <= time < timer.due + LATE
     ]  # fmt: skip
     mine = [timer for timer in timers if timer.goid == goid] or timers
     return sorted(mine, key=attrgetter("due"), reverse=True)
@@ -128,17 +133,27 @@ def cancel_says(index: Index, cancel: Cancel) -> str:
         where = f"{place_in(stack) if own else ''} ({name}, step {cancel.use.last})"
         return f"{found} {what}{where}{', as that function returned' if leaves else ''}."
     timer = cancel.timers[0]
-    stack, name = lines.stacks[timer.stack], name_of_goid(lines, timer.goid)
-    perhaps = "perhaps " if len({place_in(lines.stacks[one.stack]) for one in cancel.timers}) > 1 else ""
+    stack, name, perhaps = lines.stacks[timer.stack], name_of_goid(lines, timer.goid), perhaps_of(index, cancel.timers)
     if has(stack, OF_A_CLIENT):
         earlier = f" ({name}, step {timer.step}), {duration(timer.due - timer.time)} earlier"
         when = f" ({name})" if is_of_a_rest(index.recording, timer) else earlier
         return (
             f"{found} that the Timeout of an http.Client had passed; {perhaps}the request began{place_in(stack)}{when}."
         )
+    return f"{found} that {limit_says(index, cancel.timers)}"
+
+
+def perhaps_of(index: Index, timers: list[Timer]) -> str:
+    """`perhaps ` if timers of several places may have gone off."""
+    return "perhaps " if len({place_in(index.recording.lines.stacks[one.stack]) for one in timers}) > 1 else ""
+
+
+def limit_says(index: Index, timers: list[Timer]) -> str:
+    """That the limit of a context had passed, by the timers one of which it was."""
+    lines, timer = index.recording.lines, timers[0]
     return (
-        f"{found} that the limit of a context, {perhaps}{duration(timer.due - timer.time)}, had passed since that was made{place_in(stack)} "
-        f"({name}, step {timer.step})."
+        f"the limit of a context, {perhaps_of(index, timers)}{duration(timer.due - timer.time)}, had passed since that was "
+        f"made{place_in(lines.stacks[timer.stack])} ({name_of_goid(lines, timer.goid)}, step {timer.step})."
     )
 
 
@@ -173,7 +188,7 @@ def under_way(index: Index, call: Call, step: int) -> str:
 
 
 def after_says(index: Index, step: int, goroutine: int) -> list[str]:
-    """Of a step by a goroutine that context.AfterFunc had started: who had cancelled the context, and where."""
+    """Of a step by a goroutine that context.AfterFunc had started: who had cancelled the context, and where, or which limit had passed."""
     lines = index.recording.lines
     known = lines.goroutines.get(lines.goid_of(goroutine))
     if known is None or known.made is None or not known.made.function.startswith(AFTER_FUNC):
@@ -183,6 +198,8 @@ def after_says(index: Index, step: int, goroutine: int) -> list[str]:
         if use.what == CLOSED and use.goid == known.maker and use.end <= known.begin and has(lines.stacks[use.stack], OF_A_CONTEXT)
     ]  # fmt: skip
     last = max(closes, key=attrgetter("end"), default=None)
+    if last is None and (limits := limits_before(index.recording, known.begin, 0)):
+        return [f"context.AfterFunc called that as its context ended: {limit_says(index, limits)}"]
     place = place_in(lines.stacks[last.stack]) if last else ""
     name = name_of_goid(lines, known.maker)
     defers = deferred_says(index, Cancel(goroutine, last, [])) if last else []

@@ -33,27 +33,36 @@ def failed_dial(index: Index, goroutine: int) -> Optional[UnconnectedSocket]:
     ]  # fmt: skip
     if not failed:
         return None
-    opened = [
-        one for one in calls
-        if one.name == OPEN and one.first > failed[-1].first and any(CONNECTS in call.function for call in lines.of(one.first).calls)
-    ]  # fmt: skip
-    return None if opened else UnconnectedSocket(failed[-1])
+    is_later = any(one.first > failed[-1].first for one in connected_by(index, goroutine))
+    return None if is_later else UnconnectedSocket(failed[-1])
 
 
 def refused(recording: Recording, goid: int) -> Optional[FailedDial]:
     """The last connect of a goroutine that the system refused, or that was given up, if no later one of it went well, as far as steps show."""
     failed = recording.lines.failed_dials.get(goid, ())
     number = recording.lines.goroutines[goid].number if goid in recording.lines.goroutines else -1
-    later = (call for call in index_of(recording).by_goroutine.get(number, ()) if call.name == OPEN)
-    if not failed or any(call.first > failed[-1].step for call in later):
+    index = index_of(recording)
+    if not failed or any(call.first > failed[-1].step for call in connected_by(index, number)):
         return None
     return failed[-1]
+
+
+def connected_by(index: Index, goroutine: int) -> Iterator[Call]:
+    """The Opens of a goroutine whose sockets it connected."""
+    for call in index.by_goroutine.get(goroutine, ()):
+        if call.name == OPEN and any(CONNECTS in one.function for one in index.recording.lines.of(call.first).calls):
+            yield call
+
+
+def reason_words(failed: FailedDial) -> str:
+    """Why a connect failed: `ECONNREFUSED, 127.0.0.1:80`; empty if that isn't known."""
+    return ", ".join(word for word in (failed.why, failed.address) if word)
 
 
 def refused_words(recording: Recording, failed: FailedDial) -> str:
     """A connect that failed in words: `Dial at a.go:3 in ask (goid 4, step 9) failed: ECONNREFUSED, 127.0.0.1:80`."""
     name, stack = name_of_goid(recording.lines, failed.goid), recording.lines.stacks[failed.stack]
-    why = ", ".join(word for word in (failed.why, failed.address) if word)
+    why = reason_words(failed)
     return f"Dial{place_in(stack)} ({name}, step {failed.step}) failed" + (f": {why}" if why else "")
 
 
@@ -88,8 +97,10 @@ def failed_dials(index: Index) -> Iterator[Cause]:
         dial = failed_dial(index, goroutine)
         if dial is None or not recording.lines.of(dial.close.first).own():
             continue
+        failed = refusal_of(recording, dial, goroutine)
+        why = f" ({reason_words(failed)})" if failed and reason_words(failed) else ""
         says = [
-            f"Dial{place_of_step(recording, dial.close.first, goroutine)} failed: socket {dial.close.socket} was never connected."
+            f"Dial{place_of_step(recording, dial.close.first, goroutine)} failed: socket {dial.close.socket} was never connected{why}."
         ]
         listeners = [one for one in index.by_socket if is_listener(index, one) and closed(index, one, dial.close.first)]
         if len(listeners) == 1:
@@ -101,9 +112,18 @@ def failed_dials(index: Index) -> Iterator[Cause]:
                 if by
                 else []
             )
+        says += ended_says(recording, failed) if failed else []
         yield Cause(
             dial.close, says, [dial.close.first], [f"goto {dial.close.first}", f"calls sock {dial.close.socket}"]
         )
+
+
+def refusal_of(recording: Recording, dial: UnconnectedSocket, goroutine: int) -> Optional[FailedDial]:
+    """Why a socket wasn't connected, if the recorder saw that: the last connect of its goroutine that failed, at the same line."""
+    lines = recording.lines
+    failed = refused(recording, lines.goid_of(goroutine))
+    is_same = failed and lines.stacks[failed.stack].own() == lines.of(dial.close.first).own()
+    return failed if is_same else None
 
 
 def is_listener(index: Index, socket: int) -> bool:

@@ -5,15 +5,19 @@ import re
 from typing import Optional
 
 from ..one_call import OPEN, Call
+from ..recording import Recording
 from ..waits import Name, waits_of
 from ..where import OF_THE_PROGRAM, Stack
 from ..where import Call as LineCall
 from .index import Index, back
-from .kept_ways import closed_in_a_loop, value_of, ways_of
+from .kept_ways import USES, closed_in_a_loop, value_of, ways_of
+from .package_source import HEAD, files_of
 from .skipped_ways import has, ways_are, ways_words
-from .source_functions import text_at
+from .source_functions import range_of, text_at
+from .statements import code_at
 
 TAKEN = re.compile(r"(?:if )?(\w+)(?:, \w+)? :?= ")
+CALL = re.compile(r"(?<![\w.])(\w+)\(([^()]*)\)")
 TO_OTHERS = r"\breturn\b.*\b{name}\b|[=({{,:]\s*{name}\b\s*[,)}};]|[=:] *{name}$|\bgo\b.*\b{name}\b|<- *{name}\b"
 
 
@@ -49,14 +53,52 @@ def left_by(index: Index, opened: Call, line: LineCall) -> list[str]:
     taken = TAKEN.match(text)
     if taken is None:
         return []
-    closes = rf"\b{re.escape(taken[1])}\.Close\(\)"
-    ways = ways_of(index.recording, line, text, has(closes), value_of(text, TO_OTHERS))
+    name = taken[1]
+    closes = rf"\b{re.escape(name)}\.Close\(\)"
+    hands_on = value_of(text, TO_OTHERS)
+    ways = ways_of(
+        index.recording,
+        line,
+        text,
+        has(closes),
+        lambda statement: hands_on(without_users(index.recording, line.file, name, statement)),
+    )
     if not ways:
         return []
     does = ways_words(line.file, ways)
     return [
         f"Socket {opened.socket}, opened at {line.place()}, is still open. Perhaps it was left open {ways_are(ways)}: {does} without a Close."
     ]
+
+
+def without_users(recording: Recording, file: str, name: str, statement: str) -> str:
+    """A statement without those calls of functions of the package to which it passes a value, if they only use that."""
+
+    def shortened(call: "re.Match[str]") -> str:
+        arguments = [one.strip() for one in call[2].split(",")]
+        is_used = name in arguments and only_uses(recording, file, call[1], arguments.index(name))
+        return f"{call[1]}()" if is_used else call[0]
+
+    return CALL.sub(shortened, statement)
+
+
+def only_uses(recording: Recording, file: str, function: str, place: int) -> bool:
+    """Whether the function of the package with that name neither closes, keeps nor hands on its parameter at a place, by its source."""
+    found = [
+        (path, lines, number, head)
+        for path, lines in files_of(recording, file)
+        for number, text in enumerate(lines, 1)
+        if (head := HEAD.match(text)) and head[3] == function and not head[1]
+    ]
+    if len(found) != 1:
+        return False
+    path, lines, number, head = found[0]
+    parameters = [one.strip().partition(" ")[0] for one in head[4].split(",")]
+    within = range_of(lines, LineCall(function, path, number, OF_THE_PROGRAM))
+    if within is None or place >= len(parameters) or "(" in head[4]:  # (a parameter is a function)
+        return False
+    keeps = re.compile(rf"{TO_OTHERS.format(name=parameters[place])}|\b{parameters[place]}\.Close\b")
+    return not any(keeps.search(USES.sub("(", code_at(lines, at))) for at in within[1:])
 
 
 def stack_at(index: Index, goroutine: int, position: int) -> Optional[Stack]:

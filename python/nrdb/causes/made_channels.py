@@ -38,7 +38,7 @@ def is_local(index: Index, line: Call) -> bool:
     if made is None:
         return False
     name = re.escape(made[1])
-    keeps = re.compile(rf"\breturn\b.*\b{name}\b|[:=] *{name}\b *[,}}]?$|\w: *{name}\b|append\(.*\b{name}\b")
+    keeps = re.compile(rf"\breturn\b.*(?<!<-)\b{name}\b|[:=] *{name}\b *[,}}]?$|\w: *{name}\b|append\(.*\b{name}\b")
     return not found_in(index.recording, line, keeps)
 
 

@@ -2,10 +2,13 @@
 
 from typing import Callable, Iterator, Mapping, NamedTuple, Optional
 
+from netrev_words.plurals import counted
+
 from ..all_goroutines import READ, Held
 from ..recording import Recording
 from ..waits import Name, Waiting, name_of_goid
 from ..where import OF_THE_PROGRAM, Call, Stack
+from .copied_structs import copies_says
 from .left_locked import returns_locked
 from .locks import LOCK, UNLOCK
 from .need import Certainty, Need
@@ -105,7 +108,8 @@ class MutexHolders:
         waiter = self._waiters.get(holder.name)
         if waiter and (need := self._left_locked(holder, waiter.stack)):
             return need
-        others = f" (so do {len(more)} more readers)" if more and holder.is_reader else ""
+        do = "does" if len(more) == 1 else "do"
+        others = f" (so {do} {counted(len(more), 'more reader')})" if more and holder.is_reader else ""
         if (
             waiter
             and waiter.wait
@@ -134,8 +138,10 @@ class MutexHolders:
         times = self._recording.lines.times
         if not times or times[-1] - wait.begin < A_MOMENT:
             return Need([])
+        own = wait.stack.own()
+        at = copies_says(self._recording, own[0]) if own else ""
         return Need(
-            ["No goroutine has locked it. Perhaps it is a copy of a mutex that was locked as it was copied."],
+            [f"No goroutine has locked it. Perhaps it is a copy of a mutex that was locked as it was copied{at}."],
             is_odd=True,
         )
 

@@ -20,7 +20,7 @@ from .left_sockets import left_socket
 from .need import Certainty, Need
 from .new_readers import left_reader, thrown_away
 from .needs_elsewhere import NeedsElsewhere
-from .partial_reads import partial_reads
+from .partial_reads import part_taken, partial_reads
 from .shared_sockets import shared_says
 from .unaccepted import is_dialed, unaccepted
 from .unfinished_replies import unfinished_reply
@@ -69,7 +69,7 @@ class Needs:
         if beside := held_back(index, call.socket, self._position):
             return need._replace(beside=tuple(beside))
         lost = left_reader(index, call, other, self._position) or thrown_away(index, call, other, self._position)
-        more = lost or self._of_exchange(call, other) or partial_reads(index, call)
+        more = lost or part_taken(index, call) or self._of_exchange(call, other) or partial_reads(index, call)
         more = more or left_socket(index, other, self._position) or ended_reader(index, call, other, self._position)
         ends = [] if more else end_says(index, call, other, self._position)
         return need._replace(more=more or ends, beside=tuple(lost), is_plain=bool(ends))

@@ -10,7 +10,7 @@ from ..where import OF_THE_PROGRAM
 from .index import Index
 from .need import Need
 from .unread import unread
-from .words import place_in, told
+from .words import place_in, short, told
 
 
 def of_own_reader(index: Index, wait: Waiting, position: int) -> Optional[Need]:
@@ -26,10 +26,12 @@ def of_own_reader(index: Index, wait: Waiting, position: int) -> Optional[Need]:
         if readers != {wait.name.number} or found.wrote.goroutine == wait.name.number:
             continue
         stack = index.recording.lines.of(reads[-1].first)
-        if any(call.function in inside for call in stack.calls if call.of == OF_THE_PROGRAM):
+        reading = {call.function for call in stack.calls if call.of == OF_THE_PROGRAM} & inside
+        now = next((call for call in wait.stack.calls if call.function in reading), None)
+        if now:
             says = (
                 f"Perhaps it waits for itself: {counted(found.bytes, 'byte')} of {told(index.recording, found.wrote)} are unread on socket {found.socket}, "
-                f"and only {wait.name} reads there,{place_in(stack)}."
+                f"and only {wait.name} reads there,{place_in(stack)}. It is still in {short(now.function)}, at {now.place()}."
             )
             return Need([says], is_odd=True)
     return None

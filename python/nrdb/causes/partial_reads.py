@@ -4,10 +4,16 @@ once into a slice of just the length that is wanted. A Read returns what is ther
 import re
 from typing import Optional
 
+from netrev_words.plurals import counted
+
 from ..one_call import Call
 from ..where import OF_THE_PROGRAM
+from .asked import asked_of
+from .frame_lengths import is_of_a_body
 from .index import Index
+from .sizes import are_known, size_of
 from .source_functions import Lines, range_of, source_of
+from .words import told
 
 WHOLE = re.compile(r"[\w.]+\.Read\((\w+)\[:(\w+(?:\([\w.]+\))?)\]\)")
 MADE = re.compile(r"\b(\w+) :?= make\(\[\]byte, (?!\d)[^)]+\)")
@@ -36,6 +42,23 @@ def partial_reads(index: Index, call: Call) -> list[str]:
             places = " and ".join(f"{one.file}:{number}" for number in found[:MOST])
             reads = "read" if found[1:] else "reads"
             return [f"Perhaps a part was taken for the whole: {places} {reads} once, and a Read returns what is there."]
+    return []
+
+
+def part_taken(index: Index, call: Call) -> list[str]:
+    """Of a Read that waits: the last Read before it at that socket by a line that reads once what a length says, if that got fewer bytes than it asked
+    for."""
+    for read in reversed(
+        [one for one in index.by_socket[call.socket] if one.name == "Read" and one.first < call.first]
+    ):
+        own = index.recording.lines.of(read.first).own()
+        lines = source_of(index.recording, own[0].file) if own and own[0].of == OF_THE_PROGRAM else None
+        within = range_of(lines, own[0]) if own and lines else None
+        is_once = own and lines and within and own[0].line in partial_lines(lines, within)
+        if is_once and is_of_a_body(index.recording, read):
+            asked, got = asked_of(index.recording).of(read) or 0, size_of(index, read)
+            says = f"{told(index.recording, read)} asked for {counted(asked, 'byte')} and got {got}: a Read returns what is there."
+            return [says] if are_known(index) and 0 < got < asked else []
     return []
 
 

@@ -1,0 +1,34 @@
+"""Lines of the program's source that copy a struct which has the mutex that a goroutine waits for: a mutex that was locked as it was copied stays locked in the
+copy, and nobody unlocks that."""
+
+import os
+import re
+from typing import Iterator
+
+from ..recording import Recording
+from ..where import OF_THE_PROGRAM, Call
+from .locks import LOCK
+from .package_source import files_of, place_of_variable, type_of, variables_of
+from .source_functions import text_at
+
+COPY = re.compile(r"=\s*\*([\w.]+)\s*$")
+MOST = 2
+
+
+def copies_says(recording: Recording, lock: Call) -> str:
+    """Where the struct of a mutex is copied that a goroutine waits for in the call `lock`: `, as a.go:12 copies it`; empty if no line is known to copy one."""
+    name = LOCK.search(text_at(recording, lock)) if lock.of == OF_THE_PROGRAM else None
+    field = place_of_variable(recording, lock, name[1]) if name else None
+    places = list(copies_of(recording, lock.file, field.partition(".")[0])) if field else []
+    copies = "copies" if len(places) == 1 else "copy"
+    return f", as {' and '.join(places)} {copies} it" if 0 < len(places) <= MOST else ""
+
+
+def copies_of(recording: Recording, file: str, struct: str) -> Iterator[str]:
+    """The lines of a package that copy what a pointer to a struct of this type points to."""
+    for path, lines in files_of(recording, file):
+        for number, text in enumerate(lines, 1):
+            found = COPY.search(text.partition("//")[0])
+            variables = variables_of(recording, lines, Call("", os.path.abspath(path), number, "")) if found else {}
+            if found and type_of(recording, path, variables, found[1].split(".")) == struct:
+                yield f"{path}:{number}"
