@@ -2,13 +2,13 @@
 
 from ..one_call import Call
 from ..waits import Name
-from .hang_words import capital, waiter_words
+from .hang_words import waiter_words
 from .index import Index
 from .ledger import GIVES
 from .need import Need
 from .needs import Needs
 from .waiters import Waiter, waiters_during
-from .words import place_in
+from .words import capital, place_in
 
 MOST_LINKS = 4
 

@@ -14,10 +14,11 @@ from .deadlines_ahead import deadline_ahead, setting_says, until_words
 from .gone_readers import gone_readers
 from .index import READING, Index, index_of
 from .missing_cases import missing_case_says
+from .need import GOES_FIRST
 from .unread import unread_says
 from .wait_graph import Branch, Certainty, Hang, WaitGraph, kind_of, waiters_of
 from .waiters import Waiter
-from .words import name_of, place_in, told, waits_words
+from .words import capital, name_of, place_in, told, waits_words
 
 NUMBERS = {2: "two", 3: "three", 4: "four"}
 VERBS = {
@@ -177,10 +178,6 @@ def waits(waiter: Waiter) -> str:
     return waits_words(waiter.wait) if waiter.wait else ""
 
 
-def capital(words: str) -> str:
-    return words[0].upper() + words[1:]
-
-
 def deadlock_words(graph: WaitGraph, hang: Hang) -> str:
     """That goroutines wait for one another; of calls of which one has a deadline, until when."""
     many = NUMBERS.get(len(hang.roots), str(len(hang.roots)))
@@ -193,6 +190,8 @@ def deadlock_words(graph: WaitGraph, hang: Hang) -> str:
     if hang.is_of_mutexes and hang.is_loose:
         names = of_names(root.name for root in hang.roots)
         return f"{begins}: {names} hold mutexes for which others of them wait{behind_it(hang)}."
+    if any(need.how == GOES_FIRST for need in hang.needs):
+        return f"{begins}: {many} {what} wait for one another{behind_it(hang)}, readers and a writer of an RWMutex."
     if hang.is_of_mutexes:
         return f"{begins}: {many} goroutines each hold a mutex for which another of them waits{behind_it(hang)}."
     return f"{begins}: {many} {what} wait for one another{behind_it(hang)}."

@@ -8,6 +8,7 @@ from ..where import Call as LineCall
 from .index import Index
 from .loop_variables import shared_variables
 from .unaccepted import accepts_at, closed
+from .words import capital
 
 LISTENS = "net.(*netFD).listen"
 
@@ -28,10 +29,6 @@ def idle_listeners(index: Index, position: int) -> list[str]:
                     *shared_variables(index.recording, made.file),
                 ]
     return []
-
-
-def capital(words: str) -> str:
-    return words[0].upper() + words[1:]
 
 
 def is_listener(index: Index, socket: int) -> bool:

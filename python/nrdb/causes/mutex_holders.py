@@ -11,7 +11,7 @@ from ..where import OF_THE_PROGRAM, Call, Stack
 from .copied_structs import copies_says
 from .left_locked import returns_locked
 from .locks import LOCK, UNLOCK
-from .need import Certainty, Need
+from .need import GOES_FIRST, Certainty, Need
 from .responses import has
 from .source_functions import found_in, text_at
 from .waiters import Waiter
@@ -116,7 +116,7 @@ class MutexHolders:
             and self._is_pending(waiter.wait, holder)
             and set(waiter.wait.objects) & set(wait.objects)
         ):
-            return Need([], holder.name, "{by} waits to lock it for writing, and goes first", Certainty.KNOWN)
+            return Need([], holder.name, GOES_FIRST, Certainty.KNOWN)
         if waiter:
             return Need([], holder.name, f"{{by}} {holder.how}{holder.locked}{others}", Certainty.KNOWN)
         doing = f", which {does}" if does else ""

@@ -6,6 +6,9 @@ from typing import NamedTuple, Optional
 from ..waits import Name
 
 
+GOES_FIRST = "{by} waits to lock it for writing, and goes first"  # of an RWMutex that readers hold
+
+
 class Certainty(IntEnum):
     """How it is known which goroutine could give what another needs."""
 

@@ -34,6 +34,11 @@ OF_A_FINALIZER = ("runtime.call", "runtime.runFinalizers", "runtime.runCleanups"
 BELOW = ("internal/poll.", "net.", "os.", "syscall.", "crypto/tls.", "bufio.", "io.")  # packages that hand a call on
 
 
+def capital(words: str) -> str:
+    """Words as the begin of a sentence."""
+    return words[0].upper() + words[1:]
+
+
 def name_of(recording: Recording, call: Call) -> str:
     """A call by the name that the program has for it."""
     if call.name in ("WaitWrite", "WaitRead"):
