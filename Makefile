@@ -11,7 +11,7 @@ LIB = $(DESTDIR)$(PREFIX)/lib/netrev
 SHARE = $(DESTDIR)$(PREFIX)/share
 INSTALLED = $(shell sed -n 's/^include = \[\(.*\)\]/\1/p' pyproject.toml | tr -d '"*,')
 
-.PHONY: ready help look run hunt test lint refused loopback hostile upgrades system fuzz fuzz-around agree companion sizes netrev examples share bench pace real trials \
+.PHONY: ready help look run hunt test lint refused loopback hostile upgrades system fuzz fuzz-around mutants agree companion sizes netrev examples share bench pace real trials \
 	install install-files vsix package deb release try-deb clean
 
 # The program that NETREV names is taken as it is; else the one that is built here, once it is proved.
@@ -96,6 +96,11 @@ fuzz: ready
 # few of each.
 fuzz-around: ready
 	@python3 python netrev_fuzz.around --minutes $(MINUTES) --seed "$(SEED)"
+
+# Tries mutants of nrdb, netrev_calls and netrev_go against their tests: `make mutants SEED=1 COUNT=200`, or `FILES=python/nrdb/holders.py`. It
+# prints a table of those that survive (CONTRIBUTING.md). Not part of the gate.
+mutants: ready
+	@python3 scripts/mutants.py around $(if $(SEED),--seed $(SEED)) --count $(if $(filter file,$(origin COUNT)),200,$(COUNT)) $(FILES)
 
 # Compares netrev with the same programs over lists, on the examples, bad recordings, the largest sizes, and random cases:
 # `make agree COUNT=20000 SEED=1`.
@@ -189,7 +194,7 @@ try-deb:
 # `go` on the PATH, `make real GO=1.27` or `make real GO=all` with releases of Debian's, fetched and not installed. An hour or so a
 # release; `make real ONLY=net/rpc` for some, `ONLY='^net$$' TESTS='^TestUnix'` for some of a package. The gate does a small part.
 real: ready
-	@sh scripts/pytest.sh $(addprefix python/tests/,go_tool.py go_kept.py go_planted.py go_tests.py go_waits.py)
+	@sh scripts/pytest.sh $(addprefix python/tests/,go_tool.py go_kept.py go_planted.py go_signals.py go_tests.py go_waits.py)
 	@python3 python netrev_go.real --only '$(ONLY)' --tests '$(TESTS)' --go "$(GO)"
 
 # Tries that recording changes nothing of a program and loses no run: `make trials GO="1.19 1.27"`. Some ten minutes a release, and not in

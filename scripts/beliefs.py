@@ -25,7 +25,7 @@ def names(found: ReadingList) -> str:
 
 
 def write(page: Path, rows: list[str]) -> None:
-    """Puts the tables in the place of those that the page has."""
+    """Replaces the page's tables."""
     before, heading, rest = page.read_text(encoding="utf-8").partition(f"{reading.HEADING}\n")
     lines = rest.split("\n")
     end = next((at for at, line in enumerate(lines) if line.startswith("## ")), len(lines))
@@ -37,7 +37,7 @@ def write(page: Path, rows: list[str]) -> None:
 
 
 def main(given_words: list[str] | None = None) -> int:
-    """Prints what is asked for, by these words or by those of the command line."""
+    """Prints the result for these words or for those of the command line."""
     given = argparse.ArgumentParser(description=__doc__, formatter_class=argparse.RawDescriptionHelpFormatter)
     how = given.add_mutually_exclusive_group()
     how.add_argument("--names", action="store_true", help="print the definitions, file by file")

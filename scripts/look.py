@@ -27,7 +27,7 @@ def prompt(recording: Path) -> int:
 
 
 def run(recording: Path, script: Path) -> int:
-    """Runs the commands; netrev's status."""
+    """Runs the commands and returns netrev's status."""
     with open(script, "rb") as commands:
         status = subprocess.run([unproved_netrev(say), "run", recording], stdin=commands, check=False).returncode
     say(BANNER)

@@ -20,7 +20,7 @@ from netrev_go import options, usage  # noqa: E402
 from netrev_words.version import VERSION  # noqa: E402
 from nrdb import cli  # noqa: E402
 
-CODE = "    "  # what each line of a block of code begins with
+CODE = "    "  # the indentation of each line of a block of code
 TITLE = f'.TH NETREV 1 "" "netrev {VERSION}" "User commands"\n'
 HEAD = r""".SH NAME
 netrev \- walk a recorded schedule of a Go program's network poller in both directions
@@ -70,13 +70,14 @@ def text(words: str) -> str:
 
 
 def rows_of(table: list[str]) -> list[list[str]]:
-    """The cells of a table's rows, without its head."""
+    """The cells of a table's rows, without its header."""
     rows = [[cell.strip() for cell in row.strip("|").split("|")] for row in table]
     return rows[2:]
 
 
 def entries(table: list[str]) -> list[str]:
-    """A table as a list: what stands in the first column, and the rest below it. Four columns are two tables side by side."""
+    """A table as a list: the first column as the term, the others below it. Four columns are two tables side by
+    side."""
     rows = rows_of(table)
     if len(rows[0]) == 4:
         rows = [row[:2] for row in rows] + [row[2:] for row in rows]
@@ -112,7 +113,7 @@ def page(markdown: str) -> str:
     return TITLE + HEAD + "\n".join(line for lines in blocks for line in block(lines)) + "\n" + TAIL
 
 
-# Of each other program: its parser, what it is in a line, how it is called, and what it does and how it ends.
+# For each other program: its parser, a line about it, its usage, and what it does and how it ends.
 OTHERS: dict[str, tuple[argparse.ArgumentParser, str, str, str]] = {
     "nrdb": (
         cli.parser(),

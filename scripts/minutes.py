@@ -22,13 +22,13 @@ import time
 from pathlib import Path
 
 TICKS = os.sysconf("SC_CLK_TCK")
-EACH = 1.0  # seconds between two looks
+EACH = 1.0  # seconds between two samples
 KINDS = ("proofs", "tests", "seeds", "edits")
 CHECKS = ("check", "build")
 
 
 def processes():
-    """The processes that run now: by number, the parent's number and the ticks that it and its ended children have used."""
+    """The running processes: by number, the parent's number and the ticks that it and its ended children have used."""
     found = {}
     for name in filter(str.isdigit, os.listdir("/proc")):
         try:
@@ -48,7 +48,7 @@ def words_of(number):
 
 
 def check_of(number):
-    """The crate and the kind of a check, or None where the process is none."""
+    """The crate and the kind of a check; None if the process isn't one."""
     words = words_of(number)
     if len(words) < 2 or not words[0].endswith("/rattle") or words[1] not in CHECKS or "--crate-name" not in words:
         return None
@@ -64,7 +64,7 @@ def check_of(number):
 
 
 class Watch:
-    """What the checks below a process took, as far as they were seen."""
+    """The time that the checks below a process took, as far as it was seen."""
 
     def __init__(self, top):
         self.top = top
@@ -81,7 +81,7 @@ class Watch:
         self.note_memory()
 
     def walk(self, number, check, found, below, sums):
-        """Adds what each process took to the check that it is part of: a check's own children belong to it."""
+        """Adds the time of each process to the check that it belongs to: a check's own children belong to it."""
         if check is None and number != self.top:
             kind = self.kinds.get(number) or check_of(number)
             if kind:
@@ -136,7 +136,7 @@ def row(name, cells):
 
 
 def table(log):
-    """The log as lines of a table, and what is said beside it."""
+    """The log as lines of a table, with remarks."""
     seconds: dict[str, dict[str, float]] = {}
     beside: dict[str, float] = {}
     for line in log.read_text(encoding="utf-8").splitlines():

@@ -1,5 +1,9 @@
 #!/usr/bin/env python3
-"""Tries many wrong bodies of a crate in one check:  scripts/mutants.py [--plant FILE] [--list] CRATE [NAME ..]
+"""Tries mutants:  scripts/mutants.py [--plant FILE] [--list] CRATE [NAME ..]
+               scripts/mutants.py around [--seed N] [--count N] [--list] [FILE ..]
+
+With `around`, those of nrdb, netrev_calls and netrev_go, drawn by a seed, against their tests (scripts/mutating). Else many wrong
+bodies of a crate in one check.
 
 The gate tries each edit of crates/CRATE/must-fail alone, over the whole crate. Here those of different functions go into one
 copy of the repository, and just their functions are checked, each for itself: what a function is proved of doesn't rest on
@@ -24,6 +28,8 @@ import tempfile
 from dataclasses import dataclass, field
 from pathlib import Path
 
+import mutating.command
+
 ROOT = Path(__file__).resolve().parent.parent
 PARTS = ("src", "specs", "proofs")
 FUNCTION = re.compile(r"^( *)(?:pub(?:\([^)]*\))? )?(?:const )?fn (\w+)", re.M)
@@ -37,7 +43,7 @@ class Wrong(Exception):
 
 @dataclass
 class Change:
-    """One line's text and what stands in its place."""
+    """One line's text and its replacement."""
 
     file: str
     old: str
@@ -54,7 +60,7 @@ class Edit:
 
 
 def read_edits(text, name):
-    """The edits of a text, which are named in it or, if it has one alone, by the file."""
+    """The edits of a text, named in it or, if there is only one, by the file."""
     edits, file, old = [], "", ""
     for line in text.split("\n"):
         key, _, rest = line.partition(":")
@@ -73,7 +79,7 @@ def read_edits(text, name):
 
 
 def name_of_impl(head):
-    """What the printed name of a method begins with: its type's name, behind it that of the trait, if there is one."""
+    """The beginning of a method's printed name: its type's name, and then that of the trait, if there is one."""
     impls = list(IMPL.finditer(head))
     if not impls:
         return None
@@ -83,8 +89,8 @@ def name_of_impl(head):
 
 
 def function_at(crate, file, text, place):
-    """The end of the name that the prover prints for the function whose body a place of a source is in, or None where it
-    is in none. A method's name goes by its type, wherever its block stands."""
+    """The end of the name that the prover prints for the function whose body contains a place of a source, or None. A
+    method's name goes by its type, wherever its block is."""
     if not file.startswith("src/"):
         return None
     head = text[:place]
@@ -93,7 +99,7 @@ def function_at(crate, file, text, place):
         return None
     indent, name = found[-1][1], found[-1][2]
     body = head[found[-1].end() :]
-    # (the item has ended where a line of its indentation closes it, and begins behind its clauses)
+    # (the item ended if a line of its indentation closes it, and begins after its clauses)
     if re.search(rf"^{indent}}}$", body, re.M) or not re.search(rf"(?:^{indent}|\) |> |\w ){{$", body, re.M):
         return None
     module = [part for part in Path(file).with_suffix("").parts[1:] if part not in ("lib", "main", "mod")]
@@ -104,7 +110,7 @@ def function_at(crate, file, text, place):
 
 
 def place_functions(crate, folder, edit):
-    """Notes whose bodies the edit changes; none where it changes something else too."""
+    """Notes the functions whose bodies the edit changes; none if it also changes something else."""
     for change in edit.changes:
         path = folder / change.file
         text = path.read_text(encoding="utf-8") if path.is_file() else ""
@@ -119,7 +125,7 @@ def place_functions(crate, folder, edit):
 
 
 def batches_of(edits):
-    """Edits in as few checks as do, no two of one function in the same."""
+    """The edits in as few checks as possible, no two of one function in the same."""
     batches: list[list[Edit]] = []
     for edit in edits:
         for batch in batches:
@@ -149,7 +155,7 @@ def copied(room, crate, edits):
 
 
 def check(folder, functions, jobs):
-    """What the prover says of each of the functions, by name, and all that it said."""
+    """The prover's result for each of the functions, by name, and its whole output."""
     words = ["rt", "check", "--jobs", str(jobs)]
     for function in sorted(functions):
         words += ["--only", function]
@@ -163,7 +169,7 @@ def check(folder, functions, jobs):
 
 
 def is_own(function, line, output):
-    """Whether the function isn't proved for a goal of its own, and not just for what it calls."""
+    """Whether the function isn't proved because of a goal of its own, not only because of what it calls."""
     answers = "/".join(["proofs", *function.split("::")[1:], "Answers.antt"])
     return bool(
         UNPROVED.match(line) or line.startswith("not proved;") and re.search(rf"{answers}:\d+:\d+: error", output)
@@ -171,7 +177,7 @@ def is_own(function, line, output):
 
 
 def verdict(edit, said, output):
-    """Whether an edit was refused, and what was said of it."""
+    """Whether an edit was refused, and the output about it."""
     told = [
         (name, line)
         for name, lines in said.items()
@@ -200,7 +206,7 @@ def try_batch(crate, batch, jobs):
 
 
 def edits_of(crate, plant, names):
-    """The edits to be tried, each with the functions that it changes."""
+    """The edits to try, each with the functions that it changes."""
     folder = ROOT / "crates" / crate
     if plant:
         edits = read_edits(Path(plant).read_text(encoding="utf-8"), Path(plant).stem)
@@ -213,6 +219,8 @@ def edits_of(crate, plant, names):
 
 
 def main():
+    if sys.argv[1:2] == ["around"]:
+        return mutating.command.main(sys.argv[2:])
     parser = argparse.ArgumentParser(description=__doc__, formatter_class=argparse.RawDescriptionHelpFormatter)
     parser.add_argument("--plant", metavar="FILE", help="try the mistakes of this file")
     parser.add_argument("--list", action="store_true", help="print what would be tried")

@@ -15,6 +15,7 @@ The gate runs all rules. These are of pages and Python, and of what pages say of
     diagram              the crates of docs/internals/ARCHITECTURE.md are those of crates.txt
     imports              packages of Python import what the table of CONTRIBUTING.md says, and none that is below them there
     docstrings           no docstring leans on what is before it
+    markers              no page has what a conflict of a merge leaves
 
 And these of the source itself:
 
@@ -42,6 +43,7 @@ from page_rules import (
     links,
     lists,
     memory,
+    merges,
     quotes,
     raw_calls,
     reading,
@@ -51,7 +53,7 @@ from page_rules.tree import Finding, Tree
 
 Rule = Callable[[Tree], Iterator[Finding]]
 
-# what the rules of pages are about: without one of them they would find nothing
+# the subjects of the rules of pages: without one of them they would find nothing
 NEEDED = (
     "docs/proof/THEOREM.md",
     "docs/proof/TRUSTED.md",
@@ -79,6 +81,7 @@ RULES: dict[str, Rule] = {
     "diagram": lists.diagram,
     "imports": imports.imports,
     "docstrings": comments.leaning_docstrings,
+    "markers": merges.markers,
     "modules": definitions.groups,
     "comments": comments.leaning_comments,
     "lines": comments.long_lines,
@@ -88,7 +91,7 @@ RULES: dict[str, Rule] = {
 
 
 def main(given_words: list[str] | None = None) -> int:
-    """Runs the rules that are asked for, by these words or by those of the command line."""
+    """Runs the rules named by these words or by those of the command line."""
     given = argparse.ArgumentParser(description=__doc__, formatter_class=argparse.RawDescriptionHelpFormatter)
     given.add_argument("--diagram", action="store_true", help="print the diagram of the crates")
     given.add_argument("--write", action="store_true", help="put the imports into the table of CONTRIBUTING.md first")

@@ -17,19 +17,19 @@ TABLE = ROOT / "scripts" / "surface.txt"
 # the first line of a block of methods: an impl without a trait, or a trait
 OWNER = re.compile(r"(?:impl(?:<.*?>)? (?P<type>\w+)(?:<.*>)?(?: \{)?|pub trait (?P<trait>\w+).*)$")
 CALL = re.compile(r"(?P<public>pub )?fn (?P<name>\w+)")
-# the mark of an argument that a body leaves unused, which is no matter of the call
+# the mark of an argument that a body doesn't use, which doesn't concern the call
 UNUSED = re.compile(r"(?<=[(\s])_(?=\w+:)")
-# what comes behind a signature: clauses, bounds, the body
+# what follows a signature: clauses, bounds, the body
 BEHIND = re.compile(r"\s(?:where|requires|ensures|ghost|decreases)\b|\s?\{|;")
 
 
 def without_comments(text: str) -> str:
-    """The lines of a source, those that are comments or attributes left empty."""
+    """The lines of a source, with comments and attributes left empty."""
     return "\n".join("" if line.lstrip().startswith(("//", "#[")) else line for line in text.split("\n"))
 
 
 def signature(text: str) -> str:
-    """A call's arguments and result, on one line, without bounds, clauses and body. The text begins behind its name."""
+    """A call's arguments and result, on one line, without bounds, clauses and body. The text begins after its name."""
     depth = 0
     for at, char in enumerate(text):
         depth += (char == "(") - (char == ")")
@@ -42,7 +42,8 @@ def signature(text: str) -> str:
 
 
 def calls_of(text: str) -> Iterator[str]:
-    """The public calls of a source, as laid out by `rt fmt`: items at the line's start, methods four spaces behind it."""
+    """The public calls of a source, as laid out by `rt fmt`: items at the start of a line, methods after four
+    spaces."""
     lines = without_comments(text).split("\n")
     owner: str | None = None
     in_trait = False
@@ -81,7 +82,7 @@ def table(text: str) -> dict[str, list[str]]:
 
 
 def missing(wanted: dict[str, list[str]]) -> list[str]:
-    """What is wrong: each call of the table that isn't in its crate as it is listed, with what is there of its name."""
+    """The faults: each call of the table that its crate doesn't have as listed, with the calls of that name."""
     faults = []
     for crate, calls in wanted.items():
         there = crate_calls(crate)

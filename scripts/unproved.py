@@ -37,8 +37,8 @@ class UnprovedError(Exception):
 
 
 def unproved_netrev(say: Say) -> Path:
-    """An unproved netrev of the sources as they are: the one that an earlier call kept, or a new one. It is locked against removal
-    until this process ends, or the program that this process becomes."""
+    """An unproved netrev of the current sources: the one that an earlier call kept, or a new one. It is locked against
+    removal until this process ends, or the program that this process becomes."""
     program = KEPT / f"netrev-{source_sum(kit_name())}"
     KEPT.mkdir(parents=True, exist_ok=True)
     with exclusive(KEPT / "lock", say):
@@ -62,7 +62,7 @@ def kit_name() -> str:
 
 
 def source_sum(kit: str) -> str:
-    """A sum of the toolchain's name and of all that the program is compiled from, names and contents."""
+    """A checksum of the toolchain's name and of everything that the program is compiled from, names and contents."""
     folders = [*ROOT.glob("crates/*/src"), *ROOT.glob("crates/*/specs")]
     files = [ROOT / "crates.txt", ROOT / "HANDLES", *(path for folder in folders for path in folder.rglob("*"))]
     total = hashlib.sha256(kit.encode())
@@ -74,12 +74,12 @@ def source_sum(kit: str) -> str:
 
 
 def sum_file(program: Path) -> Path:
-    """The file with a kept program's own sum."""
+    """The file with a kept program's own checksum."""
     return program.with_name(f"{program.name}.sha256")
 
 
 def is_intact(program: Path) -> bool:
-    """Whether a program was kept, and is still what it was."""
+    """Whether a program was kept and is unchanged."""
     try:
         return sum_file(program).read_text() == hashlib.sha256(program.read_bytes()).hexdigest()
     except FileNotFoundError:
@@ -141,7 +141,7 @@ def keep_copy(program: Path, say: Say) -> None:
 
 @contextmanager
 def trying(log: IO[bytes]) -> Iterator[tuple[subprocess.Popen[bytes], str]]:
-    """`rt try`, which compiles netrev and has it check a pipe; and the pipe."""
+    """`rt try`, which compiles netrev and lets it check a pipe; and the pipe."""
     with tempfile.TemporaryDirectory(prefix="netrev-look-") as folder:
         pipe = f"{folder}/pipe"
         os.mkfifo(pipe)
@@ -151,7 +151,7 @@ def trying(log: IO[bytes]) -> Iterator[tuple[subprocess.Popen[bytes], str]]:
 
 @contextmanager
 def started(command: list[str], log: IO[bytes]) -> Iterator[subprocess.Popen[bytes]]:
-    """A process in netrev's crate, which is stopped at the end, whatever ends this one."""
+    """A process in netrev's crate, which is stopped at the end, in every case."""
     ending = (signal.SIGINT, signal.SIGTERM, signal.SIGHUP)
     mask = signal.pthread_sigmask(signal.SIG_BLOCK, ending)  # until there is a process to stop
     process = subprocess.Popen(
@@ -226,8 +226,8 @@ def is_below(process: int, ancestor: int, parents: dict[int, int]) -> bool:
 
 
 def program_checking(folder: Path, pipe: str) -> Optional[Path]:
-    """The program of a process, if it checks the pipe. The toolchain starts it by a loader of its own, so the program is what the
-    process's words name before `check`."""
+    """The program of a process, if it checks the pipe. The toolchain starts it by a loader of its own, so the program
+    is the word before `check`."""
     try:
         *words, check, last = map(os.fsdecode, (folder / "cmdline").read_bytes().split(b"\0")[:-1])
         if not words or (check, last) != (CHECK, pipe):

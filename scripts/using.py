@@ -32,7 +32,7 @@ class Program(NamedTuple):
 
 
 def programs(page: str) -> list[Program]:
-    """The programs of the page, and what it says that they print."""
+    """The programs of the page, and their output according to the page."""
     return [
         Program(found[1], found[2], found[3], found[4], re.sub("^    ", "", found[5], flags=re.MULTILINE))
         for found in PROGRAM.finditer(page)
@@ -40,7 +40,7 @@ def programs(page: str) -> list[Program]:
 
 
 def make_repository(folder: Path, made: list[Program]) -> None:
-    """Puts the crates into the folder, without what is built of them, and these programs."""
+    """Puts the crates into the folder, without build results, and these programs."""
     shutil.copytree(ROOT / "crates", folder / "crates", ignore=shutil.ignore_patterns("out", "must-fail"))
     shutil.copy(ROOT / "HANDLES", folder)
     rows = [f"{program.crate}: {program.imports}\n" for program in made]
@@ -52,7 +52,7 @@ def make_repository(folder: Path, made: list[Program]) -> None:
 
 
 def prints_it(folder: Path, program: Program) -> bool:
-    """Whether the program prints what the page says; else shows what it does."""
+    """Whether the program prints what the page shows; else prints the difference."""
     with FIRST.open("rb") as recording:
         command = ["rt", "try", "--seconds", str(SECONDS)]
         place = folder / "crates" / program.crate

@@ -15,23 +15,23 @@ from xml.sax.saxutils import escape, quoteattr
 
 ROOT = Path(__file__).resolve().parents[1]
 FOLDER, LICENSES = ROOT / "editors/vscode", ("LICENSE-MIT", "LICENSE-APACHE")
-LEFT_OUT = ("launch.json",)  # an example for a folder of one's own
+LEFT_OUT = ("launch.json",)  # an example for a user's own folder
 WITHIN, TYPES, MANIFEST = "extension/", "[Content_Types].xml", "extension.vsixmanifest"
 SORTS = {".json": "application/json", ".md": "text/markdown", ".txt": "text/plain", ".vsixmanifest": "text/xml"}
 OF_TYPES = "{http://schemas.openxmlformats.org/package/2006/content-types}"
 OF_MANIFEST = "{http://schemas.microsoft.com/developer/vsx-schema/2011}"
-CODE = ("main", "browser", "activationEvents", "scripts", "dependencies")  # of package.json, where there is any
+CODE = ("main", "browser", "activationEvents", "scripts", "dependencies")  # of package.json, if there are any
 WHEN = (2020, 1, 1, 0, 0, 0)
 
 
 def types() -> str:
-    """The file that says of each ending what it is."""
+    """The file that gives each ending its type."""
     rows = "".join(f'<Default Extension="{ending}" ContentType="{sort}"/>' for ending, sort in SORTS.items())
     return f'<?xml version="1.0" encoding="utf-8"?>\n<Types xmlns="{OF_TYPES[1:-1]}">{rows}</Types>\n'
 
 
 def manifest(package: dict[str, Any]) -> str:
-    """The file that says what the extension is, from its package.json."""
+    """The file that describes the extension, from its package.json."""
     name, version, publisher = (quoteattr(package[key]) for key in ("name", "version", "publisher"))
     return f"""<?xml version="1.0" encoding="utf-8"?>
 <PackageManifest Version="2.0.0" xmlns="{OF_MANIFEST[1:-1]}">
@@ -49,7 +49,7 @@ def manifest(package: dict[str, Any]) -> str:
 
 
 def parts(folder: Path) -> dict[str, bytes]:
-    """What a .vsix of a folder has, by name."""
+    """The parts of a folder's .vsix, by name."""
     package = json.loads((folder / "package.json").read_text(encoding="utf-8"))
     files = {f"{WITHIN}{path.name}": path for path in sorted(folder.iterdir()) if path.name not in LEFT_OUT}
     files |= {f"{WITHIN}{name}.txt": ROOT / name for name in LICENSES}
@@ -70,7 +70,7 @@ def pack(folder: Path, out: Path) -> None:
 
 
 def faults(file: Path) -> list[str]:
-    """What is wrong with a packed extension."""
+    """The faults of a packed extension."""
     try:
         with zipfile.ZipFile(file) as packed:
             if damaged := packed.testzip():
@@ -91,7 +91,7 @@ def faults(file: Path) -> list[str]:
 
 
 def faults_of_parts(data: dict[str, bytes]) -> Iterator[str]:
-    """Of the names of its parts: each has a type, and is where extensions are unpacked."""
+    """The faults of the names of its parts: each has a type, and is where extensions are unpacked."""
     known = {one.get("Extension") for one in ElementTree.fromstring(data[TYPES]).iter(f"{OF_TYPES}Default")}
     for name in data:
         if name != TYPES and Path(name).suffix not in known:
@@ -101,7 +101,7 @@ def faults_of_parts(data: dict[str, bytes]) -> Iterator[str]:
 
 
 def faults_of_manifest(data: dict[str, bytes], package: dict[str, Any]) -> Iterator[str]:
-    """Of the manifest: it says what package.json says, and names what is there."""
+    """The faults of the manifest: it agrees with package.json, and names what exists."""
     top = ElementTree.fromstring(data[MANIFEST])
     identity = top.find(f"{OF_MANIFEST}Metadata/{OF_MANIFEST}Identity")
     for key, named in (("Id", "name"), ("Version", "version"), ("Publisher", "publisher")):
@@ -113,7 +113,7 @@ def faults_of_manifest(data: dict[str, bytes], package: dict[str, Any]) -> Itera
 
 
 def faults_of_package(package: dict[str, Any]) -> Iterator[str]:
-    """Of package.json: the extension has no code, and takes no files from a language of VS Code's own."""
+    """The faults of package.json: the extension has no code, and takes no files from a language of VS Code's own."""
     yield from (f"package.json has {name}, and the extension has no code" for name in CODE if name in package)
     if "languages" in package["contributes"]:
         yield "package.json has a language of its own, which would take files from another one"
@@ -123,7 +123,7 @@ def faults_of_package(package: dict[str, Any]) -> Iterator[str]:
 
 
 def main() -> int:
-    """Packs or checks; the exit status."""
+    """Packs or checks; returns the exit status."""
     parser = argparse.ArgumentParser(
         prog="vsix.py", description="packs the extension for VS Code, or checks a packed one"
     )

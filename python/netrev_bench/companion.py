@@ -33,7 +33,7 @@ LINES = (
 
 
 class Companion:
-    """An nrdb that is asked by lines, and tells by lines of JSON."""
+    """An nrdb that reads lines and prints lines of JSON."""
 
     def __init__(self, recording):
         words = [NRDB, "--json", "--netrev", NETREV, recording]
@@ -58,7 +58,7 @@ class Companion:
 
 
 def measured(steps, folder):
-    """Seconds to begin, and for each line, by a recording of so many steps."""
+    """Seconds to begin, and for each line, with a recording of this many steps."""
     recording = Path(folder) / "mix.jsonl"
     write_recording("mix", steps, recording)
     companion = Companion(recording)
@@ -70,7 +70,7 @@ def measured(steps, folder):
 
 
 def main():
-    """Prints a table: a row a line, a column a size."""
+    """Prints a table: a row for each line, a column for each size."""
     sizes = [int(word) for word in sys.argv[1:]] or [10_000, 1_000_000]
     with tempfile.TemporaryDirectory() as folder:
         columns = [measured(size, folder) for size in sizes]

@@ -70,7 +70,7 @@ RECORDINGS = {
 
 
 def write(path: Path, head: str, lines: Iterator[str]) -> None:
-    """A million of the lines, behind a head."""
+    """A million of the lines, after a header."""
     with open(path, "w", encoding="ascii") as out:
         out.write(f"{head}\n")
         out.writelines(f"{line}\n" for line, _ in zip(lines, range(STEPS)))

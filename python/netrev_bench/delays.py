@@ -18,11 +18,11 @@ from .races import RACES, built, names
 
 POINTS = 2**16
 PROCESSORS = 4
-PATIENCE = 4  # seconds, behind which a run hangs
+PATIENCE = 4  # seconds after which a run hangs
 
 
 def shows(program: Path, name: str, delays: int) -> bool:
-    """Whether a race shows in one run; one that doesn't end hangs."""
+    """Whether one run shows the race; a run that doesn't end hangs."""
     logs = logs_folder(POINTS)
     settings = {
         "NETREV_LOG": str(logs / "log"), "NETREV_POINTS": str(POINTS), "NETREV_LINES": "0",

@@ -1,4 +1,4 @@
-"""Records programs and explores what is recorded: what the tables of races and of healthy programs have in common."""
+"""Records programs and explores the recordings: the common part of the tables of races and of healthy programs."""
 
 import os
 import shutil
@@ -61,12 +61,12 @@ def read(path: Path) -> Recording:
 
 
 def is_good(recording: Recording) -> bool:
-    """Whether no rule has anything to say of it."""
+    """Whether no rule finds anything in it."""
     return not any(suspect.is_shown for suspect in suspects_of(recording).suspects)
 
 
 class Outcome(NamedTuple):
-    """What came of the schedules: how many there were, by what so many ended, the first that found each, and the seconds."""
+    """The result of the schedules: their number, the numbers by finding, the first that had each, and the seconds."""
 
     played: int
     times: Counter[str]
@@ -76,7 +76,7 @@ class Outcome(NamedTuple):
 
 
 def explored(recording: Recording, most: int) -> Outcome:
-    """Plays so many schedules near a recording."""
+    """Plays this many schedules near a recording."""
     begun = time.process_time()
     exploring = Exploring(script_of(recording), recording.lines.words)
     first: dict[str, int] = {}
@@ -93,5 +93,5 @@ def explored(recording: Recording, most: int) -> Outcome:
 
 
 def named(what: object) -> str:
-    """The words for a rule, or for a call that hangs."""
+    """The name of a rule, or of a call that hangs."""
     return str(what or HANG)

@@ -47,7 +47,7 @@ def answered(recording: Recording) -> Recording:
 
 
 def recordings(paths: list[Path]) -> Iterator[tuple[str, Recording]]:
-    """What is explored, by names."""
+    """The recordings to explore, by name."""
     for path in paths or [HUNT]:
         yield path.stem, answered(read(path))
     for seed in () if paths else SEEDS:
@@ -55,7 +55,7 @@ def recordings(paths: list[Path]) -> Iterator[tuple[str, Recording]]:
 
 
 def pace(recording: Recording, most: int, processors: int) -> tuple[int, int, float]:
-    """How many schedules were played, how many findings there are, and in how many seconds."""
+    """The number of schedules and of findings, and the seconds."""
     now = time.process_time if processors == 1 else time.perf_counter
     begun = now()
     script = script_of(recording)

@@ -40,7 +40,7 @@ record full
 
 
 def timed(name, command):
-    """A command of GDB's, and the print of how long it takes."""
+    """A command for GDB that prints how long it takes."""
     return f"python began = time.perf_counter()\n{command}\npython tell('{name}', time.perf_counter() - began)\n"
 
 
@@ -55,14 +55,14 @@ SCRIPT = (
 
 
 def built(folder):
-    """The program, whose calls are all bound when it starts: `record full` can't follow the loader."""
+    """The program, whose calls are all bound when it starts, because `record full` can't follow the loader."""
     program = folder / "rounds"
     subprocess.run(["cc", "-Og", "-g", "-fno-inline", "-Wl,-z,now", "-o", program, SOURCE, "-pthread"], check=True)
     return program
 
 
 def measured(program, rounds, folder):
-    """How many instructions were recorded, and the seconds of each command."""
+    """The number of recorded instructions, and the seconds of each command."""
     script = folder / "script"
     script.write_text(SCRIPT, encoding="ascii")
     words = ["gdb", "-nx", "-batch", "-x", script, "--args", program, str(rounds)]

@@ -41,7 +41,7 @@ WANTED = {
 
 
 class Healthy(NamedTuple):
-    """A test that went well, and the recording of it."""
+    """A test that passed, and its recording."""
 
     package: str
     test: str
@@ -49,7 +49,7 @@ class Healthy(NamedTuple):
 
 
 def drawn(go: Go, suite: Suite, count: int, out: Path) -> Iterator[Healthy]:
-    """So many tests of a package that went well and are neither too short nor too long."""
+    """Tests of a package that passed and are neither too short nor too long, this many."""
     program = built(go, suite, out)
     folder = source_folder(go, suite)
     tests = tests_of(program, folder, suite) if program else []
@@ -63,7 +63,7 @@ def drawn(go: Go, suite: Suite, count: int, out: Path) -> Iterator[Healthy]:
 
 
 def went_well(go: Go, program: Optional[Path], folder: Path, test: str, name: Path) -> Optional[Recording]:
-    """The recording of a test that went well, if it may be taken."""
+    """The recording of a test that passed, if it may be used."""
     command = [str(program), "-test.run", f"^{test}$", "-test.short", "-test.timeout=40s"]
     run = recorded(go, command, folder, 4, name)
     if run.status or not run.recording:

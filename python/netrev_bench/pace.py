@@ -24,7 +24,7 @@ MEASURES = ("advance", "apply", "undo", "search")
 
 
 def figures(program, recording):
-    """What a program prints: the figures of each name, as `World advance 1 apply 2 undo 3 search 4`."""
+    """A program's figures by name, from `World advance 1 apply 2 undo 3 search 4`."""
     found = {}
     printed = subprocess.run([program, recording], stdout=subprocess.PIPE, check=True, text=True).stdout
     for line in printed.splitlines():

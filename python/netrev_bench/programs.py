@@ -18,7 +18,7 @@ CPU = os.environ.get("CPU", "")  # as `make netrev` takes it
 
 
 def built_baseline() -> Optional[str]:
-    """The baseline's program; None where it can't be built."""
+    """The baseline's program; None if it can't be built."""
     if BASELINE:
         return BASELINE
     target = ROOT / "out" / f"baseline{CPU and '-'}{CPU}"
@@ -33,7 +33,7 @@ def built_baseline() -> Optional[str]:
 
 
 def write_recording(shape: str, steps: int, file: Path) -> None:
-    """Makes a recording of a shape with so many steps."""
+    """Makes a recording of a shape with this many steps."""
     words = ["awk", "-v", f"shape={shape}", "-v", f"n={steps}", "-f", str(ROOT / "bench/shapes.awk")]
     with open(file, "wb") as out:
         subprocess.run(words, stdout=out, check=True)

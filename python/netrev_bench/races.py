@@ -23,7 +23,7 @@ TRIES = 5
 
 
 def names() -> list[str]:
-    """The races that there are."""
+    """The names of the races."""
     return NAME.findall((RACES / "main.go").read_text(encoding="utf-8"))
 
 
@@ -36,7 +36,7 @@ def built(go: Go, out: Path, is_recording: bool) -> Path:
 
 
 def good_recording(go: Go, program: Path, name: str, processors: int) -> Optional[Recording]:
-    """A recording of a run that went well, of which no rule has anything to say; None where there is none."""
+    """A recording of a run that succeeded and in which no rule finds anything; None if there is none."""
     path = program.with_name(f"{name}-{processors}.jsonl")
     for _ in range(TRIES):
         run = recorded(go, [str(program), name], RACES, processors, path)
@@ -46,7 +46,7 @@ def good_recording(go: Go, program: Path, name: str, processors: int) -> Optiona
 
 
 def gone_wrong(program: Path, name: str, runs: int, processors: int) -> str:
-    """In how many runs it shows."""
+    """The number of runs that show it."""
     command = [str(program), name, str(runs)]
     run = subprocess.run(
         command, env=environment(GOMAXPROCS=str(processors)), capture_output=True, text=True, check=False

@@ -29,7 +29,7 @@ WITHOUT_REP = "GLIBC_TUNABLES=glibc.cpu.x86_rep_stosb_threshold=1000000000:glibc
 
 
 def ask(stream, line, right):
-    """Seconds until a line is answered, which has to be so."""
+    """Seconds until a line is answered, which must have this reply."""
     began = time.perf_counter()
     stream.write(f"{line}\n")
     stream.flush()
@@ -43,7 +43,7 @@ def searches(steps):
 
 
 def session(recording, steps, workers, runs, start=None, through=()):
-    """The seconds of each search, run by run. With `start`, each begins when all sessions have come so far."""
+    """The seconds of each search, by run. With `start`, each begins when all sessions are ready."""
     with Server(recording, workers=workers, through=through) as server:
         with server.call(0) as caller, caller.makefile("rw", encoding="ascii", newline="\n") as stream:
             for line, right in MARKS.items():
@@ -59,7 +59,7 @@ def session(recording, steps, workers, runs, start=None, through=()):
 
 
 def search(recording, workers, sessions):
-    """Positions a second of each search, of all sessions together, the best of all runs."""
+    """Positions a second of each search, summed over all sessions, the best of all runs."""
     start = threading.Barrier(sessions)
     with ThreadPoolExecutor(sessions) as pool:
         begun = [pool.submit(session, recording, STEPS, workers, RUNS, start) for _ in range(sessions)]
@@ -82,7 +82,7 @@ def instructions(recording, workers, folder):
 
 
 def recorded(folder, steps):
-    """The file of a recording with so many steps."""
+    """The file of a recording with this many steps."""
     recording = Path(folder) / f"{steps}.jsonl"
     words = ["awk", "-v", "shape=mix", "-v", f"n={steps}", "-f", str(ROOT / "bench/shapes.awk")]
     with open(recording, "wb") as out:

@@ -22,7 +22,7 @@ RUNS = 3
 
 
 def run_piped(recording, lines, replies):
-    """Seconds of `netrev run` for these lines again and again, MANY in all, loading left out."""
+    """Seconds of `netrev run` for these lines repeated, MANY in all, without loading."""
     seconds = []
     for count in (0, MANY // len(lines)):
         asked = "".join(f"{line}\n" for line in lines) * count
@@ -35,22 +35,22 @@ def run_piped(recording, lines, replies):
 
 
 def stepped(count):
-    """The last reply to so many steps."""
+    """The last reply to this many steps."""
     return [f"at {count}"] if count else []
 
 
 def clocks(count):
-    """The last of so many looks at the clock."""
+    """The last of this many queries of the clock."""
     return ["clock = 0"] if count else []
 
 
 def stepped_with_clocks(count):
-    """The last replies to so many steps with a look behind each."""
+    """The last replies to this many steps with a query after each."""
     return stepped(count) + clocks(count)
 
 
 def place(caller, count):
-    """Places so many commands, sent at once, and gives the seconds until the last reply came."""
+    """Places this many commands, sent at once, and returns the seconds until the last reply came."""
     lines = b"stepi\n" * count
     sender = threading.Thread(target=caller.sendall, args=(lines,))
     began = time.perf_counter()
@@ -66,7 +66,7 @@ def place(caller, count):
 
 
 def look(caller):
-    """Seconds until a look is answered, and the reply."""
+    """Seconds until a query is answered, and the reply."""
     began = time.perf_counter()
     caller.sendall(b"info position\n")
     reply = b""
@@ -76,7 +76,7 @@ def look(caller):
 
 
 def share(recording, fronts, each):
-    """Seconds until that many fronts have placed their commands at the same time, and the longest until one has caught
+    """Seconds until this many fronts have placed their commands at the same time, and the longest until one has caught
     up."""
     with Server(recording, fronts, journal=1_000_000) as server:
         callers = [server.call(front) for front in range(fronts)]
@@ -97,7 +97,7 @@ def share(recording, fronts, each):
 
 
 def wait_for_each(recording, count):
-    """Seconds of so many round trips."""
+    """Seconds of this many round trips."""
     with Server(recording) as server:
         caller = server.call(0)
         began = time.perf_counter()

@@ -9,12 +9,13 @@ BEFORE, NOW, BASELINE = PROGRAMS = ("before", "now", "baseline")
 NAMES = ("check", "walk", "continue", "reverse", "restarts", "memory")
 
 Figures = dict[str, dict[str, float]]
+Cases = dict[str, Figures]  # for each recording, by its name
 
 
 @dataclass
 class Measurement:
-    """Figures of one sort, such as times: for each shape and number of steps those of each program that was measured, by the
-    program and the figure's name. The titles are those of a table for each figure."""
+    """Figures of one sort, such as times: for each shape and number of steps those of each measured program, by program
+    and figure. The titles are those of a table for each figure."""
 
     sort: str
     titles: dict[str, str]
@@ -27,6 +28,10 @@ class Measurement:
     @property
     def sizes(self) -> list[int]:
         return list(dict.fromkeys(steps for _, steps in self.found))
+
+    def at(self, steps: int) -> Cases:
+        """The figures at one size, by the shape."""
+        return {shape: figures for (shape, size), figures in self.found.items() if size == steps}
 
     def has(self, program: str) -> bool:
         """Whether a program was measured."""
@@ -47,7 +52,7 @@ class Measurement:
 
 
 def quotient(figures: Figures, name: str, above: str, below: str) -> float:
-    """How many times as much one program takes as another."""
+    """The ratio of one program's figure to another's."""
     return figures[above][name] / figures[below][name]
 
 
@@ -57,19 +62,19 @@ def written(figure: float) -> str:
 
 
 def table(head: Sequence[str], rows: Iterable[Sequence[str]]) -> str:
-    """A table of Markdown: names to the left, figures to the right."""
+    """A table of Markdown: names at the left, figures at the right."""
     lines = [f"| {' | '.join(head)} |", f"|---|{'--:|' * (len(head) - 1)}"]
     return "\n".join([*lines, *(f"| {' | '.join(row)} |" for row in rows)]) + "\n"
 
 
 def columns(with_before: bool) -> list[str]:
-    """What stands side by side of one figure at one size."""
+    """The columns of one figure at one size."""
     beside = [NOW, BASELINE, f"{NOW} / {BASELINE}"]
     return [BEFORE, *beside, f"{NOW} / {BEFORE}"] if with_before else beside
 
 
 def cells(figures: Figures, name: str, with_before: bool) -> list[str]:
-    """One figure at one size, in these columns. A program that wasn't measured has empty ones."""
+    """One figure at one size, in these columns, empty for a program that wasn't measured."""
     there = {program: written(figures[program][name]) for program in PROGRAMS if program in figures}
     if BASELINE in figures:
         there[f"{NOW} / {BASELINE}"] = f"{quotient(figures, name, NOW, BASELINE):.1f}"
@@ -79,7 +84,7 @@ def cells(figures: Figures, name: str, with_before: bool) -> list[str]:
 
 
 def grown(measured: Measurement, shape: str, name: str) -> Iterator[str]:
-    """How many times as much the last size takes as the first, for each program."""
+    """The last size's figure divided by the first size's, for each program."""
     first, last = (measured.found[shape, steps] for steps in (measured.sizes[0], measured.sizes[-1]))
     for program in PROGRAMS:
         if measured.has(program):
@@ -87,12 +92,13 @@ def grown(measured: Measurement, shape: str, name: str) -> Iterator[str]:
 
 
 def under(title: str, words: Sequence[str]) -> list[str]:
-    """Heads of neighbouring columns, the first with what they are about."""
+    """Headings of neighbouring columns, the first with their topic."""
     return [f"{title}: {words[0]}", *words[1:]]
 
 
 def figure_table(measured: Measurement, name: str) -> str:
-    """One figure: a row a shape, the sizes side by side, and how it grows from the first size to the last where there are two."""
+    """One figure: a row for each shape, the sizes side by side, and the growth from the first size to the last if there
+    are two."""
     sizes, with_before = measured.sizes, measured.has(BEFORE)
     head = [measured.titles[name]]
     for steps in sizes:
@@ -111,18 +117,9 @@ def arrow(ratios: Iterable[float]) -> str:
     return " → ".join(f"{ratio:.1f}" for ratio in ratios)
 
 
-def ratio_table(measured: Measurement) -> str:
-    """The ratios to the baseline at the last size: a row a shape."""
-    steps, netrevs, names = measured.sizes[-1], measured.netrevs, list(measured.titles)
-    rows = [
-        [shape, *(arrow(measured.ratio(shape, steps, one, name) for one in netrevs) for name in names)]
-        for shape in measured.shapes
-    ]
-    return table([f"ratio to the baseline, {measured.sort}, {steps:,} steps", *names], rows)
-
-
 def mean_table(measurements: Sequence[Measurement]) -> str:
-    """The geometric means over the shapes of the ratios to the baseline, each measurement's at its last size: a row a figure."""
+    """The geometric means over the shapes of the ratios to the baseline, each measurement's at its last size: a row for
+    each figure."""
     head = ["geometric mean of the ratios to the baseline"]
     rows = [[name] for name in NAMES if any(name in measured.titles for measured in measurements)]
     for measured in measurements:
@@ -131,4 +128,67 @@ def mean_table(measurements: Sequence[Measurement]) -> str:
         for row in rows:
             there = row[0] in measured.titles
             row += [f"{measured.mean(steps, one, row[0]):.1f}" if there else "" for one in measured.netrevs]
+    return table(head, rows)
+
+
+def cell(figures: Figures, name: str) -> str:
+    """One figure of all programs: `before → now / baseline`, without those that weren't measured."""
+    netrevs = " → ".join(written(figures[program][name]) for program in (BEFORE, NOW) if program in figures)
+    return f"{netrevs} / {written(figures[BASELINE][name])}" if BASELINE in figures else netrevs
+
+
+def cases_table(title: str, names: Sequence[str], cases: Cases) -> str:
+    """A row for each case, a column for each figure."""
+    return table([title, *names], [[case, *(cell(figures, name) for name in names)] for case, figures in cases.items()])
+
+
+def ratio_cell(figures: Figures, name: str) -> str:
+    """The ratio to the baseline before and now."""
+    return arrow(quotient(figures, name, program, BASELINE) for program in (BEFORE, NOW) if program in figures)
+
+
+def side_by_side(title: str, sorts: dict[str, Cases], has_mean: bool) -> str:
+    """The ratios to the baseline by each sort of figures, such as instructions and times, side by side: a row for each
+    case, and their geometric means if wanted."""
+    columns = [(name, sort) for name in NAMES for sort, cases in sorts.items() if has_figure(cases, name)]
+    rows = [[case, *(ratio_cell(sorts[sort][case], name) for name, sort in columns)] for case in first_of(sorts)]
+    if has_mean:
+        rows.append(["geometric mean", *(mean_cell(sorts[sort], name) for name, sort in columns)])
+    names = [name for name, _ in columns]
+    return table([title, *(f"{name}, {sort}" if names.count(name) > 1 else name for name, sort in columns)], rows)
+
+
+def has_figure(cases: Cases, name: str) -> bool:
+    """Whether a figure was measured of these cases."""
+    return all(name in figures[NOW] for figures in cases.values())
+
+
+def first_of(sorts: dict[str, Cases]) -> Cases:
+    """The cases of the first sort, which are those of the others too."""
+    return next(iter(sorts.values()))
+
+
+def mean_cell(cases: Cases, name: str) -> str:
+    """The geometric means over the cases of the ratios to the baseline, before and now."""
+    programs = [program for program in (BEFORE, NOW) if all(program in figures for figures in cases.values())]
+    return arrow(
+        geometric_mean(quotient(figures, name, program, BASELINE) for figures in cases.values()) for program in programs
+    )
+
+
+def growth_table(title: str, name: str, limits: dict[str, Cases]) -> str:
+    """A figure by the limits of the header, from the least to the greatest: a row for each shape, and for each program
+    the figure with each of the limits, and the ratio of the greatest to the least."""
+    least, *_, greatest = limits.values()
+    programs = [program for program in PROGRAMS if all(program in figures for figures in least.values())]
+    head = [title]
+    for program in programs:
+        head += under(program, [*limits, f"{list(limits)[-1]} / {list(limits)[0]}"])
+    rows = []
+    for shape in least:
+        row = [shape]
+        for program in programs:
+            row += [written(cases[shape][program][name]) for cases in limits.values()]
+            row.append(f"{greatest[shape][program][name] / least[shape][program][name]:.2f}")
+        rows.append(row)
     return table(head, rows)

@@ -1,2 +1,2 @@
-"""Go's calls at a socket as the steps that they are made of: `flow` has their control flow as one table. It is played forwards by who makes
-steps (nrdb's explore, the fuzzer's little Go), and read over steps by who finds calls in them."""
+"""The control flow of Go's calls on a socket, as one table in `flow`: nrdb's explore and the fuzzer's little Go run it to make
+steps, and the parser of calls runs it over recorded steps."""

@@ -34,7 +34,7 @@ SORTS = {sort.value: sort for sort in Sort}  # by the kind of the first step
 ENDS = {Sort.UNLOCK: (Sort.LOCK,), Sort.GIVE_UP: (Sort.REFER, Sort.CLOSE)}  # what each of these ends
 TRIES = (Sort.RESET, Sort.WAIT, Sort.READ, Sort.WRITE)  # what is between, and is left out where one fails
 
-# the step that a goroutine of this status makes, whatever its operation; who sleeps makes none
+# the step that a goroutine of this status makes, whatever its operation; a sleeping goroutine makes none
 BY_STATUS = {
     "acquiring": "acquire",
     "relock": "rwlock",
@@ -65,7 +65,7 @@ NAMES = {sort: _names(sort) for sort in Sort}
 
 
 def step_by_status(g: int, status: Status) -> Optional[Step]:
-    """The step that a goroutine makes next by its status; None where it is idle or gone, or sleeps."""
+    """The next step of a goroutine by its status; None if it is idle, has ended or sleeps."""
     if status[0] not in BY_STATUS:
         return None
     kind = BY_STATUS[status[0]]
@@ -89,7 +89,7 @@ class Came(Enum):
     FAILS = auto()
 
 
-LAST = ("last",)  # the answer to who gives up the last reference of what is closed, and has to destroy it
+LAST = ("last",)  # the answer that makes a goroutine destroy what is closed: it gave up the last reference
 CODES = {"code 0": Came.OVER, "code": Came.FAILS}
 STAYS = {"yes": Came.STAYS, "no": Came.STAYS, "wait": Came.STAYS}
 # by the kind of a step, and by its answer, in which `code` is any but 0: what it leads to, if the operation isn't over

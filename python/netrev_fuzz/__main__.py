@@ -38,7 +38,7 @@ def arguments(words: Optional[Sequence[str]]) -> argparse.Namespace:
 
 
 def play_one(netrev: str, case: Case, met: Met) -> bool:
-    """Plays one case and says what came of it. Whether there was a difference."""
+    """Plays one case and prints the result. Returns whether there was a difference."""
     with tempfile.TemporaryDirectory() as folder:
         differs = difference(netrev, case, Path(folder), met)
     print(f"{case.seed} ({case.sort}): {first_difference(*differs) if differs else 'no difference'}")
@@ -46,7 +46,7 @@ def play_one(netrev: str, case: Case, met: Met) -> bool:
 
 
 def seeds(seed: str, most: Optional[int]) -> Iterator[str]:
-    """The cases' seeds, without end or so many."""
+    """The seeds of cases, without end or this many."""
     number = 0
     while most is None or number < most:
         number += 1
@@ -59,13 +59,13 @@ def case_of(seed: str) -> Case:
 
 
 def wanted_seeds(seed: str, cases: Optional[int], of: str) -> Iterator[str]:
-    """The seeds that are to be played: so many for netrev, or without end, for one of both, or for each for the same time."""
+    """The seeds to play: this many for netrev, or without end, for one program or for both for the same time."""
     of_netrev, of_nrdb = seeds(seed, cases), seeds(f"{seed}{OF_NRDB}", cases)
     return of_nrdb if of == "nrdb" else of_netrev if of or cases else by_turns(of_netrev, of_nrdb)
 
 
 def by_turns(*ways: Iterator[str]) -> Iterator[str]:
-    """Seeds of several sorts without end, so that each sort takes the same time."""
+    """Seeds of several sorts, without end, so that each sort takes the same time."""
     spent = dict.fromkeys(range(len(ways)), 0.0)
     while True:
         least = min(spent, key=lambda way: spent[way])
@@ -83,7 +83,7 @@ def play(
     out: Path = ROOT / "out/fuzz",
     of: str = "",
 ) -> int:
-    """Plays cases, and keeps each that differs. How many did."""
+    """Plays cases, keeps each that differs, and returns their number."""
     until, found = time.monotonic() + 60 * minutes, 0
     with tempfile.TemporaryDirectory() as name:
         for case in map(case_of, wanted_seeds(seed, cases, of)):

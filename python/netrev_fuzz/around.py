@@ -1,6 +1,7 @@
 """make fuzz-around, or by hand:  python3 python netrev_fuzz.around [--of logs] [--minutes M] [--cases N] [--seed S]
 
-Plays random cases of what is round netrev, each sort for the same time: damaged `logs` of the recorder; `views` of nrdb over recordings
+Plays random cases of what is round netrev, each sort for the same time: damaged `logs` of the recorder; logs of random `programs`, whose
+recordings have to have all of them; `views` of nrdb over recordings
 with any file of lines beside them; `editors` that ask the adapter for anything; `browsers` that type any line. In each it is a fault
 where Python has a traceback, also one that nrdb answers by a line, where one takes too long, too much memory, or a file, and where a terminal would obey. A case has
 a seed of its own, `S-logs-1`, ..; `--case S-logs-1` plays that one alone. The program is $NETREV, else the built one. Ends with status 1 where
@@ -23,7 +24,7 @@ from typing import Callable, Iterator, Optional, Sequence
 
 from nrdb.errors import WANTED_BY
 
-from . import browsers, damaged_logs, editors, side_files
+from . import browsers, damaged_logs, editors, random_logs, side_files
 
 ROOT = Path(__file__).resolve().parents[2]
 PATIENCE = 120  # seconds for a case
@@ -32,6 +33,7 @@ MOST_FAULTS = 20
 Judgement = Callable[[str, Path, str], str]
 SORTS: dict[str, Judgement] = {
     "logs": lambda seed, folder, _: damaged_logs.wrong(seed, folder),
+    "programs": random_logs.wrong_by,
     "views": side_files.wrong,
     "editors": editors.wrong,
     "browsers": browsers.wrong,
@@ -39,12 +41,12 @@ SORTS: dict[str, Judgement] = {
 
 
 class Late(BaseException):
-    """A case takes too long. (Nothing that catches exceptions takes it for one of its own.)"""
+    """A case takes too long. No handler of exceptions takes it for one of its own."""
 
 
 @contextmanager
 def in_time() -> Iterator[None]:
-    """Within, Late is raised where it takes too long."""
+    """In this context, Late is raised after the time limit."""
 
     def end(*_: object) -> None:
         raise Late
@@ -60,7 +62,7 @@ def in_time() -> Iterator[None]:
 
 @contextmanager
 def tracebacks() -> Iterator[io.StringIO]:
-    """Within, nrdb prints here the tracebacks of its own errors, each of which it answers by a line."""
+    """In this context, nrdb prints here the tracebacks of its own errors, each of which it answers by a line."""
     printed, before = io.StringIO(), os.environ.get(WANTED_BY)
     os.environ[WANTED_BY] = "1"
     try:
@@ -74,7 +76,7 @@ def tracebacks() -> Iterator[io.StringIO]:
 
 
 def fault_of(seed: str, program: str) -> str:
-    """What is wrong with the case of a seed; nothing where all is well."""
+    """The fault of a seed's case; empty if there is none."""
     sort = seed.rsplit("-", 2)[1]
     folder = Path(tempfile.mkdtemp(prefix="netrev-fuzz-"))
     try:
@@ -90,7 +92,7 @@ def fault_of(seed: str, program: str) -> str:
 
 
 def seeds(seed: str, sorts: Sequence[str], cases: Optional[int], until: float) -> Iterator[str]:
-    """The seeds that are to be played: so many of each sort, or all until the time is up, each sort for as long as the others."""
+    """The seeds to play: this many of each sort, or all until the time is up, each sort for the same time."""
     spent, played = dict.fromkeys(sorts, 0.0), Counter[str]()
     while time.monotonic() < until:
         left = [sort for sort in sorts if cases is None or played[sort] < cases]
@@ -104,7 +106,7 @@ def seeds(seed: str, sorts: Sequence[str], cases: Optional[int], until: float) -
 
 
 def play(program: str, all_seeds: Iterator[str]) -> tuple[Counter[str], int]:
-    """Plays cases, and tells of each that is wrong: how many there were of each sort, and how many were wrong."""
+    """Plays cases and prints each fault; returns the numbers of cases by sort, and the number of faults."""
     played, found = Counter[str](), 0
     for seed in all_seeds:
         played[seed.rsplit("-", 2)[1]] += 1

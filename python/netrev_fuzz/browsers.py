@@ -1,5 +1,5 @@
-"""Cases for the page: lines that a browser types, also those that it may not. None reads or writes a file, none ends nrdb, and what is
-told of them a page may show."""
+"""Cases for the page: lines that a browser types, also forbidden ones. None may read or write a file or end nrdb, and
+the page must be able to show every answer."""
 
 import os
 import random
@@ -53,7 +53,7 @@ SPELLED = (
 
 
 class Watched:
-    """Whether this process asks for files. A hook can't be taken away again, so there is one, which is looked at while a line is
+    """Whether this process opens files. A hook can't be removed, so there is only one, which is active while a line is
     answered."""
 
     def __init__(self) -> None:
@@ -73,7 +73,7 @@ class Watched:
 
 
 def is_of_python(name: Any) -> bool:
-    """Whether a file is one of Python's own or of nrdb's, which it may read at any time."""
+    """Whether a file is Python's own or nrdb's, which may be read at any time."""
     return os.fsdecode(name).endswith((".py", ".pyc", ".so", "/page", ".js", ".css"))
 
 
@@ -81,7 +81,7 @@ WATCHED = Watched()
 
 
 class Told(Streams):
-    """Keeps what browsers are told, as they get it."""
+    """Keeps what browsers are sent."""
 
     def __init__(self) -> None:
         super().__init__("recording.jsonl")
@@ -92,7 +92,7 @@ class Told(Streams):
 
 
 def body(dice: random.Random, length: int) -> bytes:
-    """What a browser sends for a line."""
+    """The body that a browser sends for a line."""
     sort = dice.randrange(5)
     if sort == 0:
         return line_of_nrdb(dice, length).encode()
@@ -107,7 +107,7 @@ def body(dice: random.Random, length: int) -> bytes:
 
 
 def wrong(seed: str, folder: Path, program: str) -> str:
-    """What is wrong with what the lines of a seed do; nothing where all is well."""
+    """The fault of what the lines of a seed do; empty if there is none."""
     dice = random.Random(seed)
     recording, _ = Author(dice).recording(dice.choice([5, 20]))
     path = folder / "recording.jsonl"
@@ -124,7 +124,7 @@ def wrong(seed: str, folder: Path, program: str) -> str:
 
 
 def typed(dice: random.Random, shared: Shared, told: Told, length: int) -> str:
-    """Types lines; what is wrong with what comes of one."""
+    """Types lines; the fault of an answer."""
     for _ in range(dice.choice([5, 30])):
         data = body(dice, length)
         try:
@@ -144,7 +144,7 @@ def typed(dice: random.Random, shared: Shared, told: Told, length: int) -> str:
 
 
 def files_wrong(folder: Path) -> str:
-    """What is wrong with the files where nrdb runs: those that were there are all that are."""
+    """The fault of the files in nrdb's folder: they must be those from before."""
     found = sorted(os.listdir(folder))
     if found != ["recording.jsonl", "recording.where"] or (folder / found[1]).read_text() != "mine":
         return f"files were written: {found}"

@@ -1,4 +1,4 @@
-"""The cases: each is made from its seed, and is a recording's text, a script, and which program is to play them."""
+"""The cases: each is made from its seed, and has a recording's text, a script, and the program that plays them."""
 
 import random
 from typing import Callable, NamedTuple, Optional, Sequence
@@ -18,12 +18,12 @@ from .randomsteps import Author, other_answer
 HEADER = b'{"netrev":1,"gor":1,"sock":1,"desc":1,"buf":1}\n'
 
 
-Made = tuple[bytes, Optional[bytes]]  # a recording's text, and the script where there is one
+Made = tuple[bytes, Optional[bytes]]  # a recording's text, and the script if there is one
 
 
 class Case(NamedTuple):
-    """A recording, which of `run`, `check`, `upgrade`, `changes` and `suspects` is to play it, and for `run` what is written to its standard
-    input."""
+    """A recording, the program of `run`, `check`, `upgrade`, `changes` and `suspects` that plays it, and for `run` the
+    standard input."""
 
     seed: str
     sort: str
@@ -50,7 +50,7 @@ def damaged_recording(dice: random.Random) -> Made:
 
 
 def refused_step(dice: random.Random) -> Made:
-    """A recording whose last step doesn't apply, but for some that all do."""
+    """A recording whose last step doesn't apply; in some, all steps do."""
     return texts.write_text(dice, with_refused_step(dice, Author(dice))), None
 
 
@@ -65,8 +65,7 @@ def with_refused_step(dice: random.Random, author: Author) -> Recording:
 
 
 def other_answers(dice: random.Random) -> Made:
-    """A recording with one or more recorded answers that aren't the machine's, or which may be of a step that doesn't
-    apply."""
+    """A recording with one or more recorded answers that aren't the machine's; the step may not apply."""
     recording = with_refused_step(dice, Author(dice, version=2))
     steps, answers = recording.steps, list(recording.answers)
     for _ in range(dice.choice([1, 1, 1, 2, 3]) if steps else 0):
@@ -82,14 +81,14 @@ def walk(dice: random.Random) -> Made:
 
 
 def every_cell_shown(dice: random.Random) -> Made:
-    """A recording of which all is looked at at each position."""
+    """A recording whose cells are all printed at each position."""
     recording, _ = Author(dice).recording(dice.choice([10, 30, 80]))
     script = every_cell(recording.limits, len(recording.steps), dice.random() < 0.5)
     return texts.write_text(dice, recording), script
 
 
 def lines(dice: random.Random) -> Made:
-    """Many bad lines and bytes that are no lines, over a short recording."""
+    """Many bad lines, and bytes that aren't lines, over a short recording."""
     recording, _ = Author(dice).recording(dice.choice([0, 3, 10]))
     speaker = Speaker(dice, recording.steps)
     said = [dice.choice(NONSENSE) if dice.random() < 0.5 else speaker.line() for _ in range(40)]
@@ -118,7 +117,7 @@ def large_buffers(dice: random.Random) -> Made:
 
 
 def answers_of(limits: Limits, steps: Sequence[Step]) -> list[Answer]:
-    """What these steps, which apply, answer."""
+    """The answers of these steps, which apply."""
     world, answers = World(limits), []
     for step in steps:
         world, answer = apply(world, step)
@@ -127,13 +126,13 @@ def answers_of(limits: Limits, steps: Sequence[Step]) -> list[Answer]:
 
 
 def long_walk(dice: random.Random) -> Made:
-    """Past the 1,024 steps between two copies and, now and then, the 4,096 deltas that are kept."""
+    """A walk past the 1,024 steps between two copies and sometimes past the 4,096 deltas that are kept."""
     recording, _ = Author(dice).recording(dice.choice([1_023, 1_024, 1_025, 2_100, 6_000]))
     return write_plain(recording), Speaker(dice, recording.steps).script(60)
 
 
 def full_journal(dice: random.Random) -> Made:
-    """As many commands as a session has room for, and some more."""
+    """As many commands as a session has room for, and a few more."""
     command = dice.choice(["stepi", "checkpoint", "delete 1", "rsi", "set exec-direction reverse"]).encode()
     script = (command + b"\n") * (ROOM - dice.randint(0, 20)) + Speaker(dice, []).script(60)
     return HEADER + b'["tick",0]\n' * 3, script

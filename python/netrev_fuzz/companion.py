@@ -32,7 +32,7 @@ from .randomsteps import Author
 from .slow import Slow
 from .views import Judge
 
-# what may happen at a point, how often in comparison, and how often Ctrl-C is pressed then
+# events at a point with their relative frequencies, and how often Ctrl-C is pressed then
 HAPPENS = {
     "ctrl-c": 8,
     "slow ctrl-c": 3,
@@ -55,7 +55,7 @@ def visit(seed: str) -> Case:
 
 
 def line_of(dice: random.Random, length: int) -> str:
-    """A line at random."""
+    """A random line."""
     cell = (
         dice.choice(CELLS_OF_ALL) if dice.random() < 0.2 else f"{dice.choice(CELLS_OF_ONE)} {dice.choice([0, 0, 1, 2])}"
     )
@@ -79,14 +79,14 @@ def line_of(dice: random.Random, length: int) -> str:
 
 
 class Weather:
-    """What happens at the points of a session's conversations."""
+    """The events at the points of a session's conversations."""
 
     def __init__(self, dice: random.Random, chance: float) -> None:
         self.dice, self.chance = dice, chance
         self.met: Counter[str] = Counter()
 
     def blow(self, netrev: Slow) -> None:
-        """A point has come."""
+        """An event at a point."""
         if self.dice.random() >= self.chance:
             return
         (name,) = self.dice.choices(list(HAPPENS), list(HAPPENS.values()))
@@ -100,7 +100,7 @@ class Weather:
 
 
 def played(program: str, case: Case, folder: Path, met: Met) -> str:
-    """Plays a case: what is wrong with what was told first, or nothing. What was met is counted."""
+    """Plays a case: the first fault in what was printed, or none. Counts what was met."""
     replayed = replay(case.recording, met)
     recording = recording_of(replayed.text.steps, replayed.worlds)
     judge = Judge(replayed.text.steps, replayed.worlds, ModelSession(recording, Observer()))
@@ -115,7 +115,7 @@ def played(program: str, case: Case, folder: Path, met: Met) -> str:
 
 
 def followed(program: str, path: str, lines: Sequence[str], weather: Weather, judge: Judge, met: Counter[str]) -> str:
-    """Runs the lines in a session, and holds each event against what is right."""
+    """Runs the lines in a session, and compares each event with the model."""
     interrupts, out = Interrupts(), io.StringIO()
 
     def opened() -> Slow:
@@ -148,7 +148,7 @@ def followed(program: str, path: str, lines: Sequence[str], weather: Weather, ju
 
 
 def told_all(session: Session, line: str) -> str:
-    """Answers a line; how the session ended, where it did."""
+    """Answers a line; how the session ended, if it did."""
     try:
         heard(lambda: session.run(line))
     except GivenUp:

@@ -1,4 +1,4 @@
-"""What the cases of a run met, for the last lines that it prints."""
+"""Counts of what the cases of a run met, for the last lines of output."""
 
 from collections import Counter
 from typing import Any, Iterator, Mapping
@@ -10,8 +10,7 @@ from netrev_words.vocabulary import KINDS
 
 
 class Met(Observer):
-    """Counts what the model met: applied steps by kind and answer, refused ones by kind and reason, those whose recorded
-    answer was another, faults, commands."""
+    """Counts what the model met: applied steps by kind and answer, refused ones by kind and reason, steps with another recorded answer, faults, commands."""
 
     def __init__(self) -> None:
         self.cases: Counter[str] = Counter()
@@ -31,14 +30,14 @@ class Met(Observer):
         self.reasons[kind, reason] += 1
 
     def differed(self, kind: str, recorded: Answer, answer: Answer) -> None:
-        """A recorded answer that isn't the machine's: of the same sort, of another that the kind can give, or of none."""
+        """A recorded answer that isn't the machine's: of the same sort, of another sort of that kind, or of none."""
         if recorded[0] == answer[0]:
             self.others["another number"] += 1
         else:
             self.others["another answer" if recorded[0] in KINDS[kind].answers else "none of the kind's"] += 1
 
     def printed(self, fault: str) -> None:
-        """A fault of a recording, without its place."""
+        """A fault of a recording, without its line or step."""
         self.faults[fault.split(": ", 1)[1].split(" reason")[0]] += 1
 
     def asked(self, asked: Asked, reply: Reply) -> None:
@@ -46,7 +45,7 @@ class Met(Observer):
         self.replies[first_words(reply[0])] += 1
 
     def lines(self) -> Iterator[str]:
-        """The counts, a line for each sort of them."""
+        """The counts, a line for each sort."""
         kinds = by_first(self.answers)
         reasons: Counter[int] = Counter()
         for (_, reason), count in self.reasons.items():
@@ -65,12 +64,12 @@ class Met(Observer):
 
 
 def name_of(answer: Answer) -> str:
-    """The name of an answer, of a code with its number."""
+    """The name of an answer; of a code with its number."""
     return f"code {answer[1]}" if answer[0] == "code" else answer[0]
 
 
 def by_first(counts: Mapping[tuple[str, str], int]) -> dict[str, dict[object, int]]:
-    """Counts of pairs, as counts of what stands second for each first."""
+    """Counts of pairs, as counts of the second elements for each first one."""
     found: dict[str, dict[object, int]] = {}
     for (first, second), count in sorted(counts.items()):
         found.setdefault(first, {})[second] = count
@@ -78,7 +77,7 @@ def by_first(counts: Mapping[tuple[str, str], int]) -> dict[str, dict[object, in
 
 
 def first_words(reply: str) -> str:
-    """What sort of reply it is: its words, without numbers."""
+    """The sort of a reply: its words, without numbers."""
     if reply.startswith("fault"):
         return reply
     if " = " in reply:

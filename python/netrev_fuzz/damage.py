@@ -1,4 +1,5 @@
-"""Damage to the text of a good recording: bytes, lines and numbers that are changed, cut, doubled, dropped, exchanged."""
+"""Damage to the text of a good recording: bytes, lines and numbers that are changed, cut, doubled, dropped or
+exchanged."""
 
 import random
 import re
@@ -9,7 +10,7 @@ from .texts import BLANKS, NO_ANSWERS, NUMBERS, PIECES, TEXTS
 
 
 def damaged(dice: random.Random, text: bytes) -> bytes:
-    """The text behind one to three damages."""
+    """The text after one to three damages."""
     for _ in range(dice.choice([1, 1, 1, 2, 3])):
         text = dice.choice(DAMAGES)(dice, text)
     return text
@@ -23,7 +24,7 @@ def byte_changed(dice: random.Random, text: bytes) -> bytes:
 
 
 def byte_likened(dice: random.Random, text: bytes) -> bytes:
-    """One byte becomes another that stands in such texts."""
+    """One byte becomes another that occurs in such texts."""
     if not text:
         return text
     place = dice.randrange(len(text))
@@ -79,7 +80,7 @@ def blank_line(dice: random.Random, text: bytes) -> bytes:
 
 
 def line_lengthened(dice: random.Random, text: bytes) -> bytes:
-    """A line of about as many bytes as a line may have, by blanks, at one end or alone."""
+    """A line becomes about as long as a line may be, by blanks, at one end or alone."""
     lines = text.split(b"\n")
     place = dice.randrange(len(lines))
     line = b"" if dice.random() < 0.3 else lines[place]
@@ -100,7 +101,7 @@ def number_changed(dice: random.Random, text: bytes) -> bytes:
 
 
 def word_changed(dice: random.Random, text: bytes) -> bytes:
-    """One text in quotes becomes another of those that stand there, or one that doesn't."""
+    """One text in quotes becomes another that occurs there, or one that doesn't."""
     words = list(re.finditer(rb'"[^"\n]*"', text))
     if not words:
         return text
@@ -110,7 +111,7 @@ def word_changed(dice: random.Random, text: bytes) -> bytes:
 
 
 def last_element_changed(dice: random.Random, text: bytes) -> bytes:
-    """What stands last in a line, which in version 2 is a recorded answer, goes, comes twice or becomes another."""
+    """The last element of a line, in version 2 the recorded answer, is removed, doubled or changed."""
     lines = text.split(b"\n")
     place = dice.randrange(len(lines))
     if found := re.fullmatch(rb"(\[.*),((?:\[[^\[\]]*\]|[^,\]]*))\](\s*)", lines[place]):

@@ -1,6 +1,6 @@
-"""Cases for the recorder's reading of logs: a log of a real program with other fields, in another order, mixed with another's, or with
-damaged bytes; beside it lines of tests that may be anything. Whatever it is becomes a recording or a sentence, in a process that has
-little memory and time."""
+"""Cases for the recorder's reading of logs: a log of a real program with other fields, in another order, mixed with
+another, or with damaged bytes; beside it lines of tests that may be anything. The result must be a recording or a
+sentence, in a process with little memory and time."""
 
 import contextlib
 import io
@@ -28,7 +28,7 @@ from .logs import STACKS, binary, from_text
 
 EXAMPLES = Path(__file__).resolve().parents[2] / "examples"
 MEMORY, SECONDS = 2 * 2**30, 40  # bytes and processor time of a case
-ASKED = 0.05  # the part of the cases in which netrev is asked too, which takes longest
+ASKED = 0.05  # the part of the cases in which netrev also runs, which takes longest
 GREATEST = 100 * 2**20  # bytes of a recording
 RING = HEADER_BYTES + STACKS * 256
 SIDES = (ord("r"), ord("w"), ord("r") + ord("w"))
@@ -70,14 +70,14 @@ NAMES = (
     "x" * 300,
 )
 PLACES = ("a_test.go:7", "/else/a_test.go:31", "", ":", "a:b", "a,b:1.go:2", "\x1b:5", "a.go:99999999999")
-TESTS = 3  # of a case, of which recordings are made
+TESTS = 3  # of a case from which recordings are made
 
 Points = list[Point]
 
 
 @lru_cache(maxsize=1)
 def logs() -> list[tuple[bytes, Log]]:
-    """The logs of real programs that are stored."""
+    """The stored logs of real programs."""
     found = []
     with tempfile.TemporaryDirectory() as folder:
         path = Path(folder, "log.1")
@@ -89,7 +89,7 @@ def logs() -> list[tuple[bytes, Log]]:
 
 
 def changed_fields(dice: random.Random, points: Points) -> Points:
-    """Points whose fields have other values; their sums are right."""
+    """Points whose fields have other values, with right sums."""
     values = dice.choice([SMALL, LIMITS])
     for _ in range(dice.choice([1, 1, 2, 3, 10])):
         at = dice.randrange(len(points))
@@ -108,7 +108,7 @@ def changed_fields(dice: random.Random, points: Points) -> Points:
 
 
 def other_order(dice: random.Random, points: Points) -> Points:
-    """Points that were exchanged, left out, doubled, moved or cut off."""
+    """Points that were exchanged, omitted, doubled, moved or cut off."""
     for _ in range(dice.choice([1, 1, 2, 3])):
         at, other = dice.randrange(len(points)), dice.randrange(len(points))
         how = dice.randrange(5)
@@ -124,21 +124,21 @@ def other_order(dice: random.Random, points: Points) -> Points:
 
 
 def mixed(dice: random.Random, points: Points) -> Points:
-    """Points of another program among these."""
+    """These points, mixed with points of another program."""
     at, others = dice.randrange(len(points)), dice.choice(logs())[1].points
     first = dice.randrange(len(others))
     return [*points[:at], *others[first : first + dice.choice([1, 5, 50])], *points[at:]]
 
 
 def other_header(dice: random.Random, data: bytearray) -> bytearray:
-    """A header with other words, of a log that may be cut off, or have holes behind its end."""
+    """A header with other words, for a log that may be cut off, or have holes after its end."""
     for _ in range(dice.choice([1, 1, 2, 3])):
         struct.pack_into("<Q", data, 8 * dice.randrange(12), dice.choice(HEADER_WORDS))
     return data[: dice.randrange(len(data))] if dice.random() < 0.2 else data
 
 
 def damaged_bytes(dice: random.Random, data: bytearray) -> bytearray:
-    """Bytes that are changed, blank, lost, put in or moved."""
+    """Bytes that are changed, blank, lost, inserted or moved."""
     for _ in range(dice.choice([1, 1, 2, 5, 30])):
         at, size = dice.randrange(len(data)), dice.choice([1, 8, 64, 512, 4_096])
         place, other = (RING + 64 * dice.randrange((len(data) - RING) // 64 or 1) for _ in range(2))
@@ -178,7 +178,7 @@ def log_of(seed: str) -> bytes:
 
 
 def tests_of(seed: str) -> bytes:
-    """The lines of the tests of a seed: of their form, or with damaged bytes."""
+    """The lines of the tests of a seed: well formed, or with damaged bytes."""
     dice = random.Random(f"{seed} tests")
     numbers = ("0", "1", "9", "20", "100", "1000", str(2**63), "9" * 30, "-1", "")
     lines = ["1 1 5 package example.org/p"] * dice.randrange(2)
@@ -191,7 +191,7 @@ def tests_of(seed: str) -> bytes:
 
 
 def wrong(seed: str, folder: Path) -> str:
-    """What is wrong with what becomes of the log of a seed; nothing where all is well."""
+    """The fault of what a seed's log becomes; empty if there is none."""
     reading, writing = os.pipe()
     process = os.fork()
     if process == 0:
@@ -210,7 +210,7 @@ def wrong(seed: str, folder: Path) -> str:
 
 
 def confined(seed: str, folder: Path) -> str:
-    """What is wrong, found in a process of its own, which has little time, and little memory more than it begins with."""
+    """The fault, found in a process of its own with little time and little additional memory."""
     held = int(Path("/proc/self/statm").read_text(encoding="utf-8").split()[0]) * resource.getpagesize()
     resource.setrlimit(resource.RLIMIT_AS, (held + MEMORY, held + MEMORY))
     resource.setrlimit(resource.RLIMIT_CPU, (SECONDS, SECONDS))
@@ -229,7 +229,7 @@ def confined(seed: str, folder: Path) -> str:
 
 
 def made_wrong(outcome: Outcome, name: Path) -> str:
-    """What is wrong with a recording that was made, its lines, and what is said of it."""
+    """The fault of a recording that was made, its lines, and the text about it."""
     if name.exists() and name.stat().st_size > GREATEST:
         return f"the recording has {name.stat().st_size} bytes"
     if not all(line.isprintable() for line in outcome.lines):
@@ -240,7 +240,7 @@ def made_wrong(outcome: Outcome, name: Path) -> str:
 
 
 def tests_wrong(log: Path, tests: Tests, folder: Path) -> str:
-    """What is wrong with the recordings of a log's tests, and with what machines are told of them."""
+    """The fault of the recordings of a log's tests, and of the output for machines."""
     told = [Told(test.package, test.name) for test in tests.ran]
     for one, test in zip(told, tests.ran):
         one.add(test)
@@ -258,7 +258,7 @@ def tests_wrong(log: Path, tests: Tests, folder: Path) -> str:
 
 
 def forms_wrong(told: list[Told]) -> str:
-    """What is wrong with the forms for machines: a test that one of them lacks, or more than one line of it."""
+    """The fault of the outputs for machines: a test that one of them lacks, or has twice."""
     if [json.loads(line)["test"] for line in forms.json_lines(told).splitlines()] != [one.test for one in told]:
         return "the lines of JSON aren't the tests"
     if sum(1 for _ in ElementTree.fromstring(forms.junit(told)).iter("testcase")) != len(told):

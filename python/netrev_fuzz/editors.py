@@ -1,5 +1,5 @@
-"""Cases for the adapter: an editor that asks for anything, with arguments of any sort, and whose messages may be no messages. Each
-request is answered once, and a message that is none ends the session."""
+"""Cases for the adapter: an editor that sends any requests, with arguments of any sort, and malformed messages. Each
+request is answered once, and a malformed message ends the session."""
 
 import io
 import json
@@ -78,7 +78,7 @@ def value(dice: random.Random, path: str, depth: int = 0) -> Any:
 
 
 def request(dice: random.Random, number: int, path: str) -> dict[str, Any]:
-    """A request, of which the arguments that belong to it are more likely than others."""
+    """A request; arguments that belong to it are more likely than others."""
     command = dice.choice(REQUESTS)
     if command in ("disconnect", "terminate") and dice.random() < 0.9:
         command = "continue"
@@ -99,7 +99,7 @@ def framed(message: Any) -> bytes:
 
 
 def conversation(seed: str, path: str) -> tuple[list[dict[str, Any]], bytes]:
-    """The requests of a seed, and what stands behind them."""
+    """The requests of a seed, and what follows them."""
     dice = random.Random(seed)
     begun = [{"seq": 1, "type": "request", "command": "launch", "arguments": {"program": path}}]
     asked = begun if dice.random() < 0.9 else []
@@ -108,7 +108,7 @@ def conversation(seed: str, path: str) -> tuple[list[dict[str, Any]], bytes]:
 
 
 def wrong(seed: str, folder: Path, program: str) -> str:
-    """What is wrong with what an editor is told; nothing where all is well."""
+    """The fault of what an editor is sent; empty if there is none."""
     path = folder / "recording.jsonl"
     recording, _ = Author(random.Random(f"{seed} recording")).recording(20)
     path.write_bytes(write_plain(recording))
@@ -123,7 +123,7 @@ def wrong(seed: str, folder: Path, program: str) -> str:
 
 
 def told_in(data: bytes) -> Optional[list[dict[str, Any]]]:
-    """The messages of a stream; None where it isn't one of such."""
+    """The messages of a stream; None if it is malformed."""
     found = []
     while data:
         head, _, data = data.partition(b"\r\n\r\n")
@@ -134,7 +134,7 @@ def told_in(data: bytes) -> Optional[list[dict[str, Any]]]:
 
 
 def answers_wrong(asked: list[dict[str, Any]], told: Optional[list[dict[str, Any]]]) -> str:
-    """What is wrong with the answers: each request has one, in the order of the requests, up to a `disconnect`."""
+    """The fault of the answers: each request has one, in the order of the requests, up to a `disconnect`."""
     if told is None:
         return "the stream has something else than messages"
     wanted = [(one["seq"], one["command"]) for one in asked]

@@ -14,11 +14,11 @@ from .little_go import Program, Turns
 
 LIMITS = Limits(gor=1500, sock=120, desc=10, buf=64)
 LETTERS = range(ord("a"), ord("z") + 1)
-BOTH, OWN_SIDE, RAW, CANCELS = range(4)  # what a connection does about deadlines; above these nothing
+BOTH, OWN_SIDE, RAW, CANCELS = range(4)  # what a connection does with deadlines; no deadlines above these
 
 
 class Bug(Enum):
-    """What is planted, in words."""
+    """The bug that is planted, as text."""
 
     RELEASE = "a release never comes"
     IDLE = "a reference is kept by who does nothing any more"
@@ -44,44 +44,49 @@ RULES = {
     Bug.LOCK: {"lock held", "leaked reference"},
     Bug.NOT_EVICTED: {"close without evict"},
 }
-HANGING = (Bug.NO_EVENT, Bug.OLD_TAG, Bug.NO_TRY, Bug.TAKEN_BACK)  # whose symptom is a goroutine that hangs at the end
+HANGING = (
+    Bug.NO_EVENT,
+    Bug.OLD_TAG,
+    Bug.NO_TRY,
+    Bug.TAKEN_BACK,
+)  # those whose symptom is a goroutine that hangs at the end
 
 
 class Planted(NamedTuple):
-    """Where a bug was planted, as far as it is about these."""
+    """The place of a planted bug: goroutine, socket, descriptor, as far as it has them."""
 
     socket: int
     goroutine: Optional[int] = None
     descriptor: Optional[int] = None
 
     def is_of(self, suspect: Suspect) -> bool:
-        """Whether a suspect is about that."""
+        """Whether a suspect is about it."""
         pairs = zip(self, (suspect.socket, suspect.goroutine, suspect.descriptor))
         return all(None in pair or pair[0] == pair[1] for pair in pairs)
 
 
 class Traffic(Program):
-    """Connections with readers, writers, and who controls and closes them."""
+    """Connections with goroutines that read, write, control and close them."""
 
     def __init__(self, seed: int, bug: Optional[Bug], length: int = 3_000):
         super().__init__(seed, LIMITS)
         self.bug, self.length = bug, length
         self.begins = length * (0.3 + 0.4 * self.dice.random())
         self.planted: list[Planted] = []
-        self.passed: set[Planted] = set()  # those whose deadline that was left behind has passed
-        self.busy: dict[int, int] = {}  # of each connection, how many read and write
-        self.muted: set[int] = set()  # sockets for which nothing comes any more
+        self.passed: set[Planted] = set()  # those whose deadline was left behind and has passed
+        self.busy: dict[int, int] = {}  # for each connection the number of readers and writers
+        self.muted: set[int] = set()  # sockets at which nothing arrives any more
         self.fed: set[int] = set()
 
     def is_due(self, bug: Bug) -> bool:
-        """Whether that bug is to be planted now. (One that is left behind at a time is planted once; the others too.)"""
+        """Whether that bug is to be planted now. Each bug is planted once."""
         return self.bug is bug and not self.planted and len(self.steps) > self.begins
 
     def plant(self, socket: int, goroutine: Optional[int] = None, descriptor: Optional[int] = None) -> None:
         self.planted.append(Planted(socket, goroutine, descriptor))
 
     def run(self) -> "Traffic":
-        """Plays it to its length."""
+        """Runs it to its length."""
         while len(self.steps) < self.length:
             chance, ready = self.dice.random(), self.ready()
             is_early = len(self.steps) < 0.9 * self.length
@@ -97,12 +102,12 @@ class Traffic(Program):
         return self
 
     def symptom(self) -> bool:
-        """Whether the bug was planted and shows at the end."""
+        """Whether the bug was planted and is visible at the end."""
         return any(map(self.shows, self.planted))
 
     def shows(self, planted: Planted) -> bool:
-        """Whether the bug that was planted there shows at the end: a goroutine hangs, with bytes unread where it waits for
-        what has come; a deadline has passed; or something is kept, which always shows."""
+        """Whether the planted bug is visible at the end: a goroutine hangs although what it waits for has come; a
+        deadline has passed; or something is kept, which is always visible."""
         g, d = planted.goroutine, planted.descriptor
         if self.bug is Bug.LEFT_BEHIND:
             return planted in self.passed
@@ -148,7 +153,7 @@ class Traffic(Program):
             self.fed.add(s)
 
     def loses_event(self, s: int, d: int) -> bool:
-        """Plants a lost event, or one with an old tag, where somebody is parked for it."""
+        """Plants a lost event, or one with an old tag, if a goroutine is parked for it."""
         parked = [g for g in self.world.inside(d, "r") if self.world.goroutines[g][0] == "parked"]
         if not parked or not (self.is_due(Bug.NO_EVENT) or self.is_due(Bug.OLD_TAG)):
             return False
@@ -165,7 +170,7 @@ class Traffic(Program):
     # ---- what goroutines do
 
     def connection(self, g: int) -> Turns:
-        """Opens a connection, starts those who use it, and closes it."""
+        """Opens a connection, starts the goroutines that use it, and closes it."""
         made = self.may("sockopen", 64, 40)
         yield
         if not made:
@@ -193,7 +198,7 @@ class Traffic(Program):
         yield from self.close(g, s)
 
     def start_users(self, s: int, style: int) -> None:
-        """Starts the readers and writers of a connection, and who controls it."""
+        """Starts the readers, writers and the controller of a connection."""
         for _ in range(self.dice.randint(1, 2)):
             self.go(self.user(s, self.reader, style))
         for _ in range(self.dice.randint(1, 3)):
@@ -202,7 +207,7 @@ class Traffic(Program):
             self.go(lambda g: self.controller(g, s))
 
     def user(self, s: int, uses: Callable[[int, int, int], Turns], style: int) -> Callable[[int], Turns]:
-        """A goroutine that uses a connection, which is busy for as long."""
+        """A goroutine that uses a connection, which is in use for that time."""
 
         def body(g: int) -> Turns:
             self.busy[s] += 1
@@ -231,7 +236,8 @@ class Traffic(Program):
                 return
 
     def raw_read(self, g: int, s: int) -> Turns:
-        """`RawConn.Read`: the program's function tries, and says whether it is done. The bug is one that doesn't try."""
+        """`RawConn.Read`: the program's function tries, and returns whether it is done. The bug is a function that
+        doesn't try."""
         if not (yield from self.rwlock(g, s, "r")):
             return False
         code = yield from self.reset(g, s, "r")
@@ -275,7 +281,7 @@ class Traffic(Program):
             yield from self.decref(g, s)
 
     def cancel_reads(self, g: int, s: int) -> Turns:
-        """Ends the reads by a deadline in the past, and takes it back; the bug is not to wait in between."""
+        """Ends the reads by a deadline in the past, and removes it; the bug is not to wait in between."""
         d = self.descriptors[s]
         parked = [one for one in self.world.inside(d, "r") if self.world.goroutines[one][0] == "parked"]
         if not (parked and self.is_due(Bug.TAKEN_BACK)):
@@ -311,7 +317,7 @@ class Traffic(Program):
 
 
 class Count(NamedTuple):
-    """Of a bug: how often it was planted with a symptom, was named first, named at all; and suspects besides."""
+    """For a bug: how often it was planted with a symptom, was named first, and was named at all; and other suspects."""
 
     shows: int = 0
     first: int = 0
@@ -323,7 +329,7 @@ class Count(NamedTuple):
 
 
 def judged(traffic: Traffic) -> Count:
-    """What the rules make of a recording."""
+    """The rules' result for a recording."""
     shown = [one for one in suspects_of(Recording(traffic.text())).suspects if one.is_shown]
     right = [
         traffic.bug is not None
@@ -335,7 +341,7 @@ def judged(traffic: Traffic) -> Count:
 
 
 def counted(bug: Optional[Bug], seeds: range) -> Count:
-    """The counts of a bug over these seeds, of the recordings in which it shows, or of good ones."""
+    """The counts of a bug over these seeds, for recordings in which it is visible, or for good ones."""
     total = Count()
     for seed in seeds:
         traffic = Traffic(seed, bug).run()

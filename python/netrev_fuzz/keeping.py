@@ -1,4 +1,4 @@
-"""A difference is made small and kept, in a folder from which it can be played again."""
+"""Reduces a difference and keeps it, in a folder from which it can be played again."""
 
 from pathlib import Path
 
@@ -16,9 +16,8 @@ def with_part(case: Case, part: str, text: bytes) -> Case:
 
 
 def smaller(netrev: str, case: Case, folder: Path) -> Case:
-    """The case with lines of its recording and script left out, as long as there is a difference: the last ones first,
-    since what comes later rests on what came before; in the end none more can be left out, unless the tries are used up.
-    """
+    """The case with lines of its recording and script removed, as long as there is a difference: the last ones first,
+    because later lines depend on earlier ones; until no line can be removed, or the tries are used up."""
     left = TRIES
     for part in FILES:
         lines = getattr(case, part).split(b"\n")
@@ -36,7 +35,7 @@ def smaller(netrev: str, case: Case, folder: Path) -> Case:
 
 
 def keep(netrev: str, case: Case, differs: Difference, folder: Path) -> str:
-    """Writes a case, what was told of it and what the model wants, to a folder."""
+    """Writes a case, what was printed and what the model expects, to a folder."""
     folder.mkdir(parents=True, exist_ok=True)
     small = smaller(netrev, case, folder)
     tells, want = difference(netrev, small, folder, Met()) or differs
@@ -50,6 +49,6 @@ def keep(netrev: str, case: Case, differs: Difference, folder: Path) -> str:
 
 
 def kept(folder: Path) -> Case:
-    """The case that was kept in a folder."""
+    """The case that is kept in a folder."""
     seed, sort, program = (folder / "case").read_text(encoding="utf-8").splitlines()
     return Case(seed, sort, program, *((folder / name).read_bytes() for name in FILES.values()))

@@ -1,4 +1,4 @@
-"""Random scripts of command lines: good ones for the most part, spelled in all the ways that they may be, and bad ones."""
+"""Random scripts of command lines: mostly good ones, in all possible spellings, and bad ones."""
 
 import random
 from typing import Sequence
@@ -19,7 +19,7 @@ NONSENSE = (
 
 
 def every_cell(limits: Limits, length: int, backwards: bool) -> bytes:
-    """A script that looks at all there is at each position of a recording, on the way forwards or backwards."""
+    """A script that prints all cells at each position of a recording, on the way forwards or backwards."""
     made = {"gor": limits.gor, **dict.fromkeys(SHOWS_SOCKET, limits.sock), **dict.fromkeys(SHOWS_DESC, limits.desc)}
     looks = [f"print {cell}" for cell in CELLS_OF_ALL]
     looks += [f"print {cell} {number}" for cell, most in made.items() for number in range(min(most, 9))]
@@ -29,7 +29,7 @@ def every_cell(limits: Limits, length: int, backwards: bool) -> bytes:
 
 
 class Speaker:
-    """Makes up lines over a recording. How often it says what differs from script to script."""
+    """Makes up lines over a recording. Their frequencies differ from script to script."""
 
     def __init__(self, dice: random.Random, steps: Sequence[Step]) -> None:
         self.dice = dice
@@ -58,7 +58,7 @@ class Speaker:
         return line if self.dice.random() < 0.9 else self.spaced(line)
 
     def spaced(self, line: bytes) -> bytes:
-        """The line with more spaces, now and then about as many as a line may have."""
+        """The line with more spaces, sometimes about as many as a line may have."""
         line = line.replace(b" ", b" " * self.dice.randint(1, 4))
         line = b" " * self.dice.randint(0, 3) + line
         if self.dice.random() < 0.2:
@@ -66,7 +66,7 @@ class Speaker:
         return line
 
     def number(self, most: int) -> str:
-        """A number about so great, in one of its spellings."""
+        """A number of about this size, in one of its spellings."""
         number = self.dice.randint(0, most + 1)
         return f"{self.dice.choice(['', '', '', '0', '000'])}{number}"
 

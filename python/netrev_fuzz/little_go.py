@@ -1,5 +1,6 @@
-"""A little Go, to write recordings of. A goroutine is a generator that makes Go's calls, by the control flow of internal/poll and
-runtime/netpoll: one step of the model's machine at each turn. A scheduler with dice says whose turn it is."""
+"""A small Go that makes recordings. A goroutine is a generator that makes Go's calls, by the control flow of
+internal/poll and runtime/netpoll: one step of the model's machine at each turn. A random scheduler chooses the
+goroutine."""
 
 import json
 import random
@@ -10,29 +11,29 @@ from netrev_machine.machine import Refused, World
 from netrev_machine.steps import apply
 from netrev_words.recording import Answer, Limits
 
-Turns = Generator[None, None, Any]  # a call: it yields behind each of its steps, and returns what Go's function does
-CLOSED, EOF = -1, 0  # what a read returns in place of a count; a code of the poller, negated, is one too
+Turns = Generator[None, None, Any]  # a call: it yields after each of its steps, and returns what Go's function does
+CLOSED, EOF = -1, 0  # what a read returns instead of a count; a code of the poller, negated, is one too
 
 
 class Program:
-    """A running program: the machine's state, the steps so far, and the goroutines with what each has still to do."""
+    """A running program: the machine's state, the steps so far, and the goroutines with their remaining work."""
 
     def __init__(self, seed: int, limits: Limits):
         self.dice = random.Random(seed)
         self.limits, self.world = limits, World(limits)
         self.steps: list[list[Any]] = []
         self.running: dict[int, Turns] = {}
-        self.stopped: set[int] = set()  # goroutines that the scheduler doesn't take any more
+        self.stopped: set[int] = set()  # goroutines that the scheduler no longer chooses
         self.descriptors: dict[int, int] = {}  # of the sockets
 
     def do(self, kind: str, *arguments: Any) -> tuple[Any, ...]:
-        """Makes a step; its answer."""
+        """Makes a step and returns its answer."""
         self.world, answer = apply(self.world, (kind, *arguments))
         self.steps.append([kind, *(one.hex() if isinstance(one, bytes) else one for one in arguments)])
         return answer
 
     def may(self, kind: str, *arguments: Any) -> tuple[Any, ...]:
-        """Makes a step, if it applies; its answer, or nothing."""
+        """Makes a step if it applies, and returns its answer, or None."""
         try:
             return self.do(kind, *arguments)
         except Refused:
@@ -66,13 +67,13 @@ class Program:
     # ---- Go's calls
 
     def operation(self, kind: str, g: int, *arguments: Any) -> Turns:
-        """An operation, which begins with this step; its first answer and its last one."""
+        """An operation that begins with this step; its first answer and its last one."""
         answer = self.do(kind, g, *arguments)
         yield
         return answer, (yield from self.goes_on(g, answer))
 
     def goes_on(self, g: int, answer: Answer = ()) -> Turns:
-        """Goes on with an operation until its goroutine is idle; the last answer."""
+        """Continues an operation until its goroutine is idle; the last answer."""
         while (step := step_by_status(g, self.world.goroutines[g])) or self.world.goroutines[g][0] in ASLEEP:
             if step:
                 answer = self.do(*step)
@@ -90,7 +91,7 @@ class Program:
         yield from self.gives("decref", g, s)
 
     def gives(self, kind: str, g: int, s: int, *side: str) -> Turns:
-        """Gives up a reference; who gave up the last one destroys."""
+        """Gives a reference back; the goroutine that gives back the last one destroys the descriptor."""
         answer, _ = yield from self.operation(kind, g, s, *side)
         if answer == LAST:
             self.do("pollclose", g, self.descriptors[s])
@@ -142,19 +143,19 @@ class Program:
     # ---- the network and the clock
 
     def arrive(self, s: int, data: bytes) -> None:
-        """Bytes come for a socket, with their event."""
+        """Bytes arrive for a socket, with their event."""
         if self.may("arrive", s, data):
             d = self.descriptors[s]
             self.do("pollevent", d, self.world.descs[d].fdseq, "r", 0)
 
     def drain(self, s: int, count: int) -> None:
-        """The network takes bytes of a socket, with the event that there is room."""
+        """The network takes bytes from a socket, with the event that there is room."""
         if self.may("drain", s, count):
             d = self.descriptors[s]
             self.do("pollevent", d, self.world.descs[d].fdseq, "w", 0)
 
     def pass_time(self, most: int) -> None:
-        """Runs a firing, takes a timer that is due, or lets up to so much time pass."""
+        """Runs a firing, takes a due timer, or lets up to this much time pass."""
         world = self.world
         if world.firings:
             self.do("fire", self.dice.randrange(len(world.firings)))

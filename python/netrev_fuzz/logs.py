@@ -1,5 +1,5 @@
-"""Logs of the recorder as text, so that they can be read and made: a line of JSON for the header, one for each stack, one for
-the line of each address, and one for each point, as `netrev_go.points.Point` has it."""
+"""Logs of the recorder as text, to be read and made: a line of JSON for the header, one for each stack, one for the
+line of each address, and one for each point, in the form of `netrev_go.points.Point`."""
 
 import json
 import struct
@@ -14,8 +14,8 @@ Symbols = dict[int, tuple[str, str, int]]
 
 
 class HolderRow(NamedTuple):
-    """A row of the table of locked mutexes: the mutex (0: the row is free), which goroutine holds it, whether for reading, how many points were passed
-    before, and the addresses behind the calls that locked it."""
+    """A row of the table of locked mutexes: the mutex (0: the row is free), the goroutine that holds it, whether for
+    reading, the number of earlier points, and the addresses of the calls that locked it."""
 
     address: int
     goroutine: int = 0
@@ -33,8 +33,8 @@ def binary(
     holders: Optional[Sequence[HolderRow]] = None,
     holders_lost: int = 0,
 ) -> bytes:
-    """The log that has these points, each in the place of its number. `room` is how many there are places for. `holders` is the table of locked mutexes
-    (None: the log has none), for which there was no room `holders_lost` times."""
+    """The log with these points, each at the place of its number. `room` is the number of places. `holders` is the
+    table of locked mutexes (None: the log has none), which lacked room `holders_lost` times."""
     points = list(points)
     room = room or max((point.number for point in points), default=0) + 1
     last = max((point.number for point in points), default=-1) + 1
@@ -89,7 +89,7 @@ def from_text(text: str) -> tuple[bytes, Symbols]:
 
 
 def to_text(log: Log, symbols: Symbols) -> str:
-    """The text of a log, with its stacks numbered anew."""
+    """The text of a log, with its stacks renumbered."""
     used = sorted({point.stack for point in log.points if point.stack in log.stacks})
     numbers = {stack: number for number, stack in enumerate(used, 1)}
     lines: list[object] = [{"begin": log.begin}]

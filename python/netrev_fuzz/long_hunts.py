@@ -18,7 +18,7 @@ SEEDS = {"keeper": 17, "refused": 29}
 
 
 class Hunt(Program):
-    """A program that opens connections until it has made so many steps."""
+    """A program that opens connections until it has made this many steps."""
 
     limits_of = Limits(gor=4000, sock=250, desc=24, buf=64)
     most_live, most_made = 18, 245
@@ -28,16 +28,16 @@ class Hunt(Program):
         self.length, self.has_bug = length, has_bug
         self.live: set[int] = set()
         self.made = 0
-        self.planted: Optional[tuple[int, int]] = None  # the goroutine and the socket of the bug
+        self.planted: Optional[tuple[int, int]] = None  # the goroutine and the socket with the bug
 
     def run(self) -> "Hunt":
-        """Plays it to its length."""
+        """Runs it to its length."""
         while len(self.steps) < self.length:
             self.move()
         return self
 
     def move(self) -> None:
-        """Opens a connection, lets a goroutine, the network or the clock make a step."""
+        """Opens a connection, or lets a goroutine, the network or the clock make a step."""
         chance, ready = self.dice.random(), self.ready()
         if chance < 0.05 and self.has_room():
             self.made += 1
@@ -52,11 +52,11 @@ class Hunt(Program):
     share_of_goroutines, longest_tick = 0.8, 1_500
 
     def has_room(self) -> bool:
-        """Whether a connection more may be opened."""
+        """Whether another connection may be opened."""
         return len(self.live) < self.most_live and self.made < self.most_made and len(self.steps) < self.length * 0.95
 
     def opened(self, g: int, rooms: tuple[int, int]) -> Turns:
-        """Opens a connection; its socket."""
+        """Opens a connection and returns its socket."""
         s: int = self.do("sockopen", *rooms)[1]
         yield
         while not (opened := self.may("pollopen", g, s)):
@@ -106,7 +106,7 @@ class Keeper(Hunt):
         yield from self.closed(g, s)
 
     def keep(self, g: int, s: int, is_done: list[bool]) -> Turns:
-        """Extends the deadline of a connection again and again. The bug: from some step on that of the wrong side."""
+        """Extends the deadline of a connection repeatedly. The bug: from some step on, that of the wrong side."""
         times = 0
         while not is_done:
             for _ in range(self.dice.randrange(10, 40)):
@@ -141,7 +141,7 @@ class Refused(Hunt):
         return self
 
     def let_all_end(self) -> None:
-        """Lets all that can end do so: the network takes what was written, and nothing more comes."""
+        """Lets everything end that can: the network takes what was written, and nothing more arrives."""
         while True:
             if ready := self.ready():
                 self.turn(self.dice.choice(ready))
@@ -172,7 +172,7 @@ class Refused(Hunt):
             pass
 
     def control(self, g: int, s: int, may_leak: bool) -> Turns:
-        """`RawConn.Control`. The bug: behind a write that failed it once keeps its reference."""
+        """`RawConn.Control`. The bug: after a write that failed, it once keeps its reference."""
         if self.do("incref", g, s)[0] != "yes":
             return (yield)
         for _ in range(4):
@@ -196,12 +196,12 @@ HUNTS: dict[str, Type[Hunt]] = {"keeper": Keeper, "refused": Refused}
 
 
 def made(name: str, length: int, has_bug: bool = True) -> Hunt:
-    """The hunt of that name, with so many steps or a few more."""
+    """The hunt of that name, with this many steps or a few more."""
     return HUNTS[name](SEEDS[name], length, has_bug).run()
 
 
 def main(words: list[str]) -> None:
-    """Writes one, and says what was planted."""
+    """Writes one, and prints what was planted."""
     name, length, out, *seed = words
     hunt = HUNTS[name](int(seed[0]) if seed else SEEDS[name], int(length)).run()
     Path(out).write_bytes(hunt.text())

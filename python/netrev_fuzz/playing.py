@@ -1,4 +1,4 @@
-"""A case is played by the program and by the model, and what they print is compared."""
+"""The program and the model play a case, and their outputs are compared."""
 
 import subprocess
 from pathlib import Path
@@ -10,13 +10,13 @@ from . import companion
 from .cases import Case
 from .counts import Met
 
-Difference = tuple[Printed, Printed]  # what the program prints, and what the model
+Difference = tuple[Printed, Printed]  # the outputs of the program and of the model
 
 TIMEOUT = 120
 
 
 def wanted(case: Case, met: Met) -> Optional[Printed]:
-    """What the model prints, or None where it has no opinion."""
+    """What the model prints, or None if it doesn't know."""
     want = printed(case.program, case.recording, case.script, met)
     met.doubted += want is None
     return want
@@ -37,8 +37,7 @@ def told(netrev: str, case: Case, folder: Path) -> Printed:
 
 
 def difference(netrev: str, case: Case, folder: Path, met: Met) -> Optional[Difference]:
-    """What the program and the model print of a case, where that isn't the same; else None. Of a session of nrdb, what is
-    wrong with it."""
+    """The outputs of program and model for a case if they differ, else None. For a session of nrdb, the fault."""
     if case.program == "nrdb":
         wrong = companion.played(netrev, case, folder, met)
         return (Printed(0, b"", wrong), Printed(0, b"")) if wrong else None
@@ -50,7 +49,7 @@ def difference(netrev: str, case: Case, folder: Path, met: Met) -> Optional[Diff
 
 
 def first_difference(tells: Printed, want: Printed) -> str:
-    """In a few words, where they part."""
+    """The first difference, in a few words."""
     if tells.wrong or want.wrong:
         return tells.wrong or want.wrong
     lines = zip(tells.output.split(b"\n"), want.output.split(b"\n"))

@@ -15,31 +15,32 @@ Of = TypeVar("Of")
 
 
 def pressed() -> None:
-    """Ctrl-C, as the main thread has it."""
+    """The main thread's Ctrl-C."""
     signal.pthread_kill(threading.main_thread().ident or 0, signal.SIGINT)
 
 
 def nothing(*_: object) -> None:
-    """What a Ctrl-C does that is passed over."""
+    """The handler of a Ctrl-C that is ignored."""
 
 
 @contextmanager
 def confined() -> Iterator[None]:
-    """Within, a Ctrl-C comes to what `heard` calls alone. One that comes where no session holds it back does nothing."""
+    """In this context, a Ctrl-C interrupts only what `heard` calls. One that comes while no session holds it back does
+    nothing."""
     before = signal.signal(signal.SIGINT, nothing)
     try:
         signal.pthread_sigmask(signal.SIG_BLOCK, CTRL_C)
         yield
     finally:
         settle()
-        signal.signal(signal.SIGINT, nothing)  # (a session that was given up may have left its own)
-        signal.pthread_sigmask(signal.SIG_UNBLOCK, CTRL_C)  # (what was pressed late comes now)
+        signal.signal(signal.SIGINT, nothing)  # (a session that was abandoned may have left its own)
+        signal.pthread_sigmask(signal.SIG_UNBLOCK, CTRL_C)  # (signals that were pressed late come now)
         signal.signal(signal.SIGINT, before)
 
 
 def heard(run: Callable[[], Of]) -> Of:
-    """What comes of a call that a Ctrl-C may disturb, for use within `confined`. It is no context manager: the exception of a
-    Ctrl-C can be raised in the code of one too, before it blocks the signal again."""
+    """The result of a call that a Ctrl-C may interrupt, for use within `confined`. It isn't a context manager: the
+    exception of a Ctrl-C could be raised in the manager's own code, before it blocks the signal again."""
     try:
         signal.pthread_sigmask(signal.SIG_UNBLOCK, CTRL_C)
         return run()
@@ -49,8 +50,9 @@ def heard(run: Callable[[], Of]) -> Of:
 
 @contextmanager
 def undisturbed() -> Iterator[None]:
-    """Within, no Ctrl-C comes to this thread; one that is pressed comes behind it. An exception would leave a thread that was
-    to begin unbegun, and Python takes a thread for ended where one is raised while it is joined."""
+    """In this context, no Ctrl-C comes to this thread; one that is pressed comes afterwards. An exception would leave a
+    thread unstarted that was to start, and Python takes a thread for ended if an exception is raised while it is
+    joined."""
     before = signal.pthread_sigmask(signal.SIG_BLOCK, ())
     try:
         signal.pthread_sigmask(signal.SIG_BLOCK, CTRL_C)
@@ -60,7 +62,7 @@ def undisturbed() -> Iterator[None]:
 
 
 def settle() -> None:
-    """Waits until all that was begun has happened."""
+    """Waits until everything that was started has happened."""
     with undisturbed():
         for thread in threading.enumerate():
             if thread.name == MEANWHILE:

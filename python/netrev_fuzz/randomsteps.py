@@ -1,6 +1,6 @@
-"""Random recordings. Most steps are what some goroutine does next, or what the network, the poller and the clock may do,
-so that waits, queues, timers, evictions and full buffers all come about. How often each, differs from recording to
-recording: most have a theme."""
+"""Random recordings. Most steps are what some goroutine does next, or what the network, the poller and the clock may
+do, so that waits, queues, timers, evictions and full buffers occur. The frequencies differ from recording to recording:
+most have a theme."""
 
 import random
 from typing import Iterator, Optional, Sequence
@@ -45,7 +45,7 @@ def random_limits(dice: random.Random, version: int) -> Limits:
 
 
 def random_answer(dice: random.Random, kind: str, near: Answer) -> Answer:
-    """Some answer: of the sort of the one that it is to be near, another that the kind can give, or any."""
+    """A random answer: of the sort of the given one, another of the kind, or any."""
     number = near[1] if len(near) == 2 else 0
     names = dice.choice([near[:1], OF_NRDB[kind].answers, PLAIN_ANSWERS + COUNTED_ANSWERS])
     name = dice.choice(names)
@@ -55,14 +55,14 @@ def random_answer(dice: random.Random, kind: str, near: Answer) -> Answer:
 
 
 def other_answer(dice: random.Random, kind: str, answer: Answer) -> Answer:
-    """Some answer that isn't this one."""
+    """An answer that differs from this one."""
     while (other := random_answer(dice, kind, answer)) == answer:
         pass
     return other
 
 
 def features(world: World) -> Iterator[str]:
-    """Names of what a state has: statuses, what is full or free or closed, timers that wait."""
+    """Names for what a state has: statuses, full, free or closed objects, waiting timers."""
     yield from {status[0] for status in world.goroutines}
     if len(world.descs) == world.limits.desc and not world.free:
         yield "no descriptor left"
@@ -83,7 +83,7 @@ def features(world: World) -> Iterator[str]:
 
 
 class Author:
-    """Makes up steps for the state that a recording has come to."""
+    """Makes up steps for the current state of a recording."""
 
     def __init__(
         self, dice: random.Random, wild: float = 0.03, version: Optional[int] = None, themes: Sequence[str] = THEMES
@@ -103,7 +103,7 @@ class Author:
         return weight * self.dice.random() ** 2 * (TIMES_AS_OFTEN if of_theme else 1) + 0.01
 
     def recording(self, length: int) -> tuple[Recording, list[World]]:
-        """A Recording whose steps all apply, with their answers in version 2, and the states of all positions."""
+        """A Recording whose steps all apply, with their answers in version 2, and the states at all positions."""
         worlds = [World(self.limits)]
         steps: list[Step] = []
         answers: list[Optional[Answer]] = []
@@ -121,11 +121,11 @@ class Author:
         return Recording(self.version, self.limits, steps, answers), worlds
 
     def any_answer(self, kind: str) -> Optional[Answer]:
-        """What a step that doesn't apply has for its recorded answer: it is compared with nothing."""
+        """The recorded answer of a step that doesn't apply: it is compared with nothing."""
         return random_answer(self.dice, kind, ("done",)) if self.version == 2 else None
 
     def rare_position(self, worlds: Sequence[World]) -> int:
-        """A position at which there is something that is seldom there: each such thing has the same chance."""
+        """A position with something rare: each such thing has the same chance."""
         having: dict[str, list[int]] = {}
         for position, world in enumerate(worlds):
             for feature in features(world):
@@ -133,8 +133,8 @@ class Author:
         return self.dice.choice(having[self.dice.choice(sorted(having))])
 
     def refused_step(self, world: World) -> Optional[Step]:
-        """A step that doesn't apply, if one is found: of those that are tried, each reason has the same chance, and each
-        kind of that reason."""
+        """A step that doesn't apply, if one is found: among those that are tried, each reason has the same chance, and
+        each kind of that reason."""
         found: dict[int, dict[str, Step]] = {}
         for _ in range(80):
             step = self.wild_step(world) if self.dice.random() < 0.5 else self.step(world)
@@ -153,7 +153,7 @@ class Author:
         return self.with_arguments(world, kind, 0)
 
     def goroutine(self, world: World) -> int:
-        """One that is there, and often one that has something to do."""
+        """An existing goroutine, often one that has something to do."""
         able = [g for g, status in enumerate(world.goroutines) if status[0] not in ("gone", *ASLEEP)]
         return self.dice.choice(able or [0])
 
@@ -172,7 +172,7 @@ class Author:
         return self.dice.choices(list(weights), list(weights.values()))[0]
 
     def wild_step(self, world: World) -> Step:
-        """Any kind, and arguments of which many name what isn't there."""
+        """Any kind, with arguments of which many name nothing that exists."""
         self.past = self.dice.choice([0.05, 0.2, 0.6])
         idle = [g for g, status in enumerate(world.goroutines) if status == IDLE]
         g = self.dice.choice(idle) if idle and self.dice.random() < 0.6 else self.near(len(world.goroutines))
@@ -192,7 +192,7 @@ class Author:
         )
 
     def near(self, count: int) -> int:
-        """The number of one of so many, and now and then one past."""
+        """A number below the given one, and sometimes one past it."""
         if self.dice.random() < self.past or count == 0:
             return self.dice.choice([count, count, count + 1, 4_294_967_295])
         return self.dice.randrange(count)
@@ -227,14 +227,14 @@ class Author:
         raise ValueError(form)
 
     def size(self, world: World) -> int:
-        """A count of bytes, often a small one, now and then none or one past what a buffer may hold."""
+        """A count of bytes, often small, sometimes 0 or one past what a buffer may hold."""
         most = world.limits.buf
         if self.dice.random() < self.past:
             return self.dice.choice([0, most + 1, 65_536]) if most < 65_536 else 0
         return self.dice.randint(1, min(most, self.dice.choice([2, 4, 9, 40, 300])))
 
     def time(self, world: World) -> int:
-        """A time for the clock: a little on, or where the first timer is due."""
+        """A time for the clock: a little later, or when the first timer is due."""
         roll = self.dice.random()
         if roll < 0.4 and world.timers:
             return world.timers[0].when

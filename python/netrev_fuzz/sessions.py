@@ -16,7 +16,7 @@ from nrdb.session import Session
 
 @contextmanager
 def session_over(program: str, path: Path, printer: Printer) -> Iterator[Session]:
-    """A session over a recording that netrev takes."""
+    """A session over a recording that netrev accepts."""
     interrupts = Interrupts()
 
     def netrev() -> Own:

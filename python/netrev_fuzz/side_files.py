@@ -1,5 +1,5 @@
-"""Cases for the views of nrdb: a recording that netrev takes, at random, with a file of lines beside it that may be anything. Each
-command ends, with text that a terminal doesn't obey, and writes the files that it says and no others."""
+"""Cases for the views of nrdb: a random recording that netrev accepts, with a file of lines beside it that may be
+anything. Each command ends, prints no terminal controls, and writes only the files that it names."""
 
 import io
 import json
@@ -31,7 +31,7 @@ NESTED = (b"[" * 100_000, b'{"call":' * 50_000, b"9" * 5_000, b"\xff", b"null", 
 
 
 def lines_of(dice: random.Random, steps: int) -> list[Any]:
-    """The lines of a file that is of its form, with texts that a program may have."""
+    """The lines of a well-formed file, with texts that a program may have."""
     calls = dice.choice([1, 3, 10])
     found: list[Any] = [{"where": dice.choice([1, 2]), "steps": steps}]
     for number in range(1, calls + 1):
@@ -58,6 +58,10 @@ def lines_of(dice: random.Random, steps: int) -> list[Any]:
         words = dice.choice(STRANGE), dice.choice(ends), dice.choice([-1, 0, 1])
         found.append({"waits": [[dice.choice(ends), 0, dice.randrange(3), *words]]})
         found.append({"bytes": dice.choice(ends)})
+        found += [{"tags": dice.choice([0, 1])}, {"prelude": dice.choice(ends)}]
+        found.append(
+            {"taken": [[dice.randrange(3), dice.choice(ends), dice.choice(ends)] for _ in range(dice.randrange(4))]}
+        )
         found.append({"times": [dice.choice([0, 1, 2**40]) for _ in range(dice.choice([steps, 1]))]})
         names = {name: dice.choice(STRANGE) for name in ("test", "package")}
         found.append({**names, "steps": [dice.choice(ends), dice.choice(ends)]})
@@ -66,7 +70,7 @@ def lines_of(dice: random.Random, steps: int) -> list[Any]:
 
 
 def goroutines_of(dice: random.Random, ends: list[int], calls: int) -> list[Any]:
-    """Lines of all goroutines, whose steps and times are of these numbers."""
+    """Lines of all goroutines, with steps and times up to these numbers."""
 
     def numbers(count: int) -> list[int]:
         return [dice.choice(ends) for _ in range(count)]
@@ -96,7 +100,7 @@ def goroutines_of(dice: random.Random, ends: list[int], calls: int) -> list[Any]
 
 
 def file_of(dice: random.Random, steps: int) -> tuple[bytes, bool]:
-    """The file: of its form, with other values in some places, or with damaged bytes; and whether it is of its form."""
+    """The file: well formed, with other values in some places, or with damaged bytes; and whether it is well formed."""
     lines = lines_of(dice, steps)
     sort = dice.randrange(4)
     for _ in range(dice.choice([1, 2, 5]) if sort == 1 else 0):
@@ -110,7 +114,7 @@ def file_of(dice: random.Random, steps: int) -> tuple[bytes, bool]:
 
 
 def wrong(seed: str, folder: Path, program: str) -> str:
-    """What is wrong with what the views of a seed print or write; nothing where all is well."""
+    """The fault of what the views of a seed print or write; empty if there is none."""
     dice = random.Random(seed)
     recording, _ = Author(dice).recording(dice.choice([4, 20, 60]))
     path = folder / "recording.jsonl"

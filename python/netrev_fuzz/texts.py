@@ -1,5 +1,5 @@
-"""Recordings as text: well written in one of many ways, random bytes, random JSON, and numbers at the limits of what a
-line may have."""
+"""Recordings as text: well formed in one of many ways, random bytes, random JSON, and numbers at the limits of a line's
+arguments."""
 
 import json
 import random
@@ -40,7 +40,7 @@ ENDS: dict[str, list[int]] = {
 }
 WITH_LIMITS = ("arrive", "syswrite", "setdeadline", "pollevent", "tick")
 TEXTS = ["r", "w", "rw", "wr", "", "R", "6869", "686", "6g", "ABcd", "0x12", " 12", "é1", "00", "done", "Done", "got"]
-# what is no recorded answer, as it is written
+# what isn't a recorded answer, as text
 NO_ANSWERS = [
     *("null", "0", "{}", "[]", '"Done"', '""', '"got"', '["done"]', '["got"]', '["got",1,1]', '["got","1"]'),
     '["got",-1]',
@@ -58,7 +58,7 @@ NO_ANSWERS = [
 
 
 def write_text(dice: random.Random, recording: Recording) -> bytes:
-    """The text of a recording in one of the ways in which it may be written."""
+    """The text of a recording in one of its possible forms."""
     plain = write_plain(recording)
     if dice.random() < 0.4:
         return plain
@@ -80,7 +80,7 @@ def write_text(dice: random.Random, recording: Recording) -> bytes:
 
 
 def shuffled_header(dice: random.Random, recording: Recording) -> bytes:
-    """The header with its keys in any order, and now and then one key twice."""
+    """The header with its keys in any order, and sometimes one key twice."""
     items: list[tuple[str, object]] = list(header_of(recording).items())
     dice.shuffle(items)
     if dice.random() < 0.2:
@@ -102,7 +102,7 @@ def small_header(dice: random.Random) -> str:
 
 
 def random_json(dice: random.Random) -> bytes:
-    """Lines of pieces of JSON, most of which are no JSON, behind a good header or not."""
+    """Lines of pieces of JSON, mostly malformed, after a good header or not."""
     lines = []
     if dice.random() < 0.7:
         lines.append(small_header(dice))
@@ -148,7 +148,7 @@ def at_limits(dice: random.Random) -> bytes:
 
 
 def limits_answer(dice: random.Random) -> str:
-    """A recorded answer as it is written, or what is none."""
+    """A recorded answer as text, or what isn't one."""
     if dice.random() < 0.1:
         return dice.choice(NO_ANSWERS)
     if dice.random() < 0.5:
@@ -171,7 +171,7 @@ def limits_header(dice: random.Random, version: int) -> str:
 
 
 def limits_argument(dice: random.Random, form: str) -> str:
-    """An argument as it is written: mostly a least or greatest one of its form, else one past it or of another form."""
+    """An argument as text: mostly a least or greatest one of its form, else one past it or of another form."""
     if dice.random() < 0.05:
         return dice.choice(ODD)
     past = dice.random() < 0.1

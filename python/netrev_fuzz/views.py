@@ -22,7 +22,7 @@ SOCKET_CELLS = ("lock", "rsem", "wsem", "in", "out", "shut")
 DESCRIPTOR_CELLS = ("info", "rg", "wg", "rd", "wd", "fdseq")
 PLACE = re.compile(r"place (\d+) of (\d+)")
 TAKEN = re.compile(r"goroutine (\d+) has the lock since step (\d+)")
-# what may be said wherever a session is disturbed
+# what may be printed whenever a session is interrupted
 DISTURBED = ("interrupted; the session goes on", "the netrev that looks at other positions has ended twice")
 
 
@@ -34,7 +34,7 @@ class Judge:
         self.position = 0
 
     def value(self, cell: str, position: Optional[int] = None) -> str:
-        """What `print` shows of a cell, here or at another position."""
+        """The value that `print` shows of a cell, here or at another position."""
         world = self.worlds[self.position if position is None else position]
         return look(world, f"print {cell}").partition(" = ")[2]
 
@@ -44,12 +44,12 @@ class Judge:
         return [] if shown in ("-", "absent") else [int(word) for word in shown.split()]
 
     def wrong(self, line: str, event: Event) -> str:
-        """What is wrong with an event that a line brought; empty where it is right."""
+        """The fault of an event that a line caused; empty if there is none."""
         judge: Callable[[str, Any], str] = getattr(self, f"wrong_{event['event']}")
         return judge(line, event)
 
     def wrong_reply(self, line: str, event: Event) -> str:
-        """netrev's reply: that of the model; and behind `goto` and `until` the model goes there too."""
+        """netrev's reply must be the model's; after `goto` and `until` the model goes there too."""
         told, words = list(event["reply"]), line.split()
         if (
             words[0] in ("goto", "until", "reverse-until")
@@ -65,7 +65,7 @@ class Judge:
         return "" if told == right else f"{line} is answered {told}, the model's {right}"
 
     def found(self, way: str, cell: str, value: str) -> Optional[int]:
-        """The nearest position that way behind a step that gave the cell this value."""
+        """The nearest position in that direction after a step that gave the cell this value."""
         ways: Iterable[int] = range(self.position + 1, len(self.worlds))
         if way == "reverse-until":
             ways = range(self.position - 1, 0, -1)
@@ -78,7 +78,7 @@ class Judge:
         return None
 
     def wrong_place(self, line: str, event: Event) -> str:
-        """The position, and the steps beside it."""
+        """The position, and the steps around it."""
         numbers = [event[side] and event[side]["number"] for side in ("last", "next")]
         length = len(self.steps)
         right = [self.position or None, self.position + 1 if self.position < length else None]
@@ -87,7 +87,7 @@ class Judge:
         return ""
 
     def wrong_note(self, line: str, event: Event) -> str:
-        """Remarks: that a walk was stopped, or that nothing was found, where nothing is."""
+        """Remarks: a walk was stopped, or nothing was found because there is nothing."""
         text, words = event["text"], line.split()
         if text in DISTURBED or text.startswith("at "):
             return ""
@@ -102,11 +102,11 @@ class Judge:
         return judge(line, event["rows"], event["rest"] or "")
 
     def differs(self, line: str, told: Any, right: Any) -> str:
-        """What is told and what is right, where they differ."""
+        """The text and the expected text, if they differ."""
         return "" if told == right else f"{line} at {self.position} tells {told}, and right is {right}"
 
     def made(self, cell: str) -> list[int]:
-        """The numbers of which a cell is there."""
+        """The numbers at which a cell exists."""
         numbers: list[int] = []
         while self.value(f"{cell} {len(numbers)}") != "absent":
             numbers.append(len(numbers))
@@ -129,7 +129,7 @@ class Judge:
         return self.differs(line, told, right) or next(filter(None, waits), "")
 
     def wrong_group(self, row: Mapping[str, Any]) -> str:
-        """Many that are asleep alike: each has that status, and those that are queued are so for one lock."""
+        """Goroutines that sleep alike: each has that status, and queued ones are queued for one lock."""
         statuses = {self.value(f"gor {number}") for number in row["goroutines"]}
         is_one = len(statuses) == 1 if row["status"] == "queued" else True
         if is_one and all(status.split()[0] == row["status"] for status in statuses):
@@ -137,7 +137,7 @@ class Judge:
         return f"a group of {row} at {self.position} has {sorted(statuses)}"
 
     def wrong_wait(self, goroutine: int, status: str, words: str) -> str:
-        """A place in a queue, and who has the lock since when."""
+        """A place in a queue, the goroutine that has the lock, and since when."""
         name, *rest = status.split()
         if name not in ("acquiring", "queued", "relock"):
             return ""
@@ -164,7 +164,7 @@ class Judge:
         return self.differs(line, [{name: row[name] for name in names} for row in rows], right)
 
     def socket(self, number: int) -> dict[str, Any]:
-        """What there is of a socket."""
+        """The fields of a socket."""
         cells = {name: self.value(f"{name} {number}") for name in SOCKET_CELLS}
         return {"socket": number, **cells, **{dump: self.queue(dump, number) for dump in ("rq", "wq")}}
 
@@ -214,7 +214,7 @@ class Judge:
         return self.differs(line, told, right)
 
     def wrong_changed(self, line: str, rows: Rows, rest: str) -> str:
-        """What the last step changed: all cells that differ before it and behind it."""
+        """The cells that the last step changed: all that differ before and after it."""
         told = sorted((row["cell"], row["old"], row["new"]) for row in rows)
         numbers = {
             Of.ALL: [""],
@@ -227,7 +227,7 @@ class Judge:
         return self.differs(line, told, sorted(one for one in both if one[1] != one[2]))
 
     def wrong_timer(self, line: str, rows: Rows, rest: str) -> str:
-        """Whose timers the steps beside the position are about, and who set them."""
+        """The owners of the timers in the steps around the position, and who set them."""
         told, right = [], []
         for row in rows:
             number = row["step"]
@@ -250,12 +250,12 @@ class Judge:
 
 
 def cell_and_rest(words: Sequence[str]) -> tuple[str, str]:
-    """The cell that these words begin with, and the words behind it."""
+    """The cell that these words begin with, and the remaining words."""
     length = 2 if cell_of(list(words[:2])) else 1
     return " ".join(words[:length]), " ".join(words[length:])
 
 
 def says_something(row: Mapping[str, Any]) -> bool:
-    """Whether a socket isn't at rest."""
+    """Whether a socket has something to show."""
     word = LockWord.of(int(row["lock"]))
     return word.references > 0 or bool(row["rq"] or row["wq"]) or (not word.closed and row["in"] != "0")

@@ -2,6 +2,7 @@
 
 from __future__ import annotations
 
+from . import messages
 from .points import Kind, Point
 from .sockets import AGAIN, Socket
 
@@ -25,14 +26,14 @@ def mode_of(point: Point) -> str:
     """The side or the sides of a point at a descriptor."""
     mode = MODES.get(point.a)
     if mode is None:
-        raise Unconvertible(f"point {point.number}: {point.a} is neither reading nor writing")
+        raise Unconvertible(messages.BAD_MODE.format(point=point.number, mode=point.a))
     return mode
 
 
 def side_of(point: Point) -> str:
     mode = mode_of(point)
     if len(mode) > 1:
-        raise Unconvertible(f"point {point.number}: one side is meant, and not both")
+        raise Unconvertible(messages.TWO_SIDES.format(point=point.number))
     return mode
 
 

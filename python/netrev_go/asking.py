@@ -1,15 +1,18 @@
-"""What netrev says of a recording: whether it takes it, and how the goroutines and sockets stand at its end."""
+"""What netrev and nrdb say about a recording: whether netrev accepts it, the values at its end, the suspects and the causes."""
 
 from __future__ import annotations
 
 import os
 import pathlib
 import re
+import signal
 import subprocess
 import sys
 from typing import TypeVar
 
 from netrev_words.command_lines import file_word
+
+from . import messages
 
 PACKAGES = pathlib.Path(__file__).resolve().parents[1]
 ASKED = "info suspects"
@@ -29,7 +32,7 @@ class Late(Exception):
 
 
 def check(netrev: str, recording: pathlib.Path) -> tuple[bool, str]:
-    """Whether netrev takes the recording, and its words."""
+    """Whether netrev accepts the recording, and its output."""
     with Check(netrev, recording) as checking:
         return checking.outcome()
 
@@ -48,14 +51,14 @@ def at_the_end(netrev: str, recording: pathlib.Path, steps: int, cells: list[str
 
 
 def suspects(netrev: str, recording: pathlib.Path) -> list[str]:
-    """What nrdb suspects at the end, line by line; nothing, where it has no such topic. Late where it takes too long."""
+    """nrdb's suspects at the end, line by line; empty if nrdb can't be started. Late if it takes too long."""
     words = [sys.executable, str(PACKAGES), "nrdb", "--batch", "-ex", "continue", "-ex", ASKED, file_word(recording)]
     try:
         run = subprocess.run(
             words, env=os.environ | {"NETREV": netrev}, capture_output=True, text=True, timeout=PATIENCE, check=False
         )
     except subprocess.TimeoutExpired:
-        raise Late(f"nrdb's suspects took more than {PATIENCE} s") from None
+        raise Late(messages.LATE_SUSPECTS.format(seconds=PATIENCE)) from None
     except OSError:
         return []
     told = run.stdout.partition(f"(netrev) {ASKED}\n")[2].splitlines()
@@ -100,8 +103,11 @@ class Check(Asked):
         super().__init__([netrev, "check", file_word(recording)])
 
     def outcome(self) -> tuple[bool, str]:
-        """Whether netrev takes the recording, and its words."""
+        """Whether netrev accepts the recording, and its output. An OSError if it was killed, as by a system that is short of memory: that says nothing
+        of the recording."""
         status, printed, errors = self.answer()
+        if status < 0:
+            raise OSError(0, messages.ENDED_BY_A_SIGNAL.format(signal=signal.Signals(-status).name))
         return status == 0, (printed or errors).strip()
 
 
@@ -117,7 +123,7 @@ class Causes(Asked):
         try:
             status, printed, _ = self.answer(OF_CAUSES)
         except subprocess.TimeoutExpired:
-            raise Late(f"nrdb's causes took more than {OF_CAUSES} s") from None
+            raise Late(messages.LATE_CAUSES.format(seconds=OF_CAUSES)) from None
         except OSError:
             return []
         return printed.splitlines() if status == 0 else []

@@ -1,4 +1,5 @@
-"""What a log has of sockets besides steps: which two are the ends of one connection, and errors of the system that no step has."""
+"""A log's facts about sockets besides steps: which two are the ends of one connection, and errors of the system that no
+step has."""
 
 from __future__ import annotations
 
@@ -10,7 +11,7 @@ from .sockets import AGAIN
 from .answering import BROKEN_PIPE
 from .waits import Wait
 
-# Errors that end a call of the program's. Behind others Go tries again in another way, as where a file can't be spliced.
+# Errors that end a call of the program's. After others Go tries again in another way, as when a file can't be spliced.
 OF_CONNECTIONS = frozenset(
     (
         errno.EPIPE, errno.ECONNRESET, errno.ECONNABORTED, errno.ECONNREFUSED, errno.ETIMEDOUT, errno.EHOSTUNREACH,
@@ -34,8 +35,8 @@ def address_words(packed: int) -> str:
 
 @dataclass
 class Beside:
-    """Pairs of sockets that are one connection's ends, the names of both ends of each socket, of each error the step behind which its goroutine had
-    it, and who waits elsewhere."""
+    """Facts for NAME.where: pairs of sockets that are the ends of one connection, the names of both ends, the step after which a
+    goroutine got an error, and waits outside the poller."""
 
     peers: list[tuple[int, int]] = field(default_factory=list)
     errors: list[tuple[int, str]] = field(default_factory=list)
@@ -44,10 +45,10 @@ class Beside:
     addresses: list[tuple[int, str, str]] = field(
         default_factory=list
     )  # of sockets for datagrams, and to which they are connected
-    sent: list[tuple[int, str]] = field(default_factory=list)  # behind which steps datagrams went to which addresses
+    sent: list[tuple[int, str]] = field(default_factory=list)  # the steps after which datagrams went to addresses
     sizes: list[tuple[int, int]] = field(
         default_factory=list
-    )  # behind which steps bytes were read or written that count as fewer, and how many they were
+    )  # the steps after which bytes were read or written that count as fewer, with their number
     _unix: dict[int, tuple[list[tuple[int, int]], list[tuple[int, int]]]] = field(
         default_factory=dict
     )  # of each path the sockets that were accepted and dialed there, with the goroutines that did
@@ -57,8 +58,8 @@ class Beside:
     )  # sockets by names, whose other end isn't met yet
 
     def named(self, socket: int, point: Point, step: int = 0) -> None:
-        """A socket's own name and the other end's. A name may be taken again, so of several the newest is meant. Of a socket for datagrams its
-        addresses, and behind which step one goes where."""
+        """A socket's own name and that of the other end; the newest of several. For a datagram socket, its addresses, and the step
+        after which a datagram is sent."""
         if point.c == OF_DATAGRAMS:
             self.addresses.append((socket, address_words(point.a), address_words(point.b)))
         elif point.c == GOES_TO:

@@ -31,19 +31,19 @@ def ran(go: Go, words: list[str], program: pathlib.Path, what: str, is_of_others
 
 
 def built(go: Go, suite: Suite, folder: pathlib.Path) -> pathlib.Path | None:
-    """The suite's test program, or None where it can't be built."""
+    """The suite's test program; None if it can't be built."""
     program = folder.resolve() / (suite.package.replace("/", "_") + ".test")
     return program if ran(go, ["test", "-c"], program, suite.package, suite.is_of_others) else None
 
 
 def built_sample(go: Go, source: str, folder: pathlib.Path) -> pathlib.Path | None:
-    """The program of a sample, or None where it can't be built."""
+    """The program of a sample; None if it can't be built."""
     program = folder.resolve() / source.replace("/", "_").removesuffix(".go")
     return program if ran(go, ["build"], program, str(SAMPLES / source), False) else None
 
 
 def source_folder(go: Go, suite: Suite) -> pathlib.Path:
-    """Where a suite's tests expect to be run."""
+    """The folder in which a suite's tests expect to run."""
     return (DEBIAN / "src" if suite.is_of_others else go.sources()) / suite.package
 
 

@@ -1,4 +1,4 @@
-"""What other packages call at an FD of internal/poll, and which steps each call makes: the table of docs/internals/INSTRUMENTING.md.
+"""The calls of internal/poll.FD by other packages, and the steps of each call: as a table.
 
     python3 python netrev_go.calls_of_go            compares it with the calls that the installed Go has
     python3 python netrev_go.calls_of_go --table    prints it"""
@@ -11,59 +11,62 @@ import sys
 import tempfile
 from typing import NamedTuple
 
+from . import messages
 from .toolchain import Go, Trouble, find_go, points_program
 
 
 class Row(NamedTuple):
-    """Calls that are alike, the steps that they make, and what of them no step has."""
+    """Calls with the same steps, these steps, and what they leave out."""
 
     calls: str
     steps: str
     beside: str = ""
 
 
-READING = "`rwlock`, `pollreset`, each try a `sysread`, the steps of a wait, `rwunlock`"
+READING = "`rwlock`, `pollreset`, a `sysread` for each try, the steps of each wait, `rwunlock`"
 WRITING = READING.replace("sysread", "syswrite")
 HELD = "`incref`, `decref`"
-UNSEEN = "what goes beside the bytes, addresses"
+UNSEEN = "addresses and control messages"
 OPTIONS = (
     "FD.SetsockoptByte FD.SetsockoptInt FD.SetsockoptInet4Addr FD.SetsockoptLinger FD.SetsockoptIPMreq FD.SetsockoptIPMreqn "
     "FD.SetsockoptIPv6Mreq FD.GetsockoptInt FD.SetBlocking"
 )
 FILES = "FD.Fstat FD.Fstatat FD.Fchmod FD.Fchown FD.Fchdir FD.Fsync FD.Ftruncate FD.Seek FD.ReadDirent FD.Pread FD.Pwrite FD.Dup"
 ROWS = (
-    Row("FD.Init", "`sockopen`, `pollopen`", "one that the poller won't have, with all that is done to it"),
-    Row("FD.Close", "`increfclose`, `release` for each waiter, `evict`, `decref`, `pollclose` at the last reference"),
+    Row("FD.Init", "`sockopen`, `pollopen`", "files that the poller doesn't accept, and all calls on them"),
+    Row(
+        "FD.Close", "`increfclose`, a `release` for each waiter, `evict`, `decref`, `pollclose` with the last reference"
+    ),
     Row("FD.Read", READING, "errors other than `EAGAIN`"),
-    Row("FD.Write", WRITING, "errors other than `EAGAIN`, and `EPIPE` behind a `CloseWrite`"),
-    Row("FD.Accept", READING, "a connection is a byte that arrives and is read"),
+    Row("FD.Write", WRITING, "errors other than `EAGAIN` and, after a `CloseWrite`, `EPIPE`"),
+    Row("FD.Accept", READING, "the connection: it is recorded as one byte that arrives and is read"),
     Row(
         "FD.ReadFrom FD.ReadFromInet4 FD.ReadFromInet6 FD.ReadMsg FD.ReadMsgInet4 FD.ReadMsgInet6",
         READING,
-        f"{UNSEEN}; an empty datagram is a byte, and what was cut off of one is none",
+        f"{UNSEEN}; the bytes cut off a datagram. An empty datagram is recorded as one byte",
     ),
     Row(
         "FD.WriteTo FD.WriteToInet4 FD.WriteToInet6 FD.WriteMsg FD.WriteMsgInet4 FD.WriteMsgInet6",
         WRITING,
-        f"{UNSEEN}; an empty datagram is a byte",
+        f"{UNSEEN}. An empty datagram is recorded as one byte",
     ),
-    Row("FD.Writev", WRITING, "where one buffer ends and the next begins; how much a try was of that answered `again`"),
-    Row("SendFile", WRITING, "the file; how much a try was of that answered `again`"),
+    Row("FD.Writev", WRITING, "the borders between buffers; the length of a try that answered `again`"),
+    Row("SendFile", WRITING, "the file; the length of a try that answered `again`"),
     Row(
         "Splice",
-        "those of `Read` at one socket, and of `Write` at the other",
-        "the pipe between; how much a try was of that answered `again`",
+        "those of `Read` on one socket and of `Write` on the other",
+        "the pipe between them; the length of a try that answered `again`",
     ),
-    Row("FD.RawRead", "`rwlock`, `pollreset`, the steps of a wait, `rwunlock`", "what the program's function does"),
-    Row("FD.RawWrite", "`rwlock`, `pollreset`, the steps of a wait, `rwunlock`", "what the program's function does"),
+    Row("FD.RawRead", "`rwlock`, `pollreset`, the steps of each wait, `rwunlock`", "what the program's function does"),
+    Row("FD.RawWrite", "`rwlock`, `pollreset`, the steps of each wait, `rwunlock`", "what the program's function does"),
     Row("FD.RawControl", HELD, "what the program's function does"),
-    Row("FD.WaitWrite", "the steps of a wait, with no lock", "`connect`, which waits so"),
-    Row("FD.Shutdown", f"{HELD}, and `closewrite` where the side of writing is shut", "the side of reading"),
+    Row("FD.WaitWrite", "the steps of a wait, without a lock", "`connect`, which waits with this call"),
+    Row("FD.Shutdown", f"{HELD}, and a `closewrite` if the write side is closed", "closing the read side"),
     Row("FD.SetDeadline FD.SetReadDeadline FD.SetWriteDeadline", "`incref`, `setdeadline`, `decref`"),
     Row(OPTIONS, HELD, "the option"),
-    Row(FILES, HELD, "what is done, which the poller has no part in"),
-    Row("FD.WriteOnce", "`rwlock`, `rwunlock`", "the bytes: Go's own tests alone call it"),
-    Row("CopyFileRange", "`rwlock`, `rwunlock` at each of the two", "what is copied: the poller has neither file"),
+    Row(FILES, HELD, "the operation, in which the poller isn't involved"),
+    Row("FD.WriteOnce", "`rwlock`, `rwunlock`", "the bytes: only Go's own tests call it"),
+    Row("CopyFileRange", "`rwlock`, `rwunlock` on each of the two", "the copy: the poller has neither file"),
 )
 
 
@@ -77,19 +80,19 @@ def calls_of(go: Go) -> list[str]:
         program = points_program(go, pathlib.Path(folder))
         run = subprocess.run([program, "calls", go.sources()], capture_output=True, text=True, check=False)
     if run.returncode != 0:
-        raise Trouble(f"the calls of {go.version} can't be read: {run.stderr.strip()}")
+        raise Trouble(messages.CALLS_UNREADABLE.format(version=go.version, why=run.stderr.strip()))
     return run.stdout.split()
 
 
 def unknown_calls(go: Go) -> list[str]:
-    """The calls of an installed Go that the table hasn't."""
+    """The calls of an installed Go that aren't in the table."""
     known = known_calls()
     return [call for call in calls_of(go) if call not in known]
 
 
 def table() -> list[str]:
     """The table, line by line."""
-    lines = ["| Calls | Steps | What no step has |", "|---|---|---|"]
+    lines = ["| Calls | Steps | Not recorded |", "|---|---|---|"]
     for row in ROWS:
         calls = ", ".join(f"`{call}`" for call in row.calls.split())
         lines.append(f"| {calls} | {row.steps} | {row.beside} |")
@@ -107,8 +110,8 @@ def main(arguments: list[str]) -> int:
         print(trouble, file=sys.stderr)
         return 3
     for call in unknown:
-        print(f"{go.version} has {call}, which the table hasn't")
-    print(f"{go.version}: {len(unknown)} calls are unknown")
+        print(f"{go.version} has {call}, which isn't in the table")
+    print(f"{go.version}: {len(unknown)} unknown calls")
     return 1 if unknown else 0
 
 

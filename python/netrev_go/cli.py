@@ -11,28 +11,29 @@ import sys
 
 from netrev_words.command_lines import command
 
+from . import messages
 from .converting import Wish, convert
 from .doctor import doctor
 from .keeping import Making, Saying, complain, say, unwritten
-from .options import POSSIBLE, SUSPECTS, asks_for_help, check, help_of, parser
+from .options import POSSIBLE, SUSPECTS, asks_for_help, check, help_of, of_a_process, parser
 from .outputs import base_name, look, numbered
 from .recovery import offer, recover
 from .run_folders import claim
-from .running import Runner, as_a_shell_has_it, limits_of, log_of_process, logs_folder
+from .running import Runner, as_a_shell_has_it, behind_the_folder, limits_of, log_of_process, logs_folder
 from .status import Status
 from .testing import record_tests
 from .toolchain import Go, Trouble, find_go
 from .trying import ready
+from .watching import snapshot, watch
 
 
 KNOWN: list[object] = []  # of the log that is converted; of the last one to the end, as to give it back takes long
 
 
 def flags(go: Go, words: list[str]) -> list[str]:
-    """The flags that make Go's command record. Functions of the packages that are named aren't inlined into, so that their
-    lines are told as they are."""
+    """The flags that make Go's command record. They disable inlining into the named packages, so that source lines are exact."""
     if any(word.lstrip("-").startswith("overlay") for word in words if word.startswith("-")) or "-overlay" in go.flags:
-        raise Trouble("netrev-go uses -overlay itself: leave yours out, or put those files into place")
+        raise Trouble(messages.OVERLAY_IS_TAKEN)
     own = any(word.lstrip("-").startswith("gcflags") for word in words if word.startswith("-"))
     return ["-overlay", str(ready(go)), *([] if own else ["-gcflags=-l"])]
 
@@ -41,7 +42,7 @@ def record(options: argparse.Namespace, go: Go) -> int:
     """Runs Go's command, and makes recordings of what ran. The status is Go's own, unless another one is asked for."""
     words = options.words_of_go
     once = ["-count=1"] if options.command == "test" else []
-    command = [go.program, options.command, *flags(go, words), *once, *words]
+    command = [go.program, options.command, *behind_the_folder(words, [*flags(go, words), *once])]
     if options.command == "test":
         came = record_tests(options, go, command, wish_of(options))
         bad = (
@@ -86,10 +87,11 @@ def go_if_any() -> Go | None:
 def convert_one(options: argparse.Namespace) -> int:
     """Makes recordings of logs. One that can't be made takes nothing from the others."""
     logs = [pathlib.Path(word) for word in options.words_of_go]
+    written = len(logs)  # the place of the log that a process writes
     if options.pid is not None:
         logs.append(log_of_process(options.pid))
     if not logs:
-        print("convert: which log? (or --pid PID)", file=sys.stderr)
+        print(messages.NO_LOG_GIVEN, file=sys.stderr)
         return Status.USAGE
     base = base_name(options.o, (logs[0].name if len(logs) == 1 else "") or "recording")
     go = go_if_any()
@@ -98,7 +100,7 @@ def convert_one(options: argparse.Namespace) -> int:
         KNOWN.clear()
         saying = Saying([], stream=sys.stdout)
         try:
-            outcome = convert(log, numbered(base, index), go, wish_of(options), KNOWN, saying.hear)
+            outcome = convert(log, numbered(base, index), go, wish_of(options), KNOWN, saying.hear, index > written)
         except OSError as fault:
             complain(unwritten(numbered(base, index), fault))
             status = Status.TROUBLE
@@ -110,21 +112,16 @@ def convert_one(options: argparse.Namespace) -> int:
 
 def build(options: argparse.Namespace, go: Go) -> int:
     words = options.words_of_go
-    run = subprocess.run([go.program, "build", *flags(go, words), *words], check=False)
+    run = subprocess.run([go.program, "build", *behind_the_folder(words, flags(go, words))], check=False)
     if run.returncode == 0:
-        say(
-            [
-                "It records where NETREV_LOG=PATH is set: its log is PATH.PID, and "
-                f"`{command('netrev-go')} convert PATH.PID` makes a recording"
-            ]
-        )
+        say([messages.BUILT.format(netrev_go=command("netrev-go"))])
     return as_a_shell_has_it(run.returncode)
 
 
 def env(go: Go) -> int:
     path = str(ready(go))
     if any(c.isspace() for c in path):
-        raise Trouble(f"{path} has a blank in it, which GOFLAGS can't have: XDG_CACHE_HOME names another folder")
+        raise Trouble(messages.SPACE_IN_PATH.format(path=path))
     folder = pathlib.Path("/dev/shm" if pathlib.Path("/dev/shm").is_dir() else "/tmp")
     print(f"export GOFLAGS={shlex.quote(f'{go.flags} -overlay={path} -count=1'.strip())}")
     print(f"export NETREV_LOG={folder}/mine")
@@ -144,6 +141,10 @@ def main(arguments: list[str] | None = None) -> int:
         offer()
         if options.command == "convert":
             return convert_one(options)
+        if options.command in ("snapshot", "watch"):
+            of_a_process(options)
+            of_now = snapshot if options.command == "snapshot" else watch
+            return of_now(options, go_if_any(), wish_of(options), KNOWN)
         if options.command == "doctor":
             return doctor()
         go = find_go()
@@ -154,5 +155,5 @@ def main(arguments: list[str] | None = None) -> int:
         complain(str(trouble))
         return Status.TROUBLE
     except KeyboardInterrupt:
-        complain("interrupted")
+        complain(messages.INTERRUPTED)
         return Status.INTERRUPTED

@@ -27,7 +27,7 @@ def read_words(name: pathlib.Path) -> list[Word]:
 
 
 def asked(netrev: str, recording: pathlib.Path, words: list[Word]) -> list[str]:
-    """What netrev prints where Go had these lock words."""
+    """netrev's output for Go's lock words."""
     commands, at = [], 0
     for step, cell, _ in words:
         if step > at:
@@ -40,12 +40,12 @@ def asked(netrev: str, recording: pathlib.Path, words: list[Word]) -> list[str]:
 
 
 def sentence(step: int, cell: str, value: str, said: str) -> str:
-    """What is said of a lock word that differs."""
+    """The sentence about a lock word that differs."""
     return f"step {step}: Go had {cell} = {value}, netrev says {said}"
 
 
 def differing(netrev: str, recording: pathlib.Path) -> tuple[int, list[str]]:
-    """How many lock words were compared, and what is said of those that differ."""
+    """The number of lock words that were compared, and a sentence for each that differs."""
     words = read_words(recording.with_suffix(".words"))
     told: list[str] = []
     for first in range(0, len(words), AT_ONCE):

@@ -5,7 +5,8 @@ just before the write that they make room for; and a socket's output is just so 
 
 from __future__ import annotations
 
-from collections import defaultdict
+from bisect import bisect_right
+from collections import defaultdict, deque
 from collections.abc import Callable
 from itertools import chain
 
@@ -13,10 +14,13 @@ from netrev_machine.deadlines import READING, WRITING, Deadlines
 from netrev_machine.machine import SIDES
 from netrev_machine.polling import deadline_of
 
+from . import messages
 from .answering import BROKEN_PIPE, Unconvertible, can_answer, mode_of, parts
-from .beside import Beside
+from .beside import OF_UNIX, Beside
+from .leading import lead
 from .orders import Made
 from .points import LOCKING, Kind, Point
+from .prelude import NOBODY
 from .repeated import REPEATED, read_line, repeated_line
 from .sockets import AGAIN, BUFFER, FEW_BYTES, Socket
 from .zeros import Line, arrival, drained, put_line, written
@@ -24,23 +28,30 @@ from .zeros import Line, arrival, drained, put_line, written
 CURRENT_READ, STALE = 1, 4
 EVENT_ERROR, EVENT_STALE = 1, 2
 GREATEST = 2**63 - 1
+SOONEST = 3  # nanoseconds from now that a deadline may be, as the steps that lead to others let two go by
 READ, FIRE = int(Kind.READ), int(Kind.FIRE)
 
 Repeated = tuple[Line | None, Line, int]  # the bytes that arrive before, the goroutine's own line, and its number
 
 
 class Converter:
-    """The recording so far: its lines, the stack of each (0 where none is known), and Go's lock words."""
+    """The recording so far: its lines, the stack of each (0 if unknown), and Go's lock words."""
 
-    def __init__(self, points: list[tuple[Point, Socket]], begin: int) -> None:
+    def __init__(
+        self, points: list[tuple[Point, Socket]], begin: int, ends: list[tuple[int, int]] | None = None
+    ) -> None:
         self.points = points
+        self._ends = ends or []  # of goroutines whose numbers are used again, the last one first
+        self._unused: deque[int] = deque()
+        self.taken: list[tuple[int, int, int]] = []  # numbers that several goroutines had: after which step, and which
+        self._taken_over: set[int] = set()  # these numbers
         self.begin = begin
         self.lines: list[Line] = []
         self.stacks: list[int] = []
         self.goroutines: dict[int, int] = {}
         self.last_steps: list[int] = []  # of each goroutine
         self.names: list[int] = []  # Go's own, of each goroutine
-        self.ended: list[int] = []  # how many steps there are behind each point
+        self.ended: list[int] = []  # the number of steps after each point
         self.made: list[Made] = []  # the goroutines' steps, by Go's names
         self._number = 0  # of the point
         self.last_stacks: list[int] = []
@@ -53,6 +64,8 @@ class Converter:
         self.later_fires = {(socket, *self.firing(point)) for point, socket in points if point[1] == FIRE}
         self.put_off: dict[Socket, tuple[int, int]] = {}  # closewrites that a write overtook, with their stacks
         self.beside = Beside()
+        if any(socket.note for _, socket in points):
+            self.goroutine(NOBODY)
 
     def convert(self) -> None:
         """Makes the steps of all points."""
@@ -90,6 +103,7 @@ class Converter:
             ended.append(step)
 
     def _repeated(self, point: Point, socket: Socket) -> Repeated:
+        self._number = point.number
         g = self.goroutine(point.goroutine)
         before = arrival(socket.number, point.b) if point.kind == READ else None
         return before, repeated_line(point, g, socket), g
@@ -100,6 +114,7 @@ class Converter:
             Kind.INIT: self.socket_opens, Kind.READ: self.read, Kind.WRITE: self.write, Kind.CLOSE_WRITE: self.close_write,
             Kind.OPEN: self.open, Kind.CLOSE: self.close, Kind.PARK: self.park, Kind.SET_DEADLINE: self.set_deadline,
             Kind.EVICT: self.evict, Kind.EVENT: self.event, Kind.FIRE: self.fire, Kind.NAMED: self.named,
+            Kind.NOTED: self.noted, Kind.NOTED_NAMED: self.noted_name,
         }  # fmt: skip
 
     def made_of(self) -> dict[int, int]:
@@ -109,13 +124,18 @@ class Converter:
             counts[socket.opening] += behind - before
         return counts
 
+    def steps_before(self, number: int) -> int:
+        """How many steps were made of the points up to this one."""
+        place = bisect_right(self.points, number, key=lambda pair: pair[0].number)
+        return self.ended[place - 1] if place else 0
+
     def step(self, text: Line) -> None:
         """A step of no goroutine's."""
         self.lines.append(text)
         self.stacks.append(0)
 
     def of(self, g: int, stack: int, text: Line) -> None:
-        """A step of a goroutine's. Where its point was passed on another stack, it stands where it stood before."""
+        """A step of a goroutine. If its point has the stack of another goroutine, the step has the goroutine's last stack."""
         if stack:
             self.last_stacks[g] = stack
         else:
@@ -127,15 +147,31 @@ class Converter:
         self.made.append((self._number, self.names[g], step))
 
     def goroutine(self, identity: int) -> int:
-        """A goroutine's number; one that wasn't met before is spawned."""
+        """A goroutine's number; one that wasn't met before is spawned, or takes the number of one that has ended."""
         number = self.goroutines.get(identity)
         if number is None:
-            number = self.goroutines[identity] = len(self.goroutines)
-            self.names.append(identity)
-            self.last_steps.append(0)
-            self.last_stacks.append(0)
-            if number:
-                self.step(f'["spawn",["number",{number}]]')
+            number = self.goroutines[identity] = self._unused_number(identity)
+        return number
+
+    def _unused_number(self, identity: int) -> int:
+        while self._ends and self._ends[-1][0] < self._number:
+            number = self.goroutines.get(self._ends.pop()[1])
+            if number is not None and not any(number == g for g, _ in self.put_off.values()):
+                self._unused.append(number)
+        if self._unused:
+            number = self._unused.popleft()
+            if number not in self._taken_over:  # the one that had it from the start is named too
+                self._taken_over.add(number)
+                self.taken.append((number, 0, self.names[number]))
+            self.names[number], self.last_stacks[number] = identity, 0
+            self.taken.append((number, len(self.lines), identity))
+            return number
+        number = len(self.names)
+        self.names.append(identity)
+        self.last_steps.append(0)
+        self.last_stacks.append(0)
+        if number:
+            self.step(f'["spawn",["number",{number}]]')
         return number
 
     def go_on_to(self, time: int) -> None:
@@ -187,7 +223,7 @@ class Converter:
             self.shut(socket, *self.put_off.pop(socket))
 
     def close_write(self, point: Point, socket: Socket) -> None:
-        """The write side is shut. It was logged behind its system call, and may have overtaken a write that was made before."""
+        """Closes the write side. The point is logged after its system call, so it may follow a write that was made after it."""
         g = self.goroutine(point.goroutine)
         if socket.last_put > point.number:
             self.put_off[socket] = g, point.stack
@@ -203,8 +239,8 @@ class Converter:
         self.of(g, 0, f'["parkcommit",{g},"{"yes" if point.b else "no"}"]')
 
     def event(self, point: Point, socket: Socket) -> None:
-        """One that was fetched before the descriptor was closed comes too late: Go says so where its events have tags, and lets
-        it go by at a free descriptor where they have none."""
+        """An event that was fetched before the descriptor was closed comes too late: Go says so if its events have tags, and
+        ignores it for a free descriptor otherwise."""
         is_stale = point.b & EVENT_STALE if point.c else not socket.is_open
         answer = "stale" if is_stale else "done"
         tag, error = socket.tag, point.b & EVENT_ERROR
@@ -212,6 +248,12 @@ class Converter:
 
     def open(self, point: Point, socket: Socket) -> None:
         g = self.goroutine(point.goroutine)
+        reading, writing = self.takes_descriptor(socket)
+        socket.sequences = socket.sequences[READING] - reading, socket.sequences[WRITING] - writing
+        self.of(g, point.stack, f'["pollopen",{g},{socket.number},["number",{socket.descriptor}]]')
+
+    def takes_descriptor(self, socket: Socket) -> tuple[int, int]:
+        """Opens a descriptor for a socket, and says what its sequences are then."""
         if self.free:
             socket.descriptor = self.free.pop()
         else:
@@ -220,9 +262,7 @@ class Converter:
             self.tags.append(1)
         socket.tag = self.tags[socket.descriptor]
         socket.is_open = True
-        reading, writing = self.deadlines.open(socket.descriptor)
-        socket.sequences = socket.sequences[READING] - reading, socket.sequences[WRITING] - writing
-        self.of(g, point.stack, f'["pollopen",{g},{socket.number},["number",{socket.descriptor}]]')
+        return self.deadlines.open(socket.descriptor)
 
     def close(self, point: Point, socket: Socket) -> None:
         g = self.goroutine(point.goroutine)
@@ -256,8 +296,8 @@ class Converter:
         self.of(g, stack, f'["setdeadline",{g},{number},"{mode}",{time},"done"]')
 
     def pop_what_fires(self, socket: Socket, side: int) -> None:
-        """A timer that is about to be stopped or armed anew goes off first, where the log has its firing: Go's timer had left
-        its heap by then."""
+        """A timer that is about to be stopped or armed again goes off first if the log has its firing: it had left Go's heap by
+        then."""
         timer = self.deadlines.armed(socket.descriptor, side)
         if timer and (socket, side, timer.sequence + socket.sequences[side]) in self.later_fires:
             self.go_on_to(timer.due)
@@ -269,7 +309,7 @@ class Converter:
         self.step('["pop","done"]')
 
     def firing(self, point: Point) -> tuple[int, int]:
-        """The side and the sequence of a firing: the side of reading, where it is for both."""
+        """The side and the sequence of a firing; the read side if it is for both."""
         return (READING if point.b & CURRENT_READ else WRITING), point.a
 
     def fire(self, point: Point, socket: Socket) -> None:
@@ -280,7 +320,7 @@ class Converter:
         while place is None:
             least = self.deadlines.least()
             if not least or least.due > self.clock:
-                raise Unconvertible(f"point {point.number}: no timer went off that this firing is of")
+                raise Unconvertible(messages.NO_TIMER.format(point=point.number))
             self.pop()
             place = self.deadlines.place(socket.descriptor, side, sequence)
         sides = "".join(name for bit, name in enumerate(SIDES) if point.b & 1 << bit)
@@ -290,8 +330,20 @@ class Converter:
     def named(self, point: Point, socket: Socket) -> None:
         self.beside.named(socket.number, point, self.last_steps[self.goroutine(point.goroutine)] if point.c else 0)
 
+    def noted(self, point: Point, socket: Socket) -> None:
+        """The steps that lead to a socket that was noted. The clock goes on to the first note, but past no deadline that is to be set."""
+        if not self.clock:
+            sockets = {socket for one, socket in self.points if one.kind == Kind.NOTED}
+            dues = [due - SOONEST for socket in sockets if socket.note for due in socket.note.deadlines if due > 0]
+            self.go_on_to(min([point.time, *dues]) - self.begin)
+        lead(self, socket)
+
+    def noted_name(self, point: Point, socket: Socket) -> None:
+        if point.c != OF_UNIX:  # (their ends are paired by which goroutine they are of)
+            self.beside.named(socket.number, point)
+
     def header(self) -> str:
         # A recording has room for two firings a descriptor that wait to be run. Several processors may have more.
         descriptors = max(self.descriptors, (self.deadlines.most_firings + 1) // 2, 1)
-        limits = f'"gor":{max(1, len(self.goroutines))},"sock":{max(1, self.sockets)},"desc":{descriptors}'
+        limits = f'"gor":{max(1, len(self.names))},"sock":{max(1, self.sockets)},"desc":{descriptors}'
         return f'{{"netrev":2,{limits},"buf":{BUFFER}}}'

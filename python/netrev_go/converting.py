@@ -1,4 +1,4 @@
-"""From a log to what is said of it: the recording, its lines, and netrev's words."""
+"""From a log to a recording with its lines, and to the report about it."""
 
 from __future__ import annotations
 
@@ -11,6 +11,7 @@ from functools import partial
 from netrev_words.files import forget_where
 from netrev_words.plain import plain
 
+from . import messages
 from .cutting import goroutines_of, sockets_of
 from .goroutine_lines import Everybody, kept
 from .goroutines import Goroutines
@@ -24,9 +25,9 @@ from .ran import Ran, Tests, of_log
 from .report import Hear, report, unheard
 from .sockets import MOST_MEGABYTES, MOST_SOCKETS
 from .toolchain import Go
-from .where import write_where
+from .where import STEPS_A_LINE, write_where
 
-PROCESS = re.compile(r"(\.\d+){1,2}\Z")
+PROCESS = re.compile(r"(\.\d+){1,2}(\.snapshot)?\Z")
 
 
 @dataclass(frozen=True)
@@ -37,7 +38,8 @@ class Wish:
     megabytes: int = MOST_MEGABYTES
     words: bool = False
     all_bytes: bool = False
-    failed: bool = False  # Go's command ended with a status other than 0
+    failed: bool = False  # Go's command ended with a status other than 0, or a call hangs: the causes are wanted first
+    first: int = 0  # the address of the lock word of a socket that comes before all others, if there isn't room for all
 
 
 def program_of(log: pathlib.Path, key: str) -> pathlib.Path:
@@ -47,7 +49,7 @@ def program_of(log: pathlib.Path, key: str) -> pathlib.Path:
 
 @dataclass(frozen=True)
 class Outcome:
-    """What became of a log: whether netrev takes the recording, what is said of it, and whether there were no sockets."""
+    """The result for a log: whether netrev accepts the recording, the report, and whether there were no sockets."""
 
     taken: bool
     lines: list[str]
@@ -70,12 +72,13 @@ def convert(
     wish: Wish,
     known: list[object] | None = None,
     hear: Hear = unheard,
+    is_written: bool = False,
 ) -> Outcome:
-    """Makes the recording NAME of a log, and NAME.where beside it where Go is there to tell its lines. What is known of them then is kept
-    in `known`, for whom to give that back takes too long. `hear` gets what is said of the recording as soon as it is known.
-    """
+    """Makes the recording NAME from a log, and NAME.where beside it if Go is there to find lines. `known` keeps the data, because
+    freeing it takes long. `hear` gets the lines of the report as soon as they are known. A log that a program writes meanwhile is
+    copied first."""
     try:
-        return converted(ReadLog(log, read_log(log), of_log(log)), name, go, wish, known=known, hear=hear)
+        return converted(ReadLog(log, read_log(log, is_written), of_log(log)), name, go, wish, known=known, hear=hear)
     except NoLog as fault:
         return Outcome(False, [f"{plain(str(log))}: {fault}"])
 
@@ -89,13 +92,13 @@ def converted(
     known: list[object] | None = None,
     hear: Hear = unheard,
 ) -> Outcome:
-    """Makes the recording NAME of a log that was read, or of one of its tests, where one is named."""
+    """Makes the recording NAME from a log that was read, or from one of its tests."""
     log = read.log
     part: Part | None = None
     if test is not None:
         part = partial(sockets_of, test, tests=read.tests.ran)
     try:
-        recording = make(log, wish.sockets, wish.megabytes, wish.all_bytes, part)
+        recording = make(log, wish.sockets, wish.megabytes, wish.all_bytes, part, wish.first)
     except (Nothing, Unconvertible) as fault:
         return Outcome(False, [f"{plain(str(read.path))}: {fault}"], isinstance(fault, NoSocket))
     if known is not None:
@@ -117,18 +120,17 @@ def converted(
     more = of_tests(recording, read.tests)
     if has_lines or recording.orders is not None or more or recording.times:
         everybody = everybody_of(recording, found, calls)
+        more += [{"tags": 1}] if recording.has_tags else []
         write_where(
             lines, recording.stacks, calls, recording.orders, recording.beside, more, recording.times, everybody
         )
     if any(recording.stacks) and not has_lines:
-        recording.notes.append(
-            "no lines: Go or the program's copy isn't here, or Go reads no lines of it (-buildmode=pie)"
-        )
+        recording.notes.append(messages.NO_LINES)
     return Outcome(*report(recording, name, calls, wish.failed, hear))
 
 
 def everybody_of(recording: Recording, found: Goroutines, calls: dict[int, Calls]) -> Everybody | None:
-    """All goroutines as the file of lines has them; None where the log has nothing of them."""
+    """All goroutines in the form of NAME.where; None if the log has none of their waits and uses."""
     if not (found.parks or found.uses):
         return None
     last = [recording.stacks[step - 1] if step else 0 for step in recording.last_steps]
@@ -137,9 +139,13 @@ def everybody_of(recording: Recording, found: Goroutines, calls: dict[int, Calls
 
 
 def of_tests(recording: Recording, tests: Tests) -> list[dict[str, object]]:
-    """What is said of the recording besides: as how many bytes a read or a write counts at most, and from which step to which each
-    test ran."""
+    """Further lines of NAME.where: the number of bytes that a read or a write counts at most, and the steps between which each test
+    ran."""
     more: list[dict[str, object]] = [] if recording.bytes is None else [{"bytes": recording.bytes}]
+    if recording.prelude:
+        more.append({"prelude": recording.prelude})
+    for first in range(0, len(recording.taken), STEPS_A_LINE):
+        more.append({"taken": recording.taken[first : first + STEPS_A_LINE]})
     made = recording.made
     for test in tests.ran:
         first = bisect_left(made, (test.began,))

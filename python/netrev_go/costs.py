@@ -1,10 +1,11 @@
-"""What recording costs:  python3 python netrev_go.costs [RELEASE ..] [--times N] [--before FOLDER]
+"""What recording costs:  python3 python netrev_go.costs [RELEASE ..] [--times N] [--before FOLDER] [--requests [N]]
 
 It builds samples/cost and samples/load of tools/go without and with the overlay, and prints what a call costs, what channels, locks,
 goroutines and timers cost, and how many round trips a second there are: without the overlay, with it and no log, with a log, with the
-program's orders, with lines, and with both. RELEASE is one of Debian's (netrev_go.fetching), as 1.27; without any it is the `go` on the
-PATH. FOLDER is another clone of the repository, whose recorder is measured too. All are measured by turns, so many times each, and
-the machine's load is said."""
+program's orders, with lines, and with both. With --requests it builds samples/served in their place, and prints the processor time of an HTTP
+request over 20 and over 200 keep-alive connections, beside runtime/trace and its FlightRecorder, and how many bytes each keeps of a request.
+RELEASE is one of Debian's (netrev_go.fetching), as 1.27; without any it is the `go` on the PATH. FOLDER is another clone of the repository, whose
+recorder is measured too. All are measured by turns, so many times each, and the machine's load is said."""
 
 from __future__ import annotations
 
@@ -15,15 +16,18 @@ import statistics
 import subprocess
 import sys
 import tempfile
+from collections import defaultdict
 from dataclasses import dataclass, field
 
 from netrev_words.plain import plain
 
+from . import messages
 from .building import environment
 from .fetching import chosen
+from .logfile import HEADER_BYTES, POINT_BYTES, Header
 from .running import logs_folder
 from .suites import SAMPLES
-from .toolchain import Go, Trouble
+from .toolchain import Go, Trouble, release_of
 from .trying import ready
 
 HERE = pathlib.Path(__file__).resolve().parents[2]
@@ -38,8 +42,19 @@ WAYS: dict[str, dict[str, str] | None] = {
     "with a log and lines": {"NETREV_LINES": "1", "NETREV_ORDERS": "0"},
     "with all three": {"NETREV_LINES": "1", "NETREV_ORDERS": "1"},
 }
+# The ways of a server: whether it has the overlay, whether there is a log, and how it traces itself.
+SERVED = {
+    "without the overlay": (False, False, ""),
+    "with it, no log": (True, False, ""),
+    "recording": (True, True, ""),
+    "runtime/trace": (False, False, "trace"),
+    "FlightRecorder": (False, False, "flight"),
+}
+FLIGHT_RECORDER = (1, 25)  # the release that has it first
+CONNECTIONS = (20, 200)
+REQUESTS, WARMING = 10_000, 10  # and of so many requests one more before, as samples/served has it
 ROUND_POINTS, DEADLINE_POINTS = 8, 3
-# What samples/cost measures behind the calls of the poller. Each is a round:
+# samples/cost measures these after the calls of the poller. Each is a round:
 ROUNDS = (
     "buffer",  # a value into a buffer, and out of it
     "no buffer",  # a value from one goroutine to another and back, by channels without a buffer: two waits
@@ -63,8 +78,15 @@ def overlay_by(recorder: pathlib.Path, go: Go) -> str:
     settings = {"PYTHONPATH": str(recorder / "python")}
     run = subprocess.run(words, env=os.environ | settings, capture_output=True, text=True, check=False)
     if run.returncode != 0:
-        raise Trouble(f"{recorder} has no recorder that makes an overlay: {run.stderr.strip()[-600:]}")
+        raise Trouble(messages.NO_OVERLAY.format(folder=recorder, why=run.stderr.strip()[-600:]))
     return run.stdout.strip()
+
+
+def sources_of(go: Go, name: str) -> list[pathlib.Path]:
+    """The files of a sample. Go builds all that are listed, whatever they say for which release they are."""
+    has_recorder = tuple(map(int, release_of(go.version)[0].split("."))) >= FLIGHT_RECORDER
+    of_others = "before.go" if has_recorder else "flight.go"
+    return sorted(path for path in (SAMPLES / name).glob("*.go") if path.name != of_others)
 
 
 def built_both(go: Go, name: str, folder: pathlib.Path, overlay: str) -> tuple[pathlib.Path, pathlib.Path]:
@@ -72,7 +94,7 @@ def built_both(go: Go, name: str, folder: pathlib.Path, overlay: str) -> tuple[p
     programs = folder / name, folder / f"{name}-recording"
     for program, flags in zip(programs, ("", overlay)):
         subprocess.run(
-            [go.program, "build", "-overlay", flags, "-o", program, SAMPLES / name / "main.go"],
+            [go.program, "build", "-overlay", flags, "-o", program, *sources_of(go, name)],
             check=True,
             cwd=folder,
             env=environment(False),
@@ -133,33 +155,107 @@ class Measured:
             print(f"| {self.name} | {way} | " + " | ".join(f"{figure:,}" for figure in best[2:]) + " |")
 
 
+@dataclass
+class Served:
+    """A Go's server by one recorder, and what was measured by connections and way: the nanoseconds of a request, and the bytes that were kept of it."""
+
+    name: str
+    programs: tuple[pathlib.Path, pathlib.Path]
+    requests: int
+    ways: list[str]
+    took: dict[tuple[int, str], list[int]] = field(default_factory=lambda: defaultdict(list))
+    kept: dict[tuple[int, str], list[float]] = field(default_factory=lambda: defaultdict(list))
+    points: dict[tuple[int, str], list[float]] = field(default_factory=lambda: defaultdict(list))
+
+    def measure(self, logs: pathlib.Path) -> None:
+        """Measures each way once more."""
+        for connections in CONNECTIONS:
+            for way in self.ways:
+                self.measure_one(logs, connections, way)
+
+    def measure_one(self, logs: pathlib.Path, connections: int, way: str) -> None:
+        has_overlay, has_log, trace = SERVED[way]
+        settings = {name: value for name, value in os.environ.items() if not name.startswith("NETREV_")}
+        settings |= {"NETREV_LOG": str(logs / "log")} if has_log else {}
+        words: list[str | pathlib.Path] = [self.programs[has_overlay], str(connections), str(self.requests)]
+        words += [trace] if trace else []
+        run = subprocess.run(words, env=settings, capture_output=True, text=True, check=False)
+        if trace == "flight" and run.returncode == 3:  # this Go has none
+            return
+        run.check_returncode()
+        took, traced = map(int, run.stdout.split())
+        self.took[connections, way].append(took)
+        self.kept[connections, way].append(traced)
+        for log in logs.iterdir():
+            if has_log and ".program" not in log.name:
+                with log.open("rb") as file:
+                    points = Header(file.read(HEADER_BYTES)).passed / (self.requests + self.requests // WARMING)
+                self.points[connections, way].append(points)
+                self.kept[connections, way][-1] = points * POINT_BYTES
+            log.unlink()
+
+    def tell(self) -> None:
+        """Prints a row for each number of connections and way: the median of the processor time, and the other medians."""
+        for (connections, way), took in self.took.items():
+            base = statistics.median(self.took[connections, self.ways[0]])
+            median = statistics.median(took)
+            kept = statistics.median(self.kept[connections, way])
+            points = statistics.median(self.points.get((connections, way), [0]))
+            print(
+                f"| {self.name} | {connections} | {way} | {median / 1000:.1f} ({min(took) / 1000:.1f} to {max(took) / 1000:.1f}) "
+                f"| {100 * (median / base - 1):+.1f} % | {f'{kept:,.0f}' if kept else ''} | {f'{points:.1f}' if points else ''} |"
+            )
+
+
 def loads() -> str:
     """The machine's load in the last minute."""
     return f"{os.getloadavg()[0]:.1f}"
 
 
-def measured_by(recorder: pathlib.Path, name: str, go: Go, folder: pathlib.Path) -> Measured:
-    """The samples, built with the overlay of a clone's recorder."""
+def measured_by(
+    recorder: pathlib.Path, name: str, go: Go, folder: pathlib.Path, requests: int, is_before: bool
+) -> Measured | Served:
+    """The samples, built with the overlay of a clone's recorder. Of a server by the recorder before only that is measured which differs."""
     folder.mkdir(parents=True)
     overlay = overlay_by(recorder, go)
+    if requests:
+        ways = [way for way, (has_overlay, _, _) in SERVED.items() if has_overlay or not is_before]
+        ways = ["without the overlay", *ways] if is_before else ways
+        return Served(name, built_both(go, "served", folder, overlay), requests, ways)
     return Measured(name, built_both(go, "cost", folder, overlay), built_both(go, "load", folder, overlay))
 
 
-def all_measured(releases: list[str], before: pathlib.Path | None, folder: pathlib.Path) -> list[Measured]:
+def all_measured(
+    releases: list[str], before: pathlib.Path | None, folder: pathlib.Path, requests: int
+) -> list[Measured | Served]:
     """The samples of each release, by this recorder and by the one before."""
-    measured = []
+    measured: list[Measured | Served] = []
     for release in releases or [""]:
         go = chosen(release)
         version = go.version.removeprefix("go")
         of_release = folder / (release or "own")
         if before is not None:
-            measured.append(measured_by(before.resolve(), f"{version}, before", go, of_release / "before"))
-        measured.append(measured_by(HERE, f"{version}{', now' if before else ''}", go, of_release / "now"))
+            name, place = f"{version}, before", of_release / "before"
+            measured.append(measured_by(before.resolve(), name, go, place, requests, True))
+        name = f"{version}{', now' if before else ''}"
+        measured.append(measured_by(HERE, name, go, of_release / "now", requests, False))
     return measured
+
+
+def tell_served(measured: list[Served]) -> None:
+    """Prints the table of requests."""
+    if not measured:
+        return
+    print("| Go | connections | | µs of processor a request | more | bytes a request | points a request |")
+    print("|---|--:|---|--:|--:|--:|--:|")
+    for one in measured:
+        one.tell()
 
 
 def tell_all(measured: list[Measured]) -> None:
     """Prints both tables."""
+    if not measured:
+        return
     print("| Go | | write and read | a point | SetReadDeadline | a point | round trips a second |")
     print("|---|---|--:|--:|--:|--:|--:|")
     for one in measured:
@@ -175,11 +271,12 @@ def main(arguments: list[str]) -> int:
     parser.add_argument("releases", nargs="*", metavar="RELEASE")
     parser.add_argument("--times", type=int, default=5)
     parser.add_argument("--before", type=pathlib.Path, metavar="FOLDER")
+    parser.add_argument("--requests", type=int, nargs="?", const=REQUESTS, default=0, metavar="N")
     options = parser.parse_args(arguments)
     load = []
     with tempfile.TemporaryDirectory() as name:
         try:
-            measured = all_measured(options.releases, options.before, pathlib.Path(name))
+            measured = all_measured(options.releases, options.before, pathlib.Path(name), options.requests)
             logs = logs_folder(2**20)
         except Trouble as trouble:
             print(plain(str(trouble)), file=sys.stderr)
@@ -190,7 +287,8 @@ def main(arguments: list[str]) -> int:
                 one.measure(logs)
     logs.rmdir()
     print(f"{options.times} times by turns, each begun at a load of {', '.join(load)}")
-    tell_all(measured)
+    tell_served([one for one in measured if isinstance(one, Served)])
+    tell_all([one for one in measured if isinstance(one, Measured)])
     return 0
 
 

@@ -1,5 +1,5 @@
-"""Which of a log's sockets are of one test: its own and its subtests', and of what others opened that it is part of, or nobody's
-test did, those with which something was done while it ran. And which of all goroutines: not those of other tests."""
+"""The sockets of a test in a log: its own and its subtests', and those of other owners that were used while it ran. And
+its goroutines: not those of other tests."""
 
 from __future__ import annotations
 
@@ -10,7 +10,7 @@ from .points import Kind, Log
 from .ran import Ran
 from .sockets import Owned, Socket
 
-MADE = 1  # what a point says of a goroutine that another made, and not only made ready
+MADE = 1  # the point of a goroutine that another made, not only made ready
 
 
 class Makers:

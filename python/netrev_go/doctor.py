@@ -7,25 +7,27 @@ import tempfile
 from netrev_words.built import netrev_program
 from netrev_words.command_lines import how_to_get_netrev
 
+from . import messages
 from .calls_of_go import unknown_calls
 from .line_reader import build_line_reader
 from .running import MOST_POINTS, logs_folder
-from .toolchain import HOW_TO_INSTALL, WITHOUT, Go, Trouble, cache, find_go, fit, overlay, tried
+from .toolchain import WITHOUT, Go, Trouble, cache, find_go, fit, overlay, tried
 from .trying import trial
 
 
 def doctor() -> int:
-    """Prints a line for each thing that is needed; the status is 1 where one is missing."""
+    """Prints a line for each requirement; the status is 1 if one isn't met."""
     try:
         go = find_go()
-        print(f"Go: {go.version}, {go.system}, in {go.root} ({tried(go.version)})")
+        words = {"version": go.version, "system": go.system, "folder": go.root, "tried": tried(go.version)}
+        print(messages.DOCTOR_GO.format(**words))
         fits = rules_fit(go)
     except Trouble as trouble:
-        print(f"Go: {trouble}")
+        print(messages.DOCTOR_NO_GO.format(why=trouble))
         return 1
     room, writable = has_room(), can_write()
     netrev = netrev_program()
-    print(f"checked by: {netrev or f'nothing, since netrev is missing: {how_to_get_netrev()}'}")
+    print(messages.CHECKED_BY.format(netrev=netrev or messages.CHECKED_BY_NOTHING.format(how=how_to_get_netrev())))
     return 0 if fits and room and writable and tries_well(go) else 1
 
 
@@ -36,13 +38,13 @@ def rules_fit(go: Go) -> bool:
         print(f"  {rule}")
     without = [rule for rule in rules if rule.startswith(WITHOUT)]
     if not fits:
-        print(f"rules: not all fit, so this Go isn't recorded. {HOW_TO_INSTALL}")
+        print(messages.RULES_UNFIT.format(how=messages.HOW_TO_INSTALL))
     elif without:
-        print(f"rules: all that can't be done without fit, and {len(without)} don't: all else is recorded without")
+        print(messages.RULES_LEFT_OUT.format(count=len(without)))
     else:
-        print("rules: all fit")
+        print(messages.RULES_FIT)
     if unknown := unknown_calls(go):
-        print(f"calls: {', '.join(unknown)}: no rule knows these, and what bytes go by them isn't recorded")
+        print(messages.CALLS_UNKNOWN.format(calls=", ".join(unknown)))
     return fits
 
 
@@ -51,9 +53,9 @@ def has_room() -> bool:
     try:
         folder = logs_folder(MOST_POINTS)
     except Trouble as trouble:
-        print(f"room: {trouble}")
+        print(messages.ROOM_MISSING.format(why=trouble))
         return False
-    print(f"room: the logs go to {folder.parent}")
+    print(messages.ROOM.format(folder=folder.parent))
     folder.rmdir()
     return True
 
@@ -65,18 +67,19 @@ def can_write() -> bool:
         with tempfile.TemporaryFile(dir=cache()):
             pass
     except OSError as fault:
-        print(f"cache: {cache()} can't be written ({fault.strerror}): XDG_CACHE_HOME names another folder")
+        why = messages.CACHE_UNWRITABLE.format(folder=cache(), why=fault.strerror)
+        print(messages.CACHE_MISSING.format(why=why))
         return False
-    print(f"cache: overlays are kept in {cache()}")
+    print(messages.CACHE.format(folder=cache()))
     return True
 
 
 def reads_lines(go: Go) -> str:
     """By which program lines of source are read, which is built if it isn't here."""
     try:
-        return f"read by {build_line_reader(go)}"
+        return messages.LINES_READ_BY.format(program=build_line_reader(go))
     except Trouble as trouble:
-        return f"{trouble}. Go tries again when it first reads lines"
+        return messages.LINES_NOT_READ.format(why=trouble)
 
 
 def tries_well(go: Go) -> bool:
@@ -84,12 +87,10 @@ def tries_well(go: Go) -> bool:
     try:
         overlay(go)
     except Trouble as trouble:
-        print(f"compiled: {trouble}")
+        print(messages.NOT_COMPILED.format(why=trouble))
         return False
-    print("compiled: the changed files of Go's are")
-    print(f"lines: {reads_lines(go)}")
+    print(messages.COMPILED)
+    print(messages.LINES.format(how=reads_lines(go)))
     came = trial(go)
-    print(
-        f"trial: {'all that was recorded is as it should be: ' if came.good else 'this Go is not recorded: '}{came.said}"
-    )
+    print((messages.TRIAL_GOOD if came.good else messages.TRIAL_BAD).format(how=came.said))
     return came.good

@@ -10,6 +10,7 @@ import pathlib
 import subprocess
 import sys
 
+from . import messages
 from .toolchain import Go, Trouble, cache, find_go
 
 # Outside of the repository: a release has links in it, which `rt ci` takes in no tree.
@@ -29,7 +30,7 @@ SUITES = {
 
 
 def below(root: pathlib.Path, release: str) -> pathlib.Path:
-    """Where a package has the release's commands."""
+    """The folder of the release's commands in a package."""
     return root / f"usr/lib/go-{release}/bin"
 
 
@@ -48,14 +49,14 @@ def is_here(release: str) -> bool:
 
 
 def commands_of(release: str) -> pathlib.Path:
-    """The folder of a release's `go`, which is fetched where it isn't here."""
+    """The folder of a release's `go`; fetches the release if it is missing."""
     if release not in SUITES:
-        raise Trouble(f"Go {release}? Debian has {', '.join(SUITES)}")
+        raise Trouble(messages.UNKNOWN_RELEASE.format(release=release, releases=", ".join(SUITES)))
     if not is_here(release):
         fetch(release)
     commands = here(release)
     if commands is None:
-        raise Trouble(f"the packages of Go {release} haven't what they should: look into {FETCHED / release}")
+        raise Trouble(messages.PACKAGE_IS_INCOMPLETE.format(release=release, folder=FETCHED / release))
     return commands
 
 
@@ -74,9 +75,9 @@ def run(words: list[str | pathlib.Path], folder: pathlib.Path, **settings: str) 
             words, cwd=folder, env=os.environ | settings, capture_output=True, text=True, errors="replace", check=False
         )
     except OSError as fault:
-        raise Trouble(f"{words[0]} can't be run: {fault.strerror}") from None
+        raise Trouble(messages.CANNOT_START.format(program=words[0], why=fault.strerror)) from None
     if done.returncode != 0:
-        raise Trouble(f"`{' '.join(map(str, words))}` failed:\n{done.stderr.strip()[-600:]}")
+        raise Trouble(messages.COMMAND_FAILED.format(command=" ".join(map(str, words)), why=done.stderr.strip()[-600:]))
 
 
 def own_apt(suite: str) -> pathlib.Path:
@@ -95,7 +96,7 @@ def own_apt(suite: str) -> pathlib.Path:
 
 
 def fetch(release: str) -> None:
-    """Fetches the two packages of a release and unpacks them, into a folder that has its name once all is there."""
+    """Fetches the two packages of a release and unpacks them, into a folder that gets its name when it is complete."""
     settings = {"APT_CONFIG": str(own_apt(SUITES[release]))}
     part = FETCHED / f"{release}.part"
     part.mkdir(parents=True, exist_ok=True)

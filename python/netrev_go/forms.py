@@ -1,5 +1,5 @@
-"""What came of each test, in the forms that machines read: a line of JSON, GitHub's annotations, JUnit's XML. docs/reference/OPTIONS.md has them as
-tables."""
+"""The result of each test, for machines: a line of JSON, GitHub's annotations, JUnit's XML. docs/reference/OPTIONS.md
+has tables of them."""
 
 from __future__ import annotations
 
@@ -13,14 +13,14 @@ from netrev_words.plain import plain
 
 from .ran import Ran, Went
 
-# A file's name begins where a word does: else a long word would be searched from each of its letters.
+# A file's name begins at the beginning of a word: else a long word would be searched from each of its letters.
 LINE = re.compile(r"(?<![\w./@+~-])([\w./@+~-]+\.go):(\d+)\b")
 WORST = (Went.FAILED, Went.UNFINISHED, Went.PASSED, Went.SKIPPED)
 
 
 @dataclass
 class Cause:
-    """What is said of a line of the program."""
+    """A line of the report that names a line of the program."""
 
     file: str
     line: int
@@ -29,7 +29,7 @@ class Cause:
 
 @dataclass
 class Told:
-    """What came of one test in all its runs."""
+    """The result of one test in all its runs."""
 
     package: str
     test: str
@@ -40,7 +40,7 @@ class Told:
     file: str | None = None
     line: int | None = None
     recording: str | None = None
-    accepted: bool | None = None  # by netrev; None where there is no recording
+    accepted: bool | None = None  # by netrev; None if there is no recording
     page: str | None = None
     suspects: list[str] = field(default_factory=list)
     causes: list[Cause] = field(default_factory=list)
@@ -64,13 +64,13 @@ class Told:
         return f"{self.status} in {self.failed} of {self.runs} runs" if self.runs > 1 else self.status
 
     def place(self) -> tuple[str, int] | None:
-        """Where it failed, else the first line of the program that is named."""
+        """The line at which it failed, else the first line of the program in the report."""
         if self.file is not None and self.line is not None:
             return self.file, self.line
         return (self.causes[0].file, self.causes[0].line) if self.causes else None
 
     def say(self, lines: list[str]) -> None:
-        """Takes what is said of its recording."""
+        """Adds the lines of its recording's report."""
         self.says = lines
         self.suspects = suspects_in(lines)
         self.causes = causes_in(lines)
@@ -82,7 +82,7 @@ def suspects_in(lines: list[str]) -> list[str]:
 
 
 def causes_in(lines: list[str]) -> list[Cause]:
-    """The lines that name one of the source, the first of each."""
+    """Each source line that a line of the report names, with the first line that names it."""
     found: dict[tuple[str, int], Cause] = {}
     for line in lines:
         if at := LINE.search(line):
@@ -97,7 +97,7 @@ def json_lines(told: Iterable[Told]) -> str:
 
 
 def of_data(text: str) -> str:
-    """A text as GitHub takes it behind the colons."""
+    """A text as GitHub expects it after the colons."""
     return text.replace("%", "%25").replace("\r", "%0D").replace("\n", "%0A")
 
 
@@ -116,7 +116,7 @@ def annotation(one: Told) -> str:
 
 
 def github_lines(told: Iterable[Told]) -> list[str]:
-    """Those of the tests that failed, without the ones of which a part failed."""
+    """Annotations for the failing tests, without those that have a failing subtest."""
     red = [one for one in told if one.is_red()]
     parts = [(one.package, one.test) for one in red]
     return [

@@ -1,5 +1,5 @@
-"""What of all goroutines NAME.where has: which waits, uses of channels and goroutines there is room for, and the lines for them
-(docs/reference/RECORDING.md has their form)."""
+"""The lines of NAME.where about all goroutines, and the choice of waits, uses of channels and goroutines that fit
+(docs/reference/RECORDING.md has the format)."""
 
 from __future__ import annotations
 
@@ -31,10 +31,10 @@ SORTS = {
     MUTEX: "mutex", READ_LOCK: "RWMutex", WRITE_LOCK: "RWMutex", WAIT_GROUP: "WaitGroup", CONDITION: "condition",
     SEMAPHORE: "semaphore",
 }  # fmt: skip
-# How far behind its object's address a semaphore is, in all releases of Go that are recorded.
+# The offset of a semaphore from its object's address, in all releases of Go that are recorded.
 OF_A_MUTEX, OF_WRITERS, OF_READERS = 4, 8, 12
 OFFSETS = {MUTEX: OF_A_MUTEX, READ_LOCK: OF_READERS, WRITE_LOCK: OF_WRITERS, WAIT_GROUP: OF_A_WAIT_GROUP}
-# By which function of package sync a wait is known, the first one that is there: an RWMutex has a mutex.
+# The function of package sync by which a wait is known, the first one in the stack: an RWMutex has a mutex.
 FUNCTIONS = (
     ("sync.(*RWMutex).RLock", READ_LOCK), ("sync.(*RWMutex).Lock", WRITE_LOCK), ("sync.(*WaitGroup).Wait", WAIT_GROUP),
     ("sync.(*Mutex)", MUTEX),
@@ -52,7 +52,7 @@ def names_of_go(calls: Calls | None) -> list[str]:
 
 
 def waited_for(what: int, calls: Calls | None) -> int:
-    """What a goroutine waits for. Where the runtime says no more than that it is a semaphore, its stack says which."""
+    """What a goroutine waits for. If the runtime names only a semaphore, its stack decides."""
     names = names_of_go(calls)
     if what == MUTEX and any(name.startswith("sync.(*RWMutex).Lock") for name in names):
         return WRITE_LOCK
@@ -63,7 +63,7 @@ def waited_for(what: int, calls: Calls | None) -> int:
 
 
 def semaphore_at(what: int, found: int, calls: Calls | None) -> int:
-    """How far behind its object a semaphore is, at which the runtime says that a goroutine waits for `what`, and its stack `found`."""
+    """The distance of a semaphore from its object, for a wait that the runtime calls `what`, with the stack `found`."""
     if what == SEMAPHORE and any("sync.(*Mutex)." in name for name in names_of_go(calls)):
         return OF_A_MUTEX
     return OFFSETS.get(found if what == SEMAPHORE else what, 0)
@@ -83,8 +83,7 @@ class Kept:
 
 
 def newest(waits: list[bool], most: int) -> Iterator[bool]:
-    """Which things of a list are kept, the newest of which is the last: first those that wait still, then a quarter as many of the others, the
-    newest ones."""
+    """The entries of a list that are kept: first those that still wait, then a quarter as many of the others, the newest ones."""
     waiting = sum(waits)
     too_many, others = max(waiting - most, 0), len(waits) - waiting
     too_old = others - max(min(most - waiting, most // OTHERS, others), 0)
@@ -98,8 +97,8 @@ def newest(waits: list[bool], most: int) -> Iterator[bool]:
 
 
 def kept(found: Goroutines, numbers: dict[int, int], calls: dict[int, Calls], most: int = MOST) -> Kept:
-    """What is kept of all goroutines: what those did that the recording has, and what was done from a stack with a line of the program,
-    or in a goroutine that it made; all, where no lines are known."""
+    """What is kept of all goroutines: actions of recorded goroutines, and actions with a line of the program on their stack or in a
+    goroutine that the program started. If no lines are known, everything."""
     of_program = {
         key
         for key, known in calls.items()
@@ -150,7 +149,7 @@ def mutex_at(address: int, what: int, calls: Calls | None) -> int:
 
 
 class Objects:
-    """The objects at which goroutines wait or that they use, numbered from 1, with what is known of each."""
+    """The objects at which goroutines wait or that they use, numbered from 1, with their known facts."""
 
     def __init__(self, rooms: dict[int, int]) -> None:
         self._rooms = rooms
@@ -242,9 +241,8 @@ class Everybody:
         return (*park[:5], REASONS[found], stack, park.by, at, *([park.due] if park.due else []))
 
     def goroutines(self, most: int) -> dict[int, int]:
-        """Go's names of the goroutines that the file has, with a stack of each (0: none is known): those of the recording, those that
-        wait, used a channel or made a timer, and those that made others ready, the newest where there isn't room for all.
-        """
+        """Go's numbers of the goroutines in the file, each with a stack (0 if unknown): those of the recording, and those that
+        wait, used a channel, made a timer or woke others; the newest if there isn't room for all."""
         stacks: dict[int, int] = dict(self.last_stacks)
         for park in self.kept.parks:
             if not stacks.get(park.goroutine):

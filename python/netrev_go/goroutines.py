@@ -1,5 +1,5 @@
-"""All goroutines of a log, also those that never touch a socket: where each waits outside of the poller and at what, which goroutine made
-it and when it ends, and what goroutines did at channels. They have Go's own names here, as in its stack dumps."""
+"""All goroutines of a log, also those that never use a socket: where and at what each waits outside the poller, which goroutine
+started it, when it ends, and what it did at channels. They have Go's own numbers here, as in its stack dumps."""
 
 from __future__ import annotations
 
@@ -26,8 +26,8 @@ BY_GO = 1  # of a point READY: made by a `go` statement
 GIVES, TAKES = 1, 2  # of a point MET: which way the value goes; 0 in logs of before
 PUT, TOOK, CLOSES, ENDED = "put", "took", "closed", "ended"
 ADDED, DONE = "added", "done"  # at a WaitGroup
-OF_A_WAIT_GROUP = 8  # how far behind a WaitGroup's address its semaphore is, in all releases of Go that are recorded
-NEVER = -1  # of a timer that was stopped, in place of when it is to go off
+OF_A_WAIT_GROUP = 8  # the offset of a WaitGroup's semaphore from its address, in all releases of Go that are recorded
+NEVER = -1  # of a stopped timer, instead of the time at which it goes off
 OF_KIND = {SENT: PUT, RECEIVED: TOOK, CLOSED: CLOSES, FOUND_CLOSED: ENDED}
 # What a goroutine waits for, as go/log/orders.go has it: the lowest byte of a point's word.
 (
@@ -35,7 +35,7 @@ OF_KIND = {SENT: PUT, RECEIVED: TOOK, CLOSED: CLOSES, FOUND_CLOSED: ENDED}
 ) = range(13)  # fmt: skip
 UNENDED = -1
 GENERATION = 48  # the bit of a channel's key from which on it counts how many were made at its address
-BEHIND = 2**64, 0, 0  # a step behind the last point
+BEHIND = 2**64, 0, 0  # a step after the last point
 
 
 class At(NamedTuple):
@@ -46,8 +46,8 @@ class At(NamedTuple):
 
 
 class Park(NamedTuple):
-    """A wait outside of the poller: whose, behind which step it begins and behind which it ends, the times of both, what for, its stack,
-    which goroutine made it ready (0: none known), the objects, and until when a sleep is to last (0: not known)."""
+    """A wait outside the poller: the goroutine, the steps after which it begins and ends, both times, the reason, its stack, the
+    goroutine that ended it (0 if unknown), the objects, and the end of a sleep (0 if unknown)."""
 
     goroutine: int
     first: int
@@ -62,7 +62,7 @@ class Park(NamedTuple):
 
 
 class Born(NamedTuple):
-    """Which goroutine made another, behind which step, and when."""
+    """A start of a goroutine: by which goroutine, after which step, and when."""
 
     maker: int
     step: int
@@ -70,8 +70,8 @@ class Born(NamedTuple):
 
 
 class Timer(NamedTuple):
-    """A timer that a goroutine made, set anew or stopped: its channel's address (0: it calls a function), whose it was, from which stack, behind
-    which step, when, and when it was to go off (NEVER: it was stopped)."""
+    """A timer that a goroutine made, reset or stopped: its channel's address (0 if it calls a function), the goroutine, the stack,
+    the step before, the time, and when it was due (NEVER if it was stopped)."""
 
     address: int
     goroutine: int
@@ -101,7 +101,7 @@ class Span(NamedTuple):
 
 
 class Making(NamedTuple):
-    """Which goroutine made a channel, from which stack, behind which step, and when."""
+    """A channel that was made: by which goroutine, from which stack, after which step, and when."""
 
     goroutine: int
     stack: int
@@ -110,8 +110,8 @@ class Making(NamedTuple):
 
 
 class Held(NamedTuple):
-    """A mutex that is locked to the log's end: its address, which goroutine locked it, whether for reading, from which stack, and behind which
-    step."""
+    """A mutex that is locked at the log's end: its address, the goroutine that locked it, whether for reading, the stack, and the
+    step before."""
 
     address: int
     goroutine: int
@@ -121,8 +121,8 @@ class Held(NamedTuple):
 
 
 class FailedDial(NamedTuple):
-    """A dial of a goroutine that failed: from which stack, behind which step, when, why, the address as the recorder packs it, and the channel of its
-    context (0: it has none)."""
+    """A dial that failed: the goroutine, the stack, the step before, the time, the error, the address as the recorder packs it, and
+    the channel of its context (0 if it has none)."""
 
     goroutine: int
     stack: int
@@ -141,7 +141,7 @@ class Goroutines:
     parks: list[Park] = field(default_factory=list)
     finished: list[int] = field(default_factory=list)  # the places of those that ended, in the order of their ends
     born: dict[int, Born] = field(default_factory=dict)
-    ended: dict[int, tuple[int, int]] = field(default_factory=dict)  # behind which step, and when
+    ended: dict[int, tuple[int, int]] = field(default_factory=dict)  # after which step, and when
     uses: dict[Used, Span] = field(default_factory=dict)
     rooms: dict[int, int] = field(default_factory=dict)  # of channels, by their addresses
     timers: list[Timer] = field(default_factory=list)
@@ -196,7 +196,7 @@ def objects_of(what: int, at: int, b: int, c: int) -> tuple[At, ...]:
 
 
 class Begun(NamedTuple):
-    """A wait that has begun: its place among all waits, and what is known of it."""
+    """A wait that has begun: its index among all waits, and its known facts."""
 
     place: int
     step: int
@@ -258,7 +258,7 @@ class Passing:
             self._used(at + OF_A_WAIT_GROUP, g, ADDED if a > 0 else DONE, stack, step, time, abs(a))
 
     def all(self) -> Goroutines:
-        """What was found, behind the last point."""
+        """The result, after the last point."""
         for g, begun in self._parked.items():
             self.parks[begun.place] = self._park(g, begun, UNENDED, UNENDED, 0)
         self.found.parks = [park for park in self.parks if park]
@@ -337,8 +337,7 @@ class Passing:
 def goroutines_of(
     points: Iterable[Point], steps: list[Made], begin: int, holders: list[Holder] | None = None
 ) -> Goroutines:
-    """All goroutines of the points that are concerned, and of the mutexes that are locked. `steps` has the steps that were made of a point, in the
-    points' order."""
+    """All goroutines of the points that are concerned, and of the mutexes that are locked. `steps` has the steps of each point, in the points' order."""
     passing = Passing(begin)
     pass_point = passing.point
     following = iter((*steps, BEHIND))

@@ -1,4 +1,4 @@
-"""What was run isn't lost: recordings are made of its logs, and where one can't be the logs stay, and it is said where."""
+"""Makes recordings from a run's logs, and keeps the logs, with a message, if a recording can't be made."""
 
 from __future__ import annotations
 
@@ -13,6 +13,7 @@ from netrev_words.command_lines import command
 from netrev_words.plain import plain
 from netrev_words.plurals import counted
 
+from . import messages
 from .converting import Wish, convert
 from .forms import suspects_in
 from .outputs import numbered
@@ -23,8 +24,8 @@ from .toolchain import Go
 
 
 def say(lines: list[str], stream: TextIO | None = None) -> None:
-    """Prints these lines, on standard error, since standard output is Go's and the program's; or on another stream. Where they
-    can't be printed any more, nothing more is said, and all else goes on."""
+    """Prints these lines to standard error, because standard output belongs to Go and the program, or to another stream. If
+    printing fails, later lines are dropped and everything else goes on."""
     to = stream or sys.stderr
     try:
         print("\n".join(lines), file=to, flush=True)
@@ -37,7 +38,7 @@ def say(lines: list[str], stream: TextIO | None = None) -> None:
 
 
 class Saying:
-    """Says what is known of a recording as soon as it is known, below a head."""
+    """Prints the facts of a recording below a heading, as soon as they are known."""
 
     def __init__(self, head: list[str], indent: str = "", stream: TextIO | None = None) -> None:
         self._head, self._indent, self._stream = head, indent, stream
@@ -56,14 +57,14 @@ class Saying:
 
 
 def complain(text: str) -> None:
-    """Tells what stands in the way."""
+    """Prints an error."""
     say(["netrev-go: " + "\n".join(plain(line) for line in text.split("\n"))])
 
 
 def convert_hint(folder: pathlib.Path, logs: list[pathlib.Path]) -> str:
     """How recordings are made of logs that were kept."""
     again = shlex.quote(str(logs[0])) if len(logs) == 1 else f"{shlex.quote(str(folder))}/{LOGS}"
-    return f"nothing is lost: `{command('netrev-go')} -o NAME convert {again}` makes recordings of the logs"
+    return messages.NOTHING_IS_LOST.format(netrev_go=command("netrev-go"), logs=again)
 
 
 def unwritten(name: pathlib.Path, fault: OSError) -> str:
@@ -72,15 +73,13 @@ def unwritten(name: pathlib.Path, fault: OSError) -> str:
 
 
 def report_no_log(folder: pathlib.Path, failed: bool) -> bool:
-    """Says why no log is there, if none is; whether that is so."""
+    """Prints why there is no log, if there is none; returns whether that is so."""
     if logs_in(folder):
         return False
     if not folder.is_dir():
-        complain(f"{folder}, where the logs were, is gone: nothing can be made of them")
+        complain(messages.LOGS_ARE_GONE.format(folder=folder))
     elif not unrecorded(folder):
-        complain(
-            f"nothing was recorded: {'Go failed before it ran' if failed else 'no program ran, or it opened no log'}"
-        )
+        complain(messages.GO_FAILED if failed else messages.NOTHING_RAN)
     return True
 
 
@@ -97,7 +96,7 @@ def leave(folder: pathlib.Path, keep: bool, is_whole: bool, running: list[pathli
     logs = logs_in(folder)
     if keep or logs and not is_whole:
         release(folder)
-        say([f"the logs are in {plain(str(folder))}"])
+        say([messages.LOGS_ARE_IN.format(folder=plain(str(folder)))])
         if logs and not is_whole:
             complain(convert_hint(folder, logs))
         return
@@ -108,10 +107,8 @@ def leave(folder: pathlib.Path, keep: bool, is_whole: bool, running: list[pathli
         if log not in running:
             forget(log)
             continue
-        complain(
-            f"process {process_of(log)} runs on, and its log grows: `{command('netrev-go')} -o NAME convert {shlex.quote(str(log))}` "
-            f"makes a recording of it now, and `{command('netrev-go')} recover` after its end"
-        )
+        words = {"process": process_of(log), "netrev_go": command("netrev-go"), "log": shlex.quote(str(log))}
+        complain(messages.STILL_RUNS.format(**words))
 
 
 class Making:
@@ -128,7 +125,7 @@ class Making:
         self.suspected = False
 
     def so_far(self) -> None:
-        """Makes them of what is there, while the program runs on."""
+        """Makes recordings of the logs so far, while the program runs on."""
         self._times += 1
         self._make(self._base.with_name(f"{self._base.name}-so-far-{self._times}"), self._wish, 0)
 
@@ -167,7 +164,7 @@ class Making:
             self.suspected = self.suspected or bool(suspects_in(outcome.lines))
             saying.rest(outcome.lines)
         if without and count == before:
-            say(["no socket was opened: there is nothing to record"])
+            say([messages.NOTHING_TO_RECORD])
         elif without:
-            say([f"{counted(without, 'more process', 'more processes')} opened no socket"])
+            say([messages.OPENED_NONE.format(processes=counted(without, "more process", "more processes"))])
         return ok, count

@@ -9,6 +9,7 @@ import hashlib
 import pathlib
 import re
 
+from . import messages
 from .toolchain import Go, Trouble, cache, quiet_go
 
 NAME = "addr2line"
@@ -16,12 +17,12 @@ PACKAGE = "cmd/addr2line"
 
 
 def shipped(go: Go) -> pathlib.Path:
-    """Where Go has its own, if it comes with it."""
+    """The path of Go's own, if Go comes with it."""
     return go.root / "pkg/tool" / go.system.replace("/", "_") / NAME
 
 
 def kept(go: Go) -> pathlib.Path:
-    """Where netrev-go keeps the one that it built."""
+    """The path at which netrev-go keeps the one that it built."""
     digest = hashlib.sha256(f"{go.version} {go.root}".encode()).hexdigest()
     return cache() / f"{NAME}-{re.sub(r'[^0-9A-Za-z.+-]', '_', go.version)}-{digest[:12]}" / NAME
 
@@ -43,14 +44,14 @@ def build_line_reader(go: Go) -> pathlib.Path:
         made.parent.mkdir(parents=True, exist_ok=True)
         with (made.parent / "lock").open("w") as lock:
             fcntl.flock(lock, fcntl.LOCK_EX)
-            if not made.exists():  # nobody else built it meanwhile
+            if not made.exists():  # no other process built it meanwhile
                 part = made.with_name("part")
                 run = quiet_go(go, made.parent, "build", "-o", str(part), PACKAGE)
                 if run.returncode != 0:
-                    raise Trouble(f"Go couldn't build {PACKAGE}: {run.stderr.strip()[-600:]}")
+                    raise Trouble(messages.READER_NOT_BUILT.format(package=PACKAGE, why=run.stderr.strip()[-600:]))
                 part.rename(made)
     except OSError as fault:
-        raise Trouble(f"{made.parent} can't be written ({fault.strerror})") from None
+        raise Trouble(messages.READER_UNWRITABLE.format(folder=made.parent, why=fault.strerror)) from None
     return made
 
 

@@ -14,10 +14,11 @@ from .points import Log, Stack
 OF_GO, OF_A_LIBRARY, OF_THE_PROGRAM = "go", "library", "program"
 ELF_HEADER = 64  # bytes
 LIBRARIES = ("/pkg/mod/", "/vendor/", "/usr/share/gocode/")
+LIBRARIES_BELOW = ("/vendor/",)
 
 
 class Call(NamedTuple):
-    """Where a call stands: the function that it is in, the file and the line, and whose code that is."""
+    """A call: its function, file and line, and whose code it is."""
 
     function: str
     file: str
@@ -33,8 +34,8 @@ class Calls(NamedTuple):
 
 
 def shift(program: pathlib.Path, text: int) -> int | None:
-    """How much later the program's own code lay than `addr2line` takes it to: that counts from the section .text, where
-    C code may come first, and a program may lie anywhere. None where the file has no such section."""
+    """The distance of the program's code from the addresses that `addr2line` expects: that counts from the section .text, in which
+    C code may come first, and a program may be loaded anywhere. None if the file has no such section."""
     with program.open("rb") as file:
         data = file.read()
     if data[:4] != b"\x7fELF" or len(data) < ELF_HEADER:
@@ -92,8 +93,11 @@ class Roots:
             return Call(function, replaced_file(file), line, OF_GO)
         if not file.startswith("/") and os.path.exists(self.plain / file):  # built with -trimpath
             return Call(function, file, line, OF_GO)
-        of = OF_A_LIBRARY if any(part in file for part in LIBRARIES) or "@v" in file else OF_THE_PROGRAM
-        return Call(function, file.removeprefix(self.here), line, of)
+        name = file.removeprefix(self.here)
+        is_below = not name.startswith("/")  # the folder of the command, wherever that is
+        parts = LIBRARIES_BELOW if is_below else LIBRARIES
+        is_library = any(part in f"/{name}" for part in parts) or "@v" in name
+        return Call(function, name, line, OF_A_LIBRARY if is_library else OF_THE_PROGRAM)
 
     @staticmethod
     def is_replaced(function: str) -> bool:
@@ -116,8 +120,7 @@ def outside_the_runtime(calls: list[Call]) -> tuple[Call, ...]:
 
 
 def lines_of(log: Log, used: set[int], program: pathlib.Path, reader: list[str], roots: Roots) -> dict[int, Calls]:
-    """The calls of the stacks that are used, by the command that reads lines. None, where the program isn't there or has no table of
-    them."""
+    """The calls of the stacks that are used, by the command that reads lines; empty if the program is missing or has no line table."""
     stacks: dict[int, Stack] = {number: log.stacks[number] for number in used if number in log.stacks}
     try:
         moved = shift(program, log.text)

@@ -1,5 +1,5 @@
-"""The same tests run again aren't linked again: what Go's linker made is kept by the ID that Go gives it, which is of all that it is
-made from, and copied where the linker would make it. All else stays Go's, and what it prints."""
+"""Repeated test runs aren't linked again: the linker's output is kept under the ID that Go gives it, which depends on
+everything that it is made from, and copied instead of linking. Everything else, and the output, stays Go's."""
 
 from __future__ import annotations
 
@@ -11,7 +11,7 @@ from collections.abc import Iterator
 
 from .toolchain import Go
 
-PART = 4  # of the room that is free, one in so many is taken at most
+PART = 4  # the greatest part of the free room that is used
 FLAGS = ("toolexec", "x", "n")  # with these each run links: the first is the user's own, the others print each command
 # Go runs each tool by it:  sh keep FOLDER KILOBYTES TOOL WORDS
 KEEP = r"""kept=$1 most=$2
@@ -40,7 +40,7 @@ def is_in_the_way(word: str) -> bool:
 
 @contextlib.contextmanager
 def kept(go: Go, words: list[str], is_again: bool) -> Iterator[list[str]]:
-    """The flags with which Go's linker is asked once. There are none where the tests run once alone."""
+    """The flags with which Go's linker is called once. There are none if the tests run only once."""
     if not is_again or any(map(is_in_the_way, [*words, *go.flags.split()])):
         yield []
         return

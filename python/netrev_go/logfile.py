@@ -1,8 +1,10 @@
-"""Reads the log that a process wrote (go/log/runtime.go says what is where in it). A log may be cut short, of a process that
-was killed or that runs on: what is whole is taken, and what isn't is said."""
+"""Reads the log of a process (go/log/runtime.go describes the format). A log may be incomplete, because its process was killed or
+still runs: complete points are used, and notes say what is missing."""
 
 from __future__ import annotations
 
+import io
+import os
 import pathlib
 import stat
 import struct
@@ -14,6 +16,7 @@ from itertools import compress
 from typing import BinaryIO, cast
 from operator import xor
 
+from . import messages
 from .points import KINDS, Holder, Log, Point, Stack
 
 MAGIC = 0x31676F6C7665726E
@@ -23,12 +26,16 @@ HOLDER_WORDS = 16
 HOLDER_CALL = 4  # the word of the first call
 POINT_WORDS = 8
 WORD = 8
+PAGE = 4_096
+HEADER_WORDS = 18
+ROW_WORDS, WAITER_WORDS = 16, 8  # of the tables of descriptors, and of goroutines that are queued for their locks
 STACK_BYTES, HOLDER_BYTES, POINT_BYTES = STACK_WORDS * WORD, HOLDER_WORDS * WORD, POINT_WORDS * WORD
+ROW_BYTES, WAITER_BYTES = ROW_WORDS * WORD, WAITER_WORDS * WORD
 AT_ONCE = 2**16  # points
 MOST_POINTS = 2**24
 MOST_STACKS = 2**20
 MOST_HOLDERS = 2**20  # rows of the table of locked mutexes
-HOLDER_BEGUN = 1  # in place of an address, in a row that is being written
+HOLDER_BEGUN = 1  # instead of an address, in a row that is being written
 # As many points may be under way on other processors while one is written.
 UNDER_WAY = 64
 LOW = 2**32 - 1
@@ -43,11 +50,11 @@ class Header:
     """The first words of a log."""
 
     def __init__(self, text: bytes) -> None:
-        if len(text) < 15 * WORD:
-            raise NoLog("it is too short for a log")
-        words = struct.unpack_from("<15Q", text)
+        if len(text) < HEADER_WORDS * WORD:
+            raise NoLog(messages.TOO_SHORT)
+        words = struct.unpack_from(f"<{HEADER_WORDS}Q", text)
         if words[0] != MAGIC:
-            raise NoLog("it isn't a log of netrev-go's")
+            raise NoLog(messages.NOT_A_LOG)
         self.passed, self.points, self.stacks = words[1:4]
         self.begin, self.process, self.text = words[4:7]
         self.program = f"{words[7]}.{words[8]}"
@@ -55,15 +62,20 @@ class Header:
         self.has_orders = words[11] == 1
         self.holders = words[12]
         self.knows_holders = words[14] == 1 and not words[13]
+        self.rows, self.queue = words[15:17]  # (0 in logs of before)
+        self.is_copy = words[17] == 1  # made while the program wrote
         are_possible = 0 < self.points <= MOST_POINTS and self.stacks <= MOST_STACKS and self.holders <= MOST_HOLDERS
+        are_possible = are_possible and self.rows <= MOST_POINTS and self.queue <= MOST_POINTS
         if not are_possible or self.begin >= 2**63:
-            raise NoLog("its header can't be a log's")
+            raise NoLog(messages.BAD_HEADER)
+        self.rows_begin = HEADER_BYTES + self.stacks * STACK_BYTES + self.holders * HOLDER_BYTES
+        self.ring = self.rows_begin + self.rows * ROW_BYTES + self.queue * WAITER_BYTES
         if self.ended:
             self.passed = min(self.passed, self.ended - 1)
 
 
 def read_stacks(file: BinaryIO, count: int) -> dict[int, Stack]:
-    """The table of so many stacks, each by its number. One that was being written has none of its calls."""
+    """The table of this many stacks, each by its number. A stack that was being written has no calls."""
     stacks = {}
     for slot in range(count):
         text = file.read(STACK_BYTES)
@@ -75,8 +87,15 @@ def read_stacks(file: BinaryIO, count: int) -> dict[int, Stack]:
     return stacks
 
 
+def stack_at(file: BinaryIO, number: int) -> Stack | None:
+    """One stack of the table, by its number."""
+    file.seek(HEADER_BYTES + (number - 1) * STACK_BYTES)
+    return next(iter(read_stacks(file, 1).values()), None)
+
+
 def read_holders(file: BinaryIO, count: int, stacks: dict[int, Stack]) -> list[Holder]:
-    """The table of locked mutexes, of so many rows. Their stacks are added to those of points, with numbers of their own."""
+    """The table of locked mutexes, of this many rows. Their stacks are added to those of points, with numbers of their
+    own."""
     found: dict[tuple[int, int], Holder] = {}
     for row in range(count):
         text = file.read(HOLDER_BYTES)
@@ -98,9 +117,9 @@ def read_holders(file: BinaryIO, count: int, stacks: dict[int, Stack]) -> list[H
 
 
 def whole_points(file: BinaryIO, header: Header) -> tuple[list[Point], int]:
-    """The points that are whole, in the order of their numbers, and how many places of the ring are there. It is read piece by
-    piece: of a file with holes most is empty."""
-    ring = file.tell()
+    """The whole points, in the order of their numbers, and the number of places of the ring. It is read piece by piece,
+    because a file with holes is mostly empty."""
+    ring = header.ring
     held = (file.seek(0, 2) - ring) // POINT_BYTES
     held = max(0, min(held, header.passed, header.points))
     first = max(0, header.passed - header.points)
@@ -169,29 +188,45 @@ def as_one(column: array[int]) -> int:
 
 
 def behind_the_last_gap(points: list[Point]) -> list[Point]:
-    """The points behind the last place where more are missing than may have been under way."""
+    """The points after the last gap that is too large for points that were being written."""
     if points and points[-1].number - points[0].number < len(points) - 1 + UNDER_WAY:
-        return points  # not so many are missing in all
+        return points  # fewer are missing in all
     for index in range(len(points) - 1, 0, -1):
         if points[index].number - points[index - 1].number > UNDER_WAY:
             return points[index:]
     return points
 
 
-def read_log(path: pathlib.Path) -> Log:
-    """A log's points and stacks, with notes on what is missing."""
+def read_log(path: pathlib.Path, is_written: bool = False) -> Log:
+    """A log's points and stacks, with notes on what is missing. One that a program writes meanwhile is copied first."""
     try:
         if not stat.S_ISREG(path.stat().st_mode):
-            raise NoLog("it isn't a file")
+            raise NoLog(messages.NOT_A_FILE)
         with path.open("rb") as file:
-            return log_of(file)
+            return log_of(copy_of(file), is_written) if is_written else log_of(file)
     except OSError as fault:
-        raise NoLog(f"it can't be read: {fault.strerror}") from None
+        raise NoLog(messages.UNREADABLE.format(why=fault.strerror)) from None
 
 
-def log_of(file: BinaryIO) -> Log:
-    """The log that an open file is."""
+def copy_of(file: BinaryIO) -> BinaryIO:
+    """A copy of a growing log: the ring first after the header, because new points replace the oldest. The other parts
+    only grow."""
+    room = bytearray(os.fstat(file.fileno()).st_size)
+    room[::PAGE] = bytes(len(room[::PAGE]))  # (else the system gives each page its memory while the ring is copied)
+    view = memoryview(room)
+    size = os.preadv(file.fileno(), [view[:HEADER_BYTES]], 0)
+    header = Header(bytes(view[:size]))
+    end = ring = header.ring
+    while end < len(room) and (read := os.preadv(file.fileno(), [view[end:]], end)):
+        end += read
+    os.preadv(file.fileno(), [view[HEADER_BYTES:ring]], HEADER_BYTES)
+    return io.BytesIO(view[:end])
+
+
+def log_of(file: BinaryIO, is_written: bool = False) -> Log:
+    """The log that an open file is. While one was copied, the oldest points may have been replaced."""
     header = Header(file.read(HEADER_BYTES))
+    is_written = is_written or header.is_copy
     stacks = read_stacks(file, header.stacks)
     holders = read_holders(file, header.holders, stacks)
     read, held = whole_points(file, header)
@@ -202,19 +237,14 @@ def log_of(file: BinaryIO) -> Log:
     log.holders = holders if header.knows_holders else None
     log.from_the_start = header.passed <= header.points and len(points) == len(read)
     if header.ended:
-        log.notes.append("there was no room for more of the log: it ends before the program did")
+        log.notes.append(messages.LOG_IS_FULL)
     if header.passed > header.points:
-        log.notes.append(f"the log keeps the newest {header.points} points of {header.passed}")
-    if len(points) + UNDER_WAY < kept or held < kept:
-        log.notes.append(f"the log is cut short or damaged: {len(points)} of its {kept} points can be used")
-    elif len(points) < kept:
+        log.notes.append(messages.NEWEST_POINTS.format(kept=header.points, all=header.passed))
+    if (len(points) + UNDER_WAY < kept or held < kept) and not (is_written and header.passed > header.points):
+        log.notes.append(messages.LOG_IS_DAMAGED.format(usable=len(points), kept=kept))
+    elif len(points) < kept and not (is_written and header.passed > header.points):
         missing = kept - len(points)
-        says = (
-            "1 point was under way when the log ended, and is"
-            if missing == 1
-            else f"{missing} points were under way when the log ended, and are"
-        )
-        log.notes.append(f"{says} left out")
+        log.notes.append(messages.ONE_UNFINISHED if missing == 1 else messages.UNFINISHED.format(count=missing))
     if header.stacks_lost:
-        log.notes.append(f"{header.stacks_lost} points have no line: there were too many different stacks")
+        log.notes.append(messages.NO_STACKS.format(count=header.stacks_lost))
     return log

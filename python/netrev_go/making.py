@@ -1,4 +1,4 @@
-"""A recording of a log: which of its sockets there is room for, the steps, and what is left out."""
+"""A recording of a log: the sockets that fit, the steps, and what is left out."""
 
 from __future__ import annotations
 
@@ -9,20 +9,29 @@ from dataclasses import dataclass, field
 from functools import cached_property
 
 from netrev_words.files import whole
+from netrev_words.plurals import counted
 
+from . import messages
 from .answering import Unconvertible
 from .beside import Beside
 from .converter import Converter
 from .orders import Made, orders_of
-from .points import AT_A_SOCKET, LOCKING, ORDERING, Log, Point
-from .sockets import FEW_BYTES, MOST_MEGABYTES, MOST_SOCKETS, MOST_STEPS, POINT, Owned, Socket, chosen, owned
+from .leading import NotLed
+from .lifetimes import ENDS, Lifetimes, lifetimes_of
+from .notes import spans
+from .points import AT_A_SOCKET, LOCKING, NOTING, ORDERING, Kind, Log, Point
+from .prelude import NOBODY
+
+from .sockets import (
+    FEW_BYTES, MOST_GOROUTINES, MOST_MEGABYTES, MOST_SOCKETS, MOST_STEPS, POINT, Owned, Socket, chosen, lead_to, owned,
+)  # fmt: skip
 from .times import times_of
 from .goroutines import CONCERNED, Goroutines, goroutines_of
 from .waits import waits_of
 from .zeros import Line
 
 
-LockWord = tuple[int, int, int]  # behind which step, of which socket, and the word
+LockWord = tuple[int, int, int]  # after which step, of which socket, and the word
 
 
 class Nothing(Exception):
@@ -43,16 +52,21 @@ class Recording:
     goroutines: int
     last_steps: list[int]
     sockets: int
-    orders: list[tuple[int, int]] | None = None  # None where the log has nothing of them
+    orders: list[tuple[int, int]] | None = None  # None if the log has none of them
     notes: list[str] = field(default_factory=list)
     beside: Beside = field(default_factory=Beside)
-    bytes: int | None = None  # as which a read or a write counts at most, where one moved more
+    bytes: int | None = None  # the greatest count of a read or a write, if one moved more
     made: list[Made] = field(default_factory=list)  # the goroutines' steps
-    times: list[int] | None = None  # of the steps, from the log's begin; None where the log has none
+    times: list[int] | None = None  # of the steps, from the log's begin; None if the log has none
     points: list[tuple[Point, Socket]] = field(default_factory=list)
-    ended: list[int] = field(default_factory=list)  # how many steps there are behind each point
+    ended: list[int] = field(default_factory=list)  # the number of steps after each point
     everybody: Goroutines = field(default_factory=Goroutines)  # also goroutines without a step
     numbers: dict[int, int] = field(default_factory=dict)  # the recording's goroutines, by Go's names
+    prelude: int = 0  # this many steps lead to the state in which it begins
+    has_tags: bool = False  # Go's events have tags, which it compares with the descriptor's use
+    taken: list[tuple[int, int, int]] = field(
+        default_factory=list
+    )  # numbers that another goroutine took, after which step, and which
 
     @cached_property
     def words(self) -> list[LockWord]:
@@ -70,6 +84,7 @@ class Recording:
 
 
 Part = Callable[[Log, Owned], list[Socket]]
+ENDING = frozenset((ENDS,))
 AT_ONCE = 1_024  # lines that are written together
 
 
@@ -79,27 +94,34 @@ def make(
     megabytes: int = MOST_MEGABYTES,
     all_bytes: bool = True,
     part: Part | None = None,
+    first: int = 0,
 ) -> Recording:
-    """The recording of a log's newest sockets, at most so many, whose bytes are at most so many megabytes of text; of a part of them,
-    where one is named."""
-    found = owned(list(log.of_kinds(AT_A_SOCKET)), all_bytes)
-    notes = list(log.notes)
+    """The recording of a log's newest sockets, at most this many, whose bytes take at most this many megabytes of text;
+    or of a given part of them. A socket whose lock word has the address `first` comes before all others."""
+    window = window_of(log, all_bytes)
+    found = window.found
+    notes = [*log.notes, *window.notes]
     if not found.sockets:
         if log.from_the_start:
-            raise NoSocket("no socket was opened")
-        raise Nothing("all sockets were opened before the oldest point that the log kept: --points N keeps more")
+            raise NoSocket(messages.NO_SOCKET)
+        raise Nothing(messages.OPENED_EARLIER)
     wanted = found.sockets if part is None else part(log, found)
     if not wanted:
-        raise NoSocket("no socket is of it")
-    fitted = Fitted(found, wanted)
+        raise NoSocket(messages.NO_SOCKET_OF_TEST)
+    fitted = Fitted(found, wanted, list(log.of_kinds(ENDING)), first)
     converter = fitted.converted(log.begin, most, megabytes)
+    notes += fitted.notes
     if fitted.kept < len(wanted):
-        notes.append(f"it has {fitted.kept} of {len(wanted)} sockets: those still open first, and the newest")
+        notes.append(messages.SOME_SOCKETS.format(kept=fitted.kept, wanted=len(wanted)))
     if found.cut:
-        notes.append(f"reads and writes count at most {FEW_BYTES} bytes each: --all-bytes counts all")
+        notes.append(messages.FEW_BYTES.format(bytes=FEW_BYTES))
     orders = orders_of(log.of_kinds(ORDERING), converter.made) if log.has_orders else None
     everybody = goroutines_of(log.of_kinds(CONCERNED), converter.made, log.begin, log.holders)
-    converter.beside.waits = waits_of(everybody, converter.goroutines)
+    numbers, since = owners_of(converter)
+    prelude = converter.steps_before(window.end) if window.end else 0
+    if prelude:
+        notes.append(messages.BEGINS_IN_THE_MIDDLE.format(steps=prelude))
+    converter.beside.waits = waits_of(everybody, converter.goroutines, since)
     converter.beside.pair_unix()
     converter.beside.sizes = [
         (step, size) for (point, socket), step in zip(converter.points, converter.ended)
@@ -107,52 +129,110 @@ def make(
     ]  # fmt: skip
     return Recording(
         converter.header(), converter.lines, converter.stacks,
-        len(converter.goroutines), converter.last_steps, converter.sockets, orders, notes,
+        len(converter.goroutines) - (NOBODY in converter.goroutines), converter.last_steps, converter.sockets, orders, notes,
         converter.beside, FEW_BYTES if found.cut else None, converter.made,
         times_of(map(POINT, converter.points), converter.ended, log.begin), converter.points, converter.ended,
-        everybody, converter.goroutines,
+        everybody, numbers, prelude, any(point.kind == Kind.EVENT and point.c for point, _ in converter.points), converter.taken,
     )  # fmt: skip
 
 
-class Fitted:
-    """As many sockets as there is room for: it is counted how many steps they have, where that can't be reckoned."""
+@dataclass
+class Window:
+    """The points of a recording: all that a log has of sockets, or from where those were noted that were open."""
 
-    def __init__(self, found: Owned, wanted: list[Socket]) -> None:
+    found: Owned
+    end: int = 0  # the number of the last point of these notes; 0 if there are none
+    notes: list[str] = field(default_factory=list)
+
+
+def window_of(log: Log, all_bytes: bool) -> Window:
+    """The points from the first whole notes on, if the log lacks earlier points; else all."""
+    noted = [] if log.from_the_start else spans(log.of_kinds(NOTING))
+    if not noted:
+        return Window(owned(list(log.of_kinds(AT_A_SOCKET)), all_bytes))
+    begin, end = noted[0]
+    points = [point for point in log.of_kinds(AT_A_SOCKET | NOTING) if point.number >= begin]
+    found = owned(points, all_bytes)
+    left_out = lead_to(found.sockets, log.begin)
+    return Window(found, end, [lacks(*one) for one in left_out.items()])
+
+
+def lacks(why: str, number: int) -> str:
+    """The message about sockets that were open before the recording begins, and that it lacks."""
+    which = "that was open before is" if number == 1 else "that were open before are"
+    return f"{counted(number, 'socket')} {which} left out: {why}"
+
+
+def owners_of(converter: Converter) -> tuple[dict[int, int], dict[int, int]]:
+    """The recording's goroutines by Go's names, for each number the last one that had it; and the step after which a
+    goroutine took its number."""
+    numbers = {name: number for number, name in enumerate(converter.names) if name != NOBODY}
+    return numbers, {name: step for _, step, name in converter.taken}
+
+
+class Fitted:
+    """As many sockets as fit; their steps are counted if they can't be estimated."""
+
+    def __init__(self, found: Owned, wanted: list[Socket], ends: list[Point], first: int = 0) -> None:
         self.found = found
+        self.first = first
+        self.ends = ends
         self.wanted = {socket.opening for socket in wanted}
         self.before = [dict(vars(socket)) for socket in found.sockets]
         self.kept = 0
+        self.is_crowded = False  # more goroutines than a recording has numbers
+        self.notes: list[str] = []
+
+    @cached_property
+    def lifetimes(self) -> Lifetimes:
+        """When goroutines begin and end: it is asked for only where there are many."""
+        return lifetimes_of(self.found.used(), self.ends)
+
+    def at_once(self, goroutines: set[int]) -> int:
+        """How many of these goroutines there are at once."""
+        return self.lifetimes.most(goroutines)
 
     def converted(self, begin: int, most: int, megabytes: int) -> Converter:
-        """The converter that has them; Nothing where there is no room for one."""
+        """The converter of these sockets; Nothing if not even one fits."""
         room, counted = MOST_STEPS, False
         while True:
-            converter = Converter(self.chosen(most, megabytes, room), begin)
-            converter.convert()
+            points = self.chosen(most, megabytes, room)
+            converter = Converter(points, begin, self.lifetimes.in_order() if self.is_crowded else None)
+            try:
+                converter.convert()
+            except NotLed as why:
+                self.wanted.remove(why.opening)
+                self.notes.append(lacks(str(why), 1))
+                self.restore()
+                continue
             over = len(converter.lines) - MOST_STEPS
             if over <= 0:
                 return converter
             steps = converter.made_of()
-            for socket, before in zip(self.found.sockets, self.before):
-                vars(socket).update(before)  # (a converter leaves its marks there)
+            self.restore()
+            for socket in self.found.sockets:
                 socket.steps = max(socket.steps, steps.get(socket.opening, 0))
             room -= over if counted else 0
             counted = True
 
+    def restore(self) -> None:
+        """Takes away the marks that a converter leaves at sockets."""
+        for socket, before in zip(self.found.sockets, self.before):
+            vars(socket).update(before)
+
     def chosen(self, most: int, megabytes: int, room: int) -> list[tuple[Point, Socket]]:
         """The points of the sockets for which there may be room."""
-        kept = chosen([socket for socket in self.found.sockets if socket.opening in self.wanted], most, megabytes, room)
+        wanted = [socket for socket in self.found.sockets if socket.opening in self.wanted]
+        kept = chosen(wanted, most, megabytes, room, self.at_once, self.first)
+        self.is_crowded = len(set().union(*(socket.goroutines for socket in kept))) > MOST_GOROUTINES
         if not kept:
-            raise Nothing(
-                "one socket alone has more than the 1,000,000 steps of a recording, more than 4,096 goroutines, or bytes for more "
-                f"than {megabytes} MB of text: record for less long, as by -n, or give --megabytes N"
-            )
+            raise Nothing(messages.ONE_IS_TOO_LARGE.format(megabytes=megabytes))
         self.kept = len(kept)
         return [pair for pair in self.found.points if pair[1] in kept]
 
 
 def write(recording: Recording, name: pathlib.Path) -> None:
-    """Writes the recording whole; an OSError that names the file where it can't be."""
+    """Writes the recording completely; an OSError that names the file if that fails."""
     with whole(name) as file:
         file.write(recording.header + "\n")
         for first in range(0, len(recording.lines), AT_ONCE):

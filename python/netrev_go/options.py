@@ -8,8 +8,10 @@ from typing import NoReturn
 
 from netrev_words.version import VERSION
 
+from . import messages
 from .running import MOST_POINTS
 from .sockets import FEW_BYTES, MOST_MEGABYTES, MOST_SOCKETS
+from .times import seconds
 from .toolchain import Trouble
 from .usage import SUMMARY, USAGES
 
@@ -31,7 +33,7 @@ OptionGroup = Callable[[argparse._ArgumentGroup], object]
 def failing_words(text: str) -> list[str]:
     words = text.split(",")
     if not set(words) <= {SUSPECTS, POSSIBLE}:
-        raise argparse.ArgumentTypeError(f"it is {SUSPECTS}, {POSSIBLE}, or both with a comma between")
+        raise argparse.ArgumentTypeError(messages.FAIL_ON.format(suspects=SUSPECTS, possible=POSSIBLE))
     return words
 
 
@@ -45,31 +47,31 @@ def add_files(group: argparse._ArgumentGroup) -> None:
 
 def add_logs(group: argparse._ArgumentGroup) -> None:
     """The option of the logs, which are removed otherwise."""
-    group.add_argument("--keep", action="store_true", help="keep the logs, and say where they are")
+    group.add_argument("--keep", action="store_true", help="keep the logs, and print their folder")
 
 
 def add_status(group: argparse._ArgumentGroup) -> None:
     """The options of the exit status."""
     group.add_argument(
         "--fail-on", metavar="WHAT", type=failing_words,
-        help="exit with 3 instead of 0 when there are `suspects`, or `possible` findings of --explore",
+        help="exit with 3 instead of 0 if there are `suspects`, or `possible` findings of --explore",
     )  # fmt: skip
     group.add_argument(
-        "--strict", action="store_true", help="exit with 5 instead of 0 when something couldn't be recorded"
+        "--strict", action="store_true", help="exit with 5 instead of 0 if something couldn't be recorded"
     )
 
 
 def add_run(group: argparse._ArgumentGroup) -> None:
     """The options of how a program runs, and of what it records."""
-    group.add_argument("-n", metavar="SECONDS", type=float, help="send SIGQUIT to a program that runs longer")
+    group.add_argument("-n", metavar="SECONDS", type=float, help="send SIGQUIT to a program that runs longer than this")
     group.add_argument("--procs", metavar="N", type=int, help="set GOMAXPROCS")
     group.add_argument(
         "--points", metavar="N", type=int, default=MOST_POINTS,
         help=f"keep the newest N points in the log, 64 bytes each ({MOST_POINTS:,} by default)",
     )  # fmt: skip
-    group.add_argument("--no-lines", action="store_true", help="record no lines of the source")
+    group.add_argument("--no-lines", action="store_true", help="don't record source lines")
     group.add_argument(
-        "--no-orders", action="store_true", help="record no channels, and not which goroutine wakes which"
+        "--no-orders", action="store_true", help="don't record channels, nor which goroutine wakes which"
     )
 
 
@@ -77,14 +79,14 @@ def add_recording(group: argparse._ArgumentGroup) -> None:
     """The options of what a recording has of a log."""
     group.add_argument(
         "--sockets", metavar="N", type=int, default=MOST_SOCKETS,
-        help="keep at most N sockets, the newest and those still open",
+        help="keep at most N sockets: those still open first, then the newest",
     )  # fmt: skip
     group.add_argument(
-        "--all-bytes", action="store_true", help=f"count all bytes of a read or a write, not {FEW_BYTES} at most"
+        "--all-bytes", action="store_true", help=f"count all bytes of a read or a write, not only the first {FEW_BYTES}"
     )
     group.add_argument(
         "--megabytes", metavar="N", type=int, default=MOST_MEGABYTES,
-        help="write at most N MB of text for the bytes that were moved",
+        help="write at most N MB of text for the bytes of reads and writes",
     )  # fmt: skip
 
 
@@ -93,23 +95,32 @@ def add_convert(group: argparse._ArgumentGroup) -> None:
     group.add_argument("--pid", metavar="PID", type=int, help="convert the log of this process")
 
 
+def add_watch(group: argparse._ActionsContainer) -> None:
+    """The options of `watch` alone."""
+    group.add_argument(
+        "--stuck", metavar="TIME", type=seconds, default=5.0,
+        help="make a recording when a call has waited so long, as 5s, 500ms or 2m (5s by default)",
+    )  # fmt: skip
+    group.add_argument("--writes", action="store_true", help="don't count calls that read, as those that are idle do")
+
+
 def add_tests(group: argparse._ArgumentGroup) -> None:
     """The options of `test` alone."""
-    group.add_argument("--all", action="store_true", help="keep a recording of each test, not only of those that fail")
+    group.add_argument("--all", action="store_true", help="keep a recording of each test, not only of failing tests")
     group.add_argument("--runs", metavar="N", type=int, help="run the tests N times")
     group.add_argument("--until-failure", action="store_true", help="run the tests again until one fails")
     group.add_argument("--seconds", metavar="S", type=float, help="run the tests again for S seconds")
     group.add_argument(
-        "--delays", metavar="SEED", type=int, help="delay goroutines a little, at points that the seed draws"
+        "--delays", metavar="SEED", type=int, help="delay goroutines briefly, at random points chosen by the seed"
     )
     group.add_argument(
         "--explore", metavar="S", type=float,
-        help="when all tests pass, play other schedules of their recordings for S seconds",
+        help="if all tests pass, explore other schedules of their recordings for S seconds",
     )  # fmt: skip
-    group.add_argument("--json", metavar="FILE", help="write a line of JSON for each test; - is standard output")
-    group.add_argument("--junit", metavar="FILE", help="write JUnit's XML; - is standard output")
-    group.add_argument("--github", action="store_true", help="print an annotation for GitHub for each test that fails")
-    group.add_argument("--html", action="store_true", help="write the timeline of each recording as a page beside it")
+    group.add_argument("--json", metavar="FILE", help="write a line of JSON for each test; - means standard output")
+    group.add_argument("--junit", metavar="FILE", help="write JUnit XML; - means standard output")
+    group.add_argument("--github", action="store_true", help="print a GitHub annotation for each failing test")
+    group.add_argument("--html", action="store_true", help="write a page with the timeline beside each recording")
 
 
 GROUPS: dict[str, tuple[str, OptionGroup]] = {
@@ -119,6 +130,7 @@ GROUPS: dict[str, tuple[str, OptionGroup]] = {
     "run": ("the run", add_run),
     "recording": ("the recording", add_recording),
     "convert": ("only for `convert`", add_convert),
+    "watch": ("only for `watch`", add_watch),
     "test": ("only for `test`", add_tests),
 }
 
@@ -127,8 +139,8 @@ class Parser(argparse.ArgumentParser):
     """The parser of netrev-go's words, whose usage errors point to the help."""
 
     def error(self, message: str) -> NoReturn:
-        what = "no command" if message.startswith("the following arguments are required") else message
-        self.exit(2, f"netrev-go: {what}\n`netrev-go --help` lists the commands and options\n")
+        what = messages.NO_COMMAND if message.startswith("the following arguments are required") else message
+        self.exit(2, messages.USAGE_ERROR.format(what=what))
 
 
 def parser() -> argparse.ArgumentParser:
@@ -144,6 +156,15 @@ def parser() -> argparse.ArgumentParser:
     made.add_argument("command", choices=COMMANDS, metavar="COMMAND", help=argparse.SUPPRESS)
     made.add_argument("words_of_go", nargs=argparse.REMAINDER, metavar="WORDS", help=argparse.SUPPRESS)
     return made
+
+
+def of_a_process(options: argparse.Namespace) -> None:
+    """Takes the words of a command that is of a process: its number, and options of the command's own."""
+    made = Parser(usage=argparse.SUPPRESS, add_help=False)
+    made.add_argument("pid", metavar="PID", type=int)
+    if options.command == "watch":
+        add_watch(made)
+    made.parse_args(options.words_of_go, options)
 
 
 def help_of(command: str) -> str:
@@ -183,11 +204,12 @@ def check(options: argparse.Namespace) -> None:
     for name, least, most in LIMITS:
         given = getattr(options, name)
         if given is not None and not least <= given <= most:
-            raise Trouble(f"{'-' if len(name) == 1 else '--'}{name} is from {least} to {most}")
+            option = f"{'-' if len(name) == 1 else '--'}{name}"
+            raise Trouble(messages.OUT_OF_RANGE.format(option=option, least=least, most=most))
     if options.command == "test":
         if options.github and any(word in ("-json", "--json", "-json=true") for word in options.words_of_go):
-            raise Trouble("--github and Go's -json both write to standard output: leave one out")
+            raise Trouble(messages.TWO_ON_STANDARD_OUTPUT)
         return
     for name in OF_TESTS:
         if getattr(options, name) not in (None, False):
-            raise Trouble(f"--{name.replace('_', '-')} is of `netrev-go test` alone")
+            raise Trouble(messages.ONLY_FOR_TESTS.format(option=f"--{name.replace('_', '-')}"))

@@ -1,5 +1,5 @@
-"""Which steps the program itself puts in order: by `go` statements, by channels, and by whom a goroutine made ready, as a mutex, a
-condition or a WaitGroup does. What goes through goroutines without a step is seen too. A lock that was free leaves no trace here."""
+"""The orders between steps that the program itself enforces: by `go` statements, channels, and wake-ups, such as those of a mutex,
+a condition or a WaitGroup, also through goroutines without steps. A lock that was free leaves no trace here."""
 
 from __future__ import annotations
 
@@ -11,14 +11,14 @@ from .points import Kind, Point
 READY, SENT, RECEIVED, MET, CHANNEL_CLOSED = map(
     int, (Kind.READY, Kind.SENT, Kind.RECEIVED, Kind.MET, Kind.CHANNEL_CLOSED)
 )
-END = Point(2**63, 0, 0, 0, 0, 0, 0, 0, 0)  # behind the last one
+END = Point(2**63, 0, 0, 0, 0, 0, 0, 0, 0)  # after the last one
 
-Frontier = dict[int, int]  # the last steps, by goroutine, behind which something comes
+Frontier = dict[int, int]  # the last steps, by goroutine, after which something comes
 
 
 class Queue:
-    """What the things in a queue come behind. Of the first ones that may be unknown: those are just counted, since a channel may
-    have room for any number."""
+    """The steps that precede each thing in a queue. The first ones may be unknown and are only counted, because a channel's
+    capacity isn't known."""
 
     def __init__(self) -> None:
         self._unknown = 0
@@ -45,7 +45,7 @@ class Queue:
 
 
 class Channel:
-    """What the values in a channel's buffer, and its free places, come behind; and its close."""
+    """The steps that precede the values in a channel's buffer, its free places, and its close."""
 
     def __init__(self) -> None:
         self.values = Queue()
@@ -59,8 +59,8 @@ class Orders:
     def __init__(self) -> None:
         self.found: list[tuple[int, int]] = []  # of each the step that comes first, and the other
         self.own: dict[int, int] = {}
-        self.behind: dict[int, Frontier] = defaultdict(dict)  # what a goroutine's next step comes behind
-        self.known: dict[int, Frontier] = defaultdict(dict)  # that, and what its steps come behind so far
+        self.behind: dict[int, Frontier] = defaultdict(dict)  # what a goroutine's next step comes after
+        self.known: dict[int, Frontier] = defaultdict(dict)  # that, and what its steps come after so far
         self.channels: dict[int, Channel] = defaultdict(Channel)
 
     def step(self, goroutine: int, number: int) -> None:
@@ -114,8 +114,8 @@ Made = tuple[int, int, int]  # a step of a goroutine's: the number of its point,
 
 
 def orders_of(points: Iterable[Point], steps: Iterable[Made]) -> list[tuple[int, int]]:
-    """Pairs of steps of which the first comes first in each run, by the second, for points that put goroutines in order. Points and steps
-    come in the points' order."""
+    """Pairs of steps whose first one precedes the second in every run, sorted by the second. Points and steps come in the points'
+    order."""
     orders = Orders()
     ordering = iter(points)
     point = next(ordering, END)
@@ -134,6 +134,6 @@ def orders_of(points: Iterable[Point], steps: Iterable[Made]) -> list[tuple[int,
 
 
 def parts(found: list[tuple[int, int]], size: int) -> Iterator[list[tuple[int, int]]]:
-    """The pairs, so many at a time; one part at least."""
+    """The pairs, this many at a time; one part at least."""
     for first in range(0, max(len(found), 1), size):
         yield found[first : first + size]

@@ -1,4 +1,4 @@
-"""The names of recordings, looked at before a program is run: whatever can't be written then is told while nothing is lost."""
+"""The names of recordings, checked before a program runs, so that nothing is lost if a file can't be written."""
 
 from __future__ import annotations
 
@@ -8,6 +8,7 @@ import pathlib
 
 from netrev_words.files import beside, check_links
 
+from . import messages
 from .toolchain import Trouble
 
 RECORDING, LINES, WORDS = ".jsonl", ".where", ".words"
@@ -16,12 +17,12 @@ TRIED = 65_536  # bytes that are written to see whether there is room
 
 
 def base_name(given: str | None, otherwise: str = "recording") -> pathlib.Path:
-    """What the name of a recording begins with; Trouble where it can't be one."""
+    """The beginning of a recording's name; Trouble if it can't be one."""
     said = otherwise if given is None else given
     base = pathlib.Path(said.removesuffix(RECORDING))
     is_other = os.path.exists(base) and not (os.path.isfile(base) or os.path.isdir(base))  # a device, a pipe
     if base.name in ("", "..") or said.endswith("/") or is_other:
-        raise Trouble(f"{said!r} is no name for a recording: -o NAME makes NAME{RECORDING}")
+        raise Trouble(messages.NOT_A_NAME.format(name=said, ending=RECORDING))
     return base
 
 
@@ -31,7 +32,7 @@ def numbered(base: pathlib.Path, made: int) -> pathlib.Path:
 
 
 def look(base: pathlib.Path) -> None:
-    """Trouble where a recording can't be written there now."""
+    """Trouble if a recording can't be written there now."""
     try:
         try_folder(base)
         with contextlib.suppress(FileNotFoundError):
@@ -39,11 +40,11 @@ def look(base: pathlib.Path) -> None:
         for ending in (RECORDING, LINES):
             check_links(base.with_name(base.name + ending))
     except OSError as fault:
-        raise Trouble(f"{base}{RECORDING} can't be written: {fault.strerror}. Nothing was run") from None
+        raise Trouble(messages.UNWRITABLE.format(path=f"{base}{RECORDING}", why=fault.strerror)) from None
     for ending in (RECORDING, LINES):
         name = base.with_name(base.name + ending)
         if name.exists() and not (name.is_file() and os.access(name, os.W_OK)):
-            raise Trouble(f"{name} is there, and can't be written: -o names another recording. Nothing was run")
+            raise Trouble(messages.EXISTS.format(path=name))
 
 
 def try_folder(base: pathlib.Path) -> None:
@@ -61,8 +62,8 @@ def look_folder(base: pathlib.Path) -> None:
     """Trouble where recordings can't be written into that folder, which may have to be made."""
     try:
         if base.exists() and not base.is_dir():
-            raise Trouble(f"{base} is there, and is no folder: -o names another one. Nothing was run")
+            raise Trouble(messages.NOT_A_FOLDER.format(path=base))
         there = next(folder for folder in (base, *base.absolute().parents) if folder.is_dir())
         try_folder(there / base.name)
     except OSError as fault:
-        raise Trouble(f"{base} can't be written: {fault.strerror}. Nothing was run") from None
+        raise Trouble(messages.UNWRITABLE.format(path=base, why=fault.strerror)) from None

@@ -58,6 +58,14 @@ class Kind(IntEnum):
     STOPPED = 131
     MAKES = 132
     DIAL_FAILED = 133
+    NOTED = 134
+    NOTED_POLL = 135
+    NOTED_DEADLINES = 136
+    NOTED_INSIDE = 137
+    NOTED_QUEUED = 138
+    NOTES_BEGIN = 139
+    NOTES_END = 140
+    NOTED_NAMED = 141
 
 
 # Sets of plain numbers, as points have them: an enumeration's members are compared much more slowly.
@@ -67,15 +75,17 @@ ORDERING = frozenset(range(Kind.READY, Kind.FOUND_CLOSED + 1))
 # Points at which a goroutine begins to wait outside of the poller, goes on, gets a value that it waits for, makes or stops a timer, adds to
 # a WaitGroup, makes a channel, fails to connect a socket, and ends.
 WAITING = frozenset(range(Kind.PARKS, Kind.DIAL_FAILED + 1))
-AT_A_SOCKET = KINDS - ORDERING - WAITING
+# Points that note how a socket is which may have been opened before the oldest point.
+NOTING = frozenset(range(Kind.NOTED, Kind.NOTED_NAMED + 1))
+AT_A_SOCKET = KINDS - ORDERING - WAITING - NOTING
 LOCKING = frozenset(map(int, (Kind.INCREF, Kind.INCREF_CLOSE, Kind.DECREF, Kind.RW_LOCK, Kind.RW_UNLOCK)))
 # Points at a lock word's address. All others but INIT are at a descriptor's.
 AT_A_WORD = LOCKING | set(map(int, (Kind.READ, Kind.WRITE, Kind.ACQUIRE, Kind.RELEASE, Kind.CLOSE_WRITE, Kind.NAMED)))
 
 
 class Point(NamedTuple):
-    """A point that a goroutine passed (0: none did): at which address, what was seen there, a time of Go's clock where one
-    was read, and the number of the stack (0: none was taken)."""
+    """A point that a goroutine passed (0 if none did): its address, the values there, a time of Go's clock if one was read, and the
+    number of its stack (0 if there is none)."""
 
     number: int
     kind: int
@@ -94,8 +104,8 @@ NUMBER, KIND, GOROUTINE, TIME = (
 
 
 class Stack(NamedTuple):
-    """Addresses behind the calls, from the innermost; the address behind the `go` statement that made the goroutine, and of
-    the function that it started."""
+    """The return addresses of the calls, innermost first; that of the `go` statement that started the goroutine, and that of the
+    goroutine's function."""
 
     made: int
     started: int

@@ -49,7 +49,7 @@ class Ran:
         return Went.SKIPPED if self.skipped else Went.PASSED
 
     def seconds(self) -> float:
-        """How long it ran; 0 where it never ended."""
+        """How long it ran; 0 if it never ended."""
         return (self.ended_at - self.began_at) / SECOND if self.ended_at is not None else 0.0
 
     def is_red(self) -> bool:
@@ -62,7 +62,7 @@ class Ran:
 
 @dataclass
 class Tests:
-    """A process's tests, in the order in which they began; the package is empty where it had none."""
+    """A process's tests, in the order in which they began; the package is empty if it had none."""
 
     package: str = ""
     ran: list[Ran] = field(default_factory=list)
@@ -102,7 +102,7 @@ class Tests:
 
 
 def place_of(text: str) -> tuple[str, int] | None:
-    """A file, named from here where it is below, and a line."""
+    """A file and a line; the file is relative if it is below the current folder."""
     file, _, line = text.rpartition(":")
     if not file or not (line.isascii() and line.isdigit() and len(line) < 9):
         return None

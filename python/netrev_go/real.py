@@ -25,7 +25,7 @@ from dataclasses import replace
 
 from netrev_words.built import netrev_program
 
-from . import suites
+from . import messages, suites
 from .asking import check, suspects
 from .building import built, built_sample, environment, source_folder, tests_of
 from .compare import differing
@@ -76,9 +76,12 @@ def recorded(log: pathlib.Path, result: Result, name: pathlib.Path) -> bool:
 
 
 def compared(netrev: str, result: Result) -> None:
-    """What netrev says of a recording, and of Go's lock words in it; and whom nrdb suspects of a program that is healthy."""
+    """netrev's output for a recording and for Go's lock words in it, and nrdb's suspects in a healthy program."""
     name = pathlib.Path(result.recording)
-    taken, result.said = check(netrev, name)
+    try:
+        taken, result.said = check(netrev, name)
+    except OSError as fault:
+        taken, result.said = False, str(fault.strerror)
     if taken:
         _, differ = differing(netrev, name)
         result.differ = len(differ)
@@ -176,16 +179,16 @@ class Recorder:
 
 
 def of_release(name: str, options: argparse.Namespace, netrev: str | None) -> list[Result]:
-    """The results of one Go: recorded, and compared where netrev is here."""
+    """The results of one Go: recorded, and compared if netrev is here."""
     if options.check:
         results = read_results(options.out / (name or find_go().version))
     else:
         go = chosen(name)
-        said = "tried before" if is_tried(go.version) else "never tried before"
+        said = "tested before" if is_tried(go.version) else "not tested before"
         stands = standing_of(go)
         say(f"{go.version} ({said}): {stands.trial}")
         if not stands.is_good:
-            raise Trouble(f"{go.version} isn't recorded")
+            raise Trouble(messages.RELEASE_UNRECORDED.format(release=go.version, why=stands.trial))
         recorder = Recorder(go, name or go.version, options)
         stands.keep(recorder.out)
         recorder.all()

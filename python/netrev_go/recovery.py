@@ -10,6 +10,7 @@ from netrev_words.command_lines import command
 from netrev_words.plain import plain
 from netrev_words.plurals import counted
 
+from . import messages
 from .converting import Wish
 from .keeping import Making, complain, say
 from .outputs import look
@@ -31,19 +32,18 @@ def offer() -> None:
     runs = left_runs()
     if not runs:
         return
-    what = f"{named(runs[-1])} was" if len(runs) == 1 else f"{len(runs)} runs, the last {named(runs[-1])}, were"
-    complain(
-        f"{what} cut off before the recordings were made: `{command('netrev-go')} recover` makes them"
-        + (f" (`rm -r {shlex.quote(str(runs[-1].folder))}` discards the logs)" if len(runs) == 1 else "")
-    )
+    last, is_one = named(runs[-1]), len(runs) == 1
+    what = messages.ONE_WAS.format(last=last) if is_one else messages.SEVERAL_WERE.format(count=len(runs), last=last)
+    discard = messages.DISCARD.format(folder=shlex.quote(str(runs[-1].folder))) if is_one else ""
+    complain(messages.RUNS_WERE_INTERRUPTED.format(runs=what, netrev_go=command("netrev-go")) + discard)
 
 
 def recover(options: argparse.Namespace, base: pathlib.Path, go: Go | None, wish: Wish) -> int:
-    """Makes recordings of all runs that are left, and removes the logs of which netrev takes the recordings."""
+    """Makes recordings of all interrupted runs, and removes the logs whose recordings netrev accepts."""
     look(base)
     runs = [run for run in left_runs() if take_over(run)]
     if not runs:
-        say(["netrev-go: no run was cut off"])
+        say([messages.NONE_INTERRUPTED])
     status, count = Status.DONE, 0
     for run in runs:
         say([f"{named(run)}:"])
@@ -58,5 +58,5 @@ def recover(options: argparse.Namespace, base: pathlib.Path, go: Go | None, wish
         elif not making.all_taken:
             status = status or Status.REFUSED
     if len(runs) > 1:
-        say([f"netrev-go: {counted(count, 'recording')} of {len(runs)} runs"])
+        say([messages.RECOVERED.format(recordings=counted(count, "recording"), runs=len(runs))])
     return status

@@ -1,5 +1,5 @@
-"""Lines of the points that are one step each, and the same step whenever the same goroutine passes the same point at the same socket with the
-same answer: what came before doesn't matter. Three of four points are of these."""
+"""Lines for the points that are one step each, always the same for the same goroutine, point, socket and answer,
+whatever came before. Three of four points are of these."""
 
 from __future__ import annotations
 
@@ -26,7 +26,7 @@ REPEATED = frozenset(map(int, (*CHECKS, Kind.ACQUIRE, Kind.RELEASE, Kind.ARM, Ki
 
 
 def read_line(g: int, socket: int, asked: int, answer: str) -> str:
-    """A read of so many bytes, with its answer as JSON."""
+    """A read of this many bytes, with its answer as JSON."""
     return f'["sysread",{g},{socket},{min(max(asked, 1), BUFFER)},{answer}]'
 
 

@@ -1,5 +1,5 @@
-"""What is said of a recording: netrev's words, who hangs and since which step, with the line of the program, and the line to
-type next. Text of the program's, as names of functions and files, is printed through `plain`."""
+"""The report on a recording: netrev's output, the goroutines that hang, since which step and at which line of the program, and the
+command to type next. Text of the program, such as names of functions and files, is printed through `plain`."""
 
 from __future__ import annotations
 
@@ -12,6 +12,7 @@ from netrev_words.command_lines import command_line, file_word, how_to_get_netre
 from netrev_words.plain import plain
 from netrev_words.plurals import counted
 
+from . import messages
 from .asking import Causes, Check, Late, at_the_end, hanging, never_closed, suspects
 from .lines import OF_GO, Call, Calls
 from .making import Recording
@@ -19,13 +20,13 @@ from .where import own_line
 
 MOST_TOLD, MOST_SUSPECTS = 20, 12
 WAITS = {"r": "waits to read", "w": "waits to write"}
-LOCKS = {"r": "waits for the lock of reading", "w": "waits for the lock of writing"}
+LOCKS = {"r": "waits for the read lock", "w": "waits for the write lock"}
 AT_THE_LOCK = ("acquiring", "queued", "relock")
 Hear = Callable[[list[str]], None]  # what gets lines as soon as they are known
 
 
 def unheard(lines: list[str]) -> None:
-    """Leaves the lines to the caller, who gets all of them at the end."""
+    """Ignores the lines: the caller gets all of them at the end."""
 
 
 def in_words(status: str) -> str:
@@ -34,7 +35,7 @@ def in_words(status: str) -> str:
     if words[0] in AT_THE_LOCK:
         return f"{LOCKS.get(side, 'waits for a lock')} of socket {words[1]}"
     if words[0] == "owing":
-        return f"owes releases to those that wait for socket {words[1]}"
+        return f"has still to wake goroutines that wait for socket {words[1]}"
     return WAITS.get(side, "waits")
 
 
@@ -44,13 +45,13 @@ def short(call: Call) -> str:
 
 
 def line_of(calls: Calls | None) -> tuple[str, str]:
-    """Where the program stands, and the function that it called there."""
+    """The program's line in a stack, and the function that is called there."""
     own = own_line(calls) if calls else None
     if own:
         return short(own[0]), plain(own[1] or own[0].function)
     if calls and calls.calls:
-        return "(no line of the program)", plain(calls.calls[0].function)
-    return "(no line known)", ""
+        return messages.NO_OWN_LINE, plain(calls.calls[0].function)
+    return messages.NO_LINE, ""
 
 
 def is_of_go(calls: Calls | None) -> bool:
@@ -60,10 +61,15 @@ def is_of_go(calls: Calls | None) -> bool:
     return calls.made is not None and calls.made.of == OF_GO
 
 
-def told_of(g: int, status: str, step: int, calls: Calls | None) -> str:
+def told_of(g: int, status: str, since: str, calls: Calls | None) -> str:
     line, function = line_of(calls)
     made = f"; started at {short(calls.made)}" if calls and calls.made else ""
-    return f"  {line}: {function + ' ' if function else ''}{in_words(status)} (goroutine {g}, since step {step}{made})"
+    return f"  {line}: {function + ' ' if function else ''}{in_words(status)} (goroutine {g}, since {since}{made})"
+
+
+def since_words(recording: Recording, step: int) -> str:
+    """Since when a goroutine waits whose last step this is."""
+    return f"step {step}" if step > recording.prelude else "before the recording begins"
 
 
 def hang_lines(recording: Recording, calls: dict[int, Calls], waiting: dict[int, str]) -> list[str]:
@@ -78,19 +84,16 @@ def hang_lines(recording: Recording, calls: dict[int, Calls], waiting: dict[int,
         return (not (known and own_line(known)), -recording.last_steps[g])
 
     own = [g for g in sorted(waiting, key=order) if not is_of_go(calls_of(g))]
-    told = [told_of(g, waiting[g], recording.last_steps[g], calls_of(g)) for g in own]
+    told = [told_of(g, waiting[g], since_words(recording, recording.last_steps[g]), calls_of(g)) for g in own]
     if len(own) < len(waiting):
-        more = len(waiting) - len(own)
-        told.append(
-            f"  {more} more in Go's own code alone, as idle connections of net/http are: nrdb's info goroutines"
-        )
+        told.append(messages.IDLE_IN_GO.format(count=len(waiting) - len(own)))
     rest = len(told) - MOST_TOLD
-    return told[:MOST_TOLD] + ([f"  and {rest} more"] if rest > 0 else [])
+    return told[:MOST_TOLD] + ([messages.MORE_GOROUTINES.format(count=rest)] if rest > 0 else [])
 
 
 def next_line(name: pathlib.Path, told: list[str], nobody_waits: bool = False, failed: bool = False) -> str:
-    """The line to type next: nrdb, with what the first suspect says to look at, or with a look at who waits. Where nobody waits, a
-    look at the calls that failed, of a program that failed; else other schedules."""
+    """The command to type next: nrdb with the commands of the first suspect, or with a list of waiting goroutines. If no goroutine
+    waits, the failed calls of a program that failed; otherwise other schedules."""
     looks = [line.strip().removeprefix("next:").split(";") for line in told if line.strip().startswith("next:")]
     topic = "errors" if failed and nobody_waits else "goroutines"
     commands = [command.strip() for command in looks[0]] if looks else ["continue", f"info {topic}"]
@@ -101,22 +104,23 @@ def next_line(name: pathlib.Path, told: list[str], nobody_waits: bool = False, f
 
 
 def why_lines(name: pathlib.Path, causes: Causes) -> list[str]:
-    """Why a program failed that did: its failed calls and who hangs, each with its cause."""
+    """The failed calls and hanging goroutines of a program that failed, each with its cause."""
     try:
         return [plain(line) for line in causes.lines()]
     except Late as late:
-        return [plain(f"  {late}: `{command_line('nrdb', '-ex', 'info errors', file_word(name))}` waits for them")]
+        line = command_line("nrdb", "-ex", "info errors", file_word(name))
+        return [plain(messages.PRINTS_THEM.format(late=late, line=line))]
 
 
 def suspect_lines(netrev: str, name: pathlib.Path) -> tuple[list[str], list[str]]:
-    """nrdb's suspects, and what is said of them. They may take long, and all else is said by then: Ctrl-C ends this alone."""
-    waits = f"`{command_line('nrdb', '--suspects', file_word(name))}` waits for them"
+    """nrdb's suspects, and the lines about them. They come last because they may take long: Ctrl-C ends only this search."""
+    line = command_line("nrdb", "--suspects", file_word(name))
     try:
         found = suspects(netrev, name)
     except Late as late:
-        return [], [plain(f"  {late}: {waits}")]
+        return [], [plain(messages.PRINTS_THEM.format(late=late, line=line))]
     except KeyboardInterrupt:
-        return [], [plain(f"  nrdb's suspects were interrupted: {waits}")]
+        return [], [plain(messages.PRINTS_THEM.format(late=messages.SUSPECTS_INTERRUPTED, line=line))]
     return found, ["  nrdb suspects:", *(f"    {plain(line)}" for line in found[:MOST_SUSPECTS])] if found else []
 
 
@@ -163,7 +167,7 @@ def say_all(
     netrev = netrev_program()
     if netrev is None:
         steps = counted(len(recording.lines), "step")
-        unchecked = f"  not checked: netrev is missing: {how_to_get_netrev()}"
+        unchecked = messages.UNCHECKED.format(how=how_to_get_netrev())
         say([f"{plain(str(name))}: {steps}; {counts}", *notes, unchecked])
         return True
     with Check(netrev, name) as checking:
@@ -172,12 +176,12 @@ def say_all(
         try:
             taken, words = checking.outcome()
         except OSError as fault:
-            say([f"{plain(str(name))}: {counts}", *notes, f"  not checked: {plain(netrev)}: {fault.strerror}"])
+            unchecked = messages.CHECK_FAILED.format(netrev=plain(netrev), why=fault.strerror)
+            say([f"{plain(str(name))}: {counts}", *notes, unchecked])
             return False
     say([f"{plain(str(name))}: {plain(words)}; {counts}", *notes])
     if not taken:
-        above = ", and what is said above may be wrong" if why else ""
-        say([f"  netrev refuses it{above}: that is a fault of netrev-go's. Please keep the log and report it"])
+        say([messages.REFUSED_WITH_CAUSES if why else messages.REFUSED])
         return False
     waiting = say_end(recording, name, calls, netrev, say)
     found, of_suspects = suspect_lines(netrev, name)
@@ -193,11 +197,11 @@ def say_end(
     say: Hear,
 ) -> dict[int, str]:
     """Says which goroutines and sockets aren't at rest at the end, by netrev; the goroutines."""
-    cells = [f"gor {g}" for g in range(recording.goroutines)] + [f"lock {s}" for s in range(recording.sockets)]
+    cells = [f"gor {g}" for g in range(len(recording.last_steps))] + [f"lock {s}" for s in range(recording.sockets)]
     values = at_the_end(netrev, name, len(recording.lines), cells)
     waiting = hanging(values)
     kept = [
-        f"  socket {s} is closed, and {left} of its references are held: info holders {s}"
+        messages.HELD_REFERENCES.format(socket=s, references=counted(left, "reference is", "references are"))
         for s, left in never_closed(values).items()
     ]
     say([*hang_lines(recording, calls, waiting), *kept])

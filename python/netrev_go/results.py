@@ -59,7 +59,7 @@ class Result:
 
 
 def say(text: str) -> None:
-    """Prints lines, of which parts may be others' words."""
+    """Prints lines, escaping text of others."""
     print("\n".join(plain(line) for line in text.split("\n")), flush=True)
 
 
@@ -101,7 +101,7 @@ def counted(row: list[Result]) -> list[str]:
 
 
 def rows(results: Iterable[Result], of_all: bool) -> list[tuple[str, list[Result]]]:
-    """The results of each release, or of each of its suites on so many processors."""
+    """The results of each release, or of each of its suites on this many processors."""
     found: dict[str, list[Result]] = collections.defaultdict(list)
     for result in results:
         found[result.release if of_all else f"{result.release} | {result.suite} | {result.processors}"].append(result)

@@ -20,6 +20,7 @@ from dataclasses import dataclass
 from itertools import islice
 from typing import TextIO
 
+from . import messages
 from .running import PREFIX, logs_in, places, still_written
 from .toolchain import Trouble
 
@@ -32,9 +33,9 @@ UNRECORDED = (
 MARK = re.compile(r"process\.(\d{1,10})\.(\d{1,4})\Z")
 MOST_MARKS, MOST_OF_COMMAND = 1_000, 4_096
 WHY = {
-    errno.EFBIG: "its files may not be so large, by ulimit -f",
-    errno.EEXIST: "it became another program too often",
-    errno.ENOMEM: "its memory is limited, by ulimit -v",
+    errno.EFBIG: messages.FILE_SIZE_IS_LIMITED,
+    errno.EEXIST: messages.TOO_MANY_PROGRAMS,
+    errno.ENOMEM: messages.MEMORY_IS_LIMITED,
 }
 HELD: dict[pathlib.Path, TextIO] = {}  # the locked files of this netrev-go's folders
 
@@ -52,13 +53,13 @@ def claim(folder: pathlib.Path) -> pathlib.Path:
         file.write(f"{shlex.join(['netrev-go', *sys.argv[1:]])[:MOST_OF_COMMAND]}\n")
         file.flush()
     except OSError as fault:
-        raise Trouble(f"no log can be made in {folder}: {fault.strerror}. Nothing was run") from None
+        raise Trouble(messages.NO_LOGS_IN.format(folder=folder, why=fault.strerror)) from None
     HELD[folder] = file
     return folder
 
 
 def release(folder: pathlib.Path) -> None:
-    """Makes a folder nobody's: what is left in it was told, and isn't offered again."""
+    """Marks a folder as reported, so that it isn't offered again."""
     with contextlib.suppress(OSError):
         (folder / OWNER).unlink()
     if (file := HELD.pop(folder, None)) is not None:
@@ -82,8 +83,8 @@ def unrecorded(folder: pathlib.Path) -> list[str]:
 
 def line_of(processes: list[int], why: str) -> str:
     if len(processes) == 1:
-        return f"process {processes[0]} couldn't write a log ({why}): it isn't recorded"
-    return f"{len(processes)} processes couldn't write a log ({why}): they aren't recorded"
+        return messages.PROCESS_UNRECORDED.format(process=processes[0], why=why)
+    return messages.PROCESSES_UNRECORDED.format(count=len(processes), why=why)
 
 
 @dataclass(frozen=True)

@@ -17,6 +17,7 @@ from dataclasses import dataclass
 
 from netrev_words.command_lines import command
 
+from . import messages
 from .toolchain import Trouble
 
 MOST_POINTS = 2**20
@@ -26,6 +27,7 @@ LOGS = "log.[0-9]*"  # the same for a shell
 IN_MEMORY, PREFIX = "/dev/shm", "netrev-go-"
 GRACE, SHORT_GRACE = 3.0, 0.5
 LOOK = 0.05
+STARTING = 1.0  # seconds in which a program that was just started makes its log
 CANCELLING = (signal.SIGINT, signal.SIGTERM, signal.SIGQUIT, signal.SIGHUP)
 SIGNALS = (*CANCELLING, signal.SIGUSR1)
 FROM_THE_TERMINAL = 0x80  # the kernel's own si_code, SI_KERNEL
@@ -51,6 +53,13 @@ def as_a_shell_has_it(status: int) -> int:
     return status if status >= 0 else 128 - status
 
 
+def behind_the_folder(words: list[str], more: list[str]) -> list[str]:
+    """Go's words with more flags before them, but after -C DIR, which Go wants first."""
+    name, is_set, _ = words[0].partition("=") if words else ("", "", "")
+    length = (1 if is_set else 2) if name in ("-C", "--C") else 0
+    return [*words[:length], *more, *words[length:]]
+
+
 def places() -> list[str]:
     """Where logs may be: in the folder that NETREV_LOGS names; else in memory, and below TMPDIR."""
     given = os.environ.get("NETREV_LOGS")
@@ -58,20 +67,16 @@ def places() -> list[str]:
 
 
 def logs_folder(points: int) -> pathlib.Path:
-    """A new folder with room for a log: in memory, where there is such a file system."""
+    """A new folder with room for a log, in memory if there is such a file system."""
     wanted = points * POINT_BYTES + STACK_BYTES + SPARE
     for place in places():
         if os.access(place, os.W_OK) and shutil.disk_usage(place).free >= wanted:
             return pathlib.Path(tempfile.mkdtemp(prefix=PREFIX, dir=place))
-    where = " and ".join(places())
-    raise Trouble(
-        f"no log can be made in {where}, without {wanted // 2**20} MB free: NETREV_LOGS names another folder, --points makes the log "
-        "smaller"
-    )
+    raise Trouble(messages.NO_ROOM.format(places=" and ".join(places()), megabytes=wanted // 2**20))
 
 
 def logs_in(folder: pathlib.Path) -> list[pathlib.Path]:
-    """The logs of a folder, in the order in which their processes began; none where the folder is gone."""
+    """The logs of a folder, in the order in which their processes began; none if the folder is gone."""
     try:
         logs = [path for path in folder.iterdir() if LOG.match(path.name)]
         return sorted(logs, key=lambda path: path.stat().st_ino)
@@ -192,7 +197,7 @@ class Runner:
             self.process.send_signal(number)
 
     def let_them_end(self, seconds: float) -> None:
-        """Waits a while for the programs, which Go may have left behind."""
+        """Waits a while for programs that still run after Go has exited."""
         end = time.monotonic() + seconds
         while still_written(self.folder) and time.monotonic() < end:
             time.sleep(LOOK)
@@ -214,16 +219,35 @@ def is_leader() -> bool:
 
 
 def log_of_process(process: int) -> pathlib.Path:
-    """The log that a running process writes."""
+    """The log that a running process writes. A process that was just started may have none yet, so this waits a second."""
+    until = time.monotonic() + STARTING
+    while True:
+        log = mapped_log(process)
+        if log and has_begun(log):
+            return log
+        if time.monotonic() > until:
+            break
+        time.sleep(STARTING / 50)
+    raise Trouble(messages.PROCESS_HAS_NO_LOG.format(process=process, netrev_go=command("netrev-go")))
+
+
+def mapped_log(process: int) -> pathlib.Path | None:
+    """The log that a process has in its memory."""
     try:
         maps = pathlib.Path(f"/proc/{process}/maps").read_text(errors="replace")
     except OSError as fault:
-        raise Trouble(f"process {process} can't be looked at: {fault.strerror}") from None
+        raise Trouble(messages.PROCESS_IS_HIDDEN.format(process=process, why=fault.strerror)) from None
     for line in maps.splitlines():
         path = line.split(maxsplit=5)[5:]
         if path and re.search(rf"\.{process}(\.\d+)?\Z", path[0]):
             return pathlib.Path(path[0])
-    raise Trouble(
-        f"process {process} has no log: it has to be built by `{command('netrev-go')} build` and started with "
-        f"NETREV_LOG=PATH, or run by `{command('netrev-go')} run`"
-    )
+    return None
+
+
+def has_begun(log: pathlib.Path) -> bool:
+    """Whether a log has its header. One that can't be read counts as begun: its reader says why."""
+    try:
+        with log.open("rb") as file:
+            return any(file.read(8))
+    except OSError:
+        return True

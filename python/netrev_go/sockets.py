@@ -1,28 +1,33 @@
 """Whose points these are, and which sockets a recording has room for.
 
 Steps of different sockets share nothing but the order of their goroutines, the clock and the list of firings. So the points of
-some sockets alone are a recording again. A socket is whole if the log has its opening: it is left out otherwise."""
+some sockets alone are a recording again. A socket is whole if the log has its opening, or a note of how it was: it is left out otherwise."""
 
 from __future__ import annotations
 
 from collections import Counter
+from collections.abc import Callable, Iterator
 from dataclasses import dataclass, field
 from operator import itemgetter
 
-from .points import AT_A_SOCKET, AT_A_WORD, GOROUTINE, LOCKING, Kind, Point
+from .notes import NAMED as NOTED_NAMED, NOTED, Debts, Note
+from .prelude import Lead, Unreachable, led
+from .points import AT_A_SOCKET, AT_A_WORD, GOROUTINE, LOCKING, NOTING, Kind, Point
 
 BUFFER = 65_536
 OUTPUT = 4_096
 CLOSED = 1
 AGAIN = 1
 READ, WRITE, NAMED = int(Kind.READ), int(Kind.WRITE), int(Kind.NAMED)
-UNLIKE = {READ, WRITE, NAMED}  # these aren't just one more step of their socket
+UNLIKE = {READ, WRITE, NAMED, NOTED, NOTED_NAMED}  # these aren't just one more step of their socket
 INIT, OPEN, OPEN_FAILED, CLOSE = int(Kind.INIT), int(Kind.OPEN), int(Kind.OPEN_FAILED), int(Kind.CLOSE)
 EVENT, FIRE = int(Kind.EVENT), int(Kind.FIRE)
 AT_USE = AT_A_SOCKET - AT_A_WORD - {INIT, OPEN, OPEN_FAILED, CLOSE, EVENT, FIRE}  # at the descriptor's newest use
 POINT, SOCKET = itemgetter(0), itemgetter(1)  # of a pair
 MOST_SOCKETS, MOST_GOROUTINES, MOST_STEPS = 256, 4_096, 1_000_000
-MEGABYTE, MOST_MEGABYTES = 2**20, 1_024  # of a recording's text for the bytes that are moved
+MEGABYTE, MOST_MEGABYTES = 2**20, 1_024  # text for the bytes that are moved
+STEPS_OF_A_NOTE = 32  # that lead to it, if no goroutine is queued for its locks
+LOW = 2**32 - 1
 FEW_BYTES = 64  # as which a read or a write counts that moved more, unless all are wanted
 
 
@@ -46,15 +51,21 @@ class Socket:
     last_put: int = -1  # the number of the last point of a write that put bytes
     number: int = -1
     descriptor: int = -1
-    is_open: bool = False  # where the converter is
+    is_open: bool = False  # the converter's place
     tag: int = 0
     held: int = 0
     peer_closed: bool = False
     shut: bool = False
+    word: int = 0  # the address of its lock word
+    before: Socket | None = None  # that the same lock word was of when it was opened
+    note: Note | None = None  # how it was, of one whose opening isn't in the log
+    leads: list[Lead] = field(default_factory=list)  # the steps that lead to that
+    is_filled: bool = False  # a noted one whose output a write found full
     whole: dict[int, int] = field(default_factory=dict)  # of points that count fewer bytes, how many they moved
 
     def capacity(self) -> int:
-        """How large its output is: so large that it was full where Go first found it so, else as large as the largest write."""
+        """The capacity of its output: so large that it was full when Go first found it so, else that of the largest
+        write."""
         return self.full_at or self.largest
 
 
@@ -66,6 +77,7 @@ class Owners:
         self.words: dict[int, Socket] = {}
         self.uses: dict[int, list[Socket]] = {}
         self.opening: dict[int, Socket] = {}
+        self.noted: dict[int, Socket] = {}  # by both addresses, those of which a note is under way
 
     def of(self, point: Point) -> Socket | None:
         """The socket of the next point, if it is known."""
@@ -73,7 +85,7 @@ class Owners:
         if kind in AT_A_WORD:
             return self.at_a_word(point)
         if kind == INIT:
-            socket = Socket(len(self.sockets), point.goroutine)
+            socket = Socket(len(self.sockets), point.goroutine, word=point.at, before=self.words.get(point.at))
             self.sockets.append(socket)
             self.words[point.at] = self.opening[point.goroutine] = socket
             return socket
@@ -83,6 +95,8 @@ class Owners:
             return self.fired(point)
         if kind == EVENT and point.c:
             return self.tagged(point)
+        if kind in NOTING:
+            return self.note(point)
         uses = self.uses.get(point.at)
         if not uses:
             return None
@@ -91,9 +105,39 @@ class Owners:
                 return None
             uses[-1].closed = True
         elif kind == OPEN_FAILED:
-            uses[-1].failed = True
-            return uses.pop()
+            return self.not_opened(uses.pop())
         return uses[-1]
+
+    def not_opened(self, socket: Socket) -> Socket:
+        """The poller wouldn't have a socket: one that it has already, under the same lock word, goes on."""
+        socket.failed = True
+        if socket.before and not socket.before.closed:
+            self.words[socket.word] = socket.before
+        return socket
+
+    def note(self, point: Point) -> Socket | None:
+        """The socket of the first point of a note, if it isn't known already; and of its names."""
+        kind, at = point.kind, point.at
+        if kind == NOTED:
+            known = self.words.get(at)
+            self.noted.pop(at, None)
+            self.noted.pop(point.b, None)
+            if known and not known.closed:
+                return None
+            socket = Socket(len(self.sockets), word=at, has_descriptor=True)
+            socket.note = Note(point.number, point.a, (point.c & LOW, point.c >> 32))
+            self.sockets.append(socket)
+            self.words[at] = self.noted[at] = self.noted[point.b] = socket
+            self.uses.setdefault(point.b, []).append(socket)
+            return socket
+        noted = self.noted.get(at)
+        if noted is None or noted.note is None:
+            return None
+        if kind == NOTED_NAMED:
+            return noted
+        noted.note.add(point)
+        noted.sequences, noted.go_tag = noted.note.sequences, noted.note.tag
+        return None
 
     def at_a_word(self, point: Point) -> Socket | None:
         socket = self.words.get(point.at)
@@ -119,7 +163,7 @@ class Owners:
         return next((use for use in reversed(self.uses.get(point.at, ())) if use.go_tag == point.c), None)
 
     def fired(self, point: Point) -> Socket | None:
-        """The use of the descriptor that armed the timer: an earlier one, where the firing is of an old sequence."""
+        """The use of the descriptor that armed the timer: an earlier one if the firing has an old sequence."""
         side = 0 if point.b & 1 else 1
         for socket in reversed(self.uses.get(point.at, ())):
             if socket.sequences[side] <= point.a:
@@ -149,7 +193,9 @@ def count_bytes(socket: Socket, point: Point) -> None:
         socket.last_put = number
         if got > socket.largest:
             socket.largest = min(got, BUFFER)
-    if failed == AGAIN and not socket.full_at:
+    if failed == AGAIN and socket.note:
+        socket.is_filled = True
+    elif failed == AGAIN and not socket.full_at:
         socket.full_at = max(1, min(socket.written, BUFFER))
 
 
@@ -168,6 +214,17 @@ def count_points(points: list[tuple[Point, Socket]]) -> None:
             socket.goroutines.add(goroutine)
 
 
+def find_debts(points: list[tuple[Point, Socket]]) -> None:
+    """Finds which goroutines had the locks and the references of noted sockets."""
+    debts: dict[Socket, Debts] = {}
+    for point, socket in points:
+        if socket.note:
+            if socket not in debts:
+                debts[socket] = Debts(socket.note)
+                socket.goroutines |= socket.note.goroutines()
+            debts[socket].point(point)
+
+
 @dataclass
 class Owned:
     """Points with their sockets, and all sockets."""
@@ -177,9 +234,18 @@ class Owned:
     unknown: int  # points of sockets whose opening isn't in the log
     cut: int  # reads and writes that count as of fewer bytes
 
+    def used(self) -> Iterator[tuple[int, int]]:
+        """Which goroutine made which point, in the points' order; of a note those that wait there."""
+        for point, socket in self.points:
+            if point.kind == NOTED and socket.note:
+                for goroutine in socket.note.goroutines() | socket.note.known():
+                    yield goroutine, point.number
+            elif point.goroutine:
+                yield point.goroutine, point.number
+
 
 def owned(points: list[Point], all_bytes: bool = True) -> Owned:
-    """Each point with its socket, of which the goroutines and the steps at least are counted."""
+    """Each point with its socket; goroutines and a lower bound of the steps are counted for each socket."""
     owners = Owners()
     of, words, uses = owners.of, owners.words, owners.uses
     mine: list[tuple[Point, Socket]] = []
@@ -194,8 +260,10 @@ def owned(points: list[Point], all_bytes: bool = True) -> Owned:
             if socket is None:
                 continue
         if kind in UNLIKE:
-            if kind == NAMED:
+            if kind == NAMED or kind == NOTED_NAMED:
                 socket.steps -= 1
+            elif kind == NOTED:
+                socket.steps += STEPS_OF_A_NOTE
             else:
                 if not all_bytes and (point[5] > FEW_BYTES or point[4] > FEW_BYTES and kind == WRITE):
                     cut += point.b > FEW_BYTES
@@ -206,25 +274,50 @@ def owned(points: list[Point], all_bytes: bool = True) -> Owned:
                 if kind == WRITE:
                     writes.append((point, socket))
         mine.append((point, socket))
+    if any(socket.note for socket in owners.sockets):
+        find_debts(mine)
     count_points(mine)
     count_parts(writes)
     known = [socket for socket in owners.sockets if socket.has_descriptor and not socket.failed]
     return Owned(mine, known, len(points) - len(mine), cut)
 
 
+def lead_to(sockets: list[Socket], begin: int) -> dict[str, int]:
+    """Finds the steps that lead to noted sockets. Those of which there are none are left out: why, and of how many."""
+    left_out: Counter[str] = Counter()
+    for socket in [socket for socket in sockets if socket.note]:
+        assert socket.note
+        is_full = socket.is_filled or socket.note.waits_to_write()
+        try:
+            socket.leads = led(socket.note, (BUFFER, socket.capacity()), is_full, begin)
+            socket.held = socket.capacity() if is_full else 0
+        except Unreachable as why:
+            left_out[str(why)] += 1
+            sockets.remove(socket)
+    return left_out
+
+
 def chosen(
-    sockets: list[Socket], most: int = MOST_SOCKETS, megabytes: int = MOST_MEGABYTES, room: int = MOST_STEPS
+    sockets: list[Socket],
+    most: int = MOST_SOCKETS,
+    megabytes: int = MOST_MEGABYTES,
+    room: int = MOST_STEPS,
+    at_once: Callable[[set[int]], int] = len,
+    first: int = 0,
 ) -> set[Socket]:
-    """The sockets that a recording of so many steps has room for: the open ones first, and the newest of them and of the others."""
+    """The sockets that a recording of this many steps has room for: the open ones first, and the newest of them and of
+    the others; before all the one whose lock word has the address `first`. `at_once` gives the number of goroutines at
+    once."""
     kept: set[Socket] = set()
     goroutines: set[int] = set()
     steps, text = 0, 0
-    for socket in sorted(sockets, key=lambda socket: (socket.closed, -socket.opening)):
+    for socket in sorted(sockets, key=lambda socket: (socket.closed, socket.word != first, -socket.opening)):
         if len(kept) == min(most, MOST_SOCKETS):
             break
         together = goroutines | socket.goroutines
         has_room = text + socket.text <= megabytes * MEGABYTE
-        if has_room and len(together) <= MOST_GOROUTINES and steps + socket.steps + len(together) - 1 <= room:
+        is_crowd = len(together) > MOST_GOROUTINES and at_once(together) > MOST_GOROUTINES
+        if has_room and not is_crowd and steps + socket.steps + len(together) - 1 <= room:
             kept.add(socket)
             goroutines = together
             steps += socket.steps

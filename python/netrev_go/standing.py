@@ -1,5 +1,5 @@
-"""How a release stands before a program of it is recorded: whether the rules fit, Go compiles what is changed, and what came of the
-doctor's program."""
+"""The state of a release before programs are recorded with it: whether the rules fit, whether Go compiles the changed files, and
+the result of the doctor's trial."""
 
 from __future__ import annotations
 
@@ -17,7 +17,7 @@ FITS = "fits "  # so begins a line of a rule that fits
 
 @dataclass(frozen=True)
 class Standing:
-    """What is said of a release."""
+    """The state of a release, in words."""
 
     version: str
     rules: int = 0

@@ -16,6 +16,7 @@ from netrev_words.built import netrev_program
 from netrev_words.command_lines import file_word
 from netrev_words.plain import plain
 
+from . import messages
 from .asking import PACKAGES
 from .converting import Outcome, ReadLog, Wish, converted
 from .forms import Told
@@ -31,7 +32,7 @@ MAJOR = re.compile(r"v\d+\Z")
 UNFIT = re.compile(r"[^A-Za-z0-9_.-]+")
 LONGEST_NAME = 255 - len(LONGEST_ENDING)
 OTHER = "process"  # the recording of a process that has no tests
-FOUND = 4  # nrdb's status where a schedule ends badly
+FOUND = 4  # nrdb's status if a schedule ends badly
 GRACE = 60  # seconds for reducing what was found
 INDENT = "  "
 
@@ -48,13 +49,13 @@ def file_name(*words: str) -> str:
 
 
 def head_of(test: Ran) -> str:
-    """How a test went, and where it failed if that is known."""
+    """A test's outcome, and the line at which it failed if that is known."""
     at = f", at {test.place[0]}:{test.place[1]}" if test.place else ""
     return plain(f"{test.went().value.upper()} {test.package} {test.name}{at}")
 
 
 class Recordings:
-    """The recordings of tests, below a folder, and what came of each test in all runs."""
+    """The recordings of tests, below a folder, and the result of each test in all runs."""
 
     def __init__(self, base: pathlib.Path, go: Go, wish: Wish, keeps_all: bool, is_page_wanted: bool) -> None:
         self.base, self._go, self._wish, self._keeps_all = base, go, wish, keeps_all
@@ -84,12 +85,12 @@ class Recordings:
         return self.told.setdefault((test.package, test.name), Told(test.package, test.name))
 
     def wanted(self, tests: Tests) -> list[Ran]:
-        """The tests of which recordings are kept: of those that fail in several runs, the first run's."""
+        """The tests whose recordings are kept: for a test that fails in several runs, the first such run."""
         red = {test.name: test for test in reversed(tests.to_keep()) if self.of(test).recording is None}
         return list(dict.fromkeys([*reversed(red.values()), *(tests.leaves() if self._keeps_all else ())]))
 
     def name_of(self, package: str, test: str) -> pathlib.Path:
-        """The name of a recording. Where two packages have the same last word, the second has its whole path."""
+        """The name of a recording. If two packages have the same last element, the second gets its whole path."""
         short = short_name(package)
         if self._short.setdefault(short, package) != package:
             short = package.replace("/", "_")
@@ -101,7 +102,7 @@ class Recordings:
     def whole(self, log: pathlib.Path, tests: Tests) -> None:
         """The recording of a process in which no test is known to have failed, though something did."""
         name = self.name_of(tests.package or OTHER, "")
-        saying = Saying([f"{plain(tests.package or OTHER)}: no test of it is known to have failed"])
+        saying = Saying([messages.NO_TEST_FAILED.format(process=plain(tests.package or OTHER))])
         outcome = self.made(self.read(log, tests), name, None, saying.hear)
         if outcome is not None and not outcome.is_empty:
             saying.rest(outcome.lines)
@@ -120,10 +121,10 @@ class Recordings:
                 continue
             self._names.discard(name)
             if test.is_red():
-                say([f"{head}: no socket is of it"])
+                say([messages.TEST_USED_NONE.format(test=head)])
 
     def keep(self, told: Told, name: pathlib.Path, outcome: Outcome, saying: Saying) -> None:
-        """Says what there is to say of a recording, and keeps it for machines."""
+        """Prints the report of a recording, and keeps it for machines."""
         told.say(outcome.lines)
         told.accepted = outcome.taken
         if name.exists():
@@ -143,7 +144,7 @@ class Recordings:
             return None
 
     def made(self, read: ReadLog | None, name: pathlib.Path, test: Ran | None, hear: Hear) -> Outcome | None:
-        """What became of a recording; None where it can't be written, which is said. `hear` gets what is known of it first."""
+        """The result of a recording; None, with a message, if it can't be written. `hear` gets the lines as soon as they are known."""
         if read is None:
             return None
         failed = test is None or test.is_red()
@@ -169,14 +170,14 @@ class Recordings:
 
 
 def page_of(name: pathlib.Path) -> str | None:
-    """The timeline of a recording, as a page beside it; None where none can be made."""
+    """Writes the timeline of a recording as a page beside it; its name, or None if that fails."""
     page = name.with_suffix(".html")
     words = [sys.executable, str(PACKAGES), "nrdb", "--timeline", file_word(page), file_word(name)]
     run = subprocess.run(
         words, env=nrdb_environment(), capture_output=True, text=True, stdin=subprocess.DEVNULL, check=False
     )
     if run.returncode != 0 or not page.exists():
-        complain(f"{page} can't be made: {run.stdout.strip()[-300:] or run.stderr.strip()[-300:]}")
+        complain(messages.NO_PAGE.format(page=page, why=run.stdout.strip()[-300:] or run.stderr.strip()[-300:]))
         return None
     return str(page)
 
@@ -187,8 +188,8 @@ def nrdb_environment() -> dict[str, str]:
 
 
 def findings(recording: str, seconds: float) -> list[str]:
-    """What nrdb finds by other schedules in so many seconds, line by line. Where it couldn't look, or doesn't come to tell, that is
-    said."""
+    """nrdb's findings in other schedules within this many seconds, line by line. If the search fails or doesn't end,
+    that is reported."""
     words = [sys.executable, str(PACKAGES), "nrdb", "--explore", file_word(recording)]
     with subprocess.Popen(
         words, env=nrdb_environment(), text=True, stdin=subprocess.DEVNULL, stdout=subprocess.PIPE,
@@ -208,6 +209,6 @@ def findings(recording: str, seconds: float) -> list[str]:
                 said, _ = running.communicate()
     told = [line.removeprefix("| ") for line in said.splitlines()[2:]]
     if running.returncode not in (0, FOUND):
-        why = told[-1] if told else f"nrdb ended with {as_a_shell_has_it(running.returncode)}"
-        complain(f"{recording}: what other schedules end with isn't known: {why}")
+        ended = messages.NRDB_ENDED.format(status=as_a_shell_has_it(running.returncode))
+        complain(messages.NOT_EXPLORED.format(recording=recording, why=told[-1] if told else ended))
     return told if running.returncode == FOUND else []

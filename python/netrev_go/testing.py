@@ -1,4 +1,4 @@
-"""`netrev-go test`: Go's command, once or again and again, and what is told of all runs together."""
+"""`netrev-go test`: runs Go's command, once or repeatedly, and reports on all runs together."""
 
 from __future__ import annotations
 
@@ -6,33 +6,39 @@ import argparse
 import itertools
 import os
 import pathlib
+import re
 import sys
 import time
 from collections.abc import Callable, Iterator
 from dataclasses import dataclass, replace
 
+from netrev_words.command_lines import command as tool
 from netrev_words.files import written_whole
 from netrev_words.plain import plain
 from netrev_words.plurals import counted
 
-from . import forms
+from . import forms, messages
 from .converting import Wish
 from .keeping import Making, complain, leave, say, report_no_log, report_unrecorded
 from .linking import kept
 from .outputs import base_name, look_folder
 from .run_folders import claim
-from .running import Runner, as_a_shell_has_it, limits_of, logs_folder, still_written, stop_at_once
+
+from .running import (
+    Runner, as_a_shell_has_it, behind_the_folder, limits_of, logs_folder, still_written, stop_at_once,
+)  # fmt: skip
 from .tested import Recordings
 from .toolchain import Go
 
 SO_FAR = "test"  # what the recordings of a run that goes on are named with
 FOLDER = "recordings"
 STANDARD_OUTPUT = "-"
+UNTESTED = re.compile(r"--?(?:test\.)?(?:bench|fuzz)(?:=.|\Z)")  # flags by which other functions than tests run
 
 
 @dataclass
 class Came:
-    """What came of all runs."""
+    """The result of all runs."""
 
     status: int = 0  # the first that isn't 0, as a shell has it
     suspected: bool = False
@@ -43,7 +49,7 @@ class Came:
 
 @dataclass(frozen=True)
 class Round:
-    """One run: its number from 0, on how many processors where that is set, and the seed of the delays, 0 for none."""
+    """One run: its number from 0, the number of processors if one is set, and the seed of the delays, 0 for none."""
 
     number: int
     processors: int | None
@@ -57,7 +63,7 @@ class Round:
 
 
 def most_runs(options: argparse.Namespace) -> int | None:
-    """How many runs are wanted at most, where that is said."""
+    """The greatest number of runs, if there is one."""
     return options.runs or (None if options.until_failure or options.seconds is not None else 1)
 
 
@@ -80,8 +86,9 @@ def record_tests(options: argparse.Namespace, go: Go, command: list[str], wish: 
     recordings = Recordings(base, go, wish, options.all or options.explore is not None, options.html)
     came = Came()
     with kept(go, options.words_of_go, most_runs(options) != 1) as more:
-        program, test, *words = command
-        run_all(options, go, [program, test, *more, *words], wish, recordings, came)
+        run_all(options, go, [*command[:2], *behind_the_folder(command[2:], more)], wish, recordings, came)
+    if any(UNTESTED.match(word) for word in options.words_of_go):
+        complain(messages.ONLY_TESTS.format(netrev_go=tool("netrev-go")))
     came.all_recorded = came.all_recorded and recordings.all_recorded
     came.suspected = recordings.suspected
     try:
@@ -119,7 +126,7 @@ class Run:
         self.has_recorded = True
 
     def once(self, one: Round) -> int:
-        """Runs it; Go's status. The logs stay where something can't be made of them."""
+        """Runs it and returns Go's status. The logs stay if they can't be converted."""
         folder = claim(logs_folder(self._options.points))
         limits = replace(limits_of(self._options), processors=one.processors)
         is_whole, running = False, list[pathlib.Path]()
@@ -127,7 +134,7 @@ class Run:
             runner = Runner(self._command, folder, limits, one.delays)
             status = as_a_shell_has_it(runner.wait(self._so_far(folder)))
             if status and one.words() != "run 1":
-                say([f"netrev-go: {one.words()} failed"])
+                say([messages.RUN_FAILED.format(run=one.words())])
             running = still_written(folder)
             is_whole = self._take(folder, status != 0)
             self.is_last = self.is_last or runner.is_cancelled()

@@ -3,17 +3,21 @@ was made for."""
 
 from __future__ import annotations
 
+import argparse
+import re
 from collections.abc import Iterable
 from itertools import chain
 from operator import sub
 
 from .points import TIME, Point
 
+UNITS = {"ms": 0.001, "s": 1.0, "m": 60.0, "h": 3600.0, "": 1.0}
+A_TIME = re.compile(r"([0-9]{1,9}(?:\.[0-9]{1,3})?)(ms|s|m|h|)\Z")
+
 
 def times_of(points: Iterable[Point], ended: list[int], begin: int) -> list[int] | None:
-    """Of each step the nanoseconds since the log began, where so many steps are there behind each point. Points have their order by a
-    counter, and read the clock just behind that, so a time that is a little before the one before is taken for that. None where a point
-    has no time, as in logs of before."""
+    """For each step, the nanoseconds since the log began. Points are ordered by a counter and read the clock just after it, so a
+    time slightly before the previous one is replaced by that one. None if a point has no time, as in older logs."""
     times: list[int] = []
     latest, step = begin, 0
     for time, behind in zip(map(TIME, points), ended):
@@ -30,3 +34,11 @@ def times_of(points: Iterable[Point], ended: list[int], begin: int) -> list[int]
 def deltas(numbers: list[int]) -> list[int]:
     """Of each number how much larger it is than the one before; the first as it is."""
     return list(map(sub, numbers, chain((0,), numbers)))
+
+
+def seconds(text: str) -> float:
+    """A time as Go writes it: 5s, 500ms, 2m."""
+    found = A_TIME.match(text)
+    if not found or not (number := float(found[1]) * UNITS[found[2]]):
+        raise argparse.ArgumentTypeError("it is a time, as 5s, 500ms or 2m")
+    return number

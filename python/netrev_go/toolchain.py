@@ -15,17 +15,18 @@ from dataclasses import dataclass
 
 from netrev_words.command_lines import command
 
+from . import messages
+
 SOURCES = pathlib.Path(__file__).resolve().parent / "go"
 OVERLAY, NEW, LEFT_OUT = "overlay.json", "new.json", "without.txt"
 CHANGED = ("runtime", "internal/poll", "testing")  # of Go's packages
 WITHOUT = "without "  # so begins a line of a rule that can be done without
 # The patch of each release with which the rules were tried.
 TRIED = {"1.19": 8, "1.21": 13, "1.22": 12, "1.23": 5, "1.24": 4, "1.26": 10, "1.27": 3}
-HOW_TO_INSTALL = "Debian has it: apt-get install golang-go"
 
 
 class Trouble(Exception):
-    """Something that stands in the way, and what to do about it."""
+    """An error for the user, with its remedy."""
 
 
 @dataclass(frozen=True)
@@ -50,18 +51,18 @@ class Go:
 def find_go() -> Go:
     program = shutil.which("go")
     if not program:
-        raise Trouble(f"there is no `go` on the PATH. {HOW_TO_INSTALL}")
+        raise Trouble(messages.NO_GO.format(how=messages.HOW_TO_INSTALL))
     run = subprocess.run([program, "env", "-json"], capture_output=True, text=True, check=False)
     if run.returncode != 0:
-        raise Trouble(f"`go env` failed: {run.stderr.strip()}")
+        raise Trouble(messages.GO_ENV_FAILED.format(why=run.stderr.strip()))
     told = json.loads(run.stdout)
     go = Go(
         program, pathlib.Path(told["GOROOT"]), told["GOVERSION"], f"{told['GOOS']}/{told['GOARCH']}", told["GOFLAGS"]
     )
     if go.system != "linux/amd64":
-        raise Trouble(f"Go builds for {go.system} here, and netrev-go records linux/amd64 alone: unset GOOS and GOARCH")
+        raise Trouble(messages.OTHER_SYSTEM.format(system=go.system))
     if not (go.sources() / "runtime/netpoll.go").exists():
-        raise Trouble(f"the sources of Go's library aren't in {go.sources()}. Debian: apt-get install golang-src")
+        raise Trouble(messages.NO_SOURCES.format(folder=go.sources()))
     return go
 
 
@@ -105,10 +106,10 @@ def tried(version: str) -> str:
     """Whether a version was tried, in words."""
     release, _ = release_of(version)
     if is_tried(version):
-        return "this release was tried"
+        return messages.TRIED
     if release in TRIED:
-        return f"never tried; {release}.{TRIED[release]} was"
-    return f"never tried; {', '.join(TRIED)} were"
+        return messages.PATCH_UNTRIED.format(tried=f"{release}.{TRIED[release]}")
+    return messages.RELEASE_UNTRIED.format(tried=", ".join(TRIED))
 
 
 def points_program(go: Go, folder: pathlib.Path) -> pathlib.Path:
@@ -116,12 +117,12 @@ def points_program(go: Go, folder: pathlib.Path) -> pathlib.Path:
     program = folder / "points"
     run = quiet_go(go, SOURCES / "points", "build", "-o", str(program), ".")
     if run.returncode != 0:
-        raise Trouble(f"Go couldn't build netrev-go's own program: {run.stderr.strip()}")
+        raise Trouble(messages.TOOL_NOT_BUILT.format(why=run.stderr.strip()))
     return program
 
 
 def fit(go: Go) -> tuple[bool, list[str]]:
-    """Whether all rules fit this Go, and what is said of each."""
+    """Whether all rules fit this Go, and a line for each rule."""
     with tempfile.TemporaryDirectory() as folder:
         program = points_program(go, pathlib.Path(folder))
         run = subprocess.run([program, "fit", go.sources()], capture_output=True, text=True, check=False)
@@ -129,17 +130,17 @@ def fit(go: Go) -> tuple[bool, list[str]]:
 
 
 def overlay(go: Go) -> pathlib.Path:
-    """The overlay for this Go, made where it isn't there yet. It is there only once Go has compiled it."""
+    """The overlay for this Go, made if it doesn't exist. It exists only after Go has compiled it."""
     made = cache() / key_of(go)
     if not (made / OVERLAY).exists():
         try:
             made.mkdir(parents=True, exist_ok=True)
             with (made / "lock").open("w") as lock:
                 fcntl.flock(lock, fcntl.LOCK_EX)
-                if not (made / OVERLAY).exists():  # nobody else made it meanwhile
+                if not (made / OVERLAY).exists():  # no other process made it meanwhile
                     make_overlay(go, made)
         except OSError as fault:
-            raise Trouble(f"{made} can't be written ({fault.strerror}): XDG_CACHE_HOME names another folder") from None
+            raise Trouble(messages.CACHE_UNWRITABLE.format(folder=made, why=fault.strerror)) from None
     return made / OVERLAY
 
 
@@ -155,15 +156,13 @@ def make_overlay(go: Go, made: pathlib.Path) -> None:
     )
     program.unlink()
     lines = run.stdout.splitlines()
-    unknown = f"{go.version} isn't a release that netrev-go knows ({tried(go.version)}). "
+    words = {"version": go.version, "tried": tried(go.version)}
     if run.returncode != 0:
         unfit = [line for line in lines if line.startswith("unfit ")]
-        raise Trouble(
-            f"{unknown}These places of it are other than the rules say (`{command('netrev-go')} doctor` has all):\n"
-            + "\n".join([*unfit, run.stderr]).strip()
-        )
+        head = messages.RULES_DONT_FIT.format(**words, netrev_go=command("netrev-go"))
+        raise Trouble(head + "\n".join([*unfit, run.stderr]).strip())
     compiled = quiet_go(go, made, "build", "-overlay", str(made / NEW), *CHANGED)
     if compiled.returncode != 0:
-        raise Trouble(f"{unknown}The rules fit, and the changed files aren't compiled:\n{compiled.stderr.strip()}")
+        raise Trouble(messages.DOES_NOT_COMPILE.format(**words, why=compiled.stderr.strip()))
     (made / LEFT_OUT).write_text("".join(f"{line}\n" for line in lines if line.startswith(WITHOUT)))
     (made / NEW).rename(made / OVERLAY)

@@ -1,5 +1,5 @@
-"""Whether the installed Go can be recorded, by recording: a small program that has each kind of step, of which each answer and
-each lock word is compared. A rule may fit, and its file be compiled, and yet not be where Go passes: this sees it."""
+"""Checks whether the installed Go can be recorded by recording a small program with each kind of step, and comparing each answer
+and each lock word. A rule may fit and its file compile although Go never passes that place: this trial detects that."""
 
 from __future__ import annotations
 
@@ -16,6 +16,7 @@ from netrev_words.built import netrev_program
 from netrev_words.command_lines import command
 from netrev_words.plain import plain
 
+from . import messages
 from .asking import check
 from .compare import DIFFERS, by_the_model, differing
 from .keeping import say
@@ -38,7 +39,7 @@ MOVED = re.compile(r'\["sys(read|write)",.*,\["(?:got|put)",(\d+)\]\]')
 
 @dataclass(frozen=True)
 class Trial:
-    """What came of it."""
+    """The result of a trial."""
 
     good: bool
     said: str
@@ -46,7 +47,7 @@ class Trial:
 
 
 def trial(go: Go) -> Trial:
-    """Records the small program on one processor and on four, says what became of that, and keeps it where all is well."""
+    """Records the small program on one processor and on four, reports the result, and keeps it if it succeeded."""
     kept_in = overlay(go).parent / KEPT
     with tempfile.TemporaryDirectory(prefix="netrev-trial-") as name:
         tried_out = tried_in(go, pathlib.Path(name))
@@ -62,7 +63,7 @@ def tried_in(go: Go, folder: pathlib.Path) -> Trial:
     program = folder / "trial"
     built = quiet_go(go, SOURCES / "trial", "build", "-overlay", str(overlay(go)), "-o", str(program), "main.go")
     if built.returncode != 0:
-        return Trial(False, f"a program can't be built: {built.stderr.strip()[-600:]}")
+        return Trial(False, messages.NO_TRIAL_PROGRAM.format(why=built.stderr.strip()[-600:]))
     said = []
     for processors in PROCESSORS:
         for moment in MOMENTS:
@@ -76,7 +77,7 @@ def tried_in(go: Go, folder: pathlib.Path) -> Trial:
 
 
 def recorded(command: list[str], folder: pathlib.Path, processors: int, is_whole: bool) -> Trial:
-    """One run's recording, compared. Where nothing is left out, it has all bytes."""
+    """The recording of one run, compared. If nothing is left out, it must have all bytes."""
     folder.mkdir()
     environment = os.environ | {
         "NETREV_LOG": str(folder / "log"), "GOMAXPROCS": str(processors), "NETREV_POINTS": "65536"
@@ -84,67 +85,70 @@ def recorded(command: list[str], folder: pathlib.Path, processors: int, is_whole
     try:
         run = subprocess.run(command, env=environment, capture_output=True, text=True, timeout=PATIENCE, check=False)
     except subprocess.TimeoutExpired:
-        return Trial(False, f"the program hasn't ended after {PATIENCE} seconds")
+        return Trial(False, messages.TRIAL_HANGS.format(seconds=PATIENCE))
     logs = [path for path in folder.iterdir() if LOG.match(path.name)]
     if run.returncode != 0 or len(logs) != 1:
-        return Trial(
-            False, f"the program ended by {run.returncode}, with {len(logs)} logs: {run.stderr.strip()[-600:]}"
-        )
+        words = {"status": run.returncode, "logs": len(logs), "why": run.stderr.strip()[-600:]}
+        return Trial(False, messages.TRIAL_FAILED.format(**words))
     try:
         made = make(read_log(logs[0]))
     except (NoLog, Nothing, Unconvertible) as fault:
-        return Trial(False, f"no recording can be made: {fault}")
+        return Trial(False, messages.NO_TRIAL_RECORDING.format(why=fault))
     if fault_found := incomplete(made, run.stdout if is_whole else ""):
         return Trial(False, fault_found)
     came = compared(made, folder / "trial.jsonl")
     missing = WANTED - {line[2 : line.index('"', 2)] for line in map(str, made.lines)}
     if came.good and missing:
-        return Trial(False, f"these steps aren't recorded: {' '.join(sorted(missing))}", True)
+        return Trial(False, messages.STEPS_MISSING.format(kinds=" ".join(sorted(missing))), True)
     return came
 
 
 def incomplete(made: Recording, counted: str) -> str:
-    """What the recording lacks: a change of a lock word, or bytes of which the program counted how many went."""
+    """What the recording lacks: a change of a lock word, or bytes that the program counted."""
     if broken := unchained(made):
-        return f"a lock word was changed where no rule is: {broken}"
+        return messages.LOCK_WORD_CHANGED.format(change=broken)
     total = {"read": 0, "write": 0}
     for found in filter(None, map(MOVED.fullmatch, map(str, made.lines))):
         total[found[1]] += int(found[2])
     told = f"{total['read']} {total['write']}"
     if counted and counted.strip() != told:
-        return f"the program read and wrote {counted.strip()} bytes, and {told} are recorded"
+        return messages.BYTES_MISSING.format(counted=counted.strip(), recorded=told)
     return ""
 
 
 def unchained(made: Recording) -> str:
-    """Where a lock word wasn't what the point before had left."""
+    """The first lock word that differs from what the point before left."""
     last: dict[int, int] = {}
     for (step, socket, new), old in zip(made.words, made.olds):
         if last.get(socket, 0) != old:
-            return f"step {step} found {old} at socket {socket}, and not {last.get(socket, 0)}"
+            words = {"step": step, "found": old, "socket": socket, "expected": last.get(socket, 0)}
+            return messages.LOCK_WORD_FOUND.format(**words)
         last[socket] = new
     return ""
 
 
 def compared(made: Recording, name: pathlib.Path) -> Trial:
-    """What netrev says of the recording, or the model in Python where no netrev is here."""
+    """The comparison with netrev, or with the model in Python if netrev is missing."""
     write(made, name)
     write_words(made, name.with_suffix(".words"))
     netrev = netrev_program()
     if netrev is None:
         good, said = by_the_model(name)
-        return Trial(good, f"{len(made.lines)} steps (asked of the model in Python)" if good else said)
-    taken, said = check(netrev, name)
+        return Trial(good, messages.TRIAL_BY_MODEL.format(steps=len(made.lines)) if good else said)
+    try:
+        taken, said = check(netrev, name)
+    except OSError as fault:
+        return Trial(False, messages.TRIAL_UNCHECKED.format(why=fault.strerror))
     if not taken:
-        return Trial(False, f"netrev refuses the recording: {said}")
+        return Trial(False, messages.TRIAL_REFUSED.format(why=said))
     words, differ = differing(netrev, name)
     if differ:
         return Trial(False, f"{DIFFERS}: {differ[0]}")
-    return Trial(True, f"{len(made.lines)} steps, {words} lock words")
+    return Trial(True, messages.TRIAL_PASSED.format(steps=len(made.lines), words=words))
 
 
 def kept(go: Go) -> Trial | None:
-    """What came of it when this Go was tried before."""
+    """The kept result of an earlier trial of this Go."""
     try:
         return Trial(True, str(json.loads((overlay(go).parent / KEPT).read_text())["said"]))
     except (OSError, ValueError, TypeError, KeyError):
@@ -152,16 +156,16 @@ def kept(go: Go) -> Trial | None:
 
 
 def ready(go: Go) -> pathlib.Path:
-    """The overlay of a Go that can be recorded. It is tried once; of a release that never was, what came of it is said."""
+    """The overlay of a Go that can be recorded. Each Go is tried once; for an untested release, the result is printed."""
     made = overlay(go)
     prepare_line_reader(go)
     before = kept(go)
     came = before or trial(go)
     if not came.good:
-        more = f"`{command('netrev-go')} doctor` has more"
-        raise Trouble(f"{go.version} isn't recorded ({tried(go.version)}): {came.said}. {more}")
+        words = {"version": go.version, "tried": tried(go.version), "why": came.said}
+        raise Trouble(messages.NOT_RECORDABLE.format(**words, netrev_go=command("netrev-go")))
     without = left_out(go)
     if before is None and (without or not is_tried(go.version)):
-        said = f"netrev-go: {go.version} ({tried(go.version)}) can be recorded: {came.said}"
+        said = messages.RECORDABLE.format(version=go.version, tried=tried(go.version), how=came.said)
         say([plain(line) for line in [said, *without]])
     return made

@@ -3,6 +3,7 @@ in which the recording has a step."""
 
 from __future__ import annotations
 
+from collections.abc import Mapping
 from typing import NamedTuple
 
 from .goroutines import SLEEP, UNENDED, Goroutines
@@ -11,8 +12,8 @@ WAITED_FOR = ("", "a value from a channel", "room in a channel", "a select", "a 
 
 
 class Wait(NamedTuple):
-    """A wait: behind which step of the recording, up to which (0: the recording ends first), whose, what for, its stack, and which
-    goroutine made it ready (-1: none that the recording has)."""
+    """A wait: the steps after which it begins and ends (0 if the recording ends first), the goroutine, the reason, its stack, and
+    the goroutine that ended it (-1 if the recording has none)."""
 
     first: int
     last: int
@@ -22,15 +23,18 @@ class Wait(NamedTuple):
     by: int
 
 
-def waits_of(found: Goroutines, numbers: dict[int, int]) -> list[Wait]:
-    """The waits in the order of their ends, those that don't end last. `numbers` has the recording's numbers of goroutines."""
+def waits_of(found: Goroutines, numbers: dict[int, int], since: Mapping[int, int] = {}) -> list[Wait]:
+    """The waits in the order of their ends, those that don't end last. `numbers` has the recording's numbers of goroutines, and `since` behind
+    which step a goroutine took one that another had before: what it did earlier would be taken for the other's."""
     waits = []
     for park in (
         *(found.parks[place] for place in found.finished),
         *(one for one in found.parks if one.last == UNENDED),
     ):
-        if park.goroutine in numbers and park.what != SLEEP and not park.first == park.last:
+        is_own = park.goroutine in numbers and park.first >= since.get(park.goroutine, 0)
+        if is_own and park.what != SLEEP and not park.first == park.last:
             reason = WAITED_FOR[park.what] if park.what < len(WAITED_FOR) else ""
-            last, by = max(park.last, 0), numbers.get(park.by, -1)
+            is_known = park.by and park.by in numbers and park.last >= since.get(park.by, 0)
+            last, by = max(park.last, 0), numbers[park.by] if is_known else -1
             waits.append(Wait(park.first, last, numbers[park.goroutine], reason, park.stack, by))
     return waits

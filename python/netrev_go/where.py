@@ -1,4 +1,4 @@
-"""NAME.where, the file of lines beside a recording (docs/reference/RECORDING.md has its form)."""
+"""Writes NAME.where, the file of source lines beside a recording (docs/reference/RECORDING.md has the format)."""
 
 from __future__ import annotations
 
@@ -65,8 +65,8 @@ def write_where(
     times: list[int] | None = None,
     everybody: Everybody | None = None,
 ) -> None:
-    """Writes the file of a recording whose steps have these stacks, which the program puts in these orders, and what the log has
-    besides; more lines; the steps' times; and all goroutines."""
+    """Writes the file of a recording whose steps have these stacks and orders, with the log's other facts, more lines,
+    the steps' times, and all goroutines."""
     numbered = Numbered(calls)
     numbered.add({"where": 1 if everybody is None else 2, "steps": len(stacks)})
     number_of = {key: str(numbered.stack(key)) for key in dict.fromkeys(stacks)}.__getitem__

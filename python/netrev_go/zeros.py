@@ -1,4 +1,4 @@
-"""Lines of a recording with the bytes that were read or written: all zeros, since nobody recorded them."""
+"""Lines of a recording with the bytes that were read or written: all zeros, because their contents aren't recorded."""
 
 from __future__ import annotations
 
@@ -24,7 +24,7 @@ Line = str | Zeros
 
 
 def line_with(before: str, size: int, behind: str) -> Line:
-    """A line with so many bytes, all zeros."""
+    """A line with this many bytes, all zeros."""
     return Zeros(before, size, behind) if size > FEW else f"{before}{'00' * size}{behind}"
 
 
@@ -41,11 +41,11 @@ def drained(socket: int, count: int) -> str:
 
 @lru_cache(LINES_KEPT)
 def put_line(g: int, socket: int, count: int) -> Line:
-    """A write that put so many bytes."""
+    """A write that put this many bytes."""
     return written(g, socket, count, f'["put",{count}]')
 
 
 @lru_cache(LINES_KEPT)
 def written(g: int, socket: int, count: int, answer: str) -> Line:
-    """A write of so many bytes, with its answer as JSON."""
+    """A write of this many bytes, with its answer as JSON."""
     return line_with(f'["syswrite",{g},{socket},"', count, f'",{answer}]')

@@ -1,4 +1,4 @@
-"""What `print` and `dump` show of a state, as docs/reference/COMMANDS.md tells it."""
+"""What `print` and `dump` show of a state, by docs/reference/COMMANDS.md."""
 
 from typing import Any, Callable, Optional
 

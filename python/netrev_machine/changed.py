@@ -39,7 +39,7 @@ def changed_cells(machine: Machine, with_queues: bool = False) -> list[str]:
 
 
 def _of_all(machine: Machine, whole: dict[str, Any]) -> list[str]:
-    """The cells of which there is one."""
+    """The cells of the whole machine."""
     before = Before(*(whole.get(name, getattr(machine, name)) for name in Before._fields))
     return [name for name, shows in SHOWS_ALL.items() if shows(before) != shows(machine)]
 

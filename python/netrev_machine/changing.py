@@ -23,7 +23,7 @@ def _shown(machine: Machine, cell: str) -> object:
 
 
 def changes(recording: bytes, observer: Observer) -> tuple[list[str], bool]:
-    """The lines, with the last one, and whether there is no fault; Doubtful where the model has no opinion."""
+    """The lines with the last one, and whether there is no fault; Doubtful if the model can't decide."""
     lines: list[str] = []
     try:
         text = read_text(recording)

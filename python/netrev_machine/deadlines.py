@@ -1,5 +1,5 @@
-"""The machine's timers without the rest of it: those that are armed, in a heap, and those that went off and weren't run yet. For whom the
-other parts are no matter, or too many steps."""
+"""The machine's timers alone, for callers that don't need the other parts: a heap of armed timers, and the timers that went off and
+haven't run."""
 
 from __future__ import annotations
 
@@ -17,7 +17,7 @@ FEWEST = 64  # timers for which the heap is swept
 
 @dataclass(eq=False, slots=True)
 class Timer:
-    """An armed timer, or one that went off: whose it is, the sides that its function is for, and who had set the deadline."""
+    """A timer that is armed or went off: its descriptor, the sides of its function, and the step that set the deadline."""
 
     due: int
     descriptor: int
@@ -98,7 +98,7 @@ class Deadlines:
     def set(
         self, number: int, mode: str, deadline: int, setter: Any = None, changes: list[tuple[int, bool]] | None = None
     ) -> None:
-        """Sets the deadline. `changes` are those of `changing`, where they are known."""
+        """Sets the deadline. `changes` are those of `changing`, if they are known."""
         descriptor = self.descriptors[number]
         if descriptor.closing:
             return
@@ -149,7 +149,7 @@ class Deadlines:
         return timer
 
     def place(self, number: int, side: int, sequence: int) -> int | None:
-        """Where a firing stands in the list, if it does."""
+        """The place of a firing in the list, if it is in it."""
         key = number, side, sequence
         return self._keys.index(key) if self._counts.get(key) else None  # (of hundreds it is mostly none)
 

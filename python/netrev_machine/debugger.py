@@ -1,8 +1,7 @@
 """A plain model of the shared debugger, against which the replies of a session are held.
 
 `Recording` knows what stands at each position of a recording: the kinds of its steps by its text, and the replies of
-looks by one pass of `netrev run` over it. The words stand in the tables of netrev_words/vocabulary.py. What the commands do, and which
-line is answered what, is the model's own, as docs/reference/COMMANDS.md tells it: `read_line` says what a line asks for, and
+looks by one pass of `netrev run` over it. The words stand in the tables of netrev_words/vocabulary.py. The model itself, by docs/reference/COMMANDS.md, has the effects of commands and the answers to lines: `read_line` says what a line asks for, and
 `Recording.answer` what it is answered in a state of the session, and the state behind it.
 """
 
@@ -30,11 +29,11 @@ CHECKPOINTS_FULL = "fault 404 checkpoints full"
 
 
 Reply = tuple[str, ...]  # the lines of a reply
-Marks = tuple[tuple[int, str], ...]  # their numbers, and what `info breakpoints` says of each
+Marks = tuple[tuple[int, str], ...]  # their numbers, and the text of each in `info breakpoints`
 
 
 class Asked(NamedTuple):
-    """What a line asks for: a command, which is placed, a look, or what is answered alike in every state."""
+    """The meaning of a line: a command, which is placed, a query, or a line with the same answer in every state."""
 
     sort: str
     what: Any = None
@@ -56,7 +55,7 @@ COMMANDS = {"step", "seek", "turn", "mark", "delete", "checkpoint", "restart", "
 
 
 def read_line(line: bytes) -> Optional[Asked]:
-    """What a line of bytes, without its line feed, asks for. None where it has no words."""
+    """The meaning of a line of bytes without its line feed; None for a blank line."""
     if len(line) > MOST_LINE:
         return Asked("fault", TOO_LONG)
     text = line.removesuffix(b"\r").decode("latin-1")
@@ -70,7 +69,7 @@ def read_line(line: bytes) -> Optional[Asked]:
 
 
 def read_words(first: str, rest: list[str]) -> Optional[Asked]:
-    """What the words ask for of which the first is known, or None where something is wrong with the rest."""
+    """The meaning of words whose first one is known; None if the rest is wrong."""
     number = number_of(rest[0]) if len(rest) == 1 else None
     match first:
         case "stepi" | "reverse-stepi":
@@ -179,7 +178,7 @@ class Recording:
         return at < len(hits) and hits[at] == position
 
     def answer(self, state: State, asked: Asked) -> Answered:
-        """The state behind what is asked in a state, and the lines of its reply."""
+        """The state after a line, and the lines of its reply."""
         return getattr(self, f"answer_{asked.sort}")(state, asked.what)
 
     def answer_fault(self, state: State, text: str) -> Answered:
@@ -258,10 +257,10 @@ class Recording:
 
 
 def left_standing(marks: Marks, hitting: Sequence[int]) -> Marks:
-    """The marks that still stand behind a stop at which those of these numbers hit: temporary ones among them are gone."""
+    """The marks that remain after a stop at which these marks hit, without the temporary ones among them."""
     return tuple(mark for mark in marks if mark[0] not in hitting or not mark[1].startswith("tbreak "))
 
 
 def moved(state: State, position: int) -> State:
-    """The state at another position, or the very same where it is none."""
+    """The state at another position, or the same state if the position doesn't change."""
     return state if state.position == position else state._replace(position=position)

@@ -1,5 +1,5 @@
-"""The machine, changed in place: steps.py's 31 functions run over it as over a World, which it reads as. It keeps what each step
-changed. So a step that is refused leaves nothing, the last steps can be undone, and whoever asks what a step changed asks here."""
+"""The machine, changed in place: the 31 functions of steps.py run over it as over a World. It keeps the changes of each step, so a
+refused step changes nothing, the last steps can be undone, and callers can ask what a step changed."""
 
 from __future__ import annotations
 
@@ -30,7 +30,7 @@ Changes = list[Change]  # of one step, in their order
 
 
 class Machine:
-    """The state, and what the last steps changed: so many as it is to remember."""
+    """The state, and the changes of the last steps, up to the given number."""
 
     __slots__ = (*STATE, "steps", "_changes", "_seats")
 
@@ -45,7 +45,7 @@ class Machine:
         self.firings: tuple[Timer, ...] = ()
         self.steps: deque[Changes] = deque(maxlen=remembers)  # what each of the last steps changed; None remembers all
         self._changes: Changes = []
-        self._seats: dict[tuple[Any, ...], int] = {}  # who is inside the wait of a descriptor and side
+        self._seats: dict[tuple[Any, ...], int] = {}  # the goroutine inside the wait of a descriptor and side
 
     @property
     def changes(self) -> Changes:
@@ -53,7 +53,7 @@ class Machine:
         return self.steps[-1] if self.steps else []
 
     def step(self, step: Step) -> Answer:
-        """Makes a step: its answer. Where it is Refused nothing has changed."""
+        """Makes a step; its answer. If it raises Refused, nothing has changed."""
         changes: Changes = []
         self._changes = changes
         try:
@@ -136,7 +136,7 @@ class Machine:
                 old[place] = item
 
     def _sits(self, g: int, status: Status) -> None:
-        """Gives a goroutine a status, and knows who is inside a wait then."""
+        """Sets a goroutine's status, and updates which goroutines are inside a wait."""
         old = self.goroutines[g]
         if old[0] in INSIDE:
             del self._seats[old[1:]]

@@ -1,5 +1,5 @@
-"""The five operations on a lock word. Each gives the answer, the word behind it, and how many releases of each side are
-owed."""
+"""The five operations on a lock word. Each returns the answer, the new word, and the number of releases that are owed to each side.
+"""
 
 from .machine import Lock, Refused, at, put
 

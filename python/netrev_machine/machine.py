@@ -1,7 +1,6 @@
 """The machine's state, as docs/internals/MACHINE.md tells it. A state is never changed: a step makes the next one of it.
 
-A status is a tuple of what `print gor` shows: ("idle",), ("acquiring", 0, "r"), ("owing", 0, 2, 1). What there is one of
-for each side is a pair, reading first.
+A status is a tuple of what `print gor` shows: ("idle",), ("acquiring", 0, "r"), ("owing", 0, 2, 1). Values for both sides are pairs, reading first.
 """
 
 from __future__ import annotations

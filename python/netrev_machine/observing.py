@@ -1,4 +1,4 @@
-"""Whoever wants to know what the model meets gives it one of these, with what it wants to know overridden."""
+"""The observer of the model: a caller overrides the methods for the events that it wants."""
 
 from __future__ import annotations
 
@@ -11,7 +11,7 @@ if TYPE_CHECKING:
 
 
 class Observer:
-    """Is told of each step and of each line. This one doesn't care."""
+    """Gets each step and each line. This one ignores them."""
 
     def applied(self, kind: str, answer: Answer) -> None:
         """A step of this kind applied, and had this answer."""
@@ -26,4 +26,4 @@ class Observer:
         """A recording has this fault."""
 
     def asked(self, asked: Asked, reply: Reply) -> None:
-        """A line asked for this, and was answered so."""
+        """A line that asked for this got this answer."""

@@ -33,7 +33,7 @@ def with_word(world: World, d: int, side: str, word: Word) -> World:
 
 
 def unblock(world: World, d: int, side: str, readiness: bool) -> World:
-    """Takes the word of a side: with readiness it is ready then, and whoever it held goes on to the swap."""
+    """Unblocks the word of a side: with readiness it becomes ready, and the goroutine that it held continues to the swap."""
     word = world.descs[d].words[at(side)]
     if word == "ready":
         return world
@@ -83,7 +83,7 @@ def is_combo(desc: Desc) -> bool:
 
 
 def followed(is_running: bool, place: int, before: Sequence[int], now: Sequence[int]) -> Optional[bool]:
-    """Whether the timer of a side is armed anew where these were the deadlines and are so now; None where it stays as it is."""
+    """Whether the timer of a side is armed again after a change of the deadlines; None if it stays as it is."""
     both = are_both(now)
     is_wanted = now[place] > 0 and not (both and place)  # (the timer of reading is for both)
     if not is_running:
@@ -139,7 +139,7 @@ def with_timer(world: World, d: int, side: str, combo: bool) -> World:
 
 
 def fired(world: World, firing: Timer) -> Optional[World]:
-    """Runs a firing: None where it is stale. Whose sequence it goes by is the first of the sides that it covers."""
+    """Runs a firing; None if it is stale. Its sequence is that of the first side that it covers."""
     d, own = firing.desc, at(firing.covers[0])
     if firing.sequence != world.descs[d].sequences[own]:
         return None

@@ -44,8 +44,7 @@ class Replayed(NamedTuple):
 
 
 def replay(recording: bytes, observer: Observer, keeps_worlds: bool = True, keeps_answers: bool = True) -> Replayed:
-    """The recording, replayed; Fault where it is none, and Doubtful where the model has no opinion. States and answers are
-    kept where they are wanted."""
+    """Replays the recording; Fault if it isn't one, Doubtful if the model can't decide. Keeps states and answers on request."""
     text = read_text(recording)
     worlds, answers = held_together(positions(text, observer), keeps_worlds, keeps_answers)
     return Replayed(text, worlds, answers)
@@ -67,7 +66,7 @@ def held_together(
 
 
 def printed(program: str, recording: bytes, script: bytes, observer: Observer) -> Optional[Printed]:
-    """What `netrev PROGRAM` prints over this recording, of `run` to this script; None where the model has no opinion."""
+    """The output of `netrev PROGRAM` over this recording, for `run` with this script; None if the model can't decide."""
     try:
         if program in LISTS:
             lines, is_good = LISTS[program](recording, observer)

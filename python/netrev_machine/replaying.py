@@ -16,8 +16,8 @@ def differs(recorded: Answer, answer: Answer) -> bool:
 
 
 def answers(recording: Recording, observer: Observer, make: Callable[[Step], Answer]) -> Iterator[Answer]:
-    """The answer of each step in turn, as it is made, or the Fault of the first one that doesn't apply or whose recorded answer is
-    another. The observer is told what is met."""
+    """The answer of each step as it is made; the Fault of the first step that doesn't apply or has another recorded answer. The
+    observer gets each step."""
     for number, (step, recorded) in enumerate(zip(recording.steps, recording.answers), 1):
         try:
             answer = make(step)

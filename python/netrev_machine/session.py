@@ -49,7 +49,7 @@ class Session:
         self._observer = observer
 
     def answer(self, line: bytes) -> Optional[Reply]:
-        """The reply to a line; None where it has no words."""
+        """The reply to a line; None for a blank line."""
         asked = read_line(line)
         if asked is None:
             return None

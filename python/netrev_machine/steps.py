@@ -20,7 +20,7 @@ def need(holds: object, reason: int) -> None:
 
 
 def there(world: World, g: int) -> Status:
-    """The status of a goroutine that is there."""
+    """The status of an existing goroutine."""
     need(g < len(world.goroutines) and world.goroutines[g] != GONE, 1)
     return world.goroutines[g]
 
@@ -109,7 +109,7 @@ def drain(world: World, s: int, n: int) -> Outcome:
 
 
 def operate(world: World, g: int, s: int, operation: Operation, *arguments: str) -> Outcome:
-    """An operation on a lock word. Who owes releases then isn't idle, and who has to wait isn't."""
+    """An operation on a lock word. Afterwards a goroutine that owes releases or has to wait isn't idle."""
     answer, lock, owed = operation(socket(world, s).lock, *arguments)
     status = ("owing", s, *owed) if any(owed) else IDLE
     if answer == "wait":

@@ -46,7 +46,7 @@ class Replayed(NamedTuple):
         return self.steps[n - 1]
 
     def has(self, n: int, kind: str, answer: str) -> bool:
-        """Whether step n is of this kind and was answered so."""
+        """Whether step n is of this kind and has this answer."""
         return self.step(n)[0] == kind and self.answers[n - 1][0] == answer
 
     def between(self, before: int, until: int) -> range:
@@ -55,7 +55,7 @@ class Replayed(NamedTuple):
 
 
 def suspects(recording: bytes, observer: Observer, hunts: Sequence[str] = HUNTS) -> tuple[list[str], bool]:
-    """The lines, and whether there is no fault; Doubtful where the model has no opinion. A fault is the only line."""
+    """The lines, and whether there is no fault; Doubtful if the model can't decide. A fault is the only line."""
     try:
         text = read_text(recording)
         reached = list(positions(text, observer))
@@ -77,7 +77,7 @@ def suspect_lines(replayed: Replayed, hunts: Sequence[str] = HUNTS) -> list[str]
 
 
 def came_of_deadlines(replayed: Replayed) -> Iterator[str]:
-    """What came of deadlines, step by step, reading before writing."""
+    """The effects of deadlines, step by step, reading before writing."""
     for n in range(1, replayed.end + 1):
         yield from passed_deadlines(replayed, n)
         yield from timeouts(replayed, n)
@@ -166,7 +166,7 @@ def setting(replayed: Replayed, until: int, d: int, side: str) -> str:
 
 
 def last_setting(replayed: Replayed, until: int, d: int, side: str) -> int:
-    """The last setting of a side's deadline before a step; 0 if there is none."""
+    """The last step before this one that set a side's deadline; 0 if there is none."""
     settings = (n for n in replayed.between(0, until) if is_setting(replayed, n, d))
     return max((n for n in settings if side in replayed.step(n)[3]), default=0)
 

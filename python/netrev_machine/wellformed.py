@@ -37,7 +37,7 @@ def waits(world: World) -> Iterator[str]:
 
 
 def queues(world: World) -> Iterator[str]:
-    """Whoever is queued stands in that queue once, and nobody else does."""
+    """Each queued goroutine is in its queue once, and no other goroutine is."""
     standing = [
         (g, ("queued", s, side))
         for s, socket in enumerate(world.sockets)

@@ -1,4 +1,4 @@
-"""Where netrev's program is."""
+"""The path of netrev's program."""
 
 import os
 import shutil

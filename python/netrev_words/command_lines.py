@@ -31,7 +31,8 @@ def command(name: str) -> str:
 
 
 def scripts_of(name: str) -> list[Path]:
-    """Where this installation may have a program's script: in a clone, after `make install` or in the archive, and after `pip install`."""
+    """The possible paths of a program's script in this installation: in a clone, after `make install` or in the
+    archive, and after `pip install`."""
     if PACKAGES.name == "python":
         return [PACKAGES.parent / IN_A_CLONE[name]]
     if PACKAGES.parts[-2:] == ("lib", "netrev"):

@@ -21,24 +21,24 @@ def command(usage: str, says: str, short: str = "", steps: bool = False) -> Comm
 
 
 ROWS = (
-    command("stepi [N]", "goes N steps forwards, 1 if left out", "si", steps=True),
+    command("stepi [N]", "goes N steps forwards, 1 by default", "si", steps=True),
     command("reverse-stepi [N]", "goes N steps backwards", "rsi", steps=True),
     command("continue", "goes to the next position at which a mark hits, or to the end", "c", steps=True),
     command(
-        "reverse-continue", "goes to the last position before at which a mark hits, or to the start", "rc", steps=True
+        "reverse-continue", "goes back to the last position at which a mark hits, or to the start", "rc", steps=True
     ),
-    command("set exec-direction reverse|forward", "turns stepi and continue round"),
-    command("break KIND | @K", "marks the steps of a kind, or step K: stops before it", "b"),
-    command("tbreak KIND | @K", "as break, and is gone after the first stop at which it hits", "tb"),
-    command("watch CELL", "marks the changes of a cell: stops behind them"),
-    command("delete N | checkpoint N", "takes mark N away, or forgets checkpoint N"),
-    command("checkpoint", "remembers the position"),
+    command("set exec-direction reverse|forward", "sets the direction of stepi and continue"),
+    command("break KIND | @K", "stops before each step of a kind, or before step K", "b"),
+    command("tbreak KIND | @K", "like break, but its first stop deletes it", "tb"),
+    command("watch CELL", "stops after each change of a cell"),
+    command("delete N | checkpoint N", "deletes mark N, or checkpoint N"),
+    command("checkpoint", "saves the position"),
     command("restart N", "goes to checkpoint N; 0 is the start"),
     command("print CELL", "shows the value of a cell", "p"),
-    command("dump in|out|rq|wq S", "shows a buffer's bytes, or who is queued"),
-    command("info TOPIC", "tells about a topic: `help info` lists them"),
-    command("resume", "gives the reply that is owed after fault 302"),
-    command("quit", "ends", "q"),
+    command("dump in|out|rq|wq S", "shows a buffer's bytes, or the queued goroutines"),
+    command("info TOPIC", "shows a topic: `help info` lists the topics"),
+    command("resume", "prints the reply that is due after fault 302"),
+    command("quit", "ends the session", "q"),
 )
 OF_NETREV = {row.name: row for row in ROWS}
 SHORT = {short: row.name for row in ROWS for short in row.short}

@@ -1,4 +1,4 @@
-"""Files are written whole or not at all: where a write fails, what stood there stays."""
+"""Files that are written completely or not at all: if a write fails, the old file stays."""
 
 import errno
 import os
@@ -19,9 +19,8 @@ def beside(path: Path) -> Path:
 
 @contextmanager
 def whole(path: Path, mode: str = "w") -> Iterator[IO[Any]]:
-    """A file to write to, which takes its place at the end. An OSError that names it where it can't, or where all can't be
-    written. What isn't a file, as a pipe, is written to as it is, and so is what is open already, by a name as /dev/stdout. A link is
-    followed, unless it is another user's.
+    """A file to write to, which replaces the old one at the end; an OSError that names it if it can't be written. A path that isn't
+    a regular file, such as a pipe or /dev/stdout, is written to directly. A link is followed unless it belongs to another user.
     """
     try:
         check_name(path)
@@ -47,7 +46,7 @@ def whole(path: Path, mode: str = "w") -> Iterator[IO[Any]]:
 
 
 def check_name(path: str | Path) -> None:
-    """An OSError where no file can have that name."""
+    """An OSError if no file can have that name."""
     try:
         is_name = b"\0" not in os.fsencode(path)
     except UnicodeEncodeError:
@@ -57,8 +56,8 @@ def check_name(path: str | Path) -> None:
 
 
 def check_links(path: Path) -> None:
-    """An OSError where a path leads on by a link of another user's, who could have a file of this user's replaced by it. Root's links
-    are the system's."""
+    """Raises OSError if a path contains a link of another user, who could replace a file of this user with it. Links of
+    root are allowed."""
     for _ in range(MOST_LINKS):
         if not path.is_symlink():
             return
@@ -74,7 +73,7 @@ def open_for(path: Path, mode: str) -> IO[Any]:
 
 
 def forget_where(path: Path) -> None:
-    """Takes NAME.where away, which is of an earlier recording of that name; another file stays."""
+    """Removes NAME.where if it belongs to an earlier recording of that name; any other file stays."""
     if path.is_file():
         with open(path, "rb") as file:
             is_ours = file.read(len(OF_LINES)) == OF_LINES
@@ -83,6 +82,6 @@ def forget_where(path: Path) -> None:
 
 
 def written_whole(path: Path, data: bytes) -> None:
-    """Writes these bytes; an OSError that names the file where they can't be."""
+    """Writes these bytes; an OSError that names the file if that fails."""
     with whole(path, "wb") as file:
         file.write(data)

@@ -22,7 +22,7 @@ class NoJson(ValueError):
 
 
 class Doubtful(Exception):
-    """A number of which readers of JSON may think differently."""
+    """A number that JSON parsers may read differently."""
 
 
 class Fraction:
@@ -53,7 +53,7 @@ def no_constant(text: str) -> NoReturn:
 
 
 def pairs(items: list[tuple[str, object]]) -> dict[str, object]:
-    """An object, whose keys may stand twice: the last value counts. Each text in it is looked at."""
+    """An object; of two equal keys the last one counts. Each string in it is checked."""
     for key, value in items:
         whole_text(key)
         whole_text(value)

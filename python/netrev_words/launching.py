@@ -5,12 +5,14 @@ import sys
 
 from .built import netrev_program
 
-MISSING = "the proved program `netrev` is missing: NETREV names it; netrev's Debian package and archive contain it"
+MISSING = (
+    "the proved program `netrev` is missing: install the Debian package or archive, or name the program with NETREV"
+)
 FAILED = 3
 
 
 def main() -> int:
-    """Becomes netrev; where none is here, the exit status."""
+    """Becomes netrev; returns the exit status if there is none."""
     program = netrev_program()
     if program is None:
         print(MISSING, file=sys.stderr)

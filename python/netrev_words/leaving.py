@@ -10,14 +10,14 @@ from typing import Callable
 def ended_by(main: Callable[[], int]) -> None:
     """Runs a program, and ends the process with its status."""
     statuses: list[int] = []
-    atexit.register(leave, statuses)  # (first, so that it comes behind all else that is to be done at the end)
+    atexit.register(leave, statuses)  # (first, so that it runs after everything else at the end)
     statuses.append(main())
     sys.exit(statuses[0])
 
 
 def leave(ended: list[int]) -> None:
-    """Ends the process where the program has ended with a status. To give back what is known of a million steps takes a second."""
-    with suppress(OSError, ValueError):  # (what can't be printed is told by Python, as always)
+    """Ends the process with a status at once: freeing the data of a million steps would take a second."""
+    with suppress(OSError, ValueError):  # (Python reports what can't be printed, as always)
         for status in ended:
             for stream in filter(None, (sys.stdout, sys.stderr)):
                 stream.flush()

@@ -1,4 +1,4 @@
-"""Which netrev a program is: where it is, its SHA-256, and the logic that it was proved with, if the package says so."""
+"""Which program netrev is: its path, its SHA-256, and the logic of its proofs if the package has it."""
 
 import hashlib
 import os
@@ -11,12 +11,12 @@ from .plain import plain
 
 PROVED = (
     PACKAGES / "proved.txt"
-)  # of a package: the sum of its program, and what `rt version` printed where it was proved
+)  # of a package: the checksum of its program, and the output of `rt version` when it was proved
 UNKNOWN = "not recorded for this program"
 
 
 def program_lines(program: Optional[str]) -> list[str]:
-    """What is known of netrev's program."""
+    """The facts about netrev's program."""
     if not program or not Path(program).is_file():
         return [f"netrev's program is missing: {how_to_get_netrev('NETREV or --netrev')}"]
     try:
@@ -31,7 +31,7 @@ def program_lines(program: Optional[str]) -> list[str]:
 
 
 def origin(program: str) -> str:
-    """Where a program comes from."""
+    """The origin of a program."""
     if same_file(program, BUILT):
         return "built in this clone"
     if PACKAGES.parts[-2:] == ("lib", "netrev") and same_file(program, INSTALLED):

@@ -1,4 +1,4 @@
-"""A text of bytes as a recording, or its first fault, as docs/reference/RECORDING.md tells it."""
+"""A text of bytes as a recording, or its first fault, by docs/reference/RECORDING.md."""
 
 import re
 from functools import lru_cache
@@ -65,7 +65,7 @@ def is_hexadecimal(text: str) -> bool:
 
 @lru_cache(maxsize=10_000)
 def value_of(line: bytes) -> Any:
-    """The value of a line that isn't too long. (It isn't changed by whoever gets it: the same line has the same one.)"""
+    """The value of a line that isn't too long. Callers must not change it, because equal lines share it."""
     try:
         return read_json(line)
     except NoJson as error:
@@ -101,7 +101,7 @@ def step_of(version: int, value: Any) -> tuple[Step, Optional[Answer]]:
 
 
 def answer_of(value: Any) -> Answer:
-    """A recorded answer as the machine's are: a name, and for some a number behind it."""
+    """A recorded answer in the machine's form: a name, and for some answers a number."""
     return (value,) if isinstance(value, str) else tuple(value)
 
 

@@ -4,8 +4,8 @@ from __future__ import annotations
 
 from typing import Any, NamedTuple, Optional, Sequence
 
-Step = tuple[Any, ...]  # the kind, and the arguments behind it
-Answer = tuple[Any, ...]  # its name, and for some a number behind it
+Step = tuple[Any, ...]  # the kind, and the arguments after it
+Answer = tuple[Any, ...]  # its name, and for some a number after it
 
 GREATEST_TIME = 2**63 - 1
 

@@ -53,37 +53,37 @@ def _kind(usage: str, answers: str, says: str, since: int = 1) -> Kind:
 KINDS = {
     kind.name: kind
     for kind in (
-        _kind("spawn", "number", "a goroutine more"),
+        _kind("spawn", "number", "a goroutine starts"),
         _kind("exit g", "done", "goroutine g ends"),
-        _kind("sockopen rc wc", "number", "a socket more, whose buffers hold rc and wc bytes"),
+        _kind("sockopen rc wc", "number", "a socket is made, with buffers of rc and wc bytes"),
         _kind("arrive s bytes", "done", "bytes come from the network"),
         _kind("peerclose s", "done", "the peer closes"),
         _kind("sysread g s n", "got eof again", "the system call that reads up to n bytes"),
         _kind("syswrite g s bytes", "put again pipe", "the system call that writes"),
         _kind("drain s n", "done", "the network takes n bytes"),
         _kind("incref g s", "yes no", "fdMutex.incref"),
-        _kind("increfclose g s", "yes no", "fdMutex.increfAndClose: the socket is closed"),
+        _kind("increfclose g s", "yes no", "fdMutex.increfAndClose: closes the socket"),
         _kind("decref g s", "last notlast", "fdMutex.decref"),
-        _kind("rwlock g s side", "yes no wait", "fdMutex.rwlock: the read or write lock is asked for"),
+        _kind("rwlock g s side", "yes no wait", "fdMutex.rwlock: requests the read or write lock"),
         _kind("rwunlock g s side", "last notlast", "fdMutex.rwunlock"),
         _kind("acquire g", "yes wait", "runtime_Semacquire"),
-        _kind("release g", "done", "runtime_Semrelease, one that g owes"),
-        _kind("pollopen g s", "number", "runtime_pollOpen: a descriptor for socket s"),
-        _kind("pollclose g d", "done", "runtime_pollClose: descriptor d is free"),
+        _kind("release g", "done", "runtime_Semrelease: makes one of the releases that g owes"),
+        _kind("pollopen g s", "number", "runtime_pollOpen: opens a descriptor for socket s"),
+        _kind("pollclose g d", "done", "runtime_pollClose: frees descriptor d"),
         _kind("pollreset g d side", "code", "runtime_pollReset: prepareRead, prepareWrite"),
         _kind("waitbegin g d side", "code", "runtime_pollWait begins"),
         _kind("blockarm g", "wait code", "netpollblock arms the word"),
-        _kind("blockcheck g", "code", "netpollblock checks once more"),
-        _kind("parkcommit g", "yes no", "netpollblockcommit: it parks, or an event was faster"),
-        _kind("blockswap g", "yes no", "netpollblock goes on and takes the word"),
+        _kind("blockcheck g", "code", "netpollblock checks again"),
+        _kind("parkcommit g", "yes no", "netpollblockcommit: g parks, unless an event came first"),
+        _kind("blockswap g", "yes no", "netpollblock continues and takes the word"),
         _kind("waitcheck g", "code", "runtime_pollWait checks why it was woken"),
         _kind("setdeadline g d mode time", "done", "runtime_pollSetDeadline"),
-        _kind("evict g d", "done", "pd.evict: closing, and whoever waits is woken"),
-        _kind("pollevent d tag mode err", "done stale", "netpollready: the poller tells an event"),
+        _kind("evict g d", "done", "pd.evict: sets closing and wakes goroutines that wait"),
+        _kind("pollevent d tag mode err", "done stale", "netpollready: the poller reports an event"),
         _kind("tick time", "done", "the clock moves"),
         _kind("pop", "done", "the first due timer's function is started"),
         _kind("fire i", "done stale", "the started timer function at place i runs"),
-        _kind("closewrite g s", "done", "CloseWrite: the write side is shut, shutdown(SHUT_WR)", since=2),
+        _kind("closewrite g s", "done", "CloseWrite: closes the write side, shutdown(SHUT_WR)", since=2),
     )
 }
 
@@ -109,33 +109,33 @@ CELLS = {
     cell.name: cell
     for cell in (
         Cell("clock", Of.ALL, "the time, in nanoseconds"),
-        Cell("waiters", Of.ALL, "how many goroutines are parked"),
-        Cell("timers", Of.ALL, "how many timers are armed"),
-        Cell("firings", Of.ALL, "how many started timer functions haven't run"),
+        Cell("waiters", Of.ALL, "the number of parked goroutines"),
+        Cell("timers", Of.ALL, "the number of armed timers"),
+        Cell("firings", Of.ALL, "the number of started timer functions that haven't run"),
         Cell("least", Of.ALL, "when the first timer is due"),
-        Cell("gor", Of.GOROUTINE, "where the goroutine is"),
+        Cell("gor", Of.GOROUTINE, "the goroutine's status"),
         Cell("lock", Of.SOCKET, "the lock word"),
-        Cell("rsem", Of.SOCKET, "the count of the semaphore for reading"),
-        Cell("wsem", Of.SOCKET, "the count of the semaphore for writing"),
-        Cell("in", Of.SOCKET, "how many bytes the input holds"),
-        Cell("out", Of.SOCKET, "how many bytes the output holds"),
+        Cell("rsem", Of.SOCKET, "the count of the read semaphore"),
+        Cell("wsem", Of.SOCKET, "the count of the write semaphore"),
+        Cell("in", Of.SOCKET, "the number of bytes in the input"),
+        Cell("out", Of.SOCKET, "the number of bytes in the output"),
         Cell("rg", Of.DESCRIPTOR, "the word for reading"),
         Cell("wg", Of.DESCRIPTOR, "the word for writing"),
-        Cell("rd", Of.DESCRIPTOR, "the deadline for reading"),
-        Cell("wd", Of.DESCRIPTOR, "the deadline for writing"),
-        Cell("rseq", Of.DESCRIPTOR, "the sequence of the timer for reading"),
-        Cell("wseq", Of.DESCRIPTOR, "the sequence of the timer for writing"),
-        Cell("fdseq", Of.DESCRIPTOR, "which use of the number this is"),
+        Cell("rd", Of.DESCRIPTOR, "the read deadline"),
+        Cell("wd", Of.DESCRIPTOR, "the write deadline"),
+        Cell("rseq", Of.DESCRIPTOR, "the sequence of the read timer"),
+        Cell("wseq", Of.DESCRIPTOR, "the sequence of the write timer"),
+        Cell("fdseq", Of.DESCRIPTOR, "the number of this use of the descriptor"),
         Cell("info", Of.DESCRIPTOR, "closing, event error and passed deadlines in one number"),
-        Cell("shut", Of.SOCKET, "1 where the write side is shut, else 0"),
+        Cell("shut", Of.SOCKET, "1 if the write side is closed, else 0"),
     )
 }
 
 DUMPS = {
     "in": "the bytes in the input",
     "out": "the bytes in the output",
-    "rq": "who is queued for the read lock",
-    "wq": "who is queued for the write lock",
+    "rq": "the goroutines queued for the read lock",
+    "wq": "the goroutines queued for the write lock",
 }
 
 
@@ -147,7 +147,7 @@ class Written(Enum):
     SIDE = '"r" or "w"'
     MODE = '"r", "w" or "rw"'
     BIT = "0 or 1"
-    BYTES = "text of hexadecimal digits, two a byte, of at most 65536 bytes"
+    BYTES = "a string of hexadecimal digits, two for each byte, at most 65536 bytes"
     DEADLINE = "a whole number of nanoseconds from now, 0 for none"
     CLOCK = "a whole number of nanoseconds, 0 or more"
 
@@ -193,26 +193,26 @@ HEADERS = {1: _header(65_536), 2: _header(1_048_576)}
 HEADER_EXAMPLE = '{"netrev":1,"gor":4,"sock":2,"desc":2,"buf":16}'
 
 REASONS = (
-    "no memory",
-    "no such goroutine, or it is gone",
-    "the goroutine isn't at that place",
-    "all that the limits allow are made",
+    "out of memory",
+    "no such goroutine, or it has ended",
+    "the goroutine has another status",
+    "the header's limit is reached",
     "no such socket",
     "no such open descriptor",
     "a field or a count is full",
-    "the lock word can't be right for this",
-    "another goroutine is in that wait",
-    "close without evict",
-    "already closing",
+    "the lock word is wrong for this operation",
+    "another goroutine is in this wait",
+    "pollclose before evict",
+    "the descriptor is already closing",
     "a goroutine is inside a wait",
     "the clock would go back",
     "no timer is due",
-    "as many firings wait as may, twice the limit of descriptors",
-    "no firing at that place",
+    "the list of firings is full: twice the limit of descriptors",
+    "no firing at this place",
     "no room for the bytes",
-    "fewer bytes are there",
+    "the buffer holds fewer bytes",
     "a sequence, fdseq or arming number is at its last value",
-    "a size out of range",
+    "a size is out of range",
     "the peer has closed",
     "the descriptor contradicts itself",
 )

@@ -1,5 +1,5 @@
-"""All goroutines of a log, as NAME.where has them (docs/reference/RECORDING.md has its form): also those that never touch a socket, by Go's own
-names, with each wait outside of the poller and the objects at which they wait."""
+"""All goroutines of a log, as NAME.where has them (docs/reference/RECORDING.md has the format), also those that never use a socket:
+Go's numbers, each wait outside the poller, and the objects at which they wait."""
 
 from typing import TYPE_CHECKING, Any, Container, Iterator, NamedTuple, Optional, Sequence
 
@@ -9,9 +9,9 @@ if TYPE_CHECKING:
 OF_GOROUTINES = frozenset(
     ("goroutines", "parks", "objects", "uses", "timers", "left_out", "channels", "failed_dials", "held")
 )  # lines of the file
-STILL = -1  # of a wait, in place of its end
+STILL = -1  # of a wait, instead of its end
 # What goroutines wait for outside of the poller.
-A_RECEIVER = "a receiver at a channel"  # in place of room, if it has none of its own
+A_RECEIVER = "a receiver at a channel"  # instead of room, if it has none of its own
 A_VALUE, ROOM, A_SELECT, A_CONDITION = "a value from a channel", "room in a channel", "a select", "a condition"
 A_SLEEP, A_MUTEX, A_READ_LOCK, A_WRITE_LOCK = "time.Sleep", "a mutex", "a read lock", "a write lock"
 A_WAIT_GROUP, A_SEMAPHORE, A_NIL_CHANNEL, NO_CASES = (
@@ -27,9 +27,9 @@ ADDED, DONE = "added", "done"  # at a WaitGroup
 
 
 class GoGoroutine(NamedTuple):
-    """A goroutine by Go's own name, as in a stack dump: its number in the recording (-1: it made no step), the call of the `go` statement
-    that made it, and whose that was (0: not known); behind which step it was made and behind which it ended, and the times of both. Where
-    the begin isn't known, or it hasn't ended, both are -1."""
+    """A goroutine by Go's own number, as in a stack dump: its number in the recording (-1: it made no step), the call of the `go`
+    statement that started it, the goroutine that called it (0 if unknown), the steps after which it was started and ended, and both
+    times. An unknown start or end is -1."""
 
     goid: int
     number: int
@@ -49,9 +49,9 @@ class At(NamedTuple):
 
 
 class Park(NamedTuple):
-    """A wait outside of the poller of any goroutine, named as Go does it: behind which step it begins and behind which it ends, the times of
-    both (-1: it waits still), what for in words, its stack, which goroutine made it ready (0: none known), the objects: of a select one
-    for each case; and until when a sleep is to last (0: not known)."""
+    """A wait outside the poller, by Go's number of the goroutine: the steps after which it begins and ends, both times (-1: it
+    still waits), the reason in words, its stack, the goroutine that ended it (0 if unknown), the objects (one for each case of a
+    select), and the end of a sleep (0 if unknown)."""
 
     goid: int
     first: int
@@ -65,7 +65,7 @@ class Park(NamedTuple):
     due: int = 0
 
     def is_at(self, position: int) -> bool:
-        """Whether it is under way at a position. Where it begins and ends between two steps it never is."""
+        """Whether it is in progress at a position; never if it begins and ends between two steps."""
         return self.first <= position and (self.last == STILL or position < self.last)
 
 
@@ -78,8 +78,8 @@ class Object(NamedTuple):
 
 
 class Use(NamedTuple):
-    """What a goroutine did from one stack, at a channel PUT, TOOK, CLOSED or ENDED, and at a WaitGroup ADDED or DONE: how often, behind which
-    steps first and last, and when."""
+    """What a goroutine did from one stack, at a channel PUT, TOOK, CLOSED or ENDED, and at a WaitGroup ADDED or DONE: how often,
+    and the steps and times of the first and the last."""
 
     object: int
     goid: int
@@ -93,8 +93,8 @@ class Use(NamedTuple):
 
 
 class Timer(NamedTuple):
-    """A timer that a goroutine made, set anew or stopped: its channel (0: it calls a function), from which stack, behind which step, when, and
-    when it was to go off: -1 if it was stopped. (Of a timer without a channel only the making is seen.)"""
+    """A timer that a goroutine made, reset or stopped: its channel (0 if it calls a function), the stack, the step before, the
+    time, and when it was due (-1 if it was stopped). For a timer without a channel only the making is recorded."""
 
     object: int
     goid: int
@@ -110,7 +110,7 @@ class Timer(NamedTuple):
 
 
 class Making(NamedTuple):
-    """Which goroutine made a channel, from which stack, behind which step, and when."""
+    """A channel that was made: by which goroutine, from which stack, after which step, and when."""
 
     object: int
     goid: int
@@ -120,8 +120,8 @@ class Making(NamedTuple):
 
 
 class FailedDial(NamedTuple):
-    """A dial of a goroutine that failed: from which stack, behind which step, when, why (the name of the system's error, `timeout`, `cancelled`,
-    or empty), the address (empty: not known), and the channel of its context (0: it has none)."""
+    """A dial of a goroutine that failed: the stack, the step before, the time, the reason (the system's error, `timeout`,
+    `cancelled`, or empty), the address (empty if unknown), and the channel of its context (0 if it has none)."""
 
     goid: int
     stack: int
@@ -133,7 +133,8 @@ class FailedDial(NamedTuple):
 
 
 class Held(NamedTuple):
-    """A mutex that is locked to the recording's end: which goroutine locked it, READ if for reading, from which stack, and behind which step."""
+    """A mutex that is locked at the recording's end: the goroutine that locked it, READ if for reading, the stack, and the step
+    before."""
 
     object: int
     goid: int
@@ -165,10 +166,11 @@ OF_LEFT_OUT: tuple[type, ...] = (str, int, int, int)
 OF_MAKING: tuple[type, ...] = (int,) * 5
 OF_FAILED_DIAL: tuple[type, ...] = (int, int, int, int, str, str, int)
 OF_HELD: tuple[type, ...] = (int, int, str, int, int)
+OF_OWNER: tuple[type, ...] = (int,) * 3
 
 
 class AllGoroutines:
-    """What the file says of all goroutines. It is empty for a file of the first form."""
+    """The file's facts about all goroutines. It is empty for a file of the first form."""
 
     def begin_goroutines(self) -> None:
         """No goroutine is known by Go's name."""
@@ -182,9 +184,13 @@ class AllGoroutines:
         self.failed_dials: dict[int, list[FailedDial]] = {}  # by goroutine
         self.held: Optional[dict[int, list[Held]]] = None  # by mutex; None if it isn't known which are locked
         self._goids: dict[int, int] = {}  # by the recording's numbers
+        self.owners: dict[
+            int, list[tuple[int, int]]
+        ] = {}  # for a number: after which step each goroutine took it, and its name
+        self._owned: dict[int, int] = {}  # by Go's name the number that a goroutine has taken
 
     def add_goroutines(self, line: dict[str, Any], calls: dict[int, "Call"], stacks: Container[int]) -> None:
-        """Adds what a line says of all goroutines, or of the objects at which they wait."""
+        """Adds a line about all goroutines, or about the objects at which they wait."""
 
         def known(numbers: Sequence[int]) -> Iterator[int]:
             """Of stacks their numbers; 0 for one that isn't in the file."""
@@ -227,9 +233,32 @@ class AllGoroutines:
             reasons, of_stacks, *rest = columns(line["left_out"], OF_LEFT_OUT)
             self.left_out += map(LeftOut._make, zip(reasons, known(of_stacks), *rest))
 
-    def goid_of(self, number: int) -> int:
-        """Go's name of a goroutine of the recording; 0 where it isn't known."""
-        return self._goids.get(number, 0)
+    def add_owners(self, rows: Any) -> None:
+        """Adds the goroutines that took over a number, with the step after which each did so."""
+        for number, step, goid in zip(*columns(rows, OF_OWNER)):
+            self.owners.setdefault(number, []).append((step, goid))
+            self._owned[goid] = number
+
+    def goid_of(self, number: int, step: Optional[int] = None) -> int:
+        """Go's number of the goroutine that has a number of the recording at a step, or of the last one that has it; 0 if unknown."""
+        if step is None or number not in self.owners:
+            return self._goids.get(number, 0)
+        return next((goid for taken, goid in reversed(self.owners[number]) if taken < max(step, 1)), 0)
+
+    def reused_goid(self, number: int, step: int) -> int:
+        """Go's number of the goroutine that has a number of the recording at a step, if several had it; 0 if one alone had it, or it is unknown."""
+        return self.goid_of(number, step) if number in self.owners else 0
+
+    def number_of(self, goid: int, step: Optional[int] = None) -> int:
+        """The number in the recording that a goroutine has at a step, else at the end, by Go's name of it; -1 if it has
+        none."""
+        known = self.goroutines.get(goid)
+        number = self._owned.get(goid, known.number if known else -1)
+        return -1 if number in self.owners and self.goid_of(number, step) != goid else number
+
+    def has_step(self, goid: int, number: int, step: int) -> bool:
+        """Whether a step of a number of the recording is this goroutine's, by Go's name of it."""
+        return number not in self.owners or self.goid_of(number, step) == goid
 
     def park_of(self, goid: int, position: int) -> Optional[Park]:
         """The wait outside of the poller in which a goroutine is at a position, by Go's name of it."""
@@ -237,15 +266,15 @@ class AllGoroutines:
 
 
 def typed(value: Any, sort: type) -> Any:
-    """The value; a TypeError where it isn't of this type."""
+    """The value; a TypeError if it has another type."""
     if type(value) is not sort:
         raise TypeError
     return value
 
 
 def columns(rows: Any, sorts: Sequence[type]) -> list[Any]:
-    """The columns of some rows, of these types; a TypeError or a ValueError where one isn't. (There may be 65,536 rows, so no loop of Python's
-    goes over all values.)"""
+    """The columns of some rows, of these types; a TypeError or a ValueError if one differs. There may be 65,536 rows, so no Python
+    loop visits all values."""
     if set(map(len, rows)) - {len(sorts)}:
         raise ValueError
     found = list(zip(*rows)) or [()] * len(sorts)

@@ -1,5 +1,5 @@
-"""The changes of a recording as netrev says them: a thread reads them while the session goes on, and whoever needs what isn't there yet
-waits for it."""
+"""The changes of a recording, which a thread reads from netrev while the session goes on. A caller that needs changes that haven't
+arrived waits for them."""
 
 import subprocess
 import time
@@ -7,6 +7,7 @@ from contextlib import contextmanager
 from threading import Condition, Thread, current_thread
 from typing import Callable, Iterator, Optional
 
+from .messages import session as messages
 from .interrupts import Interrupts
 from .netrev import READ, SILENCE
 from .changed_lines import NoChanges
@@ -16,12 +17,11 @@ from .scout import Lost
 LOOKS = 0.05  # seconds between two looks whether Ctrl-C came
 PAUSE = 0.001  # seconds until more has come, since netrev says little at once
 PIPE = 2**20  # bytes
-SILENT = "netrev goes through all steps of the recording; nrdb waits"
 
 
 class ArrivingChanges(RecordedChanges):
-    """What `netrev changes FILE` says. netrev is started when it is needed first. Where it fails Lost is raised, and the next who
-    asks begins anew."""
+    """The output of `netrev changes FILE`. netrev starts with the first request. If it fails, Lost is raised, and the next request
+    starts it again."""
 
     def __init__(self, program: str, path: str, interrupts: Interrupts, tell: Callable[[str], None]) -> None:
         super().__init__()
@@ -29,7 +29,7 @@ class ArrivingChanges(RecordedChanges):
         self._process: Optional["subprocess.Popen[bytes]"] = None
         self._reader: Optional[Thread] = None
         self._came = Condition()
-        self._wanted: Optional[int] = 0  # the position up to which somebody waits for them; None for all
+        self._wanted: Optional[int] = 0  # the position up to which a caller waits for them; None for all
         self._failure = ""
 
     def prepare(self) -> None:
@@ -70,7 +70,7 @@ class ArrivingChanges(RecordedChanges):
             with self._came:
                 self._came.wait_for(lambda: self._is_settled(position), LOOKS)
             if until and time.monotonic() > until:
-                self._tell(SILENT)
+                self._tell(messages.COMPUTING_CHANGES)
                 until = 0
         if why := self._failure:
             super().__init__()
@@ -134,7 +134,7 @@ class ArrivingChanges(RecordedChanges):
         if not self._is_current():
             return
         if not failure and (not self.is_whole or self._fault):
-            failure = self._fault or f"it ended with status {status}"
+            failure = self._fault or messages.ENDED_WITH.format(status=status)
         with self._came:
             self._failure = failure
             self._came.notify_all()

@@ -16,7 +16,7 @@ class Attached:
     pending: deque[str] = field(default_factory=deque)
 
     def begin(self, mark: str) -> None:
-        """The lines that come are the mark's, in place of those that it had."""
+        """The lines that follow replace those of this mark."""
         self.lines[mark], self.taking = [], mark
 
     def takes(self, line: str) -> bool:

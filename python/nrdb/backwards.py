@@ -16,7 +16,8 @@ GOROUTINES = rb'\[\s*"(?:%s)"\s*,\s*(\d+)\b' % "|".join(OF_A_GOROUTINE).encode()
 
 
 def takings(recording: Recording, until: int, locks: Collection[Lock]) -> dict[Lock, Step]:
-    """The steps that took these locks, which are taken behind so many steps: the first `rwlock` behind the last `rwunlock`."""
+    """The steps that took these locks, which are taken after this many steps: the first `rwlock` after the last
+    `rwunlock`."""
     sought, taking = set(locks), dict[Lock, int]()
     if sought:
         for number, is_taken, lock in locks_back(recording, until, {socket for socket, _ in locks}):
@@ -43,7 +44,7 @@ def locks_back(recording: Recording, until: int, sockets: set[int]) -> Iterator[
 
 
 def last_steps(recording: Recording, until: int, goroutines: Collection[int]) -> dict[int, int]:
-    """The number of the last step of each of these goroutines among the first so many; 0 where one has none."""
+    """The last step of each of these goroutines among the first steps; 0 if one has none."""
     last = dict.fromkeys(goroutines, 0)
     if recording.has_escapes:
         for number, (kind, *arguments) in enumerate(islice(recording.arrays(), until), 1):

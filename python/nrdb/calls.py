@@ -1,5 +1,5 @@
-"""Go's calls in place of steps: which `Read`, `Write`, `SetDeadline` or `Close` each step is part of, how long the call waited
-and how it ended. They are found by the recording's steps, in one pass, and are nrdb's own reckoning."""
+"""Go's calls instead of steps: the `Read`, `Write`, `SetDeadline` or `Close` of each step, how long it waited and how it ended.
+nrdb finds them in one pass over the recording's steps."""
 
 from collections import defaultdict
 from functools import cached_property, lru_cache, partial
@@ -44,7 +44,7 @@ class Book:
         return call.goroutine in self.asleep and bool(inside) and inside is not None and inside[-1] is call
 
     def _looks(self) -> Looks:
-        """What makes who looks behind each step of a kind."""
+        """The function that looks at the state after each step of a kind."""
         if not self._errors:
             return {kind: partial(look, self) for kind, look in LOOKS.items()}
         return {kind: partial(self._seeing_errors, LOOKS.get(kind)) for kind in OF_A_GOROUTINE}
@@ -70,7 +70,7 @@ class Book:
         return call
 
     def settle(self, step: int, goroutine: Goroutine, calls: list[Call]) -> None:
-        """Behind a step by which a call of the goroutine's may end."""
+        """After a step by which a call of the goroutine's may end."""
         if self.error and calls:
             calls[-1].outcome, calls[-1].error = Outcome.SYSTEM_ERROR, self.error
             self.error = ""
@@ -79,7 +79,7 @@ class Book:
 
 
 def fail(notes: Notes, call: Call, outcome: Outcome) -> None:
-    """A call has this outcome; which step brought that about is known of a timeout, of a close and of a shut write side."""
+    """A call has this outcome; for a timeout, a close and a shut write side also the step that caused it."""
     call.outcome = outcome
     if outcome is Outcome.CLOSED and call.socket in notes.closer:
         call.cause = notes.closer[call.socket].step
@@ -106,7 +106,7 @@ def goes_on(book: Book, notes: Notes, g: int, *_: object) -> Look:
 
 
 def goes_on_or_sleeps(book: Book, notes: Notes, g: int) -> Look:
-    """`acquire`, `parkcommit` and `blockswap`: the goroutine may have slept before, and may sleep behind it."""
+    """`acquire`, `parkcommit` and `blockswap`: the goroutine may have slept before, and may sleep afterwards."""
     goroutine, calls, asleep, settle = notes.goroutine(g), book.open[g], book.asleep, book.settle
 
     def look(step: int) -> None:
@@ -171,7 +171,7 @@ def gives(book: Book, notes: Notes, g: int, s: int, side: str = "") -> Look:
 
 
 def begins(name: str, has_failed: Callable[[Notes, int, int, int], bool]) -> Maker:
-    """A step by which a call begins that has failed at once where the socket was closed before."""
+    """A step that begins a call; the call has failed at once if the socket was closed before."""
 
     def of(book: Book, notes: Notes, g: int, s: int) -> Look:
         goroutine, calls = notes.goroutine(g), book.open[g]

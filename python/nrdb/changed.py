@@ -30,8 +30,7 @@ def tables_beside(
 
 
 def changed_table(changes: RecordedChanges, position: int, told: Collection[str] = ()) -> Optional[Table]:
-    """The changes by the step that led to the position, in one line, which leaves out those that were told; None at the
-    start."""
+    """The changes of the step that led to the position, in one line, without those that were printed already; None at the start."""
     if not position:
         return None
     cells = sorted((cell for cell, _ in changes.at(position)), key=_order)

@@ -5,13 +5,15 @@ from array import array
 from bisect import bisect_left, bisect_right
 from typing import Iterator, Optional
 
+from .messages import session as messages
+
 LINE = re.compile(rb"\d+ [a-z]+(?: \d+)? = [ -~]+")
 LINES = re.compile(r"^(\d+) ([a-z]+(?: \d+)?) = ([ -~]+)$", re.MULTILINE | re.ASCII)
 WINDOW = 2**14  # bytes of lines that are taken apart at once: few, so that a processor has all of that near
 
 
 def next_step(text: str, place: int) -> int:
-    """Where the lines of a step begin behind a place, with their line feed; -1 where the text ends within those of the one before."""
+    """The place after a given one at which the lines of a step begin; -1 if the text ends within those of the step before."""
     line = text.find("\n", place)
     step = text[line + 1 : text.find(" ", line) + 1]
     while step and text.startswith(step, line + 1):
@@ -31,36 +33,36 @@ class ChangedLines:
         self._lasts = array("I")  # of each piece its last step
 
     def take(self, lines: bytes) -> None:
-        """Takes whole lines, each with its line feed; NoChanges where they can't be such."""
+        """Takes whole lines, each with its line feed; NoChanges if they have another form."""
         first, last = lines[: lines.index(b"\n")], lines[lines.rfind(b"\n", 0, -1) + 1 : -1]
         if lines.count(b"\n") != lines.count(b" = ") or not (LINE.fullmatch(first) and LINE.fullmatch(last)):
-            raise NoChanges("a line that is no change")
+            raise NoChanges(messages.CHANGES_MALFORMED)
         self.pieces.append(lines)
         self._lasts.append(int(last[: last.index(b" ")]))
 
     @property
     def last(self) -> int:
-        """The last step that has a line, 0 where none has."""
+        """The last step that has a line; 0 if there is none."""
         return self._lasts[-1] if self._lasts else 0
 
     def texts(self, first: int, end: int) -> Iterator[tuple[str, str, str]]:
-        """The step of each line of these pieces, the cell and its value, as texts; NoChanges where a line has none."""
+        """The step, the cell and the value of each line of these pieces, as texts; NoChanges if a line lacks them."""
         for piece in self.pieces[first:end]:
             found = LINES.findall(piece.decode("latin-1"))
             if len(found) != piece.count(b"\n"):
-                raise NoChanges("a line that is no change")
+                raise NoChanges(messages.CHANGES_MALFORMED)
             yield from found
 
     def between(self, first: int, last: int) -> Iterator[tuple[str, str, str]]:
-        """What `texts` says of the steps that lead from one position to another."""
+        """The changes of `texts` at the steps that lead from one position to another."""
         begin, end = (bisect_right(self._lasts, position) for position in (first, last))
         for step, cell, value in self.texts(begin, end + 1):
             if first < int(step) <= last:
                 yield step, cell, value
 
     def whole_steps(self, end: int) -> Iterator[tuple[int, str]]:
-        """The lines in texts that have all lines of their steps, a line feed before the first; and behind which step each text ends. The last
-        one ends before `end`."""
+        """The lines as texts that contain all lines of their steps, each text with a line feed before the first one, and the step
+        after which it ends. The last one ends before `end`."""
         text = "\n"
         for piece in self.pieces:
             text, begin = text + piece.decode("latin-1"), 0
@@ -71,7 +73,7 @@ class ChangedLines:
         yield end, text
 
     def at(self, step: int) -> list[tuple[str, str]]:
-        """The cells that a step changed, each with its value behind it."""
+        """The cells that a step changed, with their new values."""
         found: list[tuple[str, str]] = []
         number = b"\n%d " % step
         for place in range(bisect_left(self._lasts, step), len(self._lasts)):
@@ -87,7 +89,7 @@ class ChangedLines:
         return found
 
     def changes_of(self, cell: str, until: Optional[int] = None) -> Iterator[tuple[int, str]]:
-        """The steps that changed a cell, rising, each with its value behind it; up to a position, where one is named."""
+        """The steps that changed a cell, in rising order, with the new values; up to a position if one is given."""
         named = b" %s = " % cell.encode()
         end = len(self._lasts) if until is None else bisect_right(self._lasts, until) + 1
         for piece in self.pieces[:end]:
@@ -100,7 +102,7 @@ class ChangedLines:
                 before = part
 
     def back(self, cell: str, position: int) -> Iterator[tuple[int, str]]:
-        """The steps that changed a cell, falling, from a position on, each with its value behind it."""
+        """The steps that changed a cell, from a position backwards, with the new values."""
         named = b" %s = " % cell.encode()
         for place in range(min(bisect_right(self._lasts, position), len(self._lasts) - 1), -1, -1):
             piece = self.pieces[place]

@@ -1,7 +1,6 @@
-"""How nrdb is called, and its exit status, which is netrev's: 0 done, 1 the recording was refused, 2 other words, 3 the
-file, the program or the connection failed; and 4 where --suspects, --explore or --explore-failures prints some.
-
-What most sessions do without is imported where it is called, so that the prompt is there sooner."""
+"""The command line of nrdb, and its exit status, which is netrev's: 0 done, 1 the recording was refused, 2 usage error, 3 the file,
+the program or the connection failed; and 4 if --suspects, --explore or --explore-failures finds something. Modules that most
+sessions don't need are imported when they are used, so that the prompt appears sooner."""
 
 import argparse
 import gc
@@ -16,6 +15,7 @@ from typing import Callable, Optional, Sequence
 
 from netrev_words.command_lines import how_to_get_netrev, make_command
 
+from .messages import session as messages
 from .arriving_changes import ArrivingChanges
 from .errors import Mismatched, unexpected
 from .prompt.answers import ANSWERS
@@ -23,6 +23,7 @@ from .interrupts import GivenUp, Interrupted, Interrupts
 from .netrev import Ended, Joined, Netrev, Own, Reply
 from .options import parsed, parser
 from .output import JsonPrinter, Printer, TextPrinter, has_colours
+from .queries import answer_run, lines_together, runs_of
 from .recording import NoRecording, Recording
 from .refusals import explained, fault_of
 from .scout import Lost, Scout
@@ -31,9 +32,6 @@ from .shapes import POSITION, Refused, Strange
 from .suspect_list import SuspectList
 
 DONE, REFUSED, USAGE, FAILED, SUSPECTS = range(5)
-SILENT = "no reply yet: somebody else is at this front, or netrev goes through what all have searched; nrdb waits"
-
-LOADING = "netrev reads the recording still; Ctrl-C once more ends nrdb"
 
 
 def main(words: Optional[Sequence[str]] = None) -> int:
@@ -45,17 +43,17 @@ def main(words: Optional[Sequence[str]] = None) -> int:
 
         return serve_streams(wanted.netrev) if wanted.dap_port is None else serve_port(wanted.netrev, wanted.dap_port)
     if not wanted.file and not wanted.join:
-        parser().error("no recording given (or use --join HOST:PORT)")
+        parser().error(messages.NO_RECORDING_GIVEN)
     for stream in (sys.stdin, sys.stdout):
         if isinstance(stream, io.TextIOWrapper):
             stream.reconfigure(errors="surrogateescape")  # bytes that are no UTF-8 go as they come
     printer = JsonPrinter() if wanted.json else TextPrinter(is_coloured=has_colours())
     try:
         return run(wanted, printer)
-    except OSError as error:  # what is said can't be printed: whoever read it has gone, or there is no room
+    except OSError as error:  # the output can't be printed: its reader has gone, or there is no room
         sys.stdout = open(os.devnull, "w", encoding="utf-8")
         if not isinstance(error, BrokenPipeError):
-            print(f"nrdb: standard output: {error.strerror}", file=sys.stderr)
+            print(messages.STANDARD_OUTPUT.format(why=error.strerror), file=sys.stderr)
         return FAILED
 
 
@@ -64,13 +62,13 @@ def run(wanted: argparse.Namespace, printer: Printer) -> int:
     try:
         status = start(wanted, printer)
     except Ended as ended:
-        printer.note("netrev has ended")
+        printer.note(messages.NETREV_ENDED)
         status = ended.status if ended.status and ended.status > 0 else FAILED
     except (Lost, Mismatched, NoRecording, Strange) as wrong:
         printer.note(str(wrong))
         status = FAILED
     except (GivenUp, KeyboardInterrupt):
-        printer.note("netrev didn't answer: the session is given up")
+        printer.note(messages.NETREV_IS_SILENT)
         status = FAILED
     except BrokenPipeError:
         raise
@@ -89,8 +87,8 @@ def run(wanted: argparse.Namespace, printer: Printer) -> int:
 def without_netrev(file: Optional[str]) -> str:
     """What to do if netrev's program can't be started."""
     look = make_command(f"look FILE={shlex.quote(os.path.abspath(file))}") if file else None
-    unproved = f"; `{look}` opens the recording without proofs" if look else ""
-    return f"netrev's program is needed: {how_to_get_netrev('NETREV or --netrev')}{unproved}"
+    how = how_to_get_netrev("NETREV or --netrev")
+    return messages.NETREV_UNPROVED.format(how=how, look=look) if look else messages.NETREV_IS_MISSING.format(how=how)
 
 
 def start(wanted: argparse.Namespace, printer: Printer) -> int:
@@ -106,7 +104,7 @@ def start(wanted: argparse.Namespace, printer: Printer) -> int:
 
 def begun(wanted: argparse.Namespace, netrev: Netrev, interrupts: Interrupts, printer: Printer) -> int:
     """Runs a session with this netrev to its end; the exit status."""
-    with interrupts.held(lambda: printer.note(LOADING)) if has_prompt(wanted) else nullcontext():
+    with interrupts.held(lambda: printer.note(messages.STILL_READING)) if has_prompt(wanted) else nullcontext():
         session = session_of(wanted, netrev, interrupts, printer)
         first = session.ask("info position")
     try:
@@ -128,13 +126,13 @@ def begun(wanted: argparse.Namespace, netrev: Netrev, interrupts: Interrupts, pr
 
 
 def has_prompt(wanted: argparse.Namespace) -> bool:
-    """Whether somebody is to type at a terminal, who may press Ctrl-C and not mean the session."""
+    """Whether a user types at a terminal, so that a Ctrl-C may not be meant for the session."""
     ends = wanted.batch or wanted.suspects or wanted.explore or wanted.explore_failures or wanted.web is not None
     return sys.stdin.isatty() and not ends and all(getattr(wanted, name) is None for name in WRITERS)
 
 
 def is_of_all(wanted: argparse.Namespace) -> bool:
-    """Whether what is wanted is told of all steps, wherever the session stands."""
+    """Whether the output is about all steps, at whatever position."""
     return bool(wanted.suspects or wanted.trace or wanted.timeline)
 
 
@@ -142,7 +140,7 @@ def session_of(wanted: argparse.Namespace, netrev: Netrev, interrupts: Interrupt
     """The session that is wanted, which hasn't begun yet."""
     recording = Recording.read(wanted.file) if wanted.file else None
     if wanted.join and wanted.file and (fault := fault_of(wanted.netrev, wanted.file)):
-        raise NoRecording(f"{wanted.file} isn't a recording: {fault}")
+        raise NoRecording(messages.NOT_A_RECORDING.format(path=wanted.file, fault=fault))
     lent = netrev if is_of_all(wanted) and not wanted.lines and not wanted.join else None
     scout = Scout(lambda: Own(wanted.netrev, wanted.file, interrupts), lent) if wanted.file else None
     tell = printer.note if has_prompt(wanted) else lambda _: None  # (a batch is the same at any pace)
@@ -170,7 +168,7 @@ def refused(wanted: argparse.Namespace, netrev: Netrev, first: str, printer: Pri
 def opened(wanted: argparse.Namespace, interrupts: Interrupts, printer: Printer) -> Netrev:
     """A netrev of one's own, or a front of a session that is shared."""
     if wanted.join:
-        return Joined(address(wanted.join), interrupts, lambda: printer.note(SILENT))
+        return Joined(address(wanted.join), interrupts, lambda: printer.note(messages.NO_REPLY_YET))
     return Own(wanted.netrev, wanted.file, interrupts)
 
 
@@ -199,12 +197,12 @@ def played(session: Session, wanted: argparse.Namespace) -> int:
 
 
 def unless_stopped(session: Session, work: Callable[[], int]) -> int:
-    """What some work ends with; FAILED where it was stopped, or can't be done."""
+    """The status of some work; FAILED if it was interrupted, or isn't possible."""
     try:
         with session.interrupts.held():
             return work()
     except (Interrupted, Lost, Misused, Refused) as stopped:
-        session.printer.note(str(stopped) or "interrupted")
+        session.printer.note(str(stopped) or messages.INTERRUPTED)
         return FAILED
 
 
@@ -254,7 +252,7 @@ WRITERS: dict[str, Callable[..., str]] = {"timeline": timeline, "trace": trace, 
 
 
 def typed(session: Session) -> None:
-    """Takes lines from the terminal, or from an input that is none."""
+    """Reads lines from the terminal, or from another input."""
     if sys.stdin.isatty():
         if session.recorded:
             session.recorded.prepare()
@@ -262,15 +260,23 @@ def typed(session: Session) -> None:
 
         Terminal(session).run()
         return
-    for line in map(str.rstrip, sys.stdin):
-        session.printer.echo(line)
-        if not session.run(line):
-            return
+    for lines in lines_together(sys.stdin):
+        for run in runs_of(session, lines):
+            if not run_typed(session, run):
+                return
+
+
+def run_typed(session: Session, run: Sequence[str]) -> bool:
+    """Answers lines of an input that isn't a terminal, each shown first. False if the session has ended."""
+    if len(run) > 1:
+        return session.guarded(lambda _: answer_run(session, run), "")
+    session.printer.echo(run[0])
+    return session.run(run[0])
 
 
 def address(text: str) -> tuple[str, int]:
     """The host and the port of an address."""
     host, _, port = text.rpartition(":")
     if not (port.isascii() and port.isdigit() and len(port) < 6 and int(port) < 2**16):
-        parser().error(f"{text} is no HOST:PORT")
+        parser().error(messages.NOT_AN_ADDRESS.format(text=text))
     return host.strip("[]") or "127.0.0.1", int(port)

@@ -6,14 +6,14 @@ from .output import TextPrinter
 
 
 class Collecting(TextPrinter):
-    """Keeps what is said until it is taken. It goes through the same escape as at a terminal."""
+    """Collects the output until it is taken. It is escaped as at a terminal."""
 
     def __init__(self) -> None:
         self.kept = io.StringIO()
         super().__init__(self.kept)
 
     def echo(self, line: str) -> None:
-        """Whoever shows it shows what was typed itself."""
+        """The caller shows the typed line itself."""
 
     def take(self) -> str:
         """What was said since the last time."""

@@ -4,14 +4,17 @@ that another debugger has, is read."""
 import re
 from dataclasses import dataclass
 from enum import Enum
+from functools import lru_cache
 from typing import Collection, Mapping
 
 from netrev_words.commands import OF_NETREV, SHORT, command
 from netrev_words.vocabulary import DUMPS
 
+from .messages import session as messages
+
 
 class Origin(Enum):
-    """Who answers a command."""
+    """The program that answers a command."""
 
     NETREV = "netrev"
     NRDB = "nrdb"
@@ -20,75 +23,81 @@ class Origin(Enum):
 OF_NRDB = {
     row.name: row
     for row in (
-        command("help [COMMAND]", "lists the commands, or tells of one; of a kind, a cell and a reason's number too"),
+        command("help [COMMAND]", "lists the commands, or explains a command, a kind, a cell or a reason's number"),
         command(
-            "apropos WORD", "lists the commands, topics, kinds of steps and cells that have a word in their description"
+            "apropos WORD", "lists the commands, topics, kinds of steps and cells whose description contains a word"
         ),
-        command("where", "the position, the last step and the next one"),
+        command("where", "shows the position, the last and the next step, and the goroutine's stack"),
         command(
             "list [N | FILE:LINE | FUNCTION]",
-            "the steps round the position, or round step N; => is the next one; or the source round a line or a function",
+            "shows the steps near the position or near step N (=> marks the next one), or the source near a line or function",
         ),
-        command("frame [N]", "a call of the program's stack here, 0 is the innermost, and the source round it"),
-        command("up", "the call that called this one"),
+        command("frame [N]", "shows call N of the stack, 0 is the innermost, and the source near it"),
+        command("up", "shows the caller of this call"),
         command(
             "goroutine [N | goid N]",
-            "where goroutine N is, its stack and the source; bt, frame, up and down go by it until the session moves",
+            "chooses goroutine N and shows its stack and source; bt, frame, up and down use it until the session moves",
         ),
-        command("down", "the call that this one called"),
-        command("goto N|start|end|TIME|PLACE", "goes to a position, either way; to a time of the clock, as 35ms"),
+        command("down", "shows the call that this call made"),
+        command(
+            "goto N|start|end|TIME|PLACE",
+            "goes to a position in either direction, to a time of the clock such as 35ms, or to a line or function",
+        ),
         command(
             "until CELL VALUE",
-            "goes to the next step that gives the cell this value, or these words; * is any text; `and CELL VALUE` may follow",
+            "goes to the next step that gives the cell this value or these words; * matches any text; `and CELL VALUE` may follow",
             steps=True,
         ),
         command("reverse-until CELL VALUE", "goes back to the last step that gave the cell this value", steps=True),
         command(
             "next [G]",
-            "goes on past the next step of the last step's goroutine, or past the call that it begins",
+            "goes past the next step of the last step's goroutine, or past the call that this step begins",
             steps=True,
         ),
         command(
             "finish [G]",
-            "goes on to the end of the call that the goroutine is in; between calls, until it has left the program's function",
+            "goes to the end of the goroutine's call; between calls, until the goroutine has left the program's function",
             steps=True,
         ),
         command(
             "reverse-next [G]",
-            "goes back before the goroutine's last step, or before the call that it ended",
+            "goes back before the goroutine's last step, or before the call that this step ended",
             steps=True,
         ),
-        command("reverse-finish [G]", "goes back to where the goroutine's call began", steps=True),
-        command("steps gor G|sock S|desc D|KIND [N|all]", "what it did, or what happened to it, up to the position"),
+        command("reverse-finish [G]", "goes back to the start of the goroutine's call", steps=True),
+        command(
+            "steps gor G|sock S|desc D|KIND [N|all]",
+            "lists the steps of a goroutine, socket, descriptor or kind, up to the position",
+        ),
         command(
             "calls [gor G|sock S|desc D] [N|all]",
-            "the same in calls: Read, Write, SetDeadline, Close, and how they ended",
+            "lists calls such as Read, Write, SetDeadline and Close, and how they ended",
         ),
         command(
             "commands [N]",
-            "takes lines, up to `end`, that are run each time that mark N hits; without N, the last mark",
+            "runs the next lines, up to `end`, each time that mark N hits; without N, the last mark",
         ),
         command(
             "condition N [CELL VALUE]",
-            "mark N stops only if the cell has this value, or these words; without a value it stops always again",
+            "mark N stops only if the cell has this value or these words; without a value, it always stops",
         ),
-        command("display [CELL]", "shows the cell at each stop; alone, all that are shown"),
-        command("undisplay [CELL]", "no longer; alone, none"),
-        command("history CELL [N|all]", "the changes of a cell up to the position, the last 40 if no number is given"),
+        command("display [CELL]", "shows the cell at each stop; without a cell, shows the displayed cells now"),
+        command("undisplay [CELL]", "stops displaying the cell; without a cell, all cells"),
+        command("history CELL [N|all]", "lists the changes of a cell up to the position, the last 40 by default"),
         command("timeline FILE [FROM TO]", "writes a page that shows all positions, or these, side by side"),
-        command("trace FILE", "writes all steps for Perfetto: goroutines as threads, and who woke whom"),
+        command("trace FILE", "writes all steps for Perfetto: goroutines as threads, and which goroutine woke which"),
         command(
-            "reduce OUT.jsonl [N | CELL VALUE]", "writes the least recording in which suspect N, or this value, shows"
+            "reduce OUT.jsonl [N | CELL VALUE]", "writes the smallest recording that still has suspect N, or this value"
         ),
-        command("report OUT.md [N | CELL VALUE]", "the same, with what is said of it in Markdown beside it"),
+        command("report OUT.md [N | CELL VALUE]", "like reduce, and describes the result in Markdown"),
         command(
             "explore [failures] [N]",
-            "plays N schedules near the recorded one, 3000 without N, and writes those that end with a suspect; or those in which a call "
-            "fails that went well",
+            "runs N schedules near the recorded one, 3000 by default, and writes those that end with a suspect; with `failures`, those "
+            "in which a call fails that succeeded",
         ),
-        command("source FILE", "takes lines from a file"),
-        command("save breakpoints FILE", "writes the lines that set the marks that stand, for source FILE"),
-        command("pagination on|off", "whether a terminal stops where its screen is full"),
+        command("source FILE", "runs the commands in a file"),
+        command("save breakpoints FILE", "writes the lines that set the marks again, for source FILE"),
+        command("pagination on|off", "whether output pauses when the terminal's screen is full"),
     )
 }
 COMMANDS = {**OF_NETREV, **OF_NRDB}
@@ -96,7 +105,7 @@ COMMANDS = {**OF_NETREV, **OF_NRDB}
 
 @dataclass(frozen=True)
 class Topic:
-    """What `info` tells about: who answers, how it is called and what it tells."""
+    """A topic of `info`: the program that answers it, its usage and what it shows."""
 
     origin: Origin
     usage: str
@@ -106,43 +115,45 @@ class Topic:
 TOPICS = {
     topic.usage.split()[0]: topic
     for topic in (
-        Topic(Origin.NETREV, "position", "where it stands"),
+        Topic(Origin.NETREV, "position", "the session's position"),
         Topic(Origin.NETREV, "breakpoints", "the marks"),
         Topic(Origin.NETREV, "checkpoints", "the checkpoints"),
-        Topic(Origin.NRDB, "goroutines [all|G]", "what each does that is neither idle nor gone"),
-        Topic(Origin.NRDB, "sockets [all|S]", "those whose lock word, queue or input says something"),
-        Topic(Origin.NRDB, "descriptors [all|D]", "the open ones: whose socket, words and deadlines"),
-        Topic(Origin.NRDB, "timers", "the clock, and the deadlines to come"),
+        Topic(Origin.NRDB, "goroutines [all|G]", "what each goroutine does, without those that are idle or have ended"),
+        Topic(Origin.NRDB, "sockets [all|S]", "the sockets whose lock word, queues or input aren't at rest"),
+        Topic(Origin.NRDB, "descriptors [all|D]", "the open descriptors: socket, words and deadlines"),
+        Topic(Origin.NRDB, "timers", "the clock, and the coming deadlines"),
         Topic(
             Origin.NRDB,
             "errors [N|all]",
-            "the calls that failed, each with its cause: who set the deadline, who closed",
+            "the failed calls, each with its cause: which call set the deadline, or closed the socket",
         ),
         Topic(
-            Origin.NRDB, "hangs", "the calls that wait and don't end in the recording, and who could have woken them"
+            Origin.NRDB,
+            "hangs",
+            "the calls that don't end in the recording, and which goroutines could have woken them",
         ),
         Topic(
             Origin.NRDB,
             "requests",
-            "the requests of net/http's client in the whole recording: of which line, on which connection, and what ended them",
+            "the requests of net/http's client in the whole recording: line, connection, and what ended each",
         ),
-        Topic(Origin.NRDB, "suspects", "what isn't as it should be in the whole recording, by rules, the worst first"),
-        Topic(Origin.NRDB, "holders S", "who holds the references of socket S, and since which step"),
+        Topic(Origin.NRDB, "suspects", "suspected bugs in the whole recording, found by rules, the worst first"),
+        Topic(Origin.NRDB, "holders S", "which goroutines hold references of socket S, and since which step"),
     )
 }
 # What nrdb takes beside netrev's own forms of its commands.
 FORMS = {
     "break": command(
-        "break FILE:LINE | FUNCTION", "stops before the steps at which a goroutine comes to a line or a function"
+        "break FILE:LINE | FUNCTION", "stops before each step at which a goroutine comes to a line or a function"
     ),
-    "tbreak": command("tbreak FILE:LINE | FUNCTION", "as break, and is gone after the first stop"),
+    "tbreak": command("tbreak FILE:LINE | FUNCTION", "like break, but its first stop deletes it"),
     "delete": command(
-        "delete [pN]", "takes the break pN at a line or a function away; alone, all marks, and says which they were"
+        "delete [pN]", "deletes the break pN at a line or function; without a number, deletes and lists all marks"
     ),
 }
 ALL_TOPICS = "; ".join(f"info {topic.usage}" for topic in TOPICS.values())
 
-# Words of other debuggers, and what they come to here.
+# Words of other debuggers, and their equivalents here.
 SPELLINGS = {
     "s": "stepi",
     "step": "stepi",
@@ -186,10 +197,10 @@ SETTINGS = ("exec-direction", PAGINATION)
 
 
 class Ambiguous(Exception):
-    """A word that begins several of those that could stand there."""
+    """A word that is a prefix of several words."""
 
     def __init__(self, word: str, could_be: list[str]):
-        super().__init__(f'"{word}" could be {", ".join(could_be)}')
+        super().__init__(messages.AMBIGUOUS.format(word=word, names=", ".join(could_be)))
 
 
 def whole(word: str, known: Collection[str], spellings: Mapping[str, str] = {}) -> str:
@@ -206,9 +217,13 @@ def whole(word: str, known: Collection[str], spellings: Mapping[str, str] = {}) 
     return near[0] if near else foreign.pop() if len(foreign) == 1 else word
 
 
+ALL_SPELLINGS = {**SPELLINGS, **SHORT}
+
+
+@lru_cache(maxsize=1_024)
 def whole_command(word: str) -> str:
     """The command that a word spells, in short, in part or as another debugger does. Else the word itself."""
-    return whole(word, COMMANDS, {**SPELLINGS, **SHORT})
+    return whole(word, COMMANDS, ALL_SPELLINGS)
 
 
 def whole_words(words: list[str]) -> list[str]:
@@ -244,14 +259,16 @@ def parts_of(line: str) -> list[str]:
     return [part for part in parts if part]
 
 
+OF_FILES = frozenset(name for name, row in COMMANDS.items() if FILE.search(row.usage))
+
+
 def takes_a_file(part: str) -> bool:
     """Whether a command takes the name of a file, by its usage."""
-    words = part.split()
+    words = part.split(None, 1)
     try:
-        name = whole_command(words[0]) if words else ""
+        return bool(words) and whole_command(words[0]) in OF_FILES
     except Ambiguous:
         return False
-    return name in COMMANDS and FILE.search(COMMANDS[name].usage) is not None
 
 
 def is_answered_here(words: list[str]) -> bool:

@@ -1,9 +1,11 @@
-"""Conditions of marks: a cell, and the value that it has to have where the mark hits."""
+"""Conditions of marks: a cell, and the value that it must have when the mark hits."""
 
 from fnmatch import fnmatchcase
 from typing import NamedTuple, Optional, Sequence
 
 from netrev_words.vocabulary import cell_of
+
+from .messages import session as messages
 
 
 class Condition(NamedTuple):
@@ -22,9 +24,9 @@ class Condition(NamedTuple):
         return None
 
     def is_met(self, value: str, words: str) -> bool:
-        """Whether the cell has this value, by the value itself or by its words."""
+        """Whether the cell has this value, given as the value itself or in words."""
         return fnmatchcase(value, self.value) or fnmatchcase(words, self.value)
 
     def says(self, number: str) -> str:
-        """What is said of a mark of this number."""
-        return f"mark {number} stops if {self.cell} is {self.value}"
+        """The message about a mark of this number."""
+        return messages.STOPS_IF.format(number=number, cell=self.cell, value=self.value)

@@ -8,22 +8,23 @@ from typing import Optional, TypeVar
 
 from netrev_words.plain import plain
 
+from .messages import session as messages
+
 WANTED_BY = "NRDB_TRACEBACK"  # the environment variable that has tracebacks printed
 LONGEST = 200  # characters of an error's text
 
 
 class Misused(Exception):
-    """A command of nrdb with words that it doesn't take: what is wrong with them."""
+    """A command of nrdb with wrong arguments; the message says what is wrong."""
 
 
-UNNAMED = "this needs the recording: name its file after --join HOST:PORT"
 Part = TypeVar("Part")
 
 
 def needed(part: Optional[Part]) -> Part:
-    """A part of a session that is there if the recording is; Misused if a session was joined without it."""
+    """A part of a session that exists if the recording does; raises Misused if a session was joined without it."""
     if part is None:
-        raise Misused(UNNAMED)
+        raise Misused(messages.NEEDS_RECORDING)
     return part
 
 
@@ -34,12 +35,12 @@ class Mismatched(Exception):
 def unexpected(error: Exception) -> str:
     """The line that tells of an error. If NRDB_TRACEBACK is set, its traceback goes to standard error."""
     if isinstance(error, MemoryError):
-        return "out of memory"
+        return messages.OUT_OF_MEMORY
     if os.environ.get(WANTED_BY):
         lines = "".join(traceback.format_exception(error)).splitlines()
         print("\n".join(map(plain, lines)), file=sys.stderr)
-        how = "its traceback is on standard error"
+        how = messages.TRACEBACK_IS_SHOWN
     else:
-        how = f"set {WANTED_BY}=1 to see its traceback"
+        how = messages.TRACEBACK_IS_HIDDEN.format(variable=WANTED_BY)
     text = " ".join(str(error).split())[:LONGEST]
-    return f"error in nrdb, not in the recording: {type(error).__name__}: {text} ({how})"
+    return messages.ERROR_IN_NRDB.format(type=type(error).__name__, text=text, how=how)

@@ -7,19 +7,20 @@ from typing import IO, Any, Iterator
 
 from netrev_words.files import whole
 
+from .messages import session as messages
 from .errors import Misused
 
 
 def spare(path: str, recording: str) -> None:
-    """Misused where a file that is to be written is the recording, or the file of its lines."""
+    """Misused if a file to be written is the recording, or its NAME.where."""
     for own in (Path(recording), Path(recording).with_suffix(".where")) if recording else ():
         if os.path.exists(path) and own.exists() and own.samefile(path):
-            raise Misused(f"{path} is the recording itself, or its lines: name another file, or rename it")
+            raise Misused(messages.OWN_FILE.format(path=path))
 
 
 @contextmanager
 def writing(path: str, recording: str, mode: str = "w") -> Iterator[IO[Any]]:
-    """A file to be written; Misused where it can't be."""
+    """A file to be written; Misused if that fails."""
     spare(path, recording)
     try:
         with whole(Path(path), mode) as file:
@@ -29,6 +30,6 @@ def writing(path: str, recording: str, mode: str = "w") -> Iterator[IO[Any]]:
 
 
 def written(path: str, recording: str, data: bytes) -> None:
-    """Writes a file; Misused where it can't be."""
+    """Writes a file; Misused if that fails."""
     with writing(path, recording, "wb") as file:
         file.write(data)

@@ -6,6 +6,7 @@ from typing import Callable, Iterator, NamedTuple, Optional
 
 from netrev_words.vocabulary import KINDS, number_of
 
+from .messages import session as messages
 from .calls import Book, book_of
 from .one_call import Call
 from .output import Row, Table
@@ -34,7 +35,7 @@ class Subject(NamedTuple):
 
     @classmethod
     def of(cls, words: list[str]) -> Optional[tuple["Subject", list[str]]]:
-        """The subject that the words begin with, and the words behind it; None where they begin with none."""
+        """The subject at the beginning of the words, and the words after it; None if there is none."""
         number = number_of(words[1]) if len(words) > 1 else None
         if words[:1] and words[0] in SUBJECTS:
             return None if number is None else (cls(words[0], number), words[2:])
@@ -47,7 +48,7 @@ class Subject(NamedTuple):
 
 
 def steps_table(recording: Recording, subject: Subject, position: int, most: Optional[int]) -> Table:
-    """The last steps of the subject up to the position, at most so many where `most` isn't None."""
+    """The last steps of the subject up to the position, at most `most` if that isn't None."""
     found = list(_numbers(recording, subject, position))
     shown = found if most is None else found[-most:]
     rows = [_step_row(recording, recording.step(number)) for number in shown]
@@ -71,7 +72,7 @@ def _typed(subject: Subject) -> str:
 
 
 def _step_row(recording: Recording, step: Step) -> Row:
-    """A step, its answer where it has one, whose timer it is about, and the line of the program."""
+    """A step, its answer if it has one, the owner of its timer, and the program's line."""
     timer, at = timer_of(recording, step), recording.lines.words(step.number)
     values = {"step": step.number, "line": step.line, "does": str(step), "timer": timer and timer._asdict()}
     answered = f", answered {answer_text(step.answer)}" if step.answer not in (None, "done") else ""
@@ -82,7 +83,7 @@ def _step_row(recording: Recording, step: Step) -> Row:
 
 
 def _rest(count: int, shown: int, name: str, line: str, subject: Subject, position: int) -> str:
-    """What is left out, or that there is nothing."""
+    """The line about what is omitted, or that there is nothing."""
     if shown < count:
         return f"{count - shown} earlier ones: {line} all"
     return "" if count else f"no {name} of {subject} up to position {position}"
@@ -98,7 +99,7 @@ def calls_table(recording: Recording, subject: Subject, position: int, most: Opt
 
 
 def call_row(recording: Recording, call: Call, position: int) -> Row:
-    """A call. One that ends behind the position hasn't ended there."""
+    """A call. If it ends after the position, it is shown as unfinished."""
     seen = call if call.last <= position else call.as_begun()
     at = recording.lines.words(call.first)
     values = {
@@ -134,11 +135,11 @@ def goroutine_at(recording: Recording, position: int) -> int:
     for at in chain(range(position - 1, -1, -1), range(position, len(whose))):
         if whose[at] >= 0:
             return whose[at]
-    raise Stay("no goroutine makes a step in this recording")
+    raise Stay(messages.NO_GOROUTINE_MOVES)
 
 
 def next_goal(recording: Recording, goroutine: int, position: int) -> Goal:
-    """Behind the goroutine's next step, or behind the whole call that it begins."""
+    """After the goroutine's next step, or after the whole call that begins with it."""
     book = book_of(recording)
     step = _own_step(book, goroutine, range(position + 1, recording.length + 1))
     call = next((call for call in book.calls if call.first == step), None)
@@ -154,13 +155,14 @@ def previous_goal(recording: Recording, goroutine: int, position: int) -> Goal:
 
 
 def finish_goal(recording: Recording, goroutine: int, position: int) -> Goal:
-    """Behind the call that the goroutine is in; between two calls, before its first step outside of the program's function."""
+    """After the call that the goroutine is in; between two calls, before its first step outside the program's
+    function."""
     inside = calls_at(book_of(recording), goroutine, position)
     if not inside:
         return return_goal(recording, goroutine, position)
     call = inside[-1]
     if not call.last:
-        raise Stay(f"it doesn't end in this recording: goroutine {goroutine}'s {call.words()}")
+        raise Stay(messages.CALL_HANGS.format(goroutine=goroutine, call=call.words()))
     return Goal(call.last, call)
 
 
@@ -170,8 +172,8 @@ def return_goal(recording: Recording, goroutine: int, position: int) -> Goal:
     if found is not None:
         return Goal(found)
     if function := function_at(recording, goroutine, position):
-        raise Stay(f"goroutine {goroutine} is in no call, and makes no step after {function} returns")
-    raise Stay(f"goroutine {goroutine} is in no call")
+        raise Stay(messages.NO_RETURN.format(goroutine=goroutine, function=function))
+    raise Stay(messages.IN_NO_CALL.format(goroutine=goroutine))
 
 
 def start_goal(recording: Recording, goroutine: int, position: int) -> Goal:
@@ -184,15 +186,16 @@ def _own_step(book: Book, goroutine: int, numbers: range) -> int:
     """The first step of the goroutine among these."""
     found = next((number for number in numbers if book.whose.goroutines[number - 1] == goroutine), None)
     if found is None:
-        raise Stay(f"goroutine {goroutine} makes no {'later' if numbers.step > 0 else 'earlier'} step")
+        way = "later" if numbers.step > 0 else "earlier"
+        raise Stay(messages.NO_OTHER_STEP.format(goroutine=goroutine, way=way))
     return found
 
 
 def _call_at(book: Book, goroutine: int, position: int) -> Call:
-    """The innermost call that the goroutine is in; Stay where it is in none."""
+    """The innermost call that the goroutine is in; Stay if there is none."""
     inside = calls_at(book, goroutine, position)
     if not inside:
-        raise Stay(f"goroutine {goroutine} is in no call")
+        raise Stay(messages.IN_NO_CALL.format(goroutine=goroutine))
     return inside[-1]
 
 

@@ -1,4 +1,4 @@
-"""Where a goroutine is at a position: its stack, since which step, and what it does there."""
+"""The place of a goroutine at a position: its stack, the step since which it is there, and what it does."""
 
 from typing import NamedTuple, Optional
 
@@ -11,31 +11,33 @@ from .where import Stack
 
 
 class GoroutineStack(NamedTuple):
-    """The stack of a goroutine at a position, the step since which it is there, and what it does in words; `is_past` if it has gone on since
-    without a step, so that the stack is that of its last step."""
+    """The stack of a goroutine at a position, the step since which it is there, and what it does, as text; `is_past` if
+    it has gone on since without a step, so that the stack is that of its last step."""
 
     name: Name
     stack: Stack
     since: int
     does: str
     is_past: bool = False
+    goid: int = 0  # Go's own number, if the recording's was used again
 
     def words(self) -> str:
         """It in a line: `goroutine 3: waits for a mutex since step 9, at main.go:34 sync.(*Mutex).Lock`."""
         at = f"{', last' if self.is_past else ','} at {self.stack.words()}" if self.stack.calls else ""
-        return f"{self.name}: {self.does}{at}"
+        return f"{self.name}{f' (goid {self.goid})' if self.goid else ''}: {self.does}{at}"
 
 
 def stack_of(recording: Recording, name: Name, position: int) -> Optional[GoroutineStack]:
-    """Where a goroutine is at a position; None if the recording has neither a step nor a wait of it up to there."""
+    """The stack of a goroutine at a position; None if the recording has neither a step nor a wait of it up to there."""
     wait = waits_of(recording).at(name, position)
+    goid = 0 if name.is_goid else recording.lines.reused_goid(name.number, position)
     if wait:
-        return GoroutineStack(name, wait.stack, wait.first, f"{wait.does} since step {wait.first}")
+        return GoroutineStack(name, wait.stack, wait.first, f"{wait.does} since step {wait.first}", goid=goid)
     step = 0 if name.is_goid else last_steps(recording, position, [name.number])[name.number]
     if not step:
         return None
     inside = calls_at(book_of(recording), name.number, position)
     if inside:
         does = f"in {inside[-1].name} on socket {inside[-1].socket} since step {inside[-1].first}"
-        return GoroutineStack(name, recording.lines.of(step), step, does)
-    return GoroutineStack(name, recording.lines.of(step), step, f"in no call since step {step}", True)
+        return GoroutineStack(name, recording.lines.of(step), step, does, goid=goid)
+    return GoroutineStack(name, recording.lines.of(step), step, f"in no call since step {step}", True, goid)

@@ -1,4 +1,4 @@
-"""Goroutines of `info goroutines` that wait for the same, in one row: many that are queued for one lock, or parked alike."""
+"""Groups the goroutines of `info goroutines` that wait for the same lock or event into one row."""
 
 from typing import Any, Callable, Hashable, Optional
 
@@ -11,7 +11,7 @@ RUNS = 8  # of numbers that are shown
 
 
 def grouped(rows: list[Row], who_has: Callable[[int, str], str]) -> list[Row]:
-    """The rows, one for many that are alike. `who_has` tells of the lock of a socket and a side."""
+    """The rows, one for many similar goroutines. `who_has` describes the holder of a socket's lock for a side."""
     alike: dict[Hashable, list[Row]] = {}
     for at, row in enumerate(rows):
         alike.setdefault(_likeness(row.values) or at, []).append(row)
@@ -22,7 +22,7 @@ def grouped(rows: list[Row], who_has: Callable[[int, str], str]) -> list[Row]:
 
 
 def _likeness(values: dict[str, Any]) -> Optional[Hashable]:
-    """What a goroutine has in common with those that wait for the same; None where it isn't asleep."""
+    """What a goroutine has in common with those that wait for the same; None if it doesn't sleep."""
     if values.get("elsewhere"):
         return (values["waits_for"], *_place(values))
     name, *rest = values["status"].split()
@@ -41,7 +41,7 @@ def _common(values: dict[str, Any]) -> tuple[str, ...]:
 
 
 def _place(values: dict[str, Any]) -> tuple[str, str]:
-    """The line of the program at which a goroutine is, and where it was started; empty if they aren't known."""
+    """The program's line of a goroutine, and the line that started it; empty if unknown."""
     at = values["at"].split(" since step ") if "at" in values else ["", ""]
     return at[0], at[1].partition("; ")[2] if at[1:] else ""
 
@@ -51,10 +51,12 @@ def _group(rows: list[Row], who_has: Callable[[int, str], str]) -> Row:
     first = rows[0].values
     if first.get("elsewhere"):
         names = [
-            Name(row.values["goid"], True) if "goid" in row.values else Name(row.values["goroutine"]) for row in rows
+            Name(row.values["goid"], True) if row.values["goroutine"] is None else Name(row.values["goroutine"])
+            for row in rows
         ]
         why = "; ".join(filter(None, (first["waits_for"], *_place(first))))
-        values = {"goroutines": [name.values for name in names], "status": first["status"], "waits_for": why}
+        each = [name.values | _goid(row) for name, row in zip(names, rows)]
+        values = {"goroutines": each, "status": first["status"], "waits_for": why}
         return Row(values, f"{len(rows)} {why}: {of_names(names)}")
     numbers = [row.values["goroutine"] for row in rows]
     name, place, side = first["status"].split()
@@ -62,8 +64,14 @@ def _group(rows: list[Row], who_has: Callable[[int, str], str]) -> Row:
         why = f"queued for socket {place}'s {SIDES[side]} lock, {who_has(int(place), side)}"
     else:
         why = f"parked for {DOING[side]}; {'; '.join(_common(first))}"
-    values = {"goroutines": numbers, "status": name, "waits_for": why}
+    goids = {str(row.values["goroutine"]): row.values["goid"] for row in rows if "goid" in row.values}
+    values = {"goroutines": numbers, **({"goids": goids} if goids else {}), "status": name, "waits_for": why}
     return Row(values, f"{len(rows)} {why}: goroutines {_runs(numbers)}")
+
+
+def _goid(row: Row) -> dict[str, Any]:
+    """Go's own number, if the row has one."""
+    return {"goid": row.values["goid"]} if "goid" in row.values else {}
 
 
 def _runs(numbers: list[int]) -> str:

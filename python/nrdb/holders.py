@@ -1,4 +1,4 @@
-"""Who holds the references of a socket: the steps that changed how many its lock word counts."""
+"""The goroutines that hold the references of a socket, by the steps that changed the count in its lock word."""
 
 from dataclasses import dataclass
 from typing import NamedTuple
@@ -16,7 +16,7 @@ LOCKING = ("incref", "increfclose", "decref", "rwlock", "rwunlock")
 
 @dataclass(frozen=True)
 class Reference:
-    """A reference that is held: by whom, since which step, and of a lock its side, in a list of one."""
+    """A reference that is held: the goroutine, the step since which it holds it, and for a lock its side, in a list of one."""
 
     step: Step
     goroutine: int
@@ -32,8 +32,8 @@ class Holding(NamedTuple):
 
 
 def holders_of(recording: Recording, changes: RecordedChanges, socket: int, position: int) -> list[Reference]:
-    """The references of the socket at the position, the oldest first: one more where a step raised their number, one less where it
-    lowered that."""
+    """The references of the socket at the position, the oldest first: one more after a step that raised their number,
+    one less after a step that lowered it."""
     counts = {step: LockWord.of(int(word)).references for step, word in changes.changes_of(f"lock {socket}", position)}
     held: list[Holding] = []
     end = -1 if recording.has_answers else None
@@ -50,17 +50,17 @@ def holders_of(recording: Recording, changes: RecordedChanges, socket: int, posi
 
 
 def _given(held: list[Holding], goroutine: int, side: list[str]) -> Holding:
-    """The reference that is given up: one of the same goroutine, where it has one, and the newest such."""
+    """The reference that is given back: the newest one of the same goroutine, if it has one."""
     fits = [one for one in held if one.side == side]
     own = [one for one in fits if one.goroutine == goroutine]
     return (own or fits or held)[-1]
 
 
 def holders_table(world: World, changes: RecordedChanges, socket: int) -> Table:
-    """Who holds the socket's references, and what each does now."""
+    """The goroutines that hold the socket's references, with what each does now."""
     shown = world.value(f"lock {socket}")
     if shown == "absent":
-        return Table("holders", [], f"socket {socket} isn't made yet")
+        return Table("holders", [], f"socket {socket} doesn't exist yet")
     rows = [_row(world, held) for held in holders_of(world.recording, changes, socket, world.position)]
     return Table("holders", rows, f"lock {socket} = {shown}: {lock_words(shown)}; {counted(len(rows), 'holder')}")
 

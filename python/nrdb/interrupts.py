@@ -26,7 +26,7 @@ class Interrupts:
 
     @contextmanager
     def held(self, first: Callable[[], None] = lambda: None) -> Iterator[None]:
-        """Within, Ctrl-C is remembered, and told by `check`; a second one raises GivenUp. `first` is called at the first."""
+        """Inside, Ctrl-C is remembered and reported by `check`; a second one raises GivenUp. `first` is called at the first one."""
         self._came, self._first = False, first
         before = signal.signal(signal.SIGINT, self._handle)
         try:
@@ -36,7 +36,7 @@ class Interrupts:
 
     @contextmanager
     def at_once(self) -> Iterator[None]:
-        """Within, netrev is asked nothing, and Ctrl-C raises Interrupted wherever it comes, but where that is `shielded`."""
+        """Inside, netrev isn't asked, and Ctrl-C raises Interrupted at once, except inside `shielded`."""
         self.check()
         before, self._stops_at_once = self._stops_at_once, True
         try:
@@ -59,7 +59,7 @@ class Interrupts:
         self._came = False
 
     def give_up(self) -> None:
-        """Raises GivenUp, and so does whoever asks anything later."""
+        """Raises GivenUp; each later request raises it too."""
         self._is_given_up = True
         self.check_given_up()
 
@@ -78,13 +78,13 @@ class Interrupts:
         self.came()
 
     def check(self) -> None:
-        """Raises Interrupted where Ctrl-C came, and GivenUp where a second one did."""
+        """Raises Interrupted if Ctrl-C came, and GivenUp if it came twice."""
         self.check_given_up()
         if self._came:
             self._came = False
             raise Interrupted
 
     def check_given_up(self) -> None:
-        """Raises GivenUp where the session was given up: that stays so, whoever catches the first one."""
+        """Raises GivenUp if the session was given up, even if an earlier GivenUp was caught."""
         if self._is_given_up:
             raise GivenUp

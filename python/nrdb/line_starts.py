@@ -1,5 +1,5 @@
-"""Where the lines of a text begin. There may be a million, so they are counted by blocks, and found in a block when one of its lines is asked
-for."""
+"""The beginnings of a text's lines. There may be a million, so they are counted by blocks, and found in a block when
+one of its lines is asked for."""
 
 from bisect import bisect_left
 from itertools import accumulate
@@ -8,13 +8,13 @@ BLOCK = 2**16  # bytes
 
 
 class LineStarts:
-    """Of each line, from 0, where it begins; behind the last one where a further one would."""
+    """The place at which each line begins, from line 0, and the place after the last line."""
 
     def __init__(self, data: bytes) -> None:
         self._data = data
         counts = (data.count(b"\n", begin, begin + BLOCK) for begin in range(0, len(data), BLOCK))
         self._before = list(accumulate(counts, initial=0))  # how many line feeds are before each block
-        # of the block that was asked last: how many line feeds are before it and up to its end, and the places behind its own
+        # of the last block: how many line feeds are before it and up to its end, and their places in it
         self._first = self._last = 0
         self._behind = [0]
 
@@ -33,7 +33,7 @@ class LineStarts:
         return self._behind[line - self._first]
 
     def _at_an_end(self, line: int) -> int:
-        """Where the first line begins, or one behind the last would."""
+        """The place of the first line, or the place after the last one."""
         if line not in (0, self._before[-1] + 1):
             raise IndexError(line)
         return len(self._data) + 1 if line else 0

@@ -11,7 +11,7 @@ INDENT = 4
 
 
 def width_of(out: TextIO) -> int:
-    """How many columns a terminal has, by COLUMNS or else by what it says; 0 where that isn't known, or there is none."""
+    """The width of a terminal, from COLUMNS or the terminal itself; 0 if it is unknown or there is no terminal."""
     if not out.isatty():
         return 0
     if (named := number_of(os.environ.get("COLUMNS", ""))) is not None:
@@ -23,7 +23,7 @@ def width_of(out: TextIO) -> int:
 
 
 def wrapped(text: str, width: int) -> list[str]:
-    """A line as lines of that width, broken between words. It stays whole where it has room, or the width is too small."""
+    """A line, broken between words into lines of that width; unbroken if it fits or the width is too small."""
     if width < LEAST or len(text) <= width:
         return [text]
     begun = len(text) - len(text.lstrip())

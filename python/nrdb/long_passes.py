@@ -7,8 +7,8 @@ from typing import Iterator
 
 @contextmanager
 def without_collections() -> Iterator[None]:
-    """Within, nobody looks for objects in cycles: nearly all that a long pass makes is kept, and looking through it again and again would take
-    as long as the pass."""
+    """In this context, Python doesn't search for objects in cycles: nearly everything that a long pass makes is kept,
+    and searching it repeatedly would take as long as the pass."""
     was_on = gc.isenabled()
     gc.disable()
     try:
@@ -19,6 +19,6 @@ def without_collections() -> Iterator[None]:
 
 
 def take_all_as_kept() -> None:
-    """All that there is counts as old, of which a collection is rare: the next one doesn't look through what a long pass has made."""
+    """Marks all existing objects as old, so that the next garbage collection skips what a long pass has made."""
     gc.freeze()
     gc.unfreeze()

@@ -1,5 +1,5 @@
-"""The changes of a recording that no netrev is asked for: of schedules that are only played, of what is left of a recording on the way to the
-least one. The machine in Python says them, as `netrev changes` does."""
+"""The changes of a recording without netrev: of schedules that are only played, or of recordings on the way to the
+smallest. The machine in Python gives them, as `netrev changes` does."""
 
 from typing import Any, Callable, Iterable, Iterator, Optional
 
@@ -11,7 +11,7 @@ from netrev_words.vocabulary import KINDS, MOST
 from .recorded_changes import RecordedChanges
 from .recording import Recording, Row
 
-WIDE = Limits(MOST, MOST, MOST, MOST)  # (whoever made the steps kept to the limits)
+WIDE = Limits(MOST, MOST, MOST, MOST)  # (the maker of the steps kept to the limits)
 OF_BYTES = frozenset(kind for kind, row in KINDS.items() if "bytes" in row.arguments)
 
 
@@ -32,7 +32,7 @@ class PlayedSteps(Recording):
 
 
 def changes_of(recording: Recording) -> RecordedChanges:
-    """The changes of a recording's steps: netrev's where it is at hand, else the model's."""
+    """The changes of a recording's steps, from netrev if it is available, otherwise from the model."""
     if recording.changes is None:
         recording.changes = RecordedChanges.read(["\n".join((*_lines(recording), "")).encode()])
     return recording.changes

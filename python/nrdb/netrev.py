@@ -10,18 +10,19 @@ from contextlib import suppress
 from dataclasses import dataclass
 from typing import Callable, Optional, Sequence
 
+from .messages import session as messages
 from .interrupts import Interrupts
 from .shapes import Listed, Strange, entries_in, mark_of, value_of
 
 AT_ONCE = 16_384  # bytes that are sent before replies are read: no pipe is filled by them
 READ = 65_536
 LONGEST = 2 * 1_048_576 + 64  # bytes of the longest reply, a dump of a full buffer
-SILENCE = 1  # second, after which somebody who waits for the first reply is told so
+SILENCE = 1  # seconds after which a caller that waits for the first reply is told so
 
 
 def bytes_of(text: str) -> bytes:
-    """Lines as they are sent. What came as bytes that are no UTF-8 goes so; half a character, which an editor's JSON can name, is
-    none either."""
+    """Lines as they are sent. Bytes that aren't UTF-8 are sent unchanged; so is half a character, which an editor's
+    JSON can name."""
     try:
         return text.encode("utf-8", "surrogateescape")
     except UnicodeEncodeError:
@@ -29,7 +30,7 @@ def bytes_of(text: str) -> bytes:
 
 
 class Ended(Exception):
-    """netrev ended, or the connection with it did. `status` is its exit status, where it is known."""
+    """netrev, or the connection to it, has ended. `status` is its exit status, if known."""
 
     def __init__(self, status: Optional[int] = None):
         super().__init__("netrev ended")
@@ -38,7 +39,7 @@ class Ended(Exception):
 
 @dataclass(frozen=True)
 class Reply:
-    """netrev's reply to a line: its first line, and of a list the entries behind it."""
+    """netrev's reply to a line: its first line, and the entries of a list."""
 
     first: str
     entries: tuple[str, ...] = ()
@@ -58,8 +59,7 @@ class Lines:
         self._rest = b""
 
     def next(self, asked: str) -> Optional[str]:
-        """The next line, without its line feed; None where none comes any more, and Strange, with the line that was asked,
-        where one has no end."""
+        """The next line, without its line feed; None at the end. Strange, with the line that was asked, if a line doesn't end."""
         while not self._whole:
             if len(self._rest) > LONGEST:
                 raise Strange(asked, self._rest[:READ].decode("latin-1"))
@@ -88,18 +88,38 @@ class Netrev:
     """Lines are sent, and each is answered by a line; the two lists by a line more an entry. No line is sent as long as a
     reply is left to be read, so each reply belongs to its line."""
 
+    asks_ahead = True  # whether no other front can change what a query shows
+
     def __init__(self, interrupts: Interrupts):
         self._interrupts = interrupts
         self._unread = 0
+        self._ahead: deque[tuple[str, Reply | Exception]] = deque()  # queries that were sent early, with their results
 
     def ask(self, line: str) -> Reply:
         """The reply to this line."""
+        if self._ahead and self._ahead[0][0] == line:
+            self._interrupts.check_given_up()
+            _, came = self._ahead.popleft()
+            if isinstance(came, Exception):
+                raise came
+            return came
         self._begin([line])
         return self._reply(line)
 
+    def ask_ahead(self, queries: Sequence[str]) -> None:
+        """Sends queries together, of one line each, which change nothing. `ask` has their replies as long as no other line is sent; what goes
+        wrong is raised when that reply is asked for."""
+        self._begin(list(queries))
+        for query in queries:
+            try:
+                self._ahead.append((query, self._reply(query)))
+            except (Ended, Strange) as wrong:
+                self._ahead.append((query, wrong))
+                return
+
     def ask_all(self, lines: Sequence[str]) -> list[str]:
-        """The replies to these lines, of one line each: all are sent before any is waited for, but for those that would
-        fill a pipe. Between two such batches Ctrl-C is looked for."""
+        """The replies to these lines, of one line each. The lines are sent in batches that don't fill a pipe; Ctrl-C is checked
+        between batches."""
         replies: list[str] = []
         batch: list[str] = []
         size = 0
@@ -120,7 +140,7 @@ class Netrev:
         return [value_of(line, reply) for line, reply in zip(lines, self.ask_all(lines))]
 
     def marks(self) -> list[Listed]:
-        """The marks that stand."""
+        """The current marks."""
         return [mark_of(entry) for entry in self.ask("info breakpoints").entries]
 
     def _ask_batch(self, batch: list[str]) -> list[str]:
@@ -130,6 +150,7 @@ class Netrev:
 
     def _begin(self, lines: list[str]) -> None:
         self._interrupts.check_given_up()
+        self._ahead.clear()
         if self._unread:  # whatever came next would be the reply to another line
             self.drop()
             raise Ended
@@ -150,15 +171,15 @@ class Netrev:
         return line
 
     def _send(self, text: bytes) -> None:
-        """Sends these lines. Where netrev has ended, what it said before is still to be read, so that tells it."""
+        """Sends these lines. If netrev has ended, its earlier output is still read, which reports the end."""
         raise NotImplementedError
 
     def _next(self, asked: str) -> Optional[str]:
-        """The next line that netrev says to the line that was asked; None where it has ended."""
+        """netrev's next line in reply to a line; None if netrev has ended."""
         raise NotImplementedError
 
     def close(self) -> Optional[int]:
-        """Ends the conversation; the exit status where there is one. It may be called again."""
+        """Ends the conversation; the exit status if there is one. It may be called again."""
         raise NotImplementedError
 
     def drop(self) -> None:
@@ -198,14 +219,16 @@ class Own(Netrev):
 
 
 class Joined(Netrev):
-    """A front of a session that `netrev serve` has, by its address. `silent` is called where the first reply takes long."""
+    """A front of a session of `netrev serve`, by its address. `silent` is called if the first reply takes long."""
+
+    asks_ahead = False
 
     def __init__(self, address: tuple[str, int], interrupts: Interrupts, silent: Callable[[], None]):
         super().__init__(interrupts)
         try:
             self._socket = socket.create_connection(address, timeout=10)
         except UnicodeError:
-            raise OSError(errno.EINVAL, "no host has that name") from None
+            raise OSError(errno.EINVAL, messages.UNKNOWN_HOST) from None
         self._socket.settimeout(None)
         self._socket.setsockopt(socket.IPPROTO_TCP, socket.TCP_NODELAY, 1)
         self._lines = Lines(self._socket.fileno(), silent)

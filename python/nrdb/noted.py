@@ -8,7 +8,7 @@ new = tuple.__new__  # (of a million steps some 100,000 notes are made, and a na
 
 
 class Setting(NamedTuple):
-    """A `setdeadline`: its step, who made it, for which sides, and the time that it was given."""
+    """A `setdeadline`: its step, its goroutine, its sides, and its time."""
 
     step: int
     goroutine: int
@@ -24,7 +24,7 @@ class Due(NamedTuple):
 
 
 class Passing(NamedTuple):
-    """A deadline has passed: at which step, of which kind, and what it is due to."""
+    """A deadline that passed: the step, its kind, and the step that caused it."""
 
     step: int
     kind: str
@@ -32,7 +32,7 @@ class Passing(NamedTuple):
 
 
 class Taking(NamedTuple):
-    """A readiness was taken: at which step, by whom, and which step's event it was."""
+    """A readiness that was taken: the step, the goroutine, and the step of the event."""
 
     step: int
     goroutine: int
@@ -66,7 +66,8 @@ class Timeout(NamedTuple):
 
 
 class Hold(NamedTuple):
-    """A reference of a socket: who holds it, since which step, of which kind, and the side of the lock with it, or none."""
+    """A reference of a socket: the goroutine that holds it, since which step, its kind, and the side of the lock that it came with,
+    if any."""
 
     goroutine: int
     step: int
@@ -75,13 +76,13 @@ class Hold(NamedTuple):
 
 
 class By(NamedTuple):
-    """A step, and who made it."""
+    """A step and its goroutine."""
 
     step: int
     goroutine: int
 
 
-AT = {"r": 0, "w": 1}  # where what is kept of both sides has those of each
+AT = {"r": 0, "w": 1}  # for values of both sides, the index of each
 SIDES = {"r": (0,), "w": (1,), "rw": (0, 1)}  # of a mode
 
 
@@ -115,13 +116,13 @@ class Use:
         return self.settings[bisect_left(self.settings, (step,))]
 
     def setting_behind(self, side: str, step: int) -> Optional[Setting]:
-        """The first setting of a side behind a step."""
+        """The first setting of a side after a step."""
         later = range(bisect_left(self.settings, (step + 1,)), len(self.settings))
         return next((self.settings[at] for at in later if side in self.settings[at].mode), None)
 
 
 def code_of(info: int, side: str) -> int:
-    """The code that a side has by a descriptor's `info`: of what it is told first, or 0."""
+    """The code of a side by a descriptor's `info`: that of the first condition that holds, or 0."""
     if info & 1:
         return CLOSING
     if info & (4 if side == "r" else 8):

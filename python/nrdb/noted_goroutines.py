@@ -1,4 +1,4 @@
-"""What is noted of goroutines: their statuses, each taken apart once, and how long whoever is at a place pauses."""
+"""Notes about goroutines: their statuses, each parsed once, and how long goroutines pause in each status."""
 
 from typing import Optional
 
@@ -7,7 +7,8 @@ MANY = 3  # pauses of a place that ended, from which on the longest of them says
 
 
 class Pauses:
-    """How many pauses of a place ended, as far as they are told, and the longest of them. One that is longer than `enough` has to be told."""
+    """The number of pauses that ended in a status, as far as they are reported, and the longest of them. A pause longer than
+    `enough` must be reported."""
 
     __slots__ = ("count", "longest", "enough")
 
@@ -15,7 +16,7 @@ class Pauses:
         self.count, self.longest, self.enough = 0, 0, -1
 
     def ends(self, steps: int) -> None:
-        """A pause of so many steps has ended."""
+        """A pause of this many steps has ended."""
         self.count += 1
         self.longest = max(self.longest, steps)
         if self.count >= MANY:
@@ -23,7 +24,7 @@ class Pauses:
 
 
 class NoPauses(Pauses):
-    """Of who has nothing to do: no pause has to be told."""
+    """The pauses of an idle goroutine, which aren't reported."""
 
     __slots__ = ()
 
@@ -33,8 +34,8 @@ class NoPauses(Pauses):
 
 
 class Status(str):
-    """A status as netrev shows it, with what is asked of it at each step: the number of its socket or descriptor and its side, where it has
-    such, the pauses of who is there, who sleeps there, the first one first, and what it is."""
+    """A status as netrev prints it, with what each step needs: the number and the side of its socket or descriptor, the pauses in
+    this status, and the goroutines that sleep in it, in order."""
 
     __slots__ = ("number", "side", "pauses", "sleepers", "is_idle", "is_acquiring", "is_asleep")
 
@@ -60,7 +61,7 @@ class Statuses(dict[str, Status]):
 
     def __init__(self) -> None:
         super().__init__()
-        # who is idle pauses as long as it holds a reference, which is told at its steps and not as it leaves the place
+        # an idle goroutine pauses as long as it holds a reference, which is noted at its steps and not as it leaves the place
         self.pauses: dict[str, Pauses] = {IDLE: Pauses()}
         self[IDLE] = Status(IDLE, NoPauses())
 
@@ -74,8 +75,8 @@ ABSENT = Status("absent", NoPauses())
 
 
 class Goroutine:
-    """A goroutine: its cell behind a step's number, its status, since when, its last step, `pollreset`, and read or write, and how many
-    references it holds. (As long as it makes one step after the other, the last one isn't kept.)"""
+    """A goroutine: its cell after a step, its status and since when, its last step, `pollreset`, and read or write, and the number
+    of references that it holds. While it makes one step after the other, the last step isn't stored."""
 
     __slots__ = ("number", "cell", "status", "since", "last", "reset", "tried", "held")
 

@@ -1,8 +1,7 @@
-"""What no cell says of a recording, gathered from its steps in one pass beside the changes that they made: who holds which reference since
-when, who set which deadline, which event was taken by whom, and how long everybody paused. That is nrdb's own reckoning.
-
-There may be a million steps, so what is to be done for a step is made ready once for all lines that are alike and near: a function that knows
-already whom the step names, and which cells it asks for (`noting.py`)."""
+"""What no cell shows, gathered in one pass over a recording's steps and their changes: which goroutine holds which reference since
+when, which set which deadline, which took which event, and how long each paused. This is nrdb's own analysis. A recording may have
+a million steps, so the work for a step is prepared once for all similar lines nearby: a function that notes it and one that looks
+at the state."""
 
 from collections import deque
 from types import MappingProxyType
@@ -26,7 +25,7 @@ MOST_CHANGED = 1_024  # bytes of what a firing changes: a dozen lines at most
 
 
 class Now(dict[str, str]):
-    """What cells show behind the last step, each asked for once."""
+    """The cells after the last step, each asked for once."""
 
     def __init__(self, changes: RecordedChanges, position: int) -> None:
         super().__init__()
@@ -38,7 +37,7 @@ class Now(dict[str, str]):
 
 
 class Notes:
-    """The notes behind the steps that were gone through: in the end behind all."""
+    """The notes after the steps so far, and finally after all."""
 
     def __init__(self, recording: Recording, looks: Looks = MappingProxyType({})) -> None:
         self.recording, self.changes, self._looks = recording, changes_of(recording), looks
@@ -51,8 +50,8 @@ class Notes:
         self.goroutines: dict[int, Goroutine] = {}
         self.goroutine(0).is_made(0, self.statuses[IDLE])
         self.made = 1  # goroutines
-        self._turn = NOBODY  # who made the last step
-        self.wakers: dict[int, Note] = {}  # of descriptors, what notes who is woken there
+        self._turn = NOBODY  # the goroutine of the last step
+        self.wakers: dict[int, Note] = {}  # of descriptors, the goroutines that are woken there
         self.comings: dict[tuple[int, str, int], Note] = {}  # and an event there, with its mode and error
         # of sockets: their lock words and what their buffers hold, who holds them, who closed them or their write sides, and when bytes
         # came, the peer closed, and an evict was
@@ -78,7 +77,7 @@ class Notes:
         self.ready: dict[str, set[int]] = {"r": set(), "w": set()}  # of each side
         self.stale: dict[int, tuple[int, int]] = {}
         self.timeouts: list[Timeout] = []
-        # those behind a CloseWrite: the step, by whom, and the socket
+        # those after a CloseWrite: the step, the goroutine, and the socket
         self.refused_writes: list[tuple[int, int, int]] = []
         self.longest_holds: dict[str, int] = {}  # of each kind, of those that ended
         self._has_answers, self._rows = recording.has_answers, recording.rows(self._row)
@@ -94,13 +93,13 @@ class Notes:
                     self._note_steps(range(told.first, told.end))
             self._turn.last = self.step
         except (KeyError, IndexError, ValueError):
-            deque(self.changes.texts(), maxlen=0)  # (if a line is no change, that tells it)
+            deque(self.changes.texts(), maxlen=0)  # (a line that isn't a change shows that)
             raise
         self.told.clear()
         self._lines = ""
 
     def _note_steps(self, steps: range) -> None:
-        """Goes through these steps. One step of a goroutine's right behind another is no pause that is told, once enough were."""
+        """Goes through these steps. After enough pauses, a step of a goroutine right after another one doesn't report a pause."""
         turn, is_enough = self._turn, self.pauses[IDLE].count >= MANY
         for step, number, (goroutine, note, look) in zip(steps, map(str, steps), self._rows):
             if goroutine is not turn:
@@ -122,13 +121,14 @@ class Notes:
             idle.ends(pause)
 
     def _holds(self, told: Told) -> None:
-        """Has what the next steps changed. It stays one table, which those know who ask it."""
+        """Stores what the next steps changed, in the same table, because callers keep it."""
         self.told.clear()
         self.told.update(told.cells())
         self._lines, self._fired_at = told.text, 0
 
     def _row(self, values: list[Any]) -> Row:
-        """What is made of a step's array: the goroutine that makes the step, if one does, who notes it and who looks at it."""
+        """What is made of a step's array: its goroutine, if it has one, the function that notes it, and the function that looks at
+        the state."""
         kind, *arguments = values[:-1] if self._has_answers else values
         goroutine = self.goroutine(arguments[0]) if kind in OF_A_GOROUTINE else NOBODY
         note, look = NOTES.get(kind), self._looks.get(kind)
@@ -153,7 +153,7 @@ class Notes:
     # what a step may do to a goroutine
 
     def moves(self, goroutine: Goroutine, step: int, shown: str) -> None:
-        """A goroutine has another status by a step of its own, which ends its pause where it was. (Who isn't idle can make no other step.)"""
+        """A goroutine has a new status by its own step, which ends its pause. A goroutine that isn't idle can make no other step."""
         before = goroutine.status
         status = goroutine.status = self.statuses[shown]
         if step - goroutine.since > before.pauses.enough:
@@ -178,10 +178,10 @@ class Notes:
             self.timeouts.append(Timeout(step, g, d, side, use.passings[at][-1], due))
         return self.code > 0
 
-    # what is there behind the last step
+    # the objects after the last step
 
     def status(self, g: int) -> str:
-        """Where a goroutine is."""
+        """The status of a goroutine."""
         return self.goroutines[g].status.partition(" ")[0]
 
     def is_closed(self, s: int) -> bool:
@@ -189,4 +189,4 @@ class Notes:
         return bool(self.locks.get(s, 0) & CLOSED)
 
 
-NOBODY = Goroutine(-1)  # who makes the steps of the network and of the clock
+NOBODY = Goroutine(-1)  # the actors of the network's and the clock's steps

@@ -78,7 +78,7 @@ def began_to_wait(notes: Notes, g: int, d: int, side: str) -> Note:
 
 
 def took(notes: Notes, g: int) -> Note:
-    """A goroutine arms its wait or wakes: where its word was ready it takes that."""
+    """A goroutine arms its wait or wakes; if its word was ready, it takes the readiness."""
     goroutine, told, own, moves, ready = notes.goroutine(g), notes.told.get, f" gor {g}", notes.moves, notes.ready
 
     def note(step: int, number: str) -> None:

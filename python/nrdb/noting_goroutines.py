@@ -1,4 +1,4 @@
-"""What notes the steps of goroutines, and who is woken (`noting.py`)."""
+"""The functions that note steps of goroutines and wake-ups (`noting.py`)."""
 
 from __future__ import annotations
 
@@ -39,7 +39,7 @@ def stepped(notes: Notes, g: int, *_: object) -> Note:
 
 
 def released(notes: Notes, g: int) -> Note:
-    """It may wake who stands first in a queue of the socket."""
+    """It may wake the first goroutine in a queue of the socket."""
     goroutine, own = notes.goroutine(g), stepped(notes, g)
 
     def note(step: int, number: str) -> None:
@@ -60,7 +60,7 @@ def wake(notes: Notes, status: Status, step: int, number: str) -> None:
 
 
 def waking(notes: Notes, d: int) -> Note:
-    """It may wake who is parked at a descriptor."""
+    """It may wake a goroutine that is parked at a descriptor."""
     if d not in notes.wakers:
         notes.wakers[d] = _waking(notes, d)
     return notes.wakers[d]

@@ -10,7 +10,7 @@ from .noting_goroutines import Note
 if TYPE_CHECKING:
     from .notes import Notes
 
-# in a lock word, of whose lower bits two are the locks: who reads and writes waits in higher ones
+# in a lock word, whose lower bits are the two locks: waiting readers and writers are in higher ones
 REFERENCES = (2**20 - 1) << 3
 WAITING = 1 << 23
 
@@ -85,7 +85,8 @@ def shut(notes: Notes, g: int, s: int) -> Note:
 
 
 def referred(kind: str) -> Callable[..., Note]:
-    """What notes a step of a kind that may take a reference: where the lock word has one more, and the lock of a side with it, if one is named."""
+    """The function that notes a step of a kind that may take a reference: if the lock word counts one more, and, for a side, if the
+    lock was taken with it."""
 
     def of(notes: Notes, g: int, s: int, side: str = "") -> Note:
         goroutine, locks, told, cell = notes.goroutine(g), notes.locks, notes.told.get, f" lock {s}"

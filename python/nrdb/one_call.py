@@ -20,10 +20,10 @@ class Outcome(Enum):
     BROKEN_PIPE = "broken pipe"
     SYSTEM_ERROR = "system error"  # one that no step has, by the lines beside the recording
 
-    @property
-    def is_error(self) -> bool:
-        """Whether the program has an error for it. (The end of a file is one that every reader expects.)"""
-        return self not in (Outcome.DONE, Outcome.EOF)
+    is_error: bool  # whether the program has an error for it: of the end of a file it has one that every reader expects
+
+    def __init__(self, words: str) -> None:
+        self.is_error = words not in ("done", "end of file")
 
 
 MOVING = {"Read": "got", "Write": "put"}
@@ -31,7 +31,7 @@ MOVING = {"Read": "got", "Write": "put"}
 
 @dataclass(slots=True)
 class Call:
-    """A call: its first and its last step, which is 0 as long as it hasn't ended, and what came of it."""
+    """A call: its first and its last step, which is 0 if it hasn't ended, and its result."""
 
     goroutine: int
     name: str
@@ -41,7 +41,7 @@ class Call:
     last: int = 0
     waited: int = 0  # steps in which its goroutine slept
     slept: int = 0  # nanoseconds of the clock in these
-    moved: Optional[int] = None  # bytes, where it has tried to read or to write any
+    moved: Optional[int] = None  # bytes, if it has tried to read or to write any
     outcome: Outcome = Outcome.DONE
     side: str = ""  # of the lock that it has
     is_asking: bool = False  # for a lock that another has
@@ -49,7 +49,7 @@ class Call:
     destroys: bool = False
     cause: int = 0  # the step that brought its error about: which set the deadline, closed the socket or its write side
     passed: int = 0  # and of a timeout the step at which the deadline passed
-    error: str = ""  # the system's name of its error, where it has one
+    error: str = ""  # the system's name of its error, if it has one
 
     def steps(self) -> str:
         """Its steps, in words."""
@@ -58,7 +58,7 @@ class Call:
         return f"step {self.first}" if self.first == self.last else f"steps {self.first} to {self.last}"
 
     def came(self) -> str:
-        """What came of it, in words."""
+        """Its result, as text."""
         if not self.last:
             return "hasn't ended"
         moved = "" if self.moved is None else f"{MOVING.get(self.name, 'moved')} {counted(self.moved, 'byte')}"
@@ -72,7 +72,7 @@ class Call:
         return Call(self.goroutine, self.name, self.socket, self.descriptor, self.first)
 
     def words(self) -> str:
-        """It, but for whose it is: `Read on socket 40: steps 35420 to 35556, waited 94, timed out`."""
+        """The text without the goroutine: `Read on socket 40: steps 35420 to 35556, waited 94, timed out`."""
         clock = f" ({self.slept} ns)" if self.slept else ""
         waited = f"waited {self.waited}{clock}" if self.waited else ""
         return f"{self.name} on socket {self.socket}: " + ", ".join(filter(None, (self.steps(), waited, self.came())))

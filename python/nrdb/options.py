@@ -1,4 +1,4 @@
-"""The words that nrdb is called with."""
+"""The command line of nrdb."""
 
 import argparse
 from typing import Any, NoReturn, Optional, Sequence
@@ -12,7 +12,7 @@ from netrev_words.vocabulary import number_of
 
 DESCRIPTION = """\
 Debug a recorded run of a Go program's goroutines, sockets and deadlines, forwards and backwards. nrdb runs netrev, the proved
-debugger, and shows its answers; what nrdb adds is unproved, and begins with `|`."""
+debugger, and shows its answers; lines that nrdb adds are unproved and begin with `|`."""
 EXAMPLE = """\
 example: what went wrong in a test that netrev-go recorded, and what led to it
   nrdb recordings/toy.TestRed.jsonl -ex 'info suspects'
@@ -47,7 +47,7 @@ def parser() -> Words:
     made = Words(
         prog="nrdb", description=DESCRIPTION, epilog=EXAMPLE, formatter_class=argparse.RawDescriptionHelpFormatter
     )
-    made.add_argument("--version", nargs=0, action=Version, help="show the version, and which netrev runs, and exit")
+    made.add_argument("--version", nargs=0, action=Version, help="print the versions of nrdb and netrev, and exit")
     made.add_argument("file", nargs="?", metavar="FILE", help="the recording")
     made.add_argument(
         "-x", dest="lines", action=InOrder, const="source", metavar="FILE", help="run the commands in FILE"
@@ -58,7 +58,7 @@ def parser() -> Words:
     made.add_argument(
         "--suspects",
         action="store_true",
-        help="print the suspects after -x and -ex, and exit: with status 4 if there are any",
+        help="print the suspects after -x and -ex, and exit; the status is 4 if there are any",
     )
     made.add_argument(
         "--timeline",
@@ -72,11 +72,13 @@ def parser() -> Words:
     made.add_argument(
         "--explore",
         action="store_true",
-        help="run schedules near the recorded one after -x and -ex, print those that end with a suspect, and exit: with status 4 if "
+        help="run schedules near the recorded one after -x and -ex, print those that end with a suspect, and exit; the status is 4 if "
         "there are any",
     )
     made.add_argument(
-        "--explore-failures", action="store_true", help="the same for schedules in which a call fails that succeeded"
+        "--explore-failures",
+        action="store_true",
+        help="like --explore, for schedules in which a call fails that succeeded",
     )
     made.add_argument("--join", metavar="HOST:PORT", help="join a session that `netrev serve` shares")
     made.add_argument(
@@ -86,20 +88,20 @@ def parser() -> Words:
         "--dap-port",
         metavar="PORT",
         type=int,
-        help="serve editors at a port of the loopback, one after the other; a launch names the token that is printed",
+        help="serve editors on a port of 127.0.0.1, one after the other; a launch needs the token that is printed",
     )
     made.add_argument(
         "--web",
         metavar="PORT",
         type=int,
-        help="serve a page for browsers at a port of the loopback instead of prompting",
+        help="serve a page for browsers on a port of 127.0.0.1 instead of prompting",
     )
     made.add_argument("--netrev", default=netrev_program() or str(BUILT), metavar="PROGRAM", help="netrev's program")
     return made
 
 
 def parsed(words: Sequence[str]) -> argparse.Namespace:
-    """The words as they are meant. Two numbers behind --timeline's file are the positions of its part."""
+    """The parsed words. Two numbers after the file of --timeline are the positions of its part."""
     at = words.index("--timeline") + 2 if "--timeline" in words else len(words)
     part = [number for word in words[at : at + 2] if (number := number_of(word)) is not None]
     if len(part) < 2:

@@ -5,9 +5,10 @@ import json
 import os
 import sys
 from abc import ABC, abstractmethod
+from contextlib import contextmanager
 from dataclasses import dataclass
 from enum import Enum
-from typing import Any, Callable, Optional, Sequence, TextIO
+from typing import Any, Callable, Iterator, Optional, Sequence, TextIO
 
 from netrev_words.plain import plain
 
@@ -21,8 +22,7 @@ Values = dict[str, Any]  # what a row says, by name, as JSON has it
 
 @dataclass(frozen=True)
 class Place:
-    """Where the session stands: the position, the number of steps, and the steps before and behind, where they are
-    known."""
+    """The session's position, the number of steps, and the steps before and after it, if known."""
 
     position: int
     steps: int
@@ -46,7 +46,7 @@ class Place:
 
 
 class Style(Enum):
-    """How a line stands out on a terminal with colours: netrev's own replies are left as they are."""
+    """The style of a line on a terminal with colours: netrev's own replies are left as they are."""
 
     PLAIN = ""
     ADDED = "36"  # cyan: what nrdb adds
@@ -55,8 +55,8 @@ class Style(Enum):
 
 @dataclass(frozen=True)
 class Row:
-    """A row of a table: its values by name, and the line that shows it; one without a line is told by the row before. One
-    without values is a further line of the row before."""
+    """A row of a table: its values by name, and its line. A row without a line is shown by the row before; one without values is a
+    further line of the row before."""
 
     values: Values
     text: str
@@ -64,7 +64,7 @@ class Row:
 
 @dataclass(frozen=True)
 class Table:
-    """Rows about a topic, with a line for what is left out, or for none."""
+    """Rows about a topic, with a line for what is omitted, or for none."""
 
     topic: str
     rows: list[Row]
@@ -82,20 +82,35 @@ def displays_table(cells: Sequence[str], values: Sequence[str], words_of: Callab
 
 
 class Printer(ABC):
-    """Where events go. Each is out before the next line is read. All text goes through `plain`, so nothing of a recording
-    or of a server is obeyed by a terminal. `is_paged` is whether a terminal stops where its screen is full."""
+    """Prints events, each before the next line is read. All text goes through `plain`, so a terminal doesn't obey text of a
+    recording or a server. `is_paged` says whether output pauses when the screen is full."""
 
     def __init__(self, out: Optional[TextIO] = None):
         self.out = out if out is not None else sys.stdout
         self.is_paged = True
+        self._flushes = True
 
     def write(self, text: str) -> None:
         """Writes a line."""
-        print(plain(text), file=self.out, flush=True)
+        self.put(plain(text))
+
+    def put(self, text: str) -> None:
+        """Writes a line that is plain, or styled."""
+        print(text, file=self.out, flush=self._flushes)
+
+    @contextmanager
+    def joined(self) -> Iterator[None]:
+        """Within, no line is read, and what is written goes out together at the end."""
+        self._flushes = False
+        try:
+            yield
+        finally:
+            self._flushes = True
+            self.out.flush()
 
     @abstractmethod
     def echo(self, line: str) -> None:
-        """A line that nobody typed, as the prompt would show it."""
+        """A line that wasn't typed, as the prompt would show it."""
 
     @abstractmethod
     def reply(self, line: str, reply: Reply, words: str) -> None:
@@ -103,7 +118,7 @@ class Printer(ABC):
 
     @abstractmethod
     def place(self, place: Place) -> None:
-        """Where the session stands."""
+        """Prints the session's position."""
 
     @abstractmethod
     def note(self, text: str) -> None:
@@ -119,7 +134,7 @@ class Printer(ABC):
 
 
 class TextPrinter(Printer):
-    """Events as text, with colours where they are wanted."""
+    """Events as text, with colours on request."""
 
     def __init__(self, out: Optional[TextIO] = None, is_coloured: bool = False):
         super().__init__(out)
@@ -133,14 +148,14 @@ class TextPrinter(Printer):
     def add(self, text: str, style: Style = Style.ADDED) -> None:
         """A line that nrdb adds; several on a terminal that isn't so wide."""
         for line in wrapped(plain(text), width_of(self.out) - len("| ")):
-            print(self.styled(f"| {line}", style), file=self.out, flush=True)
+            self.put(self.styled(f"| {line}", style))
 
     def echo(self, line: str) -> None:
         self.write(f"(netrev) {line}".rstrip())
 
     def reply(self, line: str, reply: Reply, words: str) -> None:
         added = self.styled(f"   | {words}", Style.ADDED) if words else ""
-        print(plain(reply.first) + added, file=self.out, flush=True)
+        self.put(plain(reply.first) + added)
         for entry in reply.entries:
             self.write(entry)
 
@@ -192,5 +207,5 @@ class JsonPrinter(Printer):
 
 
 def has_colours() -> bool:
-    """Whether what is printed goes to a terminal that has colours, and nobody asked for none (https://no-color.org)."""
+    """Whether the output is a terminal with colours, and NO_COLOR isn't set (https://no-color.org)."""
     return sys.stdout.isatty() and os.environ.get("TERM", "dumb") != "dumb" and not os.environ.get("NO_COLOR")

@@ -1,4 +1,4 @@
-"""`info sockets`, `info descriptors` and `info timers`: what stands at each."""
+"""`info sockets`, `info descriptors` and `info timers`: the values of each."""
 
 from typing import Iterable, Optional
 
@@ -14,7 +14,7 @@ DESCRIPTOR_CELLS = ("info", "rg", "wg", "rd", "wd", "fdseq")
 
 
 def sockets_table(world: World, numbers: Optional[Iterable[int]] = None, is_all: bool = False) -> Table:
-    """The sockets of which there is something to say, or all, or those of these numbers."""
+    """The sockets that aren't at rest, or all, or those of these numbers."""
     every = list(range(world.made(Of.SOCKET)) if numbers is None else numbers)
     cells = world.of_each(every, *SOCKET_CELLS)
     owners = {socket: descriptor for descriptor, socket in world.sockets_of_open().items()}
@@ -28,7 +28,8 @@ def sockets_table(world: World, numbers: Optional[Iterable[int]] = None, is_all:
 
 
 def _says_something(values: list[str], queues: list[list[int]]) -> bool:
-    """Whether a socket isn't at rest: at rest nobody holds or waits for it, and its input is empty or it is closed."""
+    """Whether a socket isn't at rest: at rest no goroutine holds or waits for it, and its input is empty or it is
+    closed."""
     if values[0] == "absent":
         return False
     word = LockWord.of(int(values[0]))
@@ -39,7 +40,7 @@ def _socket_row(number: int, values: list[str], queues: list[list[int]], descrip
     named = dict(zip(SOCKET_CELLS, values))
     told = {"socket": number, **named, "rq": queues[0], "wq": queues[1], "descriptor": descriptor}
     if named["lock"] == "absent":
-        return Row(told, f"sock {number:<3} isn't made yet")
+        return Row(told, f"sock {number:<3} doesn't exist yet")
     said = [lock_words(named["lock"])]
     said += [f"queued to {SIDES[side]}: {' '.join(map(str, queue))}" for side, queue in zip("rw", queues) if queue]
     said += [f"{sem} {named[sem]}" for sem in ("rsem", "wsem") if named[sem] != "0"]
@@ -62,9 +63,9 @@ def descriptors_table(world: World, numbers: Optional[Iterable[int]] = None, is_
 
 
 def rest_words(every: list[int], left: int, name: str, all_of_them: str) -> str:
-    """What is said of those that aren't shown, or where there are none at all."""
+    """The line about rows that aren't shown, or that nothing exists."""
     if not every:
-        return f"no {name} is made yet"
+        return f"no {name} exists yet"
     return f"{left} {all_of_them}" if left else ""
 
 
@@ -72,7 +73,7 @@ def _descriptor_row(number: int, values: list[str], socket: Optional[int]) -> Ro
     named = dict(zip(DESCRIPTOR_CELLS, values))
     told: Values = {"descriptor": number, "open": socket is not None, "socket": socket, **named}
     if named["info"] == "absent":
-        return Row(told, f"desc {number:<3} isn't made yet")
+        return Row(told, f"desc {number:<3} doesn't exist yet")
     whose = "free" if socket is None else f"open for socket {socket}"
     said = [
         whose,

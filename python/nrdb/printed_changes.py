@@ -1,5 +1,5 @@
-"""The changes of a recording by one run of `netrev changes`, for who has no session. The machine in Python takes many times as long to say
-them."""
+"""The changes of a recording from one run of `netrev changes`, for callers without a session. The machine in Python takes many
+times as long."""
 
 import subprocess
 from typing import Optional

@@ -1,6 +1,6 @@
-"""What `netrev changes` says of a recording: the cells that each step changed, with what they show behind it. The lines are kept as they
-came. Whoever asks much has them in arrays of numbers, two for each cell, and each value once, since a million steps change some millions
-of cells."""
+"""The output of `netrev changes` for a recording: the cells that each step changed, with their new values. The lines are kept as
+text. A caller with many questions gets arrays of numbers, two for each cell, with each value stored once, because a million steps
+change some millions of cells."""
 
 from array import array
 from bisect import bisect_left, bisect_right
@@ -8,6 +8,7 @@ from itertools import groupby
 from operator import itemgetter
 from typing import Callable, Iterable, Iterator, NamedTuple, Optional, Sequence
 
+from .messages import session as messages
 from .changed_lines import ChangedLines, NoChanges
 
 FEW = 300  # questions, up to which the answer is looked for in the lines
@@ -15,7 +16,7 @@ AT_START = {"clock": "0", "waiters": "0", "timers": "0", "firings": "0", "gor 0"
 
 
 class Change(NamedTuple):
-    """A step, a cell that it changed, and what that shows behind it."""
+    """A step, a cell that it changed, and the new value."""
 
     step: int
     cell: str
@@ -62,7 +63,7 @@ def value_at_start(cell: str) -> str:
 
 
 class RecordedChanges:
-    """The changes of a recording's steps, which may still be read: whoever asks for more than is there waits for it."""
+    """The changes of a recording's steps, which may still be arriving: a caller waits for those that it needs."""
 
     def __init__(self) -> None:
         self._steps, self._values, self._texts = OfCells(), OfCells(), Texts()  # of each cell's changes
@@ -74,12 +75,12 @@ class RecordedChanges:
 
     @classmethod
     def read(cls, pieces: Iterable[bytes]) -> "RecordedChanges":
-        """The changes in a whole output, which comes in pieces; NoChanges where it isn't one, or isn't whole."""
+        """The changes of a whole output, which comes in pieces; NoChanges if it is malformed or incomplete."""
         changes = cls()
         for piece in pieces:
             changes.take(piece)
         if not changes.is_whole:
-            raise NoChanges("the changes have no end")
+            raise NoChanges(messages.CHANGES_END_EARLY)
         return changes
 
     # what is asked
@@ -92,17 +93,17 @@ class RecordedChanges:
 
     @property
     def fault(self) -> str:
-        """The line of the recording's first fault; empty where it has none."""
+        """The line of the recording's first fault; empty if it has none."""
         self._wait(None)
         return self._fault
 
     def at(self, step: int) -> list[tuple[str, str]]:
-        """The cells that a step changed, each with its value behind it, in netrev's order."""
+        """The cells that a step changed, with their new values, in netrev's order."""
         self._wait(step)
         return self._lines.at(step)
 
     def between(self, first: int, last: int) -> Iterator[tuple[int, list[tuple[str, str]]]]:
-        """The steps that lead from one position to another, as far as they changed a cell, each with what `at` says of it."""
+        """The steps that lead from one position to another and changed a cell, each with its change."""
         self._wait(last)
         for step, lines in groupby(self._lines.between(first, last), itemgetter(0)):
             yield int(step), [(cell, value) for _, cell, value in lines]
@@ -112,7 +113,7 @@ class RecordedChanges:
         return next((value for _, value in self.back(cell, position)), value_at_start(cell))
 
     def back(self, cell: str, position: int) -> Iterator[tuple[int, str]]:
-        """The steps that changed a cell, falling, from a position on, each with its value behind it."""
+        """The steps that changed a cell, from a position backwards, with the new values."""
         self._wait(position)
         if self._is_asked_little():
             return self._lines.back(cell, position)
@@ -124,20 +125,19 @@ class RecordedChanges:
         return [self.value(cell, position) for cell in cells]
 
     def steps_of(self, cell: str, until: Optional[int] = None) -> "array[int]":
-        """The steps that changed a cell, rising; up to a position, where one is named."""
+        """The steps that changed a cell, in rising order; up to a position if one is given."""
         return array("I", (step for step, _ in self.changes_of(cell, until)))
 
     def nearest(
         self, cells: Sequence[str], are_wanted: Callable[[list[str]], bool], position: int, backwards: bool
     ) -> Optional[int]:
-        """The nearest position that way behind a step that changed one of the cells, and gave them values that are wanted; or
-        None."""
+        """The nearest position in a direction after a step that changed one of the cells and gave them wanted values; or None."""
         steps = sorted({step for cell in cells for step in self.steps_of(cell, position if backwards else None)})
         ways = reversed(steps[: bisect_left(steps, position)]) if backwards else steps[bisect_right(steps, position) :]
         return next((step for step in ways if are_wanted(self.values(step, cells))), None)
 
     def changes_of(self, cell: str, until: Optional[int] = None) -> list[tuple[int, str]]:
-        """The steps that changed a cell, each with its value behind it; up to a position, where one is named."""
+        """The steps that changed a cell, with the new values; up to a position if one is given."""
         self._wait(until)
         if self._is_asked_little():
             return list(self._lines.changes_of(cell, until))
@@ -164,7 +164,8 @@ class RecordedChanges:
         return (Change(int(step), cell, value) for step, cell, value in self.texts())
 
     def told(self) -> Iterator[Told]:
-        """All changes, some thousands of steps at a time, for who needs few of them: no line is looked at alone."""
+        """All changes, some thousands of steps at a time, for a caller that needs few of them: no line is parsed
+        alone."""
         self._wait(None)
         first = 1
         for end, text in self._lines.whole_steps(self._length + 1):
@@ -192,12 +193,12 @@ class RecordedChanges:
         self._held += 1
 
     def _wait(self, position: Optional[int]) -> None:
-        """Comes back when what leads to a position is there, or all."""
+        """Returns when what leads to a position has arrived, or everything."""
 
     # how they are read
 
     def prepare(self) -> None:
-        """Begins to read them, where that hasn't been begun."""
+        """Starts reading, unless that has happened."""
 
     def drop(self) -> None:
         """Ends reading them."""
@@ -219,7 +220,7 @@ class RecordedChanges:
         if not end:
             return
         if self._is_whole:
-            raise NoChanges("a line behind the last one")
+            raise NoChanges(messages.CHANGES_GO_ON)
         last = text.rfind(b"\n", 0, end - 1) + 1
         is_end = text.find(b" = ", last, end) < 0
         if told := text[: last if is_end else end]:
@@ -228,7 +229,7 @@ class RecordedChanges:
             try:
                 self._take_end(text[last : end - 1].decode("ascii"))
             except (ValueError, IndexError):
-                raise NoChanges("a line that is no change") from None
+                raise NoChanges(messages.CHANGES_MALFORMED) from None
 
     def _take_end(self, line: str) -> None:
         """Takes the last line: how many steps there are, or the fault."""

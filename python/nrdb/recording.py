@@ -1,5 +1,5 @@
-"""The text of a recording: its steps by their numbers, each with the line that it stands in. That the text is a
-recording, and that its steps apply, is for netrev to say."""
+"""The text of a recording: its steps by number, each with its line. netrev decides whether the text is a recording and whether its
+steps apply."""
 
 import json
 import os
@@ -14,12 +14,13 @@ from typing import Any, Callable, Iterable, Iterator, NamedTuple, Optional, Sequ
 from netrev_words.files import check_name
 from netrev_words.vocabulary import KINDS
 
+from .messages import session as messages
 from .line_starts import LineStarts
 from .recorded_changes import RecordedChanges
 from .suspect_list import SuspectList
 from .where import Lines
 
-BEFORE_BLANKS = (b"\n\n", b"\n ", b"\n\t", b"\n\r")  # one of these is in a text that has a blank line behind the first
+BEFORE_BLANKS = (b"\n\n", b"\n ", b"\n\t", b"\n\r")  # one of these is in a text that has a blank line after the first
 BLANK_LINE = re.compile(rb"^[ \t\r]*$", re.MULTILINE)
 SHOWN = 40
 PIECE = 1_024  # steps
@@ -28,8 +29,8 @@ Row = TypeVar("Row")
 
 
 class Step(NamedTuple):
-    """A step: its number from 1, the line that it stands in, its kind, its arguments, and in version 2 the recorded
-    answer, as JSON has it: a text, or a list of a text and a number."""
+    """A step: its number from 1, its line, its kind, its arguments, and in version 2 the recorded answer, as JSON: a string, or a
+    list of a string and a number."""
 
     number: int
     line: int
@@ -38,7 +39,7 @@ class Step(NamedTuple):
     answer: Any = None
 
     def argument(self, name: str) -> Any:
-        """The argument of that name, or None where the kind has none."""
+        """The argument of that name, or None if the kind has none."""
         kind = KINDS.get(self.kind)
         if kind is None or name not in kind.arguments:
             return None
@@ -54,11 +55,11 @@ class NoRecording(Exception):
 
 
 def parsed(text: bytes) -> Any:
-    """The JSON value of a text; NoRecording where it has none."""
+    """The JSON value of a text; NoRecording if it isn't JSON."""
     try:
         return json.loads(text)
     except (ValueError, RecursionError):
-        raise NoRecording("the file isn't a recording: netrev check tells its first fault") from None
+        raise NoRecording(messages.NO_HEADER) from None
 
 
 def check_size(path: str, size: int) -> None:
@@ -68,11 +69,11 @@ def check_size(path: str, size: int) -> None:
 
 
 def too_large(path: str) -> str:
-    return f"{path} is too large: nrdb holds a recording in memory, and there isn't enough"
+    return messages.TOO_LARGE.format(path=path)
 
 
 def shortened(text: str) -> str:
-    """The text, or its beginning where it is long."""
+    """The text, or its beginning if it is long."""
     return text if len(text) <= SHOWN else f"{text[: SHOWN - 2]}.."
 
 
@@ -82,7 +83,7 @@ class Recording:
     def __init__(self, data: bytes):
         self.data = data
         self._starts = LineStarts(data)
-        end = len(data.rstrip(b" \t\r\n"))  # (behind it there are blank lines alone)
+        end = len(data.rstrip(b" \t\r\n"))  # (after it there are only blank lines)
         numbers = range(1, self._starts.line_at(end) + (end > 0))
         blanks = (
             BLANK_LINE.finditer(data, 0, end)
@@ -93,19 +94,19 @@ class Recording:
         self._numbers: Sequence[int] = [number for number in numbers if number not in blank] if blank else numbers
         self.header_line = self._numbers[0] if self._numbers else 1
         self.lines = Lines()
-        self.changes: Optional[RecordedChanges] = None  # that its steps make, as netrev says them, where that was asked
+        self.changes: Optional[RecordedChanges] = None  # that its steps make, from netrev, if asked
         self.suspects: Optional[SuspectList] = None  # netrev's list, for a recording in a file
 
     def _are_arrays(self, end: int) -> bool:
-        """Whether each line up to that place begins as an array does, but for the first: none is blank then."""
+        """Whether each line up to that place except the first begins as an array does: none is blank then."""
         return self.data.count(b"\n[", 0, end) == self._starts.line_at(end) - 1
 
     @classmethod
     def read(cls, path: str) -> "Recording":
-        """Reads the file, which netrev reads too; an OSError where it can't be read, NoRecording where it can't be read twice."""
+        """Reads the file, which netrev reads too; an OSError if that fails, NoRecording if it can't be read twice."""
         check_name(path)
         if not stat.S_ISREG(os.stat(path).st_mode) and not os.path.isdir(path):
-            raise NoRecording(f"{path} isn't a file: nrdb reads a recording twice, so write it to one")
+            raise NoRecording(messages.NOT_A_FILE.format(path=path))
         try:
             with open(path, "rb") as file:
                 check_size(path, os.fstat(file.fileno()).st_size)
@@ -121,7 +122,7 @@ class Recording:
         return max(len(self._numbers) - 1, 0)
 
     def line(self, number: int) -> bytes:
-        """The line of that number, from 1, without its line feed; empty where there is none."""
+        """The line of that number, from 1, without its line feed; empty if there is none."""
         if not 1 <= number < len(self._starts):
             return b""
         begin = self._starts[number - 1]
@@ -137,7 +138,7 @@ class Recording:
         return self.before_line(self._numbers[number]) if number <= self.length else self.data
 
     def is_last(self, number: int) -> bool:
-        """Whether nothing but blanks stands behind that line."""
+        """Whether only blanks follow that line."""
         return not self.data[self._starts[number] :].strip(b" \t\r\n\0")
 
     @cached_property
@@ -152,7 +153,7 @@ class Recording:
         return self.limits.get("netrev") == 2
 
     def step_or_none(self, number: int) -> Optional[Step]:
-        """The step of that number, from 1, or None where there is none."""
+        """The step of that number, from 1, or None if there is none."""
         return self.step(number) if 1 <= number <= self.length else None
 
     def step(self, number: int) -> Step:
@@ -162,14 +163,14 @@ class Recording:
     def _made(self, number: int, values: Any) -> Step:
         """The step of that number, by the array in its line."""
         if not (isinstance(values, list) and values and isinstance(values[0], str)):
-            raise NoRecording(f"the file isn't a recording: line {self._numbers[number]} is no step")
+            raise NoRecording(messages.NOT_A_STEP.format(line=self._numbers[number]))
         kind, *arguments = values
         answer = arguments.pop() if self.has_answers and arguments else None
         return Step(number, self._numbers[number], kind, tuple(arguments), answer)
 
     def found_back(self, spelled: re.Pattern[bytes], until: int) -> Iterator[re.Match[bytes]]:
-        """What is spelled so in the lines of the first so many steps, the last one first. The text is searched in pieces from
-        there back, each twice as long as the one before."""
+        """The matches of a pattern in the lines of the first steps, the last one first. The text is searched backwards
+        in pieces, each twice as long as the one before."""
         end, size = min(until, self.length), PIECE
         while end > 0:
             first = max(end - size, 0) + 1
@@ -182,11 +183,11 @@ class Recording:
         return bisect_left(self._numbers, self._starts.line_at(place))
 
     def arrays(self) -> Iterator[list[Any]]:
-        """Each step's array as JSON has it, one after the other. Like lines may share one: nobody changes it."""
+        """Each step's array from JSON, one after the other. Equal lines may share one, which must not be changed."""
         return self.rows(lambda values: values)
 
     def rows(self, made: Callable[[list[Any]], Row], begin: int = 1, end: Optional[int] = None) -> Iterator[Row]:
-        """What is made of each step's array, one after the other: once of lines that are alike and near."""
+        """A value made from each step's array, in order; it is made once for similar lines nearby."""
         return chain.from_iterable(self._rows_together(made, begin, end))
 
     def _rows_together(
@@ -207,7 +208,7 @@ class Recording:
             yield map(rows.__getitem__, lines)
 
     def steps_of(self, kinds: tuple[str, ...], until: int, socket: Optional[int] = None) -> Iterator[Step]:
-        """The steps of these kinds among the first so many; and, where one is named, of this socket."""
+        """The steps of these kinds among the first ones, and of this socket if one is given."""
         for number, values in self.arrays_like(kinds, until, socket):
             step = self._made(number, values)
             if step.kind in kinds and socket in (None, step.argument("s")):
@@ -223,11 +224,11 @@ class Recording:
 
     @cached_property
     def has_escapes(self) -> bool:
-        """Whether an escape stands somewhere, in which a kind may be hidden from who searches the text."""
+        """Whether the text contains an escape, which could hide a kind from a search of the text."""
         return b"\\" in self.data
 
     def _numbers_of(self, kinds: tuple[str, ...], until: int, socket: Optional[int]) -> Iterable[int]:
-        """The numbers of such steps, and maybe of others. They are searched as text, where that finds all."""
+        """The numbers of these steps, and perhaps of others. They are found by searching the text, if that finds all."""
         until = min(until, self.length)
         if not until or self.has_escapes:
             return range(1, until + 1)
@@ -240,7 +241,7 @@ class Recording:
         return self._numbers_at(places, self._numbers[1], begin)
 
     def _numbers_at(self, places: Iterable[int], line: int, begin: int) -> Iterator[int]:
-        """The numbers of the steps at these places of the text, which rise, behind the place at which a line begins."""
+        """The numbers of the steps at these places of the text, in rising order, after the start of a line."""
         for place in places:
             line += self.data.count(b"\n", begin, place)
             begin = place

@@ -10,6 +10,7 @@ from typing import Any, Iterator
 
 from netrev_words.vocabulary import KINDS, REASONS
 
+from .messages import texts as messages
 from .recorded_answers import answer_text, answer_words, meaning
 from .recording import Recording, Step, shortened
 from .text_hints import text_hint
@@ -22,26 +23,6 @@ ANSWER = re.compile(r"step (\d+): fault 109 answer")
 FAR = 4_294_967_295
 LONGEST = 100
 REFUSED = 1  # the exit status of `netrev check`
-
-CAUSES = {
-    1: "was it spawned, or does it come after its exit? Numbers count from 0, and aren't Go's own",
-    2: "a step before it is missing: its status says what it still has to do",
-    3: "the header's limit is too low: it counts all that the run makes; of descriptors, those that are open at once",
-    4: "is its sockopen missing? Numbers count from 0; a kernel's file descriptor is no socket number",
-    5: "is its pollopen missing, or was it freed before?",
-    7: "a decref or rwunlock too many, or two steps in the wrong order",
-    8: "the other's wait has no end: a blockswap or waitcheck of it is missing",
-    9: "evict comes before pollclose",
-    10: "evict stands twice",
-    11: "a wait on it has no end: a blockswap or waitcheck is missing",
-    12: "a tick is missing before, or stands too late",
-    13: "a tick is missing: the clock hasn't reached the first timer",
-    15: "is its pop missing? Places count from 0",
-    16: "more bytes come than the input has room for: a larger rc of sockopen, or a sysread is missing",
-    17: "more is drained than was written",
-    19: "a capacity and n are from 1 to the header's buf, and bytes are at least one",
-    20: "nothing arrives after peerclose",
-}
 
 CELLS_OF = {
     "g": ("gor",),
@@ -67,7 +48,7 @@ def explained(program: str, path: str, fault: str) -> list[str]:
 
 
 def fault_of(program: str, path: str) -> str:
-    """The first fault of a recording; nothing where netrev takes it, or isn't here to say."""
+    """The first fault of a recording; empty if netrev accepts it, or is missing."""
     try:
         words = [program, "check", path]
         ended = subprocess.run(words, stdin=subprocess.DEVNULL, stdout=subprocess.PIPE, check=False)
@@ -80,8 +61,8 @@ def step_explained(program: str, recording: Recording, number: int, reason: int)
     """Why a step doesn't apply."""
     step = recording.step(number)
     said = [line_of(step), f"reason {reason}: {REASONS[reason]}"]
-    if reason in CAUSES:
-        said.append(CAUSES[reason])
+    if reason in messages.REASONS:
+        said.append(messages.REASONS[reason])
     return said + [f"just before: {told}" for told in before(program, recording, step)]
 
 
@@ -172,7 +153,7 @@ def before(program: str, recording: Recording, step: Step) -> list[str]:
 
 
 def with_words(reply: str) -> str:
-    """A value with its words."""
+    """A value with its meaning."""
     cell, _, value = reply.partition(" = ")
     words = in_words(cell, value)
     return shortened(reply) + (f"   ({words})" if words else "")

@@ -1,4 +1,4 @@
-"""Where a goroutine has returned from the function of the program in which it is, by the stacks of NAME.where."""
+"""The position at which a goroutine has returned from its current function of the program, by the stacks of NAME.where."""
 
 from typing import Optional
 

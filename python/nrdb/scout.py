@@ -7,6 +7,7 @@ another; where it ended by itself the look is begun anew, once.
 
 from typing import Callable, Optional, Sequence, TypeVar
 
+from .messages import session as messages
 from .netrev import Ended, Netrev
 from .shapes import move_of
 
@@ -21,14 +22,14 @@ class Lost(Exception):
 
 
 class Scout:
-    """Looks at any position. netrev is started when it is needed first, and anew when its journal is nearly full. A session that nobody goes
-    about in may lend its own for the beginning, and ends that itself."""
+    """Queries any position. netrev is started at the first query, and anew when its journal is nearly full. A session
+    in which nothing moves may lend its own for the beginning, and ends that itself."""
 
     def __init__(self, opened: Callable[[], Netrev], lent: Optional[Netrev] = None):
         self._opened = opened
         self._netrev = self._lent = lent
         self._placed = 0
-        self._stands: Optional[int] = None  # where it is, as far as that is known
+        self._stands: Optional[int] = None  # its position, if known
 
     def prepare(self) -> None:
         """Starts netrev, if it isn't there yet, and doesn't wait until it has read the recording."""
@@ -45,7 +46,7 @@ class Scout:
             dropped.drop()
 
     def look(self, position: int, looks: Callable[[Netrev], Seen]) -> Seen:
-        """What is seen at the position, by whom netrev is given there."""
+        """What `look` reads at the position from the second netrev."""
         return self._anew(lambda: looks(self._at(position)))
 
     def values(self, position: int, cells: Sequence[str]) -> list[str]:
@@ -53,7 +54,7 @@ class Scout:
         return self.look(position, lambda netrev: netrev.values(cells))
 
     def _anew(self, look: Callable[[], Seen]) -> Seen:
-        """What is seen, by a second look where netrev ended in the first."""
+        """The result of a query, by a second one if netrev ended during the first."""
         try:
             return self._whole(look)
         except Ended:
@@ -61,7 +62,7 @@ class Scout:
         try:
             return self._whole(look)
         except Ended:
-            raise Lost("the netrev that looks at other positions has ended twice") from None
+            raise Lost(messages.SECOND_NETREV_ENDED) from None
 
     def _whole(self, look: Callable[[], Seen]) -> Seen:
         """What is seen. If the look is left in the middle, for whatever reason, its netrev is ended."""
@@ -79,7 +80,7 @@ class Scout:
         return self._netrev
 
     def _at(self, position: int) -> Netrev:
-        """netrev at the position, with room in the journal for what comes."""
+        """netrev at the position, with room in the journal for the next query."""
         if self._placed + MOST_PLACED > JOURNAL:
             self.drop()
         if self._netrev is not None and self._stands == position:

@@ -1,11 +1,13 @@
-"""A session: lines go to netrev, or are answered here; after each move it is told where the session stands."""
+"""A session: lines go to netrev or are answered here, and each move prints the new position."""
 
 from dataclasses import dataclass, field
 from typing import Callable, Mapping, Optional, Sequence
 
 from netrev_words.vocabulary import cell_of
 
+from .messages import session as messages
 from .attached import Attached
+from .beginnings import tell_begin
 from .changed import tables_beside
 from .conditions import Condition
 from .commands import COMMANDS, Ambiguous, is_answered_here, parts_of, whole_words
@@ -15,23 +17,12 @@ from .line_hints import hint
 from .program.breaks import Breaks, names_a_place
 from .netrev import Ended, Joined, Netrev, Reply
 from .output import Place, Printer, displays_table
+from .queries import answer_run, runs_of
 from .recorded_changes import RecordedChanges
 from .recording import NoRecording, Recording
 from .scout import Lost, Scout
-from .shapes import (
-    MARK,
-    MOVED,
-    POSITION,
-    VALUE,
-    Listed,
-    Position,
-    Refused,
-    Strange,
-    go_to,
-    is_shaped,
-    move_of,
-    position_of,
-)
+from .shapes import MARK, MOVED, POSITION, VALUE, Listed, Position, Refused, Strange
+from .shapes import go_to, is_shaped, move_of, position_of
 from .text_files import lines_of_script
 from .waits import Name
 from .words import absent_words, dump_words, in_words
@@ -39,12 +30,12 @@ from .world import World
 
 STOPPING = ("continue", "reverse-continue", "resume")
 NESTED = 8
-Answering = Callable[["Session", list[str]], Optional[bool]]  # False where the session has ended
+Answering = Callable[["Session", list[str]], Optional[bool]]  # False if the session has ended
 
 
 @dataclass
 class Session:
-    """A netrev, the recording and the scout where they are there, and where what is said goes."""
+    """netrev, the recording and the second netrev, if they exist, and the printer."""
 
     netrev: Netrev
     recording: Optional[Recording]
@@ -57,13 +48,13 @@ class Session:
     stood: int = 0
     length: int = 0
     depth: int = 0
-    program: str = ""  # netrev's, and the recording's file, where they are known
+    program: str = ""  # netrev's, and the recording's file, if known
     path: str = ""
     breaks: Breaks = field(default_factory=Breaks)  # at places of the program
     frame: Optional[int] = None  # of the stack, from the innermost; None for the program's own line
     is_before: bool = False  # a place of the program: the stack is that of the next step
     goroutine: Optional[Name] = None  # that was chosen, until the session moves
-    recorded: Optional[RecordedChanges] = None  # where the recording is there
+    recorded: Optional[RecordedChanges] = None  # if there is a recording
     errors: int = 0  # of nrdb's own
     conditions: dict[str, Condition] = field(default_factory=dict)  # of marks, by their numbers
     latest: str = ""  # the number of the mark that was set last
@@ -72,13 +63,11 @@ class Session:
         self.breaks.is_met = lambda number, at: number not in self.conditions or self.holds(self.conditions[number], at)
 
     def begin(self, reply: str) -> None:
-        """Tells where the session stands, with netrev's first reply, to `info position`. Mismatched where the recording
-        isn't the session's."""
+        """Prints the position of netrev's first reply. Mismatched if the session has another recording."""
         self.stood, self.length, _ = position_of(reply)
         if self.recording and self.recording.length != self.length:
-            raise Mismatched(f"the recording has {self.recording.length} steps, and that of the session {self.length}")
-        self.printer.reply("info position", Reply(reply), "")
-        self.printer.place(self.place(self.stood))
+            raise Mismatched(messages.OTHER_RECORDING.format(steps=self.recording.length, length=self.length))
+        tell_begin(self, reply)
 
     def ask(self, line: str) -> str:
         """The first line of netrev's reply."""
@@ -96,42 +85,42 @@ class Session:
         return Place(position, self.length, last, then)
 
     def world(self) -> World:
-        """What is there at the position."""
+        """The objects at the position."""
         return World(self.netrev, self.text(), self.stands().position)
 
     def text(self) -> Recording:
-        """The recording; Misused where a session was joined without it."""
+        """The recording; Misused if a session was joined without it."""
         return needed(self.recording)
 
     def looks(self) -> Scout:
-        """The scout; Misused where a session was joined without the recording."""
+        """The second netrev; Misused if a session was joined without the recording."""
         return needed(self.scout)
 
     def changes(self) -> RecordedChanges:
-        """What each step changed; Misused where a session was joined without the recording."""
+        """What each step changed; Misused if a session was joined without the recording."""
         return needed(self.recorded)
 
     def run(self, line: str) -> bool:
-        """Answers a line. False where the session has ended."""
+        """Answers a line. False if the session has ended."""
         return self.guarded(self.attempt, line)
 
     def play(self, path: str) -> bool:
-        """Answers the lines of a file; an OSError where it can't be read. False where the session has ended."""
+        """Answers the lines of a file; an OSError if it can't be read. False if the session has ended."""
         return self.guarded(self.source, path)
 
     def guarded(self, answer: Callable[[str], bool], what: str) -> bool:
-        """Answers, and stops where Ctrl-C comes. False where the session has ended."""
+        """Answers, and stops at Ctrl-C. False if the session has ended."""
         try:
             with self.interrupts.held():
                 return answer(what)
         except Interrupted:
             self.attached.pending.clear()
-            self.printer.note("interrupted; the session goes on")
+            self.printer.note(messages.SESSION_GOES_ON.format(error=messages.INTERRUPTED))
             return True
 
     def attempt(self, line: str) -> bool:
-        """Answers a line, which may have several commands with `;` between, and what is to be run where a mark hit. False
-        where the session has ended."""
+        """Answers a line, which may have several commands with `;` between, and runs the commands of marks that hit.
+        False if the session has ended."""
         if not line.split() or line.lstrip().startswith("#"):
             return True
         for part in parts_of(line):
@@ -147,7 +136,7 @@ class Session:
         return True
 
     def attempt_one(self, line: str) -> bool:
-        """Answers a command, or says what is wrong with it. False where the session has ended."""
+        """Answers a command, or prints what is wrong with it. False if the session has ended."""
         try:
             self.tell_of_others()
             return self.answer(line)
@@ -159,7 +148,7 @@ class Session:
             raise
         except Exception as error:
             self.errors += 1
-            self.printer.note(f"{unexpected(error)}; the session goes on")
+            self.printer.note(messages.SESSION_GOES_ON.format(error=unexpected(error)))
         return True
 
     def answer(self, line: str) -> bool:
@@ -209,17 +198,17 @@ class Session:
             self.interrupts.check()
 
     def holding(self, marks: Sequence[str]) -> list[str]:
-        """Those of the marks that hit whose conditions hold where the session stands, or that have none."""
+        """Those of the marks that hit whose conditions hold at the session's position, and those without a condition."""
         return [mark for mark in marks if mark not in self.conditions or self.holds(self.conditions[mark])]
 
     def holds(self, condition: Condition, position: Optional[int] = None) -> bool:
-        """Whether a condition holds at a position, or where the session stands."""
+        """Whether a condition holds at a position, by default the session's."""
         cell = condition.cell
         value = self.netrev.values([cell])[0] if position is None else self.changes().value(cell, position)
         return condition.is_met(value, self.words_of(cell, value))
 
     def back_to_a_break(self, sent: str, reply: Reply) -> Reply:
-        """The reply to a move; where it passed a break of the program, that of the move back to it."""
+        """The reply to a move; if the move passed a break of the program, the reply to the move back to it."""
         if not self.breaks.standing or not MOVED.fullmatch(reply.first):
             return reply
         position = move_of(sent, reply.first).position
@@ -229,16 +218,15 @@ class Session:
         return Reply(self.go(near))
 
     def tell_breaks(self, name: str, position: int) -> None:
-        """Tells which breaks of the program stop here, where a move was to one."""
+        """Prints which breaks of the program stop here, after a move to one."""
         for hit in self.breaks.hit(position) if name in STOPPING else ():
             self.is_before = True
             self.printer.note(f"break {hit.number}: {hit.place.spelled}")
 
     def show(self, line: str, reply: Reply, is_dump: bool = False) -> None:
-        """Shows a reply, a value with its words."""
+        """Prints a reply, and the meaning of a value."""
         value = None if reply.entries else VALUE.fullmatch(reply.first)
-        is_in_words = value and is_shaped(value[1], value[2], is_dump)
-        words = self.words_of(value[1], value[2], is_dump) if value and is_in_words else ""
+        words = self.words_of(value[1], value[2], is_dump) if value and is_shaped(value[1], value[2], is_dump) else ""
         self.printer.reply(line, reply, words)
 
     def words_of(self, cell: str, value: str, is_dump: bool = False) -> str:
@@ -248,7 +236,7 @@ class Session:
         return dump_words(cell, value) if is_dump else in_words(cell, value) if cell_of(cell.split()) else ""
 
     def arrive(self, position: int, numbers: Sequence[str] = (), stood: Sequence[Listed] = ()) -> None:
-        """Says where the session is after a move, which marks hit, of those that stood before it, and what the last step changed."""
+        """Prints the position after a move, the marks that hit (`stood` are those before it), and what the last step changed."""
         self.stood, self.frame, self.is_before, self.goroutine = position, None, False, None
         self.attached.hits(numbers)
         self.printer.place(self.place(position))
@@ -268,12 +256,12 @@ class Session:
             self.printer.table(displays_table(self.displays, self.netrev.values(self.displays), self.words_of))
 
     def tell_of_others(self) -> None:
-        """In a session that is shared, tells where it stands if somebody else has moved it."""
+        """In a shared session, prints the position if another user has moved it."""
         if not isinstance(self.netrev, Joined):
             return
         reply = self.ask("info position")
         if POSITION.fullmatch(reply) and (now := position_of(reply).position) != self.stood:
-            self.printer.note(f"somebody has moved: from {self.stood} to {now}")
+            self.printer.note(messages.SOMEONE_MOVED.format(before=self.stood, now=now))
             self.printer.place(self.place(now))
             self.stood = now
 
@@ -282,18 +270,18 @@ class Session:
         return go_to(position, self.ask)
 
     def source(self, path: str) -> bool:
-        """Answers the lines of a file, each shown first; an OSError if it can't be read. False where the session has ended."""
+        """Answers the lines of a file, printing each first; an OSError if it can't be read. False if the session has ended."""
         if self.depth == NESTED:
-            raise Misused(f"files are {NESTED} deep in each other already")
+            raise Misused(messages.NESTED.format(most=NESTED))
         lines = lines_of_script(path)
         self.depth += 1
         try:
-            return all(self.echoed(line) for line in lines)
+            return all(answer_run(self, run) for run in runs_of(self, lines))
         finally:
             self.depth -= 1
 
     def echoed(self, line: str) -> bool:
-        """Answers a line that nobody typed, and shows it first. False where the session has ended."""
+        """Answers a line that wasn't typed, printing it first. False if the session has ended."""
         if line.split():
             self.printer.echo(line)
         return self.attempt(line)

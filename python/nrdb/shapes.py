@@ -6,6 +6,8 @@ from typing import Callable, Match, NamedTuple
 
 from netrev_words.vocabulary import CELLS, MOST_STANDING
 
+from .messages import session as messages
+
 SHOWN = 60
 _SIDED = "acquiring|queued|relock|entering|armed|parking|parked|swapping|checking"
 _NUMBER = r"\d{1,20}"
@@ -39,11 +41,11 @@ class Strange(Exception):
 
     def __init__(self, line: str, reply: str):
         shown = reply if len(reply) <= SHOWN else f"{reply[: SHOWN - 2]}.."
-        super().__init__(f'what answers isn\'t netrev: to "{line}" it said "{shown}"')
+        super().__init__(messages.NOT_NETREV.format(line=line, reply=shown))
 
 
 class Position(NamedTuple):
-    """Where a session stands: the position, the number of steps, and the direction."""
+    """A session's position, the number of steps, and the direction."""
 
     position: int
     steps: int
@@ -51,7 +53,7 @@ class Position(NamedTuple):
 
 
 class Move(NamedTuple):
-    """Where a move led: the position, whether at an end of the recording, and the numbers of the marks that hit."""
+    """The result of a move: the position, whether at an end of the recording, and the numbers of the marks that hit."""
 
     position: int
     is_end: bool
@@ -70,7 +72,7 @@ class Listed(NamedTuple):
 
 
 def matched(shape: re.Pattern[str], line: str, reply: str) -> Match[str]:
-    """The parts of a reply to this line, which has to have this shape; Refused where it is a fault, else Strange."""
+    """The parts of a reply to this line, which must have this form; Refused if it is a fault, otherwise Strange."""
     found = shape.fullmatch(reply)
     if found is None:
         raise Refused(reply) if reply.startswith("fault ") else Strange(line, reply)

@@ -30,12 +30,13 @@ class LostWakeUp(NamedTuple):
     descriptor: int
     side: str
     event: int  # its step
-    taken: int  # the step that took the readiness, and who made it
+    taken: int  # the step that took the readiness, and its goroutine
     by: int
 
 
 class HeldReference(NamedTuple):
-    """A goroutine that took so many more references of a closed socket than it gave back, the last one at step `since`."""
+    """A goroutine that took this many more references of a closed socket than it gave back, the last one at step
+    `since`."""
 
     line: str
     socket: int
@@ -46,7 +47,7 @@ class HeldReference(NamedTuple):
 
 
 class OfDeadline(NamedTuple):
-    """What came of the deadline of a side at a step, what had set it, for which sides, and the first setting after that of the other side
+    """The effect of a side's deadline at a step, its setter and sides, and the first later setting of the other side
     alone. It passed, a goroutine's call ended with it, or it was taken back before that goroutine looked."""
 
     line: str
@@ -101,7 +102,7 @@ class Listed:
 
 
 class SuspectList:
-    """The list of a recording's file, for which netrev is started when it is needed first."""
+    """The list of a recording's file, for which netrev is started at the first use."""
 
     def __init__(self, program: str, path: str, interrupts: Interrupts) -> None:
         self._words, self._interrupts = [program, "suspects", path], interrupts
@@ -125,7 +126,7 @@ class SuspectList:
             self._lines = []
 
     def of(self, length: int) -> Optional[Listed]:
-        """What is listed of a recording of so many steps; None if netrev has no list of it."""
+        """The list for a recording with this many steps; None if netrev has no list of it."""
         if self._lines is None:
             self._lines = self._read()
         *lines, last = self._lines or [""]

@@ -17,7 +17,7 @@ def lines_of_script(path: str) -> list[str]:
 
 
 def lines_of(path: Path) -> Optional[list[str]]:
-    """The lines of a file; None where it can't be read, or isn't text."""
+    """The lines of a file; None if it can't be read or isn't text."""
     try:
         status = os.stat(path)
         if not stat.S_ISREG(status.st_mode) or status.st_size > MOST_BYTES:

@@ -1,4 +1,4 @@
-"""What to mend in a line of a recording that netrev refuses with fault 101 to 106."""
+"""What to correct in a line of a recording that netrev rejects with fault 101 to 106."""
 
 import json
 import re
@@ -18,56 +18,31 @@ from netrev_words.vocabulary import (
     written,
 )
 
+from .messages import texts as messages
 from .line_hints import kind_hint
 from .recorded_answers import spelled
 from .recording import Recording
 
 MOST_BYTES = 200_000
 MOST_STEPS = 1_000_000
-MAGIC = {
-    b"\x1f\x8b": "this is gzip: gunzip it first",
-    b"(\xb5/\xfd": "this is zstd: unzstd it first",
-    b"\xff\xfe": "this is UTF-16: iconv -f utf-16 -t utf-8",
-    b"\xfe\xff": "this is UTF-16: iconv -f utf-16 -t utf-8",
-    b"\xef\xbb\xbf": "a byte order mark stands before the header: take the first three bytes away, tail -c +4",
-    b"\xd4\xc3\xb2\xa1": "this is a capture of packets (pcap): a recording is text, one JSON line a step",
-    b"PK": "this is a zip archive: unzip it first",
-}
-GO_NAMES = {
-    "netpollblock": "blockarm, blockcheck, parkcommit and blockswap are its parts",
-    "netpollblockcommit": "did you mean parkcommit?",
-    "netpollunblock": "it is a part of pollevent, setdeadline, evict and fire",
-    "pollwait": "waitbegin begins it, waitcheck ends it",
-    "semacquire": "did you mean acquire?",
-    "semrelease": "did you mean release?",
-    "pollunblock": "did you mean evict?",
-    "netpollready": "did you mean pollevent?",
-    "increfandclose": "did you mean increfclose?",
-    "pollsetdeadline": "did you mean setdeadline?",
-    "read": "did you mean sysread?",
-    "write": "did you mean syswrite?",
-    "close": "increfclose, evict, decref and pollclose are its parts",
-    "go": "did you mean spawn?",
-    "goexit": "did you mean exit?",
-}
 
 
 def text_hint(recording: Recording, number: int, fault: int) -> str:
     """What to mend in line `number`, which has this fault."""
     line = recording.line(number)
-    for magic, said in MAGIC.items():
+    for magic, said in messages.MAGIC.items():
         if line.startswith(magic):
             return said
     if len(line) > MOST_BYTES:
-        return f"the line has {len(line)} bytes, and {MOST_BYTES} are the most"
+        return messages.LONG_LINE.format(bytes=len(line), most=MOST_BYTES)
     if fault == 106:
-        return f"{MOST_STEPS} steps are the most"
+        return messages.MANY_STEPS.format(most=MOST_STEPS)
     if b"\0" in line:
-        return "there are NUL bytes in the line: was the file longer than what was written? tr -d '\\0' takes them away"
+        return messages.NUL
     try:
         text = line.decode("utf-8").strip(" \t\r")
     except UnicodeDecodeError as error:
-        return f"byte {error.start + 1} of the line is no UTF-8"
+        return messages.NOT_UTF8.format(number=error.start + 1)
     value = parsed(text)
     if fault == 102 or value is None:
         return json_hint(recording, number, text)
@@ -88,70 +63,75 @@ def json_hint(recording: Recording, number: int, text: str) -> str:
     """Of a line that is no JSON."""
     is_last = recording.is_last(number)
     if not text:
-        return "the file is empty" if is_last else "a header is missing"
+        return messages.EMPTY if is_last else messages.NO_HEADER
     if "\r" in text:
-        return "lines end with a carriage return alone: tr '\\r' '\\n'"
+        return messages.CARRIAGE_RETURNS
     if text.startswith(("//", "#", "/*", ";")):
-        return "a recording has no comments"
+        return messages.COMMENTS
     if number == recording.header_line and text == "{":
-        return f"the header is one line: {HEADER_EXAMPLE}"
+        return messages.ONE_LINE.format(example=HEADER_EXAMPLE)
     if text.endswith(",") and parsed(text[:-1]) is not None:
-        return "take the comma behind it away: each line is a value of its own"
+        return messages.COMMA_AT_END
     if re.search(r",\s*[\]}]", text):
-        return "take the comma before the bracket away"
+        return messages.COMMA_AT_BRACKET
     if "'" in text and parsed(text.replace("'", '"')) is not None:
-        return "JSON wants double quotes"
+        return messages.QUOTES
     if found := re.match(r"[^\[{]+([\[{].*)", text):
         if parsed(found[1]) is not None:
-            return f"take what stands before the bracket away: {found[0][: -len(found[1])].strip()!r}"
+            return messages.BEFORE_BRACKET.format(text=found[0][: -len(found[1])].strip())
     if is_last and text.startswith("[") and "]" not in text:
-        return "the last line is cut: take it away"
+        return messages.LAST_LINE_IS_CUT
     try:
         json.loads(text)
     except json.JSONDecodeError as error:
-        return f"it goes wrong at character {error.pos + 1}"
+        return messages.JSON_ERROR.format(number=error.pos + 1)
     except (ValueError, RecursionError):
         pass
-    return "netrev takes no such number or text: RECORDING.md tells which"
+    return messages.OTHER_JSON
 
 
 def header_hint(value: Any) -> str:
     """Of the first line, which isn't the header that was wanted."""
     if isinstance(value, list) and value and isinstance(value[0], dict):
-        return "the whole is one array: the header and each step have a line of their own, without commas between"
+        return messages.ONE_ARRAY
     if not isinstance(value, dict):
-        return f"the first line has to be the header: {HEADER_EXAMPLE}"
+        return messages.NOT_A_HEADER.format(example=HEADER_EXAMPLE)
     version = value.get("netrev", VERSIONS[0])
     limits = HEADERS[version if version in VERSIONS else VERSIONS[-1]]
-    said = [f"key {key} is missing ({limit.says})" for key, limit in limits.items() if key not in value]
-    said += [f"key {key} isn't known" for key in value if key not in limits]
+    said = [
+        messages.KEY_IS_MISSING.format(key=key, says=limit.says) for key, limit in limits.items() if key not in value
+    ]
+    said += [messages.KEY_IS_UNKNOWN.format(key=key) for key in value if key not in limits]
     for key, limit in limits.items():
         given = value.get(key, limit.least)
         if not (type(given) is int and limit.least <= given <= limit.greatest):
-            said.append(f"{key} is {json.dumps(given)}, and has to be {limits_words(key, limit)}")
+            words = limits_words(key, limit)
+            said.append(messages.KEY_IS_WRONG.format(key=key, given=json.dumps(given), limits=words))
     return "; ".join(said)
 
 
 def limits_words(key: str, limit: Limit) -> str:
     """The values that a key may have."""
     if key == "netrev":
-        return f"{limit.least} or {limit.greatest}"
+        return messages.EITHER.format(least=limit.least, greatest=limit.greatest)
     newest = HEADERS[VERSIONS[-1]][key].greatest
-    more = "" if limit.greatest == newest else f"; version {VERSIONS[-1]} has up to {newest}"
-    return f"a whole number from {limit.least} to {limit.greatest}{more}"
+    given = {"least": limit.least, "greatest": limit.greatest}
+    if limit.greatest == newest:
+        return messages.WHOLE_NUMBER.format(**given)
+    return messages.WHOLE_NUMBER_IN_VERSION.format(**given, version=VERSIONS[-1], newest=newest)
 
 
 def kind_of_step_hint(value: Any) -> str:
     """Of a step whose kind isn't known."""
     if isinstance(value, dict) and "netrev" in value:
-        return "a second header: is this another recording behind the first? Each needs a file of its own"
+        return messages.SECOND_HEADER
     name = value[0] if isinstance(value, list) and value else None
     if not isinstance(name, str):
-        return 'a step is an array, and begins with the name of its kind: ["spawn"], ["rwlock",0,0,"r"]'
+        return messages.NOT_A_STEP
     if name in KINDS:
-        return f"recordings have {name} from version {KINDS[name].since} on, and this is an earlier one"
+        return messages.NEWER_KIND.format(kind=name, since=KINDS[name].since)
     plain = re.sub(r"^(runtime|internal/poll|poll)[._]|[^a-z]", "", unicodedata.normalize("NFKC", name).lower())
-    return GO_NAMES.get(plain) or kind_hint(plain if plain in KINDS else name.lower())
+    return messages.GO_NAMES.get(plain) or kind_hint(plain if plain in KINDS else name.lower())
 
 
 def answered_hint(value: list[Any]) -> str:
@@ -160,9 +140,9 @@ def answered_hint(value: list[Any]) -> str:
     if given and is_answer(given[-1]):
         return arguments_hint(value[:-1])
     if len(given) <= len(kind.arguments):
-        return f"{kind.usage}: the recorded answer is missing: it stands last, and is {spelled(kind.name)}"
+        return messages.ANSWER_IS_MISSING.format(usage=kind.usage, answers=spelled(kind.name))
     shown = json.dumps(given[-1])[:40]
-    return f"{kind.usage}: {shown} is no recorded answer: it stands last, and is {spelled(kind.name)}"
+    return messages.ANSWER_IS_WRONG.format(usage=kind.usage, given=shown, answers=spelled(kind.name))
 
 
 def arguments_hint(value: list[Any]) -> str:
@@ -170,10 +150,10 @@ def arguments_hint(value: list[Any]) -> str:
     kind = KINDS[value[0]]
     given = value[1:]
     if len(given) == len(kind.arguments) + 1 and is_answer(given[-1]):
-        return f"{kind.usage}: version 1 has no recorded answers: take {json.dumps(given[-1])} away, or write version 2"
+        return messages.ANSWER_IN_VERSION_1.format(usage=kind.usage, given=json.dumps(given[-1]))
     if len(given) != len(kind.arguments):
         wanted = f"{len(kind.arguments)} ({' '.join(kind.arguments)})" if kind.arguments else "none"
-        return f"{kind.usage}: arguments wanted: {wanted}, given: {len(given)}"
+        return messages.ARGUMENTS.format(usage=kind.usage, expected=wanted, given=len(given))
     wrong = [argument_hint(kind, name, argument) for name, argument in zip(kind.arguments, given)]
     return f"{kind.usage}: " + "; ".join(filter(None, wrong))
 
@@ -184,11 +164,12 @@ def argument_hint(kind: Kind, name: str, given: Any) -> Optional[str]:
     if is_written(how, given):
         return None
     shown = json.dumps(given)
-    return f"{name} is {shown if len(shown) <= 40 else shown[:38] + '..'}, and has to be {how.value}"
+    given = shown if len(shown) <= 40 else f"{shown[:38]}.."
+    return messages.ARGUMENT_IS_WRONG.format(name=name, given=given, form=how.value)
 
 
 def is_written(how: Written, given: Any) -> bool:
-    """Whether an argument is written as it has to be."""
+    """Whether an argument has the required form."""
     if how is Written.SIDE:
         return given in ("r", "w")
     if how is Written.MODE:

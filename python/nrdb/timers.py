@@ -1,5 +1,5 @@
-"""Whose timer a `pop` starts and a `fire` runs, and who set it: by the recording's steps, since netrev shows how many timers
-there are and no more."""
+"""The timer that a `pop` starts and a `fire` runs, and the step that set it, computed from the recording's steps, because netrev
+shows only the number of timers."""
 
 from functools import lru_cache
 from typing import Any, Mapping, NamedTuple, Optional
@@ -35,7 +35,7 @@ class Timer(NamedTuple):
 
 
 class Following:
-    """The machine's timers, behind the steps that were gone through."""
+    """The machine's timers after the steps so far."""
 
     def __init__(self) -> None:
         self._deadlines = Deadlines()
@@ -67,7 +67,7 @@ class Following:
 
 
 def _timer(armed: Optional[Armed], is_stale: bool) -> Timer:
-    """A timer as it is told of."""
+    """A timer, as it is printed."""
     assert armed  # (netrev has popped one)
     socket, step, g = armed.setter
     return Timer(armed.covers, armed.descriptor, socket, armed.due, step, g, is_stale)
@@ -83,12 +83,12 @@ def timers_of(recording: Recording) -> Mapping[int, Timer]:
 
 
 def timer_of(recording: Recording, step: Optional[Step]) -> Optional[Timer]:
-    """The timer of a step; None where it is of none."""
+    """The timer of a step; None if it has none."""
     return timers_of(recording)[step.number] if step and step.kind in ("pop", "fire") else None
 
 
 def timer_words(recording: Recording, step: Step) -> str:
-    """Whose timer a step is about, in brackets behind a row; empty where it is about none."""
+    """The owner of a step's timer, in brackets after a row; empty if it has none."""
     timer = timer_of(recording, step)
     return f"({timer})" if timer else ""
 

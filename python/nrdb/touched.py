@@ -43,7 +43,8 @@ class Touched(Counter[Place]):
             self[g, named[g]] += 1
 
     def _named_before(self, g: int) -> int:
-        """The socket that a goroutine named last before these steps. It goes on with what it began then, so its status tells whose that is."""
+        """The socket that a goroutine named last before these steps. It goes on with what it began then, so its status
+        belongs to that socket."""
         begun, words = 0, [""]
         for step, status in self._notes.changes.back(f"gor {g}", self._begin):
             if status == "idle":

@@ -45,7 +45,7 @@ class Queue:
 
     @property
     def is_taken(self) -> bool:
-        """Whether somebody has the lock."""
+        """Whether a goroutine has the lock."""
         return self.word.read_locked if self._side == "r" else self.word.write_locked
 
 
@@ -56,7 +56,7 @@ def lock_of(status: str) -> Optional[Lock]:
 
 
 def queues_of(world: World, statuses: Iterable[str]) -> dict[Lock, Queue]:
-    """The queues in which goroutines of these statuses wait, by their locks. Who took those is looked for at once."""
+    """The queues in which goroutines with these statuses wait, by their locks, and the steps that took these locks."""
     queues = {lock: Queue(world, *lock) for lock in map(lock_of, statuses) if lock}
     taken = [lock for lock, queue in queues.items() if queue.is_taken]
     found = takings(world.recording, world.position, taken)
@@ -83,11 +83,11 @@ class Waits:
         return found
 
     def of(self, goroutine: int) -> str:
-        """What a goroutine waits for, with what is known of that."""
+        """What a goroutine waits for, with the known facts."""
         status = self._statuses[goroutine]
         name, *rest = status.split()
         if name == "absent":
-            return "isn't made yet"
+            return "doesn't exist yet"
         if lock := lock_of(status):
             return f"{status_words(status)}; {self._queue_words(goroutine, *lock)}"
         if len(rest) == 2:
@@ -95,7 +95,7 @@ class Waits:
         return status_words(status)
 
     def _queue_words(self, goroutine: int, socket: int, side: str) -> str:
-        """Where it stands in the queue of that lock, and who has the lock."""
+        """The goroutine's place in the queue of that lock, and the lock's holder."""
         queue = self._queues[socket, side]
         place = queue.places.get(goroutine)
         said = f"place {place} of {len(queue.places)}, " if place else ""
@@ -107,12 +107,12 @@ class Waits:
         )
 
     def _owed(self, socket: int, queue: Queue) -> str:
-        """Who owes releases there, and that the socket is closed."""
+        """The goroutines that owe releases there, and whether the socket is closed."""
         owed = "".join(f"; goroutine {number} owes a release there" for number in self._owing.get(socket, ()))
         return owed + ("; the socket is closed" if queue.word.closed else "")
 
     def of_queue(self, socket: int, side: str) -> str:
-        """Who has the lock for which goroutines are queued."""
+        """The holder of a lock for which goroutines are queued."""
         queue = self._queues.setdefault((socket, side), Queue(self._world, socket, side))
         taking = queue.taking if queue.is_taken else None
         if taking:
@@ -148,7 +148,8 @@ def goroutines_table(world: World, numbers: Optional[Iterable[int]] = None, is_a
         if is_all or numbers is not None or statuses[number] not in QUIET or Name(number) in elsewhere
     ]  # fmt: skip
     waits = Waits(world, statuses)
-    rows = [_row(number, statuses[number], waits.of(number)) for number in shown]
+    goid = world.recording.lines.reused_goid
+    rows = [_row(number, goid(number, world.position), statuses[number], waits.of(number)) for number in shown]
     if world.recording.lines:
         busy = [number for number in shown if statuses[number] not in QUIET]
         steps = last_steps(world.recording, world.position, busy)
@@ -166,9 +167,10 @@ def goroutines_table(world: World, numbers: Optional[Iterable[int]] = None, is_a
     return Table("goroutines", rows, f"{left} idle or gone: info goroutines all" if left else "")
 
 
-def _row(number: int, status: str, why: str) -> Row:
-    values = {"goroutine": number, "status": status, "waits_for": why}
-    return Row(values, f"gor {number:<4} {status:<16} {why}".rstrip())
+def _row(number: int, goid: int, status: str, why: str) -> Row:
+    """The row of a goroutine; `goid` is Go's own number if several goroutines had that of the recording, else 0."""
+    values = {"goroutine": number, **({"goid": goid} if goid else {}), "status": status, "waits_for": why}
+    return Row(values, f"gor {number:<4} {f'(goid {goid}) ' if goid else ''}{status:<16} {why}".rstrip())
 
 
 def _with_wait(row: Row, wait: Waiting) -> Row:
@@ -184,7 +186,7 @@ def row_of_wait(wait: Waiting) -> Row:
 
 
 def _with_line(row: Row, stack: Stack, step: int) -> Row:
-    """The row with where the program stands: its line, since which step, and where the goroutine was started."""
+    """The row with the program's line, the step since which the goroutine is there, and the line that started it."""
     if not stack.calls:
         return row
     started = f"; started at {stack.made.place()}" if stack.made else ""

@@ -1,4 +1,4 @@
-"""The waits of goroutines outside of the poller, as NAME.where has them, and the goroutines by their names."""
+"""The waits of goroutines outside the poller, as NAME.where has them, and the goroutines by name."""
 
 from bisect import bisect_right
 from collections import defaultdict
@@ -51,8 +51,8 @@ class Name(NamedTuple):
 
 
 class Waiting(NamedTuple):
-    """A wait outside of the poller: behind which step it began, up to which it lasted (None: it doesn't end), what for, its stack, which
-    goroutine ended it if that is known, and the objects waited at, each with what is waited for there."""
+    """A wait outside the poller: the steps after which it began and ended (None: it doesn't end), the reason, its stack, the
+    goroutine that ended it if known, and the objects, each with what the goroutine waits for there."""
 
     name: Name
     first: int
@@ -61,7 +61,7 @@ class Waiting(NamedTuple):
     stack: Stack
     by: Optional[Name] = None
     objects: tuple[At, ...] = ()
-    begin: int = 0  # nanoseconds, which put waits behind one step in order
+    begin: int = 0  # nanoseconds, which order waits after one step
     due: int = 0  # until when a sleep is to last, if that is known
 
     def is_at(self, position: int) -> bool:
@@ -116,7 +116,7 @@ class Waits:
 
 @lru_cache(maxsize=2)
 def waits_of(recording: Recording) -> Waits:
-    """The waits outside of the poller that NAME.where has: those of all goroutines, or of those that have steps if it is of the first form."""
+    """The waits outside the poller in NAME.where: those of all goroutines, or, in the first format, of those with steps."""
     lines = recording.lines
     if lines.parks:
         return Waits(of_park(lines, park) for parks in lines.parks.values() for park in parks)
@@ -131,18 +131,18 @@ def of_wait(wait: Wait, stack: Stack) -> Waiting:
 
 def of_park(lines: Lines, park: Park) -> Waiting:
     """A wait of any goroutine."""
-    by = name_of_goid(lines, park.by) if park.by else None
+    by = name_of_goid(lines, park.by, None if park.last == STILL else park.last) if park.by else None
     last = None if park.last == STILL else park.last
-    name = name_of_goid(lines, park.goid)
+    name = name_of_goid(lines, park.goid, park.first)
     known = lines.objects.get(park.objects[0].object) if park.reason == ROOM and park.objects else None
     reason = A_RECEIVER if known and known.room == 0 else park.reason
     return Waiting(name, park.first, last, reason, lines.stacks[park.stack], by, park.objects, park.begin, park.due)
 
 
-def name_of_goid(lines: Lines, goid: int) -> Name:
-    """A goroutine that Go's own number names."""
-    known = lines.goroutines.get(goid)
-    return Name(known.number) if known and known.number >= 0 else Name(goid, True)
+def name_of_goid(lines: Lines, goid: int, step: Optional[int] = None) -> Name:
+    """The goroutine with a number of Go's: by its number in the recording at the step, if it has one, else at the end."""
+    number = lines.number_of(goid, step)
+    return Name(number) if number >= 0 else Name(goid, True)
 
 
 def of_names(names: Iterable[Name]) -> str:

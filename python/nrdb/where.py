@@ -1,5 +1,5 @@
-"""NAME.where, the lines of a program's source beside a recording of it (docs/reference/RECORDING.md has its form). netrev never reads
-it, and a recording without it is as good."""
+"""NAME.where, the file of source lines beside a recording (docs/reference/RECORDING.md has the format). netrev never reads it, and
+a recording works without it."""
 
 import json
 import os
@@ -9,6 +9,7 @@ from itertools import accumulate
 from pathlib import Path
 from typing import Any, Iterable, NamedTuple, Optional
 
+from .messages import session as messages
 from .all_goroutines import OF_GOROUTINES, AllGoroutines, typed
 
 OF_GO, OF_THE_PROGRAM, OF_A_LIBRARY = "go", "program", "library"
@@ -20,7 +21,7 @@ FORMS = (1, 2)  # of the file; the second has all goroutines
 
 
 class Call(NamedTuple):
-    """Where a call stands, and whose code that is."""
+    """A call: its function, file and line, and whose code it is."""
 
     function: str
     file: str
@@ -62,8 +63,8 @@ class Stack(NamedTuple):
 
 
 class Wait(NamedTuple):
-    """A wait outside of the poller: behind which step, up to which one (0: it doesn't end in the recording), whose, what for in words
-    (empty where the stack alone says it), its stack, and who made it ready, or -1."""
+    """A wait outside the poller: the steps after which it begins and ends (0: it doesn't end in the recording), the goroutine, the
+    reason in words (empty if only the stack shows it), its stack, and the goroutine that ended it, or -1."""
 
     first: int
     last: int
@@ -78,7 +79,7 @@ class Unusable(Exception):
 
 
 class Lines(AllGoroutines):
-    """The lines of a recording's steps, and why there are none where NAME.where can't be used. One that isn't there is no fault."""
+    """The lines of a recording's steps, and the reason if NAME.where can't be used. A missing file isn't a fault."""
 
     def __init__(self, text: str = "", steps: int = 0) -> None:
         self._begin()
@@ -89,14 +90,14 @@ class Lines(AllGoroutines):
 
     @classmethod
     def beside(cls, path: str, steps: int) -> "Lines":
-        """Those of the file beside a recording of so many steps."""
+        """The lines of the file beside a recording with this many steps."""
         made, name = cls(), Path(path).with_suffix(".where")
         try:
             status = os.stat(name)
             if not stat.S_ISREG(status.st_mode):
-                made.fault = "it isn't a file"
+                made.fault = messages.LINES_NOT_A_FILE
             elif status.st_size > MOST_BYTES:
-                made.fault = f"it has more than {MOST_BYTES // 2**20} MB"
+                made.fault = messages.LINES_TOO_LARGE.format(megabytes=MOST_BYTES // 2**20)
             else:
                 made.written = status.st_mtime
                 with open(name, encoding="utf-8") as file:
@@ -104,35 +105,33 @@ class Lines(AllGoroutines):
         except FileNotFoundError:
             pass
         except OSError as error:
-            made.fault = error.strerror or "it can't be read"
+            made.fault = error.strerror or messages.LINES_UNREADABLE
         return made
 
     def why_unused(self, path: str) -> str:
-        """What is said of a file that can't be used."""
+        """The message about a file that can't be used."""
         name = Path(path).with_suffix(".where").name
-        return f"{name} isn't used: {self.fault}; docs/reference/RECORDING.md has its form, and the recording is as good without it"
+        return messages.LINES_UNUSED.format(name=name, fault=self.fault)
 
     def _begin(self) -> None:
         """No line is known."""
         self.steps = array("l")
         self.stacks: dict[int, Stack] = {0: Stack((), None)}
-        self.orders: Optional[
-            list[tuple[int, int]]
-        ] = None  # of the program, by steps; None where the recorder saw none
+        self.orders: Optional[list[tuple[int, int]]] = None  # of the program, by steps; None if the recorder saw none
         self.bytes: Optional[
             int
         ] = None  # as which a read or a write counts at most; None where each has all of its own
+        self.has_tags = False  # of Go's own, which it compared with the use of the descriptor as an event came
+        self.prelude = 0  # this many steps lead to the state in which the recording begins
         self.tests: list[tuple[int, int, str]] = []  # the first and the last step while each test ran, package and name
         self.peers: dict[int, int] = {}  # of a socket the one at the connection's other end
         self.ends: dict[int, tuple[int, int]] = {}  # of a socket the numbers of its own name and of the other end's
         self.addresses: dict[int, tuple[str, str]] = {}  # of sockets for datagrams, and to which they are connected
         self.sent: dict[int, str] = {}  # to which address a datagram went, by a step of the call
         self.sizes: dict[int, int] = {}  # how many bytes a read or a write had that counts as fewer, by its step
-        self.errors: dict[int, str] = {}  # of the system, by the step behind which a goroutine's call had them
+        self.errors: dict[int, str] = {}  # of the system, by the step after which a goroutine's call had them
         self.waits: dict[int, list[Wait]] = {}  # outside of the poller, by goroutine
-        self.times = array(
-            "q"
-        )  # of the steps, nanoseconds from the recorder's begin; empty where the recorder had none
+        self.times = array("q")  # of the steps, nanoseconds from the recorder's begin; empty if the recorder had none
         self._calls: dict[int, Call] = {}
         self.begin_goroutines()
 
@@ -149,16 +148,16 @@ class Lines(AllGoroutines):
         except Unusable as why:
             self.fault = str(why)
         except UnicodeDecodeError:
-            self.fault = "it isn't text"
+            self.fault = messages.LINES_NOT_TEXT
         except (ValueError, TypeError, KeyError, OverflowError, RecursionError):
-            self.fault = f"line {number} isn't one of its form"
+            self.fault = messages.LINES_MALFORMED.format(number=number)
         if self.fault:
             self._begin()
         if len(self.times) != steps:
             self.times = array("q")
 
     def _add(self, line: dict[str, Any]) -> None:
-        """Adds what a line behind the first says."""
+        """Adds a line after the first."""
         if "call" in line:
             self._calls[line["call"]] = Call(*(typed(line[name], sort) for name, sort in OF_CALL.items()))
         elif "stack" in line:
@@ -169,6 +168,12 @@ class Lines(AllGoroutines):
             self.orders += [(typed(first, int), typed(second, int)) for first, second in line["orders"]]
         elif "bytes" in line:
             self.bytes = typed(line["bytes"], int)
+        elif "tags" in line:
+            self.has_tags = typed(line["tags"], int) == 1
+        elif "prelude" in line:
+            self.prelude = typed(line["prelude"], int)
+        elif "taken" in line:
+            self.add_owners(line["taken"])
         elif "test" in line:
             first, last = line["steps"]
             name = f"{typed(line['package'], str)} {typed(line['test'], str)}"
@@ -191,7 +196,8 @@ class Lines(AllGoroutines):
             self.steps.extend(numbers if are_known else (one if one in self.stacks else 0 for one in numbers))
 
     def _add_of_sockets(self, line: dict[str, Any]) -> None:
-        """Adds what a line says of sockets: which are two ends of a connection, their names and addresses, and errors of the system."""
+        """Adds a line about sockets: which are two ends of a connection, their names and addresses, and errors of the
+        system."""
         if "ends" in line:
             for one, own, other in line["ends"]:
                 self.ends[typed(one, int)] = typed(own, int), typed(other, int)
@@ -212,7 +218,7 @@ class Lines(AllGoroutines):
         return len(self.steps) > 0
 
     def of(self, step: int) -> Stack:
-        """The stack of a step; one without calls where none is known."""
+        """The stack of a step; one without calls if it is unknown."""
         return self.stacks[self.steps[step - 1]] if 0 < step <= len(self.steps) else self.stacks[0]
 
     def tests_at(self, step: int) -> list[str]:
@@ -225,20 +231,20 @@ class Lines(AllGoroutines):
         return next((one for one in waits if one.first <= position and (not one.last or position < one.last)), None)
 
     def words(self, step: int) -> str:
-        """The program's line of a step, and the function that is called there; empty where none is known."""
+        """The program's line of a step, and the function that is called there; empty if unknown."""
         return self.of(step).words()
 
 
 def of_steps(first: Any, steps: int) -> None:
-    """Unusable where the file's first line says that it is of another recording."""
+    """Unusable if the file's first line belongs to another recording."""
     if first["where"] not in FORMS:
-        raise Unusable("it is of another version")
+        raise Unusable(messages.LINES_OF_OTHER_VERSION)
     if first["steps"] != steps:
-        raise Unusable(f"it is of a recording of {typed(first['steps'], int)} steps, and this one has {steps}")
+        raise Unusable(messages.LINES_OF_OTHER.format(theirs=typed(first["steps"], int), steps=steps))
 
 
 def _later(values: Any) -> Any:
-    """Times that have passed; a TypeError or a ValueError where one of them is none. (There may be a million.)"""
+    """The differences between times; a TypeError or a ValueError if one is invalid. There may be a million."""
     if set(map(type, values)) - {int}:
         raise TypeError
     if min(values, default=0) < 0:

@@ -1,4 +1,4 @@
-"""Whose each step of a recording is: of which goroutine, socket and descriptor."""
+"""The goroutine, the socket and the descriptor of each step of a recording."""
 
 from array import array
 from typing import Any, NamedTuple
@@ -18,8 +18,8 @@ OTHERS = ("sockopen", "pollopen", "pollclose", "pollevent", "pop", "fire")
 
 
 class Row(NamedTuple):
-    """What is known of a step by its line: how its socket and descriptor are found, its goroutine, the socket or descriptor that it names, and its
-    kind and arguments."""
+    """The facts about a step from its line: how its socket and descriptor are found, its goroutine, the socket or
+    descriptor that it names, and its kind and arguments."""
 
     how: int
     goroutine: int
@@ -45,12 +45,12 @@ def row_of(values: list[Any]) -> Row:
 
 
 class Whose:
-    """Of each step its goroutine, socket and descriptor, -1 where it is of none."""
+    """The goroutine, socket and descriptor of each step; -1 for none."""
 
     def __init__(self, recording: Recording, notes: Notes) -> None:
         self._recording = recording
         self.goroutines, self._sockets, self._descriptors = array("i"), array("i"), array("i")
-        self._of_timers: list[int] = []  # the steps of timers, as long as nobody has asked whose those are
+        self._of_timers: list[int] = []  # the steps of timers, until their owners are asked for
         self._opened = iter(notes.uses)
         self._made = 0  # sockets
         self._named: dict[int, Place] = {}  # what a goroutine named last
@@ -109,7 +109,7 @@ class Whose:
         return place
 
     def _look_at_timers(self) -> None:
-        """Who asks about sockets and descriptors of all steps asks whose the timers are."""
+        """Finds the timers' owners, which callers need that ask for sockets and descriptors of all steps."""
         timers = timers_of(self._recording) if self._of_timers else {}
         for number in self._of_timers:
             timer = timers[number]

@@ -75,7 +75,7 @@ STATUSES = {
 
 
 def status_words(value: str) -> str:
-    """A goroutine's status in words, but for `idle` and `gone`."""
+    """A goroutine's status as text, except `idle` and `gone`."""
     name, *rest = value.split()
     if name == "owing":
         return _owing(*rest)
@@ -84,11 +84,11 @@ def status_words(value: str) -> str:
 
 
 def poll_words(value: str) -> str:
-    """A descriptor's word in words, but for `nil`."""
+    """A descriptor's word as text, except `nil`."""
     said = {
         "nil": "",
         "ready": "an event came that nobody has taken",
-        "wait": "somebody is about to park",
+        "wait": "a goroutine is about to park",
     }
     return said.get(value, f"goroutine {value[1:]} is parked")
 
@@ -110,7 +110,7 @@ WORDS = {
 
 
 def in_words(cell: str, value: str) -> str:
-    """The value of a cell in words; empty where the value says it all. Of `absent` the caller knows more."""
+    """The meaning of a cell's value; empty if the value says everything. For `absent` the caller knows more."""
     words = WORDS.get(cell.split()[0])
     return words(value) if words and value != "absent" else ""
 
@@ -131,11 +131,11 @@ def absent_words(cell: str, limits: Mapping[str, Any]) -> str:
     room = limits.get({Of.GOROUTINE: "gor", Of.SOCKET: "sock", Of.DESCRIPTOR: "desc"}[of])
     if isinstance(room, int) and int(number[0]) >= room:
         return f"the recording has room for {counted(room, of.value)}, from 0 to {room - 1}"
-    return f"{of.value} {number[0]} isn't made yet"
+    return f"{of.value} {number[0]} doesn't exist yet"
 
 
 def duration(nanoseconds: int) -> str:
-    """A time in the largest unit of which it has one, rounded to three digits: `200 ms`, and `1 s` for 999.9 ms."""
+    """A time in the largest unit that fits, rounded to three digits: `200 ms`, and `1 s` for 999.9 ms."""
     size, unit = next((each for each in UNITS if nanoseconds >= 0.9995 * each[0]), UNITS[-1])
     count = nanoseconds / size
     return f"{count:.3g} {unit}" if count < 100 else f"{count:.0f} {unit}"

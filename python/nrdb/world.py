@@ -1,5 +1,5 @@
-"""What is there at the session's position, by netrev's replies, and what the recording's steps tell of it besides:
-which descriptors are open, and whose they are."""
+"""The objects at the session's position, from netrev's replies and the recording's steps: which descriptors are open,
+and of which sockets."""
 
 import re
 from typing import Iterable, Sequence
@@ -15,7 +15,7 @@ AT_FIRST = 64
 
 
 class World:
-    """Looks at the position at which a session stands."""
+    """Reads values at the session's position."""
 
     def __init__(self, netrev: Netrev, recording: Recording, position: int):
         self.netrev, self.recording, self.position = netrev, recording, position
@@ -53,8 +53,8 @@ class World:
 
 
 def opened_by(recording: Recording, position: int) -> tuple[dict[int, int], int]:
-    """The descriptors that are open behind so many steps, each with its socket, and the number that `pollopen` takes
-    next: the one that was freed last, else the next new one."""
+    """The descriptors that are open after this many steps, each with its socket, and the number that `pollopen` takes
+    next: the one freed last, or the next new one."""
     free: list[int] = []
     made, open_now = 0, dict[int, int]()
     for closed, socket in closings_and_openings(recording, position):
@@ -71,7 +71,8 @@ def opened_by(recording: Recording, position: int) -> tuple[dict[int, int], int]
 
 
 def closings_and_openings(recording: Recording, position: int) -> Iterable[tuple[bytes, bytes]]:
-    """Of each `pollclose` and `pollopen` among so many steps the descriptor, or the socket, as they are spelled; the other one is empty."""
+    """For each `pollclose` and `pollopen` among these steps the descriptor, or the socket, as spelled; the other one is
+    empty."""
     if not recording.has_escapes:
         return OF_POLL.findall(recording.before_step(position + 1))
     steps = recording.steps_of(("pollopen", "pollclose"), position)
@@ -80,7 +81,7 @@ def closings_and_openings(recording: Recording, position: int) -> Iterable[tuple
 
 
 def made_at(netrev: Netrev, of: Of) -> int:
-    """How many goroutines, sockets or descriptors are made where netrev stands."""
+    """The number of goroutines, sockets or descriptors that exist at netrev's position."""
     count, size = 0, AT_FIRST
     while True:
         values = netrev.values([f"{COUNTED_BY[of]} {number}" for number in range(count, count + size)])

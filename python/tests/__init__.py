@@ -1,1 +1,1 @@
-"""What is tested in Python. The modules here need no built program; those in `program/` play it."""
+"""The tests in Python. The modules here need no built program; those in `program/` run it."""

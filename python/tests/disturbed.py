@@ -39,7 +39,7 @@ Action = Callable[["Weather[Of]", Of], None]
 
 
 class Weather(Generic[Of]):
-    """What happens at which point: points are counted over all netrevs of a session, from where `left` is set."""
+    """The events at points: points are counted over all netrevs of a session, from where `left` is set."""
 
     def __init__(self, interrupts: Interrupts):
         self.interrupts = interrupts
@@ -48,7 +48,7 @@ class Weather(Generic[Of]):
         self.action: Action[Of] = nothing
 
     def happens(self, netrev: Of) -> None:
-        """A point has come."""
+        """A point was reached."""
         self.count += 1
         if self.left is not None:
             self.left -= 1
@@ -62,14 +62,14 @@ def nothing(weather: Weather[Of], netrev: Of) -> None:
 
 
 class Played(NamedTuple):
-    """A session, what happens to it, and what it tells."""
+    """A session, the event in it, and its output."""
 
     session: Session
     weather: Weather[Any]
     out: io.StringIO
 
     def run(self, *lines: str) -> Events:
-        """The events that these lines bring."""
+        """The events that these lines cause."""
         self.out.seek(0)
         self.out.truncate()
         for line in lines:
@@ -77,7 +77,7 @@ class Played(NamedTuple):
         return self.told()
 
     def told(self) -> Events:
-        """The events since; of a session that has ended those that it told before."""
+        """The events since then; for a session that has ended, those before its end."""
         return [json.loads(line) for line in self.out.getvalue().splitlines()]
 
     def end(self) -> None:
@@ -87,7 +87,7 @@ class Played(NamedTuple):
 
 
 class Disturbances(unittest.TestCase, Generic[Of]):
-    """Batches are made small, and the journal, so that there are many points."""
+    """Batches and the journal are made small, so that there are many points."""
 
     def setUp(self) -> None:
         with ExitStack() as stack:
@@ -96,15 +96,15 @@ class Disturbances(unittest.TestCase, Generic[Of]):
             self.addCleanup(stack.pop_all().close)
 
     def opened(self, weather: Weather[Of]) -> Of:
-        """A netrev over the example, to which this happens."""
+        """A netrev over the example, with this event."""
         raise NotImplementedError
 
     def told_by(self, played: Played, command: str) -> Events:
-        """What a command tells to which something happens."""
+        """The output of a command during an event."""
         return played.run(command)
 
     def settle(self) -> None:
-        """Waits until what has begun to happen has happened."""
+        """Waits until everything that began to happen has happened."""
 
     def begun(self) -> Played:
         """A session over the example, with a mark and a display."""
@@ -123,7 +123,7 @@ class Disturbances(unittest.TestCase, Generic[Of]):
         return played
 
     def probed(self, lines: Sequence[str]) -> tuple[int, Events]:
-        """Where a session is behind these lines, to which nothing happens, and what it tells there."""
+        """The state of a session after these lines, without an event, and its output there."""
         played = self.begun()
         played.run(*lines)
         told = played.session.stood, played.run(*PROBES)
@@ -131,7 +131,7 @@ class Disturbances(unittest.TestCase, Generic[Of]):
         return told
 
     def points(self, command: str) -> tuple[int, Events]:
-        """How many points the conversations of a command have, and what it tells."""
+        """The number of points in a command's conversations, and its output."""
         played = self.begun()
         before = played.weather.count
         right = played.run(command)
@@ -139,7 +139,8 @@ class Disturbances(unittest.TestCase, Generic[Of]):
         return played.weather.count - before, right
 
     def disturbed(self, command: str, action: Action[Of], count: int) -> Iterator[tuple[int, Played, Events, bool]]:
-        """Each point at which this happens to a command: the session behind it, what was told, and whether it goes on."""
+        """For each point at which this happens to a command: the session after it, the output, and whether it goes
+        on."""
         for point in range(count):
             played = self.begun()
             played.weather.left, played.weather.action = point, action
@@ -147,7 +148,7 @@ class Disturbances(unittest.TestCase, Generic[Of]):
                 told = self.told_by(played, command)
                 played.weather.left = None
                 self.settle()
-                played.session.stands()  # (a netrev that is gone may be met here only)
+                played.session.stands()  # (only here may a netrev be found gone)
                 yield point, played, told, True
             except (GivenUp, Ended):
                 played.weather.left = None
@@ -155,8 +156,8 @@ class Disturbances(unittest.TestCase, Generic[Of]):
             played.end()
 
     def check(self, commands: Sequence[str], actions: Sequence[Action[Of]]) -> int:
-        """Sees that what is told is right, whatever happens at any point of these commands, and so is what comes then. How many
-        sessions were given up."""
+        """Checks that the output is right, whatever happens at any point of these commands, and so is the output after
+        it. Returns how many sessions were given up."""
         given_up = 0
         for command in commands:
             told_then = dict(self.probed(lines) for lines in ((), (command,)))

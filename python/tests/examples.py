@@ -14,8 +14,8 @@ REFUSED_AT = re.compile(r"refused at step (\d+)")
 class Example(NamedTuple):
     """A row of the list."""
 
-    name: str  # in the folder, without its ending
-    suspect: Optional[str]  # the rule whose suspect is named first
+    name: str  # the path in the folder, without its ending
+    suspect: Optional[str]  # the rule of the first suspect
     refused_at: Optional[int]  # the step that netrev refuses
 
     @property
@@ -29,7 +29,7 @@ class Example(NamedTuple):
 
 
 def example_of(name: str, said: str) -> Example:
-    """The row of this name whose column of suspects says this."""
+    """The row of this name with this in its column of suspects."""
     refused = REFUSED_AT.fullmatch(said)
     if refused:
         return Example(name, None, int(refused[1]))

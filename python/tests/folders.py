@@ -6,7 +6,7 @@ from pathlib import Path
 
 
 def folder_of(test: unittest.TestCase) -> Path:
-    """A folder that is gone behind the test."""
+    """A folder that is removed after the test."""
     folder = tempfile.TemporaryDirectory()
     test.addCleanup(folder.cleanup)
     return Path(folder.name)

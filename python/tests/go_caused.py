@@ -103,7 +103,8 @@ def recorded(go: Go, program: pathlib.Path, words: list[str], name: pathlib.Path
 
 
 def of_one(go: Go, program: pathlib.Path, name: str, folder: pathlib.Path) -> tuple[bool, int]:
-    """Records a program bad and good, and prints a line; whether its bug is named, and how many suspects the good run has."""
+    """Records a program bad and good, and prints a line; whether its bug is named, and how many suspects the good run
+    has."""
     bad, good = (folder / f"{name}-{kind}.jsonl" for kind in ("bad", "good"))
     ended = recorded(go, program, [name, "bad"], bad), recorded(go, program, [name, "good"], good)
     is_named = bug_line(name) in "\n".join(first_words(Recording.read(str(bad)), name))
@@ -115,7 +116,7 @@ def of_one(go: Go, program: pathlib.Path, name: str, folder: pathlib.Path) -> tu
 
 
 def main(folder: pathlib.Path) -> int:
-    """Records all; 1 where a good run has a suspect, or where more than one bug of a source isn't named."""
+    """Records all; returns 1 if a good run has a suspect, or if more than one bug of a source isn't named."""
     go, status = find_go(), 0
     with tempfile.TemporaryDirectory() as built:
         for source, names in NAMES.items():

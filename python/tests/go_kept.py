@@ -1,5 +1,5 @@
-"""netrev-go with a real Go, where a run could be lost: a program that becomes another one, and what it leaves its children. It needs
-Go and netrev, and is run by `make real`."""
+"""netrev-go with a real Go, in cases in which a run could be lost: a program that execs another one, and what its
+children inherit. It needs Go and netrev, and is run by `make real`."""
 
 import os
 import pathlib
@@ -75,7 +75,7 @@ class Kept(Tool):
         (log,) = logs_in(small)
         read = read_log(log)
         self.assertGreater(len(read.points), 30_000)
-        self.assertEqual(read.notes[0], "there was no room for more of the log: it ends before the program did")
+        self.assertEqual(read.notes[0], "the log ran out of space and ends before the program did")
         self.assertEqual(list(small.glob("log.program.*")), [])
 
     def test_a_full_disk_keeps_the_logs(self) -> None:

@@ -37,7 +37,7 @@ MAIN = program(
 )  # fmt: skip
 TEST = MAIN.replace("package main", "package p").replace('"net"', '"net"\n\t"testing"')
 TEST = TEST.replace("func main()", "func TestServe(t *testing.T)")
-WORDS = {"run": ["run", "main.go"], "test": ["--all", "test", "."]}  # by --all a test that passes has a recording too
+WORDS = {"run": ["run", "main.go"], "test": ["--all", "test", "."]}  # with --all a test that passes has a recording too
 EARLIEST, LATEST = -2.0, 4.0  # seconds to the signal, after the program's beginning or, below 0, after netrev-go's
 
 
@@ -69,7 +69,8 @@ class Trial:
         return run.stderr
 
     def run(self, number: int, command: str, sent: signal.Signals, seconds: float) -> str:
-        """One run, with a signal so many seconds after the program's beginning, or netrev-go's: its status, and what became of it."""
+        """One run, with a signal this many seconds after the program's beginning, or netrev-go's: its status and its
+        outcome."""
         errors = self.folder / f"errors {number}"
         with errors.open("w") as file:
             running = subprocess.Popen(
@@ -89,7 +90,7 @@ class Trial:
         return f"status {running.returncode}, {self.became(number, errors.read_text())}"
 
     def became(self, number: int, errors: str) -> str:
-        """What became of a run that has ended: recorded, kept, not begun, recovered or LOST."""
+        """The outcome of a run that has ended: recorded, kept, not begun, recovered or LOST."""
         if self.recordings(f"out {number}"):
             self.called(
                 number, "-o", f"again {number}", "recover"
@@ -99,7 +100,7 @@ class Trial:
             return "kept"
         if not (self.folder / f"began {number}").exists():
             return "not begun"
-        is_offered = "cut off before" in self.called(number, "convert")
+        is_offered = "interrupted before" in self.called(number, "convert")
         self.called(number, "-o", f"out {number}", "recover")
         return "recovered" if is_offered and self.recordings(f"out {number}") else "LOST"
 
@@ -110,7 +111,7 @@ class Trial:
 
 
 def is_empty(group: int) -> bool:
-    """Whether no process is left of a group."""
+    """Whether a group has no process left."""
     try:
         os.killpg(group, 0)
     except ProcessLookupError:
@@ -119,7 +120,7 @@ def is_empty(group: int) -> bool:
 
 
 def tried(release: str, runs: int, seed: int, netrev: str) -> Counter[str]:
-    """What became of so many runs with a release."""
+    """The outcomes of this many runs with a release."""
     dice = random.Random(seed)
     sums: Counter[str] = Counter()
     with tempfile.TemporaryDirectory(prefix="killed-") as folder:

@@ -1,5 +1,5 @@
-"""Changes that a release to come may have, planted into a copy of Go 1.27: the doctor names each, and nothing is recorded. It
-needs netrev, and Go 1.27 or Debian's packages of it; `make real` runs it."""
+"""Changes that a future release may have, planted into a copy of Go 1.27: the doctor names each, and nothing is
+recorded. It needs netrev, and Go 1.27 or Debian's packages of it; `make real` runs it."""
 
 import contextlib
 import os
@@ -22,11 +22,11 @@ CHECKED = """		errcode = netpollcheckerr(pd, int32(mode))
 			return errcode
 		}
 """
-# what is changed in which files, each text wherever it stands, and what the doctor says of it
+# the changes by file, each text wherever it occurs, and the doctor's message
 PLANTED: dict[str, tuple[list[Change], str]] = {
     "a renamed call": (
         [(POLL, {"netpollcheckerr(": "netpollerror("})],
-        "unfit runtime/netpoll.go netpollblock: netpollcheckerr(pd, mode) stands there 0 times, not 1",
+        "unfit runtime/netpoll.go netpollblock: netpollcheckerr(pd, mode) occurs there 0 times, not 1",
     ),
     "an argument more": (
         [
@@ -44,8 +44,7 @@ PLANTED: dict[str, tuple[list[Change], str]] = {
                 {"semrelease1(&traceAdvanceSema, true, 0)": "semrelease1(&traceAdvanceSema, true, 0, 0)"},
             ),
         ],
-        "compiled: go1.27.3 isn't a release that netrev-go knows (this release was tried). The rules fit, and the changed "
-        "files aren't compiled",
+        "compiled: go1.27.3 can't be recorded (tested with netrev-go). The rules fit, but the changed files don't compile",
     ),
     "a moved check": (
         [
@@ -75,7 +74,7 @@ PLANTED: dict[str, tuple[list[Change], str]] = {
                 },
             )
         ],
-        "unfit internal/poll/fd_unix.go quick: atomic.CompareAndSwap..) stands there too, of which no rule knows",
+        "unfit internal/poll/fd_unix.go quick: atomic.CompareAndSwap..) occurs there too, and no rule covers it",
     ),
     "bytes that go another way": (
         [
@@ -158,16 +157,16 @@ class Planted(unittest.TestCase):
                 self.assertIn(told, said)
                 status, said = self.called("-o", "planted", "run", "main.go")
                 self.assertEqual(status, 4, said)
-                self.assertIn("netrev-go: go1.27.3 isn't ", said)
+                self.assertIn("netrev-go: go1.27.3 can't be recorded ", said)
                 self.assertEqual(list(self.folder.glob("planted*")), [])
 
     def test_what_can_be_done_without_is_left_out_and_named(self) -> None:
         changes: list[Change] = [("internal/poll/sendfile_unix.go", {"sendFileChunk(": "sendFilePart("})]
         file = "internal/poll/sendfile_unix.go"
         without = (
-            f"without what SendFile writes: {file} sendFile: sendFileChunk(dst, src, ...) stands there 0 times, not 1"
+            f"without what SendFile writes: {file} sendFile: sendFileChunk(dst, src, ...) occurs there 0 times, not 1"
         )
-        elsewhere = f"without the bytes that go there: {file} sendFilePart: syscall.Send..) stands there too"
+        elsewhere = f"without the bytes that go there: {file} sendFilePart: syscall.Send..) occurs there too"
         with self.planted(changes):
             status, said = self.called("-o", "partly", "run", "main.go")
             self.assertEqual(status, 0, said)
@@ -185,7 +184,7 @@ class Planted(unittest.TestCase):
             ("runtime/sema.go", {"goparkunlock(&root.lock, reason, traceBlockSync, 4+skipframes)": parks})
         ]
         without = (
-            "without the objects at which goroutines wait: runtime/sema.go semacquire1: goparkunlock(&root.lock, ...) stands there "
+            "without the objects at which goroutines wait: runtime/sema.go semacquire1: goparkunlock(&root.lock, ...) occurs there "
             "0 times, not 1"
         )
         with self.planted(changes):

@@ -22,7 +22,7 @@ PATIENCE = 120.0  # seconds
 
 
 def until(name: str) -> str:
-    """A line of a script that waits for a file, at most as long as the test's folder is there."""
+    """A line of a script that waits for a file, at most as long as the test's folder exists."""
     return f"while [ -e go ] && [ ! -e {name} ]; do sleep 0.05; done"
 
 
@@ -30,13 +30,14 @@ WAITS = until("never")
 
 
 def reset_signals(ignored: int | None = None) -> None:
-    """Has this process ignore one signal at most. What runs the tests may ignore others, as nohup does, and hand that on."""
+    """Lets this process ignore one signal at most. The process that runs the tests may ignore others, as nohup does,
+    and pass that on."""
     for number in (signal.SIGHUP, signal.SIGINT, signal.SIGQUIT, signal.SIGTERM):
         signal.signal(number, signal.SIG_IGN if number == ignored else signal.SIG_DFL)
 
 
 class StandIn:
-    """A folder with a script for Go, in which netrev-go is started."""
+    """A folder with a script instead of Go, in which netrev-go is started."""
 
     def __init__(self, folder: Path, script: str) -> None:
         self.folder = folder
@@ -56,7 +57,7 @@ class StandIn:
         return os.environ | {"NETREV_LOGS": str(self.logs)}
 
     def start(self, *words: str, ignored: int | None = None) -> "subprocess.Popen[str]":
-        """Starts netrev-go, as nohup does where a signal is to be ignored."""
+        """Starts netrev-go, with a signal ignored as by nohup, if given."""
         return subprocess.Popen(
             self.words(*words), cwd=self.folder, env=self.environment(), text=True, stdin=subprocess.DEVNULL,
             stdout=subprocess.PIPE, stderr=subprocess.PIPE,
@@ -77,7 +78,7 @@ class StandIn:
 
 
 def wait_until(is_so: Callable[[], object]) -> None:
-    """Waits until something is so; it fails when that takes too long."""
+    """Waits until a condition holds; fails if that takes too long."""
     end = time.monotonic() + PATIENCE
     while not is_so():
         assert time.monotonic() < end, "it takes too long"

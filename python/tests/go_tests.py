@@ -67,7 +67,7 @@ func TestEnds(t *testing.T) {
 )
 
 
-# tells what netrev-go keeps of what was linked
+# prints what netrev-go keeps of the linked programs
 LOOKS = """package p
 
 import (
@@ -92,7 +92,7 @@ func TestLooks(t *testing.T) {
 
 
 def timeless(said: str) -> list[str]:
-    """What is said, without the times."""
+    """The output without times."""
     return re.sub(r"\d+\.\d+s", "", said).splitlines()
 
 
@@ -129,7 +129,7 @@ class Tested(Tool):
                 self.assertEqual((status, self.made(how)), (1, ["p.TestEnds.jsonl"]), said)
 
     def same(self, *words: str) -> int:
-        """The status with which Go and netrev-go end, which is one."""
+        """The status with which both Go and netrev-go end."""
         plainly = subprocess.run(
             ["go", "test", *words], cwd=self.folder, env=self.environment(), capture_output=True, check=False
         )

@@ -15,7 +15,7 @@ from unittest import mock
 
 from netrev_go import calls_of_go
 from netrev_go.fetching import here
-from netrev_go.logfile import HEADER_BYTES, HOLDER_BYTES, STACK_BYTES, Header
+from netrev_go.logfile import Header
 from netrev_go.toolchain import CHANGED, SOURCES, TRIED, find_go, overlay, points_program, quiet_go, release_of
 from netrev_words.built import netrev_program
 from nrdb.where import Lines
@@ -48,9 +48,8 @@ def program(body: str, *imports: str) -> str:
 
 
 def begin_of_ring(text: bytes) -> int:
-    """Where the points of a log begin, after its two tables."""
-    header = Header(text)
-    return HEADER_BYTES + header.stacks * STACK_BYTES + header.holders * HOLDER_BYTES
+    """Where the points of a log begin, after its tables."""
+    return Header(text).ring
 
 
 HANGS = program("\tb.Read(make([]byte, 1))")
@@ -61,7 +60,7 @@ TEST = TEST.replace("func main()", "func TestHang(t *testing.T)")
 CHILD = program(
     '\tif len(os.Args) == 1 {\n\t\texec.Command(os.Args[0], "child").Run()\n\t}', "os", "os/exec"
 )  # fmt: skip
-# opens a socket, becomes itself again with a word more, and reads then
+# opens a socket, execs itself with one more argument, and then reads
 BECOMES = program(
     '\tif len(os.Args) > 1 {\n\t\ta.Write([]byte("x"))\n\t\tb.Read(make([]byte, 1))\n\t\treturn\n\t}\n'
     '\tsyscall.Exec("/proc/self/exe", []string{"again", "again"}, os.Environ())',
@@ -78,7 +77,7 @@ RACING = program(
 )
 
 
-# a goroutine reads and tells so, in each of these ways; then its socket is closed
+# a goroutine reads and prints that, in each of these ways; then its socket is closed
 TELLS = (
     ("done := make(chan int)", "done <- 1", "<-done", ()),
     ("done := make(chan int, 1)", "done <- 1", "time.Sleep(5e6); <-done", ("time",)),
@@ -102,7 +101,7 @@ class Tool(unittest.TestCase):
         return os.environ | {"NETREV": netrev_program() or "", "GO111MODULE": "off", "GOFLAGS": ""} | settings
 
     def called(self, *words: str, **settings: str) -> tuple[int, str]:
-        """netrev-go's status, and all that it and the program say."""
+        """netrev-go's status, and its output with the program's."""
         run = subprocess.run(
             [TOOL, *words], cwd=self.folder, env=self.environment(**settings), stdin=subprocess.DEVNULL,
             stdout=subprocess.PIPE, stderr=subprocess.STDOUT, text=True, errors="replace", timeout=300, check=False,
@@ -117,7 +116,7 @@ class Programs(Tool):
     def test_a_program_that_hangs_ends_with_its_line(self) -> None:
         self.written(HANGS)
         status, said = self.called("-n", "1", "run", "main.go")
-        self.assertEqual(status, 1, said)  # Go's own: the program was ended by SIGQUIT
+        self.assertEqual(status, 1, said)  # Go's own status: SIGQUIT ended the program
         self.recorded(said)
         self.assertRegex(
             said, rf"  main\.go:{READ_LINE}: net\.\(\*conn\)\.Read waits to read \(goroutine 0, since step \d+\)"
@@ -290,7 +289,7 @@ class RunningOn(Tool):
         log.write_bytes(text[: begin_of_ring(text) + 64 * 20 + 5])
         self.assertIn("the log is cut short or damaged", self.called("convert", log.name)[1])
         log.write_bytes(b"other")
-        self.assertIn("it is too short for a log", self.called("convert", log.name)[1])
+        self.assertIn("too short for a log", self.called("convert", log.name)[1])
 
     def test_a_signal_makes_a_recording_of_what_is_there(self) -> None:
         self.written(program('\tos.WriteFile("here", nil, 0600)\n\tb.Read(make([]byte, 1))', "os"))
@@ -327,8 +326,8 @@ class Sentences(Tool):
             (("run", "none.go"), {}, "no socket was opened"),
             (("run", "missing.go"), {}, "nothing was recorded: Go failed before it ran"),
             (("run", "main.go"), {"PATH": f"{python}:/nowhere:{self.tools()}"}, "apt-get install golang-go"),
-            (("run", "-overlay=x.json", "main.go"), {}, "leave yours out"),
-            (("run", "main.go"), {"GOFLAGS": "-overlay=x.json"}, "leave yours out"),
+            (("run", "-overlay=x.json", "main.go"), {}, "remove yours"),
+            (("run", "main.go"), {"GOFLAGS": "-overlay=x.json"}, "remove yours"),
             (("run", "main.go"), {"GOARCH": "arm64"}, "records linux/amd64 alone"),
             (("run", "main.go"), nowhere, "XDG_CACHE_HOME names another folder"),
             (("--points", "5", "run", "main.go"), {}, "--points is from 16384 to 16777216"),
@@ -353,7 +352,7 @@ class Sentences(Tool):
         return str(folder)
 
     def fit(self, changes: dict[str, dict[str, str]]) -> tuple[int, list[str]]:
-        """What is said of the installed Go with other words in some of its files."""
+        """The message about the installed Go with other words in some of its files."""
         go = find_go()
         points = points_program(go, self.folder)
         for name in CHANGED:
@@ -376,7 +375,7 @@ class Sentences(Tool):
         status, said = self.fit({"runtime/netpoll.go": {"gpp.Swap(": "gpp.Exchange("}})
         self.assertEqual(status, 1)
         unfit = [line for line in said if line.startswith("unfit")]
-        self.assertEqual(unfit, ["unfit runtime/netpoll.go netpollblock: gpp.Swap(...) stands there 0 times, not 1"])
+        self.assertEqual(unfit, ["unfit runtime/netpoll.go netpollblock: gpp.Swap(...) occurs there 0 times, not 1"])
 
     def test_where_the_orders_do_not_fit_all_else_does(self) -> None:
         status, said = self.fit(
@@ -385,7 +384,7 @@ class Sentences(Tool):
         self.assertEqual(status, 0)
         self.assertEqual(
             [line for line in said if not line.startswith("fits")],
-            ["without the program's orders: runtime/chan.go chansend: chanbuf(c, c.sendx) stands there 0 times, not 1"],
+            ["without the program's orders: runtime/chan.go chansend: chanbuf(c, c.sendx) occurs there 0 times, not 1"],
         )
         points, folder = points_program(find_go(), self.folder), self.folder / "made"
         folder.mkdir()
@@ -402,13 +401,13 @@ class Sentences(Tool):
         self.assertEqual(status, 1)
         self.assertEqual(
             [line for line in said if line.startswith("unfit")],
-            ["unfit internal/poll/fd_mutex.go try: atomic.CompareAndSwap..) stands there too, of which no rule knows"],
+            ["unfit internal/poll/fd_mutex.go try: atomic.CompareAndSwap..) occurs there too, and no rule covers it"],
         )
 
     def test_the_doctor_says_that_all_is_well(self) -> None:
         status, said = self.called("doctor")
         self.assertEqual(status, 0)
-        for told in ("rules: all fit\n", "compiled: ", "trial: all that was recorded is as it should be: "):
+        for told in ("rules: all fit\n", "compiled: ", "trial: the trial recording is correct: "):
             self.assertIn(told, said)
         self.assertNotIn("calls: ", said)
 

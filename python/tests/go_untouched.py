@@ -22,15 +22,15 @@ from netrev_go.toolchain import Go, overlay, quiet_go
 
 SOURCE = Path(__file__).with_suffix(".go")
 NAMES = re.findall(r'^\t"([^"]+)": +(?:func\(\)|\w+,$)', SOURCE.read_text(), re.MULTILINE)
-OF_ROOT = ("another user", "another user works", "another root folder")  # root alone may run these
-DAEMONS = ("a daemon", "a daemon of a daemon")  # the file that they leave is waited for
+OF_ROOT = ("another user", "another user works", "another root folder")  # only root may run these
+DAEMONS = ("a daemon", "a daemon of a daemon")  # the test waits for the file that they leave
 INPUT = b"first, and the rest\n"
-PATIENCE = 300.0  # seconds; a program takes a twentieth of one where the machine is idle
+PATIENCE = 300.0  # seconds; a program takes a twentieth of one on an idle machine
 
 
 @dataclass
 class Run:
-    """What a run of a program leaves."""
+    """The results of a program's run."""
 
     output: bytes
     errors: bytes
@@ -77,7 +77,7 @@ class Programs:
 
 @contextlib.contextmanager
 def programs(release: str) -> Iterator[Programs]:
-    """The programs of a release, in a folder that is gone afterwards."""
+    """The programs of a release, in a folder that is removed afterwards."""
     with tempfile.TemporaryDirectory(prefix="untouched-") as folder:
         yield Programs(go_of(release), Path(folder))
 

@@ -98,7 +98,7 @@ BODY = """
 	b.Read(make([]byte, 1))"""
 PROGRAM = program(BODY, "context", "sync", "time").replace("\nfunc main", FUNCTIONS + "\nfunc main")
 
-# What each function waits for, at which sort of object, of a channel with how many values of room, and for what there.
+# What each function waits for, the sort of the object, a channel's room, and the use there.
 WAITS: dict[str, tuple[str, list[tuple[str, int, str]]]] = {
     "receives": (where.A_VALUE, [("channel", 0, where.FOR_VALUE)]),
     "receivesOfMade": (where.A_VALUE, [("channel", 3, where.FOR_VALUE)]),
@@ -209,7 +209,7 @@ class Waits(Tool):
             self.assertGreater(making.time, 0)
 
     def look_at_holders(self) -> None:
-        """What is locked at the end: two that main locked, and one of two readers and a writer that waits for them."""
+        """The locks at the end: two that main locked, and one of two readers and a writer that waits for them."""
         found, held = self.parks(), self.lines.held
         assert held is not None
         (at,) = {park.objects[0].object for park in found["locks"]}

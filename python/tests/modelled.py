@@ -1,4 +1,4 @@
-"""A netrev that the model plays, within the process of the test, and to which things happen."""
+"""A netrev that is the model, within the test's process, with events."""
 
 from collections import deque
 from pathlib import Path
@@ -17,18 +17,18 @@ Happens = Callable[["Modelled"], None]
 
 
 def recording_at(path: Path) -> Recording:
-    """What the model's debugger knows of the recording."""
+    """The recording as the model's debugger knows it."""
     replayed = replay(path.read_bytes(), Observer())
     return recording_of(replayed.text.steps, replayed.worlds)
 
 
 def changes_at(path: Path) -> RecordedChanges:
-    """What each step of the recording changed, as the model says it."""
+    """The changes of each step of the recording, by the model."""
     return changes_in(path.read_bytes())
 
 
 def changes_in(recording: bytes) -> RecordedChanges:
-    """What each step changed of the recording with this text, as the model says it."""
+    """The changes of each step of the recording with this text, by the model."""
     lines, _ = changes(recording, Observer())
     return RecordedChanges.read(f"{line}\n".encode() for line in lines)
 

@@ -41,17 +41,17 @@ pub fn count(of: &[u8]) -> usize
     ensures sum { result ≡ total of.now }
 ```
 
-## What to read
+## Reading list
 
 | Law | Definitions | Lines | At most | Of comment besides | Files | Types of Rust |
 |---|--:|--:|--:|--:|--:|--:|
 | counting | 4 | 7 | 7 | 2 | 2 | 1 |
 | all of these | 4 | 7 |  | 2 | 2 | 1 |
 
-| Crate | Its files in `specs/`, and how many lines to read in each | Lines |
+| Crate | Its files in `specs/` | Lines to read |
 |---|---|--:|
-| `adding` | `Sum` 5 | 5 |
-| `counting` | `Count` 4 | 4 |
+| `adding` | `Sum` | 5 |
+| `counting` | `Count` | 4 |
 """
 # the law of the small tree
 LAW = READING.Law("counting", ("counting/Count:IsCount",), 7)
@@ -201,7 +201,7 @@ TREE = {
 
 
 class SmallTree(unittest.TestCase):
-    """Has the small tree in a folder of its own, with one law, and a program that has another name."""
+    """A test over the small tree, in a folder of its own, with one law and a program of another name."""
 
     def setUp(self) -> None:
         self.top = Path(tempfile.mkdtemp())

@@ -175,7 +175,8 @@ class NewReaders(WithFile):
 
 class LateAnswers(unittest.TestCase):
     def recording(self, function: str) -> Recording:
-        """That of a Write behind its deadline, all by functions of net/http, whose deadline one of them set."""
+        """The recording of a Write after its deadline, made only by functions of net/http, one of which set the
+        deadline."""
         recording = stored("overdue-bad")
         lines = recording.lines
         (call,) = [call for call in index_of(recording).failed(recording.length) if call.name == "Write"]

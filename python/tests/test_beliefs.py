@@ -12,7 +12,8 @@ class Beliefs(SmallTree):
 
     def test_tables_that_are_old_are_written_anew(self) -> None:
         self.write(
-            "docs/proof/THEOREM.md", THEOREM.replace("`Sum` 5", "`Sum` 4").replace("| counting | 4", "| counting | 5")
+            "docs/proof/THEOREM.md",
+            THEOREM.replace("`Sum` | 5", "`Sum` | 4").replace("| counting | 4", "| counting | 5"),
         )
         self.beliefs("--write")
         self.assertEqual((self.top / "docs/proof/THEOREM.md").read_text(encoding="utf-8"), THEOREM)
@@ -50,7 +51,7 @@ class Beliefs(SmallTree):
         self.write("crates/counting/specs/Count.antt", uses)
         names = self.beliefs("--names").splitlines()
         self.assertEqual(names[0], "crates/counting/specs/Zero.antt: Size none")
-        self.assertIn("`Zero` 6, `Count` 4", self.beliefs())
+        self.assertIn("| `counting` | `Zero`, `Count` | 10 |", self.beliefs())
 
     def test_a_definition_that_goes_on_behind_an_empty_line_is_one(self) -> None:
         self.write(

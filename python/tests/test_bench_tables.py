@@ -1,4 +1,4 @@
-"""The tables of the benchmark: what stands in each row, and that a mean is the geometric one."""
+"""The tables of the benchmark: the contents of each row, and that a mean is the geometric one."""
 
 import unittest
 from collections.abc import Iterator
@@ -7,11 +7,14 @@ from netrev_bench.tables import (
     BASELINE,
     BEFORE,
     NOW,
+    Cases,
     Figures,
     Measurement,
+    cases_table,
     figure_table,
+    growth_table,
     mean_table,
-    ratio_table,
+    side_by_side,
     written,
 )
 
@@ -76,20 +79,62 @@ class OneFigure(unittest.TestCase):
         )
 
 
-class Ratios(unittest.TestCase):
-    def test_a_row_a_shape(self) -> None:
+def cases(*programs: str) -> Cases:
+    """The two shapes at one size."""
+    return measured(*programs, sizes=(1_000,)).at(1_000)
+
+
+def named(name: str, of: Cases) -> Cases:
+    """The cases with the figures of a walk alone, by another name of that."""
+    return {case: {one: {name: figures["walk"]} for one, figures in all_of.items()} for case, all_of in of.items()}
+
+
+class SideBySide(unittest.TestCase):
+    def test_each_sort_and_the_means(self) -> None:
+        every = cases(BEFORE, NOW, BASELINE)
+        sorts = {"instructions": named("walk", every), "time": every}
         self.assertEqual(
-            list(rows(ratio_table(measured(BEFORE, NOW, BASELINE)))),
+            list(rows(side_by_side("ratio", sorts, True))),
             [
-                ["ratio to the baseline, times, 10,000 steps", "walk", "memory"],
-                ["locks", "8.0 → 4.0", "1.0 → 1.0"],
-                ["mix", "32.0 → 16.0", "1.0 → 1.0"],
+                ["ratio", "walk, instructions", "walk, time", "memory"],
+                ["locks", "8.0 → 4.0", "8.0 → 4.0", "1.0 → 1.0"],
+                ["mix", "32.0 → 16.0", "32.0 → 16.0", "1.0 → 1.0"],
+                ["geometric mean", "16.0 → 8.0", "16.0 → 8.0", "1.0 → 1.0"],
             ],
         )
 
-    def test_without_an_older_one(self) -> None:
-        *_, last = rows(ratio_table(measured(NOW, BASELINE)))
-        self.assertEqual(last, ["mix", "16.0", "1.0"])
+    def test_without_an_older_one_and_without_means(self) -> None:
+        self.assertEqual(
+            list(rows(side_by_side("ratio", {"time": cases(NOW, BASELINE)}, False)))[1:],
+            [["locks", "4.0", "1.0"], ["mix", "16.0", "1.0"]],
+        )
+
+
+class OtherCases(unittest.TestCase):
+    def test_before_now_and_the_baseline_in_a_cell(self) -> None:
+        self.assertEqual(
+            list(rows(cases_table("time", ["walk", "memory"], cases(BEFORE, NOW, BASELINE)))),
+            [
+                ["time", "walk", "memory"],
+                ["locks", "8.00 → 4.00 / 1.00", "40.0 → 40.0 / 40.0"],
+                ["mix", "8.00 → 4.00 / 0.25", "40.0 → 40.0 / 40.0"],
+            ],
+        )
+
+    def test_without_the_others(self) -> None:
+        self.assertEqual(list(rows(cases_table("time", ["walk"], cases(NOW))))[1], ["locks", "4.00"])
+
+
+class Limits(unittest.TestCase):
+    def test_a_figure_by_the_limits(self) -> None:
+        own, large = cases(NOW, BASELINE), measured(NOW, BASELINE, sizes=(1_500,)).at(1_500)
+        self.assertEqual(
+            list(rows(growth_table("a walk, ms", "walk", {"own": own, "16": own, "239": large})))[:2],
+            [
+                ["a walk, ms", "now: own", "16", "239", "239 / own", "baseline: own", "16", "239", "239 / own"],
+                ["locks", "4.00", "4.00", "6.00", "1.50", "1.00", "1.00", "1.50", "1.50"],
+            ],
+        )
 
 
 class Means(unittest.TestCase):

@@ -21,7 +21,7 @@ MODES = {"r": "SetReadDeadline", "w": "SetWriteDeadline", "rw": "SetDeadline"}
 
 
 class Made(NamedTuple):
-    """A call as the traffic makes it; its last step is 0 where it hasn't ended."""
+    """A call as the traffic makes it; its last step is 0 if it hasn't ended."""
 
     goroutine: int
     name: str
@@ -32,7 +32,7 @@ class Made(NamedTuple):
 
 
 class Telling(Traffic):
-    """Traffic that tells of its calls."""
+    """Traffic that reports its calls."""
 
     def __init__(self, seed: int, bug: Optional[Bug] = None) -> None:
         super().__init__(seed, bug, LENGTH)
@@ -48,7 +48,7 @@ class Telling(Traffic):
         return answer
 
     def tell(self, g: int, name: str, s: int, turns: Turns) -> Turns:
-        """Makes a call, and tells of it."""
+        """Makes a call, and reports it."""
         at, first = len(self.told), len(self.steps) + 1
         self.told.append(Made(g, name, s, first, 0, Outcome.DONE))
         result = yield from turns
@@ -72,7 +72,7 @@ class Telling(Traffic):
 
 
 def seen(call: Call) -> Made:
-    """A call that nrdb found, as the traffic would tell it."""
+    """A call that nrdb found, in the form of the traffic's report."""
     return Made(call.goroutine, call.name, call.socket, call.first, call.last, call.outcome)
 
 

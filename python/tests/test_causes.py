@@ -29,7 +29,7 @@ from tests.test_suspects import OPEN, Steps, recording_of
 
 CAUSED = Path(__file__).parent / "caused"
 ALL = [name for names in NAMES.values() for name in names]
-WITHOUT_A_LINE = ("body",)  # nobody is at the line where a Close is missing
+WITHOUT_A_LINE = ("body",)  # (no goroutine is at the line where a Close is missing)
 TWO_ENDS: Steps = [*OPEN, ["sockopen", 16, 16], ["pollopen", 0, 1]]
 SETS: Steps = [["incref", 0, 0], ["setdeadline", 0, 0, "r", 5], ["decref", 0, 0]]
 PASSES: Steps = [["tick", 9], ["pop"], ["fire", 0]]
@@ -82,7 +82,7 @@ PARTLY: Steps = [
 
 
 def asks(count: int) -> Steps:
-    """A Read that asks for so many bytes and gets two."""
+    """A Read that asks for this many bytes and gets two."""
     return [["arrive", 0, "6869"], ["rwlock", 1, 0, "r"], ["pollreset", 1, 0, "r"], ["sysread", 1, 0, count], *UNLOCKS]
 
 

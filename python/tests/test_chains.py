@@ -85,7 +85,7 @@ def test_the_limit_of_a_context_had_passed() -> None:
 )  # fmt: skip
 def test_what_was_put_into_a_channel_later_counts_not_yet(what: str, position: int, is_so: bool) -> None:
     recording = with_lines(TWO_ENDS)
-    recording.lines.uses[1] = [use(7, what, 0)]  # behind step 1
+    recording.lines.uses[1] = [use(7, what, 0)]  # after step 1
     wait = Waiting(Name(0), 0, None, A_VALUE, Stack((), None), None, (At(1, FOR_VALUE),))
     waiter = Waiter(wait.name, 0, wait.stack, None, wait)
     assert is_still_so(index_of(recording), waiter, position) is is_so
@@ -191,7 +191,7 @@ def test_channels_of_a_function_alone(tmp_path: Path, line: str, is_so: bool) ->
 
 
 def edited(recording: Recording, folder: Path, line: str, new: str) -> str:
-    """What is said first of a recording if a line of its program's source were another."""
+    """The first output for a recording if a line of its program's source were different."""
     source = CHAINS.read_text(encoding="utf-8")
     assert source.count(line) == 1
     folder.mkdir()

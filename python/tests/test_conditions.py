@@ -28,7 +28,7 @@ def value_at(prompt: Prompt, position: int) -> str:
 
 
 def stops(prompt: Prompt, line: str) -> list[int]:
-    """Where the session stops by one move after the other, up to an end of the recording."""
+    """The positions at which the session stops by one move after the other, up to an end of the recording."""
     found = []
     while not prompt(line).splitlines()[0].endswith((" end", " start")):
         found.append(prompt.session.stood)
@@ -44,7 +44,7 @@ def test_a_mark_stops_only_if_its_condition_holds_both_ways(prompt: Prompt) -> N
     assert prompt(f"condition 1 {STATUS} idle") == f"| mark 1 stops if {STATUS} is idle\n"
     assert stops(prompt, "continue") == wanted
     assert stops(prompt, "reverse-continue") == wanted[::-1]
-    assert prompt("condition 1") == "| mark 1 stops always\n"
+    assert prompt("condition 1") == "| mark 1 always stops\n"
     assert stops(prompt, "continue") == every
 
 
@@ -106,4 +106,4 @@ def test_the_page_refuses_conditions() -> None:
     prompt = Prompt()
     prompt.session.answers = OF_THE_PAGE
     prompt("break rwlock")
-    assert "for nrdb's prompt" in prompt("condition 1 gor 2 idle")
+    assert "at nrdb's prompt" in prompt("condition 1 gor 2 idle")

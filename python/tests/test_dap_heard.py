@@ -185,7 +185,7 @@ class Heard(unittest.TestCase):
         self.assertRaises(Malformed, self.hearing.request)
 
     def test_of_what_waits_so_much_is_held(self) -> None:
-        """Somebody who sends and sends is read on when there is room."""
+        """A sender that sends on and on is read again when there is room."""
         message = framed(1, "evaluate", expression="x" * 1_000)
         with patch.object(hearing, "MOST_HELD", 3_000):
             sending = Thread(target=self.sends, args=[message * 1_000], daemon=True)
@@ -215,7 +215,8 @@ def messages_in(data: bytes) -> list[dict[str, Any]]:
 
 
 def told_of_work(command: str, shows: bool, told: int, refuses: bool = False) -> list[dict[str, Any]]:
-    """What an editor is told of work on a request, which is done when so many messages have come; `shows` is whether it shows progress."""
+    """The messages to an editor about work on a request, which is done after this many messages; `shows` is whether it
+    shows progress."""
     written = io.BytesIO()
     with patch.object(working, "LATE", 0.05 if told else 60), patch.object(working, "AGAIN", 0.05):
         work = Work(Wire(io.BytesIO(), written), Request(7, command), shows)
@@ -231,7 +232,7 @@ def told_of_work(command: str, shows: bool, told: int, refuses: bool = False) ->
 
 
 class Late(unittest.TestCase):
-    """Work that takes long is told of."""
+    """Long work is reported."""
 
     def test_a_move_is_answered_before_it_is_done(self) -> None:
         (response,) = told_of_work("continue", False, 1)
@@ -252,7 +253,7 @@ class Late(unittest.TestCase):
 
 
 class Pieces(unittest.TestCase):
-    """A move in pieces leads where it leads at a stretch."""
+    """A move in pieces leads to the same position as one move."""
 
     def setUp(self) -> None:
         self.interrupts = Interrupts()
@@ -269,7 +270,7 @@ class Pieces(unittest.TestCase):
         return Moves(debuggee, marks, Filters(debuggee.recording), lines, logpoints, self.interrupts), marks, debuggee
 
     def stops(self, piece: int) -> list[tuple[Stop, int]]:
-        """Where moves both ways lead, with netrev going through so many steps at a stretch."""
+        """The positions to which moves both ways lead, with netrev going through this many steps at once."""
         with patch.object(moving, "PIECE", piece):
             moves, marks, debuggee = self.moves()
             wishes = [wish_of("pollreset", {"condition": "gor 2 idle"}), wish_of("rwlock", {"hitCondition": "% 3"})]

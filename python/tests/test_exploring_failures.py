@@ -21,7 +21,7 @@ from tests.test_suspects import OPEN, Steps, recording_of
 
 CAUSED = Path(__file__).parent / "caused"
 SCHEDULES = 300
-# the good runs in which one is found, and where
+# the good runs in which a failure is found, and the place
 FOUND = {
     "once": {"main.go:46 bufio.(*Scanner).Scan", "main.go:48 fmt.Fprintln"},
     "pool": {"main.go:55 bufio.(*Reader).ReadString"},
@@ -53,7 +53,7 @@ SORTS = (
 
 
 def explored(recording: Recording, most: int = SCHEDULES) -> Exploring:
-    """Calls that fail in so many schedules."""
+    """Calls that fail in this many schedules."""
     script = script_of(recording)
     script.watched = watched(script)
     exploring = Exploring(script, recording.lines.words)

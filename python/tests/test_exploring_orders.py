@@ -33,8 +33,8 @@ SORTS: dict[str, set[str]] = {
     "left-behind": {"deadline left behind"},
     "http-hijack": {"deadline left behind"},
     "rpc-call": {"deadline left behind"},
-    "behind-shut": {"write behind CloseWrite"},
-    "tls-shut": {"write behind CloseWrite"},
+    "behind-shut": {"write after CloseWrite"},
+    "tls-shut": {"write after CloseWrite"},
     "lost-wake-up": {"lost wake-up"},
 }
 LATE = OPEN + [["incref", 0, 0], ["setdeadline", 0, 0, "rw", 50], ["decref", 0, 0]]

@@ -24,7 +24,7 @@ from tests.test_exploring import EXAMPLES, answered, with_answers
 pytestmark = pytest.mark.long
 REAL = sorted((EXAMPLES / "real").glob("*.jsonl"))
 RACES = sorted((EXAMPLES / "races").glob("*.jsonl"))
-MOST, AT_ONCE = 200, 9  # schedules, of which every so manieth is played
+MOST, AT_ONCE = 200, 9  # schedules, of which every nth is played
 TRAFFIC, LENGTH = (720, 726), 400  # seeds, and how long those are
 
 
@@ -39,7 +39,7 @@ class PlainBoard(Board):
 
 
 class PlainPlayer(Player):
-    """It keeps nothing of the recorded run, and everybody who waits looks again."""
+    """It keeps nothing of the recorded run, and every goroutine that waits tests again."""
 
     def _note(self, g: int, place: Place, answer: Answer, status: Status) -> None:
         pass
@@ -64,7 +64,7 @@ class PlainExploring(Exploring):
 
 
 def outcome(exploring: Exploring, schedule: Schedule) -> Any:
-    """What a schedule ends with: its findings, and its run, None where that is left."""
+    """The result of a schedule: its findings, and its run, None if the run is left."""
     keys = exploring.play(schedule)
     try:
         return keys, exploring.ends_of(schedule.delays)

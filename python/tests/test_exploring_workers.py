@@ -26,7 +26,7 @@ class Workers(unittest.TestCase):
         self.script = script_of(self.recording)
 
     def played(self, count: int, tell: Any = lambda: None) -> Exploring:
-        """So many schedules, by so many processes."""
+        """This many schedules, by this many processes."""
         exploring = Exploring(self.script, self.recording.lines.words)
         with patch.object(workers, "WORTH_IT", 0):
             play_all(exploring, Share(self.script, self.recording.lines, MOST, 0, count), tell)

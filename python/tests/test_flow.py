@@ -12,7 +12,7 @@ from netrev_words.recording import Answer, Step
 from netrev_words.vocabulary import KINDS, OF_A_GOROUTINE
 
 NOT_THERE = 2  # the reason: the goroutine isn't at that place
-BEHIND = {  # the statuses that a goroutine may have behind a step, by what its answer leads to
+BEHIND = {  # the statuses that a goroutine may have after a step, by its answer
     Came.OVER: ("idle", "owing", "gone"),
     Came.FAILS: ("idle",),
     Came.READY: ("idle",),
@@ -23,7 +23,8 @@ Made = tuple[World, Step, Answer, World]
 
 
 def made(seed: int) -> Iterator[Made]:
-    """The steps of goroutines in a random recording: each with the state before it, its answer, and the state behind."""
+    """The steps of goroutines in a random recording: each with the state before it, its answer, and the state after
+    it."""
     dice = random.Random(seed)
     recording, worlds = Author(dice, 0, 2).recording(400)
     for step, answer, before, behind in zip(recording.steps, recording.answers, worlds, worlds[1:]):

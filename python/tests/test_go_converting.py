@@ -37,7 +37,7 @@ class Points:
         return [json.loads(str(line)) for line in self.made().lines]
 
 
-# a point behind the opening of a socket, and the steps that are made of it
+# a point after the opening of a socket, and the steps that it becomes
 LOGGED: tuple[tuple[Kind, tuple[int, ...], list[list[object]]], ...] = (
     (Kind.READ, (8, 2, 0), [["arrive", 0, "0000", "done"], ["sysread", 0, 0, 8, ["got", 2]]]),
     (Kind.READ, (8, 0, 1), [["sysread", 0, 0, 8, "again"]]),
@@ -97,7 +97,7 @@ class Answering(unittest.TestCase):
             with self.subTest(kind, old=old, new=new, bits=bits):
                 self.assertEqual(lock_answer(kind, old == new, bits), answer)
 
-    def test_a_write_behind_a_closewrite_fails(self) -> None:
+    def test_a_write_after_a_closewrite_fails(self) -> None:
         steps = Points().opened().add(Kind.CLOSE_WRITE, 1, WORD).add(Kind.WRITE, 1, WORD, 3, -1, 2).steps()
         self.assertEqual(steps[2:], [["closewrite", 0, 0, "done"], ["syswrite", 0, 0, "000000", "pipe"]])
 
@@ -155,6 +155,18 @@ class Ordinary(unittest.TestCase):
         with self.assertRaisesRegex(Nothing, "no socket was opened"):
             Points().opened().add(Kind.OPEN_FAILED, 1, DESCRIPTOR, 1).made()
 
+    def test_a_socket_that_is_opened_again_and_is_not_goes_on(self) -> None:
+        log = Points().opened().add(Kind.INCREF, 2, WORD, 0, 8, 2)
+        log.opened(WORD, DESCRIPTOR + 1).add(Kind.OPEN_FAILED, 1, DESCRIPTOR + 1, 1).add(Kind.DECREF, 2, WORD, 8, 0, 0)
+        self.assertEqual(log.steps()[-1], ["decref", 1, 0, "notlast"])
+        self.assertEqual(len(log.steps()), len(Points().opened().steps()) + 3)
+
+    def test_whether_events_have_gos_tags(self) -> None:
+        for tag in (0, 3):
+            log = Points().add(Kind.INIT, 1, WORD).add(Kind.OPEN, 1, DESCRIPTOR, 4 | tag << 32, 1, 1)
+            made = log.add(Kind.EVENT, 0, DESCRIPTOR, 114, 0, tag).made()
+            self.assertEqual(made.has_tags, bool(tag))
+
     def test_an_event_behind_the_close_is_stale(self) -> None:
         log = Points().opened().closed().add(Kind.EVENT, 0, DESCRIPTOR, 114)
         self.assertEqual(log.steps()[-1], ["pollevent", 0, 1, "r", 0, "stale"])
@@ -172,7 +184,7 @@ class Deadlines(unittest.TestCase):
             self.assertEqual(self.fired(bits).steps()[-1], ["fire", 0, answer])
 
     def test_a_firing_that_no_timer_is_of_is_told_with_its_point(self) -> None:
-        with self.assertRaisesRegex(Unconvertible, "point 3: no timer went off that this firing is of"):
+        with self.assertRaisesRegex(Unconvertible, "point 3: a deadline passed whose timer wasn't due"):
             self.fired(1, 104).made()
 
     def test_a_timer_that_fires_later_goes_off_before_it_is_moved(self) -> None:
@@ -210,7 +222,7 @@ class Choosing(unittest.TestCase):
         for most, openings in ((3, "6 7 8"), (6, "3 4 5 6 7 8"), (8, "2 3 4 5 6 7 8 9")):
             made = log.made(most)
             self.assertEqual(made.sockets, most)
-            self.assertIn(f"it has {most} of 10 sockets: those still open first, and the newest", made.notes)
+            self.assertIn(f"{most} of 10 sockets are kept: those still open first, then the newest", made.notes)
             gone = {0, 1, 2, 9} & {int(word) for word in openings.split()}
             self.assertEqual(sum('"increfclose"' in str(line) for line in made.lines), len(gone))
 

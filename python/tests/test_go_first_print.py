@@ -59,9 +59,9 @@ class FirstPrint(Run):
     def test_ctrl_c_ends_the_suspects_alone(self) -> None:
         self.assertEqual(self.first(KeyboardInterrupt), 3)
         self.assertTrue(self.said[0][0].startswith(CAUSE), self.said[0])
-        interrupted = [line for line in self.said[-1] if "nrdb's suspects were interrupted: `" in line]
+        interrupted = [line for line in self.said[-1] if "the search for suspects was interrupted: `" in line]
         self.assertEqual(len(interrupted), 1)
-        self.assertTrue(interrupted[0].endswith(" --suspects hung.jsonl` waits for them"), interrupted)
+        self.assertTrue(interrupted[0].endswith(" --suspects hung.jsonl` prints them"), interrupted)
         self.assertFalse(any("the logs are in" in line for lines in self.said for line in lines))
 
     def test_causes_of_a_recording_that_netrev_refuses_may_be_wrong(self) -> None:
@@ -70,7 +70,7 @@ class FirstPrint(Run):
             self.called("-o", "hung", "run", "main.go", status=3, netrev=str(self.netrev))
         printed = [line for lines in self.said for line in lines]
         self.assertTrue(printed[0].startswith(CAUSE), printed)
-        self.assertTrue(any("what is said above may be wrong" in line for line in printed), printed)
+        self.assertTrue(any("the causes above may be wrong" in line for line in printed), printed)
 
     def test_the_causes_ask_the_same_netrev_what_the_steps_changed(self) -> None:
         self.netrev.write_text('#!/bin/sh\necho "$@" >> asked\necho refused\nexit 1\n')

@@ -33,7 +33,7 @@ STEPS = [(0, 1, 1), (10, 1, 2), (20, 1, 3)]
 
 
 class Points:
-    """Points of a log, each a microsecond behind the one before."""
+    """Points of a log, each a microsecond after the one before."""
 
     def __init__(self) -> None:
         self.points: list[Point] = []
@@ -263,7 +263,7 @@ class Written(unittest.TestCase):
             untyped = [[[*value[:at], None, *value[at + 1 :]]] for at in range(len(value))]
             for wrong in ([value], value, 7, [value[:-1]], [[*value, 1]], *untyped):
                 lines_of_file = "\n".join(map(json.dumps, [*first, {name: wrong}]))
-                fault = "" if wrong == [value] or wrong == [[*good["parks"], 1]] else "line 4 isn't one of its form"
+                fault = "" if wrong == [value] or wrong == [[*good["parks"], 1]] else "line 4 is malformed"
                 self.assertEqual(Lines(lines_of_file, 3).fault, fault, (name, wrong))
         unknown = {"goroutines": [[7, -1, 9, 5, 1, 2, 3, 4]]}
         self.assertIn("line 4", Lines("\n".join(map(json.dumps, [*first, unknown])), 3).fault)

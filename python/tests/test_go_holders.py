@@ -94,7 +94,7 @@ class Table(unittest.TestCase):
     def test_a_table_that_is_too_large_is_none_of_a_log(self) -> None:
         data = bytearray(binary(opened(1)))
         struct.pack_into("<Q", data, PLACE_OF_ROWS, MOST_HOLDERS + 1)
-        with self.assertRaisesRegex(NoLog, "its header can't be a log's"):
+        with self.assertRaisesRegex(NoLog, "its header is damaged"):
             read(bytes(data))
 
 
@@ -180,7 +180,7 @@ class Written(unittest.TestCase):
         good = [1, 7, where.READ, 1, 2]
         untyped = [[[*good[:at], None, *good[at + 1 :]]] for at in range(len(good))]
         for rows in ([good], [], good, 7, [good[:-1]], [[*good, 1]], *untyped):
-            fault = "" if rows in ([good], []) else "line 4 isn't one of its form"
+            fault = "" if rows in ([good], []) else "line 4 is malformed"
             read_back = Lines("\n".join(map(json.dumps, [*first, {HELD: rows}])), 3)
             self.assertEqual(read_back.fault, fault, rows)
             self.assertTrue(not fault or read_back.held is None)

@@ -56,7 +56,7 @@ class Run(unittest.TestCase):
         self.addCleanup(signal.pthread_sigmask, signal.SIG_SETMASK, signal.pthread_sigmask(signal.SIG_BLOCK, ()))
 
     def go(self, does: str, status: int, leaves: str) -> Go:
-        """What stands in for Go."""
+        """The stand-in for Go."""
         program = self.folder / "go"
         program.write_text(STANDS_IN.format(leaves=leaves, does=does, status=status))
         program.chmod(0o700)
@@ -78,7 +78,7 @@ class Run(unittest.TestCase):
         return returned, said.getvalue()
 
     def again(self, said: str) -> str:
-        """What is made of the logs that are said to be kept, by the words that are said for it."""
+        """The result of the logs that are kept, by the command that is printed for it."""
         kept, logs = KEPT.search(said), AGAIN.search(said)
         assert kept and logs, said
         self.addCleanup(shutil.rmtree, kept[1])
@@ -116,7 +116,7 @@ class Lost(Run):
             with self.subTest(name):
                 returned, said = self.called("-o", name, "run", "main.go", does=f"touch {self.folder}/ran")
                 self.assertEqual(returned, Status.TROUBLE, said)
-                self.assertRegex(said, r"netrev-go: .*(Nothing was run|is no name for a recording)")
+                self.assertRegex(said, r"netrev-go: .*(Nothing was run|can't be the name of a recording)")
                 self.assertFalse((self.folder / "ran").exists())
 
     def test_a_folder_that_is_removed_meanwhile_loses_nothing(self) -> None:
@@ -172,7 +172,7 @@ class Lost(Run):
         netrev.chmod(0o700)
         returned, said = self.called("--strict", "run", "main.go", netrev=str(netrev))
         self.assertEqual(returned, Status.UNRECORDED, said)
-        self.assertIn("Please keep the log and report it", said)
+        self.assertIn("please keep the log and report it", said)
         self.assertEqual(self.again(said), self.WHOLE)
 
     def test_processes_that_cannot_write_a_log_are_named(self) -> None:
@@ -181,8 +181,10 @@ class Lost(Run):
         for command in ("run", "test"):
             returned, said = self.called("--strict", "-o", f"of-{command}", command, ".", does=marks)
             self.assertEqual(returned, Status.UNRECORDED, said)
-            self.assertIn("netrev-go: process 12 couldn't write a log (Permission denied): it isn't recorded\n", said)
-            self.assertIn("2 processes couldn't write a log (its files may not be so large, by ulimit -f): they", said)
+            self.assertIn("netrev-go: process 12 couldn't write a log (Permission denied) and isn't recorded\n", said)
+            self.assertIn(
+                "2 processes couldn't write a log (`ulimit -f` limits the size of its files) and aren't", said
+            )
             self.assertNotIn("the logs are in", said)
         returned, said = self.called("run", ".", does=marks, leaves="true")
         self.assertEqual((returned, "nothing was recorded" in said), (0, False), said)
@@ -190,7 +192,7 @@ class Lost(Run):
     def test_logs_that_are_gone_are_said_to_be(self) -> None:
         returned, said = self.called("--strict", "run", "main.go", does='rm -r "$(dirname $NETREV_LOG)"')
         self.assertEqual(returned, Status.UNRECORDED, said)
-        self.assertRegex(said, "where the logs were, is gone: nothing can be made of them")
+        self.assertRegex(said, r"nothing was recorded: the folder of the logs, \S+, no longer exists")
 
     def test_lines_of_an_earlier_recording_go(self) -> None:
         for text, stays in (('{"where":1,"steps":245}\n', False), ("a list of places", True)):
@@ -204,9 +206,9 @@ class Lost(Run):
         self.assertEqual(returned, Status.TROUBLE, said)
         self.assertIn("netrev-go: x.jsonl: Is a directory", said)
         self.assertEqual((self.folder / "x-2.jsonl").read_text(), self.WHOLE)
-        self.assertEqual(said.count("it isn't a file"), 2, said)
+        self.assertEqual(said.count(": not a regular file"), 2, said)
         for word in ("", "/", "."):
-            self.assertIn("it isn't a file", self.called("convert", word)[1])
+            self.assertIn(": not a regular file", self.called("convert", word)[1])
 
     def test_a_reader_that_has_gone_stops_nothing(self) -> None:
         words = [sys.executable, str(PYTHON), "netrev_go", "-o", "x", "convert", str(self.log), str(self.log)]
@@ -223,7 +225,7 @@ class Lost(Run):
 
 
 def failing(write: Callable[[Any, str], int]) -> Any:
-    """A file whose writes fail behind the first."""
+    """A file whose writes fail after the first."""
 
     @contextlib.contextmanager
     def opened(path: pathlib.Path, mode: str = "w") -> Any:
@@ -273,7 +275,7 @@ class Statuses(Run):
         for words in (["--sockets", "0"], ["--megabytes", "0"], ["-n", "nan"], ["-n", "-1"], ["--procs", "0"]):
             returned, said = self.called(*words, "run", "main.go", does=f"touch {self.folder}/ran")
             self.assertEqual(returned, Status.TROUBLE, said)
-            self.assertIn(f"{words[0]} is from", said)
+            self.assertIn(f"{words[0]} must be from", said)
         self.assertFalse((self.folder / "ran").exists())
 
 
@@ -289,13 +291,13 @@ class Sizes(unittest.TestCase):
         points = Points().opened().add(Kind.READ, 1, WORD, 65_536, 2**20).opened(701, 901).points
         self.assertEqual(make(Log(points), megabytes=2).sockets, 2)
         self.assertEqual(make(Log(points), megabytes=1).sockets, 1)
-        with self.assertRaisesRegex(Exception, "bytes for more than 1 MB of text"):
+        with self.assertRaisesRegex(Exception, "or 1 MB of text for its bytes"):
             make(Log(points[:3]), megabytes=1)
 
     def test_a_write_into_an_output_of_one_byte_has_a_step_for_each(self) -> None:
         for size in (2**19, 2**31 - 1):
             points = Points().opened().add(Kind.WRITE, 1, WORD, 9, -1, 1).add(Kind.WRITE, 1, WORD, size, size)
-            with self.assertRaisesRegex(Exception, "more than the 1,000,000 steps"):
+            with self.assertRaisesRegex(Exception, "more than 1,000,000 steps"):
                 points.made()
 
     def test_reads_and_writes_count_few_bytes(self) -> None:

@@ -35,7 +35,7 @@ def read(data: bytes) -> Log:
 
 
 def opened(count: int) -> list[Point]:
-    """Points of sockets that are opened one behind the other."""
+    """Points of sockets that are opened one after the other."""
     points = []
     for i in range(count):
         points.append(Point(2 * i, Kind.INIT, 1, 1000 + 16 * i, 4, 0, 0, 0, 0))
@@ -74,7 +74,7 @@ class Stored(unittest.TestCase):
 
 class Times(unittest.TestCase):
     def timed(self, times: list[int]) -> Log:
-        """A log of sockets, at whose points there were these times."""
+        """A log of sockets whose points have these times."""
         log = read(binary(opened(len(times) // 2)))
         log.points = [point._replace(time=time) for point, time in zip(log.points, times)]
         log.begin = 1_000
@@ -117,9 +117,9 @@ class Reading(unittest.TestCase):
         whole = binary(opened(3))
         for data, said in (
             (b"", "too short"),
-            (b"\0" * 5000, "isn't a log"),
-            (b"NR 3 1 7 4 0 0\n" * 400, "isn't a log"),
-            (whole[:16] + b"\xff" * 8 + whole[24:], "header can't be a log's"),
+            (b"\0" * 5000, "not a log"),
+            (b"NR 3 1 7 4 0 0\n" * 400, "not a log"),
+            (whole[:16] + b"\xff" * 8 + whole[24:], "header is damaged"),
         ):
             with self.assertRaisesRegex(NoLog, said):
                 read(data)
@@ -138,7 +138,7 @@ class Reading(unittest.TestCase):
         points = opened(20)
         log = read(binary(points[:30] + points[31:]))
         self.assertEqual(len(log.points), 39)
-        self.assertIn("1 point was under way when the log ended, and is left out", log.notes)
+        self.assertIn("1 point wasn't finished when the log ended, and is left out", log.notes)
 
     def test_so_many_may_be_missing_together_as_were_under_way(self) -> None:
         points = opened(100)
@@ -155,7 +155,7 @@ class Reading(unittest.TestCase):
         self.assertIn("the log keeps the newest 65 points of 200", log.notes)
         self.assertEqual(make(log).sockets, 32)
         later = [point._replace(number=point.number + 100, kind=Kind.INCREF) for point in opened(3)]
-        with self.assertRaisesRegex(Nothing, "before the oldest point that the log kept"):
+        with self.assertRaisesRegex(Nothing, "before the oldest point in the log"):
             make(read(binary(later, room=3)))
 
     def test_points_that_were_overwritten_in_part_are_left_out(self) -> None:
@@ -212,6 +212,20 @@ class Told(unittest.TestCase):
         Call("main.main", "main.go", 20, "program"),
     )
 
+    def test_what_is_below_the_commands_folder_is_the_programs(self) -> None:
+        for here, file, of in (
+            ("/usr/share/gocode/src/p", "/usr/share/gocode/src/p/a.go", "program"),
+            ("/go/pkg/mod/p@v1", "/go/pkg/mod/p@v1/a.go", "program"),
+            ("/home/p", "/home/p/vendor/q/a.go", "library"),
+            ("/home/p", "/usr/share/gocode/src/q/a.go", "library"),
+            ("/home/p", "/go/pkg/mod/q@v1/a.go", "library"),
+            ("/home/p", "/home/q/a.go", "program"),
+            ("/home/p", "example.org/q@v1.2.0/a.go", "library"),  # of a program that was built with -trimpath
+        ):
+            with self.subTest(file):
+                call = Roots(pathlib.Path("/go/src"), pathlib.Path(here)).call("p.f", file, 7)
+                self.assertEqual((call.of, call.file), (of, file.removeprefix(f"{here}/")))
+
     def test_the_programs_line_comes_before_a_librarys(self) -> None:
         self.assertEqual(own_line(Calls(self.CALLS, None)), (self.CALLS[2], "ext.Read"))
         self.assertEqual(own_line(Calls(self.CALLS[:2], None)), (self.CALLS[1], "io.ReadAll"))
@@ -243,7 +257,7 @@ class Told(unittest.TestCase):
     def test_a_programs_words_are_not_obeyed_by_a_terminal(self) -> None:
         calls = Calls((Call("main.\x1b[2Jf", "m\u202e.go", 3, "program"),), None)
         self.assertEqual(
-            told_of(1, "parked 0 r", 9, calls),
+            told_of(1, "parked 0 r", "step 9", calls),
             "  m\\u202e.go:3: main.\\x1b[2Jf waits to read (goroutine 1, since step 9)",
         )
 

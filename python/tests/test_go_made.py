@@ -185,7 +185,7 @@ class Form(unittest.TestCase):
             untyped = [[[*row[:at], None, *row[at + 1 :]]] for at in range(len(row))]
             for rows in ([row], row, 7, [row[:-1]], [[*row, 1]], *untyped):
                 read = Lines("\n".join(map(json.dumps, [*first, {name: rows}])), 3)
-                self.assertEqual(read.fault, "" if rows == [row] else "line 4 isn't one of its form", (name, rows))
+                self.assertEqual(read.fault, "" if rows == [row] else "line 4 is malformed", (name, rows))
                 self.assertTrue(not read.fault or not (read.made or read.failed_dials))
 
 

@@ -1,4 +1,4 @@
-"""Where the recorder's logs go, and what is said where there is no room for them."""
+"""The folder of the recorder's logs, and the messages if there is no room."""
 
 import os
 import pathlib
@@ -8,7 +8,7 @@ import unittest
 from typing import ContextManager, NamedTuple
 from unittest import mock
 
-from netrev_go.running import MOST_POINTS, logs_folder, logs_in, process_of
+from netrev_go.running import MOST_POINTS, behind_the_folder, logs_folder, logs_in, process_of
 from netrev_go.toolchain import Trouble
 from .folders import folder_of
 
@@ -20,7 +20,7 @@ class Usage(NamedTuple):
 
 
 def with_room(**free: int) -> ContextManager[object]:
-    """As if a file system had so many bytes free: `shm` or `other`."""
+    """Pretends that a file system has this many bytes free: `shm` or `other`."""
     return mock.patch.object(shutil, "disk_usage", lambda place: Usage(free["shm" if place == "/dev/shm" else "other"]))
 
 
@@ -33,7 +33,7 @@ class Room(unittest.TestCase):
         os.environ.pop("NETREV_LOGS", None)
 
     def made_with(self, **free: int) -> pathlib.Path:
-        """The folder that is made where there is so much room. Its place has another one's name."""
+        """The folder that is made with this much room. Its path has another name."""
         with with_room(**free), mock.patch.object(tempfile, "gettempdir", lambda: str(self.folder)):
             made = logs_folder(MOST_POINTS)
         self.addCleanup(shutil.rmtree, made, ignore_errors=True)
@@ -45,7 +45,7 @@ class Room(unittest.TestCase):
         self.assertEqual(self.made_with(shm=2**20, other=2**30).parent, self.folder)
 
     def test_no_room_is_said(self) -> None:
-        said = rf"no log can be made in /dev/shm and {self.folder}, without 132 MB free: NETREV_LOGS names another folder, --points"
+        said = rf"no log can be made in /dev/shm and {self.folder}: it needs 132 MB of free space. NETREV_LOGS names"
         with self.assertRaisesRegex(Trouble, said):
             self.made_with(shm=2**27, other=2**27)
 
@@ -53,8 +53,18 @@ class Room(unittest.TestCase):
         with with_room(shm=2**30, other=2**30), mock.patch.dict(os.environ, NETREV_LOGS=str(self.folder)):
             self.assertEqual(logs_folder(MOST_POINTS).parent, self.folder)
         with with_room(shm=2**30, other=2**20), mock.patch.dict(os.environ, NETREV_LOGS=str(self.folder)):
-            with self.assertRaisesRegex(Trouble, f"no log can be made in {self.folder}, without"):
+            with self.assertRaisesRegex(Trouble, f"no log can be made in {self.folder}: it needs"):
                 logs_folder(MOST_POINTS)
+
+    def test_gos_folder_comes_before_other_flags(self) -> None:
+        cases: list[tuple[list[str], list[str]]] = [
+            (["-C", "d", "-v", "."], ["-C", "d", "-x", "-v", "."]),
+            (["-C=d", "."], ["-C=d", "-x", "."]),
+            (["-v", "-C", "d"], ["-x", "-v", "-C", "d"]),
+            ([], ["-x"]),
+        ]
+        for words, expected in cases:
+            self.assertEqual(behind_the_folder(words, ["-x"]), expected)
 
     def test_a_processes_logs_are_those_of_its_number(self) -> None:
         for name in ("log.12", "log.7.2", "log.program.5.6", "other.3"):

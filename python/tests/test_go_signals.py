@@ -147,11 +147,11 @@ def test_a_run_whose_netrev_go_is_killed_is_offered_and_recovered(folder: Path) 
     killed(stand_in)
     _, errors = stand_in.call("convert")
     assert "`netrev-go -o x run 'serve me'` of 2" in errors
-    assert re.search(r"cut off before the recordings were made: `\S*netrev-go recover` makes them", errors)
+    assert re.search(r"interrupted before the recordings were made: `\S*netrev-go recover` makes them", errors)
     status, errors = stand_in.call("-o", "again", "recover")
     assert (status, stand_in.recording("again")) == (0, WHOLE.read_text()), errors
     assert remaining_logs(stand_in) == []
-    assert "no run was cut off" in stand_in.call("recover")[1]
+    assert "no run was interrupted" in stand_in.call("recover")[1]
     assert "recover" not in stand_in.call("convert")[1]
 
 
@@ -182,7 +182,7 @@ def test_a_run_that_cannot_be_recovered_keeps_its_logs(folder: Path) -> None:
     killed(stand_in)
     stand_in.executable("netrev", "echo step 1: fault 107 reason 4; exit 1")
     status, errors = stand_in.call("recover")
-    assert status == 1 and "netrev refuses it" in errors and "nothing is lost" in errors
+    assert status == 1 and "netrev rejects this recording" in errors and "nothing is lost" in errors
     assert len(remaining_logs(stand_in)) == 1
 
 
@@ -193,7 +193,7 @@ def test_logs_of_a_netrev_go_that_runs_and_of_other_users_are_left_alone(
     monkeypatch.setenv("NETREV_LOGS", str(stand_in.logs))
     running = stand_in.start("-o", "x", "run", ".")
     stand_in.wait_for("here")
-    assert left_runs() == [] and "no run was cut off" in stand_in.call("recover")[1]
+    assert left_runs() == [] and "no run was interrupted" in stand_in.call("recover")[1]
     running.kill()
     running.wait(PATIENCE)
     assert len(left_runs()) == 1
@@ -220,10 +220,10 @@ while os.path.exists("go") and not os.path.exists("end"):
     )
     status, errors = stand_in.call("-o", "x", "run", ".")
     assert (status, stand_in.recording("x")) == (0, WHOLE.read_text()), errors
-    assert re.search(r"runs on, and its log grows: `\S*netrev-go -o NAME convert ", errors)
-    assert "no run was cut off" in stand_in.call("recover")[1]
+    assert re.search(r"still runs, and its log grows: `\S*netrev-go -o NAME convert ", errors)
+    assert "no run was interrupted" in stand_in.call("recover")[1]
     (folder / "end").touch()
-    wait_until(lambda: "cut off" in stand_in.call("convert")[1])
+    wait_until(lambda: "interrupted before" in stand_in.call("convert")[1])
     assert stand_in.call("-o", "y", "recover")[0] == 0
     assert stand_in.recording("y") == WHOLE.read_text() and remaining_logs(stand_in) == []
 

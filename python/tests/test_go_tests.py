@@ -150,7 +150,8 @@ class Cutting(unittest.TestCase):
         self.assertEqual(self.kept("TestGreen"), [0, 2])
 
     def test_a_test_has_no_goroutines_of_another_one(self) -> None:
-        """One that another test has left behind waits on; the main goroutine and those of its parts are kept, and what it shares by a socket."""
+        """A goroutine that another test has left keeps waiting; the main goroutine and those of its parts are kept, and
+        so is what it shares by a socket."""
         points = Points()
         points.points += POINTS.points
         left, channel = 40, 5_000
@@ -179,7 +180,7 @@ class Cutting(unittest.TestCase):
 
 
 class Tested(Run):
-    """`netrev-go test`, where a stand-in for Go leaves a log with tests."""
+    """`netrev-go test`, with a stand-in for Go that leaves a log with tests."""
 
     def setUp(self) -> None:
         super().setUp()
@@ -187,7 +188,7 @@ class Tested(Run):
         (self.folder / "lines").write_text(LINES)
 
     def told(self, *words: str, status: int = 1, does: str = "") -> tuple[int, str, str]:
-        """netrev-go's status, and what it says on standard output and on standard error."""
+        """netrev-go's status, and its text on standard output and on standard error."""
         leaves = f'cp {self.log} "$NETREV_LOG.$$"; cp {self.folder}/lines "$NETREV_LOG.$$.tests"'
         out, error = io.StringIO(), io.StringIO()
         with contextlib.redirect_stdout(out), contextlib.redirect_stderr(error):
@@ -205,7 +206,7 @@ class Tested(Run):
 
 
 class Kept(Tested):
-    """What it leaves and tells."""
+    """The files that it leaves and the text that it prints."""
 
     def test_the_recording_of_the_test_that_failed_is_kept(self) -> None:
         returned, out, error = self.told("test", "./...")
@@ -229,7 +230,7 @@ class Kept(Tested):
         (self.folder / "lines").write_text(f"1 1 5 package {PACKAGE}\n")
         returned, _, error = self.told("test", ".", status=3)
         self.assertEqual((returned, self.made()), (3, ["toy.jsonl"]))
-        self.assertIn("no test of it is known to have failed", error)
+        self.assertIn("no test in it is known to have failed", error)
 
     def test_of_tests_that_pass_nothing_is_kept_and_nothing_said(self) -> None:
         (self.folder / "lines").write_text(LINES.replace("fails", "other"))

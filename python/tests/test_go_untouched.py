@@ -14,9 +14,9 @@ from .go_untouched import NAMES, OF_ROOT, SOURCE, programs
 
 RELEASE = "1.27"
 UNRECORDED = {
-    "no file may grow": "its files may not be so large, by ulimit -f",
-    "small files": "its files may not be so large, by ulimit -f",
-    "many programs": "it became another program too often",
+    "no file may grow": "`ulimit -f` limits the size of its files",
+    "small files": "`ulimit -f` limits the size of its files",
+    "many programs": "it replaced its program too often",
     "another user": "Permission denied",
     "another user works": "Permission denied",
 }

@@ -24,7 +24,7 @@ ENDED = len(READS)
 
 
 def recording_of(steps: list[Any], ended: int = ENDED) -> Recording:
-    """These steps, of which goroutine 1 ended behind one (-1: it hasn't)."""
+    """These steps, of which goroutine 1 ended after one (-1: it hasn't)."""
     recording = with_lines(steps)
     recording.lines.goroutines[READER] = GoGoroutine(READER, 1, None, 0, 0, ended, 0, 0)
     recording.lines._goids[1] = READER
@@ -65,6 +65,18 @@ class GoneReaders(unittest.TestCase):
         recording = recording_of([*READS, *put(0, "6869")])
         self.assertEqual(len(reader_words(index_of(recording), {Name(0)}, recording.length)), 2)
         self.assertEqual([one.says for one in leftovers_of(recording) if "nobody reads" in one.says[0]], [])
+
+    def test_its_number_may_be_another_s_since_then(self) -> None:
+        recording = recording_of([*READS, *put(1, "6869")])
+        lines, index = recording.lines, index_of(recording)
+        self.assertGreater(len(index.by_goid(READER)), 0)
+        lines.add_owners([[1, 0, READER], [1, ENDED, READER + 1]])
+        lines.goroutines[READER + 1] = GoGoroutine(READER + 1, 1, None, 0, 0, -1, 0, 0)
+        lines._goids[1] = READER + 1
+        self.assertEqual(len(list(gone_readers(index, recording.length))), 1)
+        later = [call for call in index.by_goroutine[1] if call.first > ENDED]
+        self.assertEqual((index.by_goid(READER), index.by_goid(READER + 1)), ([], later))
+        self.assertGreater(len(index.by_goroutine[1]), len(later))
 
 
 class CutReads(unittest.TestCase):

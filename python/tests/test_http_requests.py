@@ -29,7 +29,7 @@ def recording(name: str = "requests") -> Recording:
 
 
 def says_with(change: Callable[[Any], None]) -> list[str]:
-    """What is said of the requests that ended, with changed lines."""
+    """The text about the requests that ended, with changed lines."""
     changed = recording()
     change(changed.lines)
     return [" ".join(one.says(changed)) for one in cancelled_requests(index_of(changed))]

@@ -15,7 +15,7 @@ from netrev_words.recording import Limits
 from netrev_words.vocabulary import CELLS, KINDS
 
 SEEDS, STEPS = range(60), 150
-MOST_WILD = 0.3  # of its steps an author draws as many at will, of which most are refused
+MOST_WILD = 0.3  # random steps that an author proposes, most of which are refused
 
 
 def shown(world: World) -> dict[str, object]:
@@ -31,14 +31,14 @@ def shown(world: World) -> dict[str, object]:
 
 
 def in_order(cells: set[str]) -> list[str]:
-    """Cells in the order of docs/reference/COMMANDS.md, with the queues behind them."""
+    """Cells in the order of docs/reference/COMMANDS.md, followed by the queues."""
     names = [*CELLS, *SHOWS_QUEUES]
     return sorted(cells, key=lambda cell: (names.index(cell.split()[0]), int(cell.partition(" ")[2] or 0)))
 
 
 class InPlace(unittest.TestCase):
     def made(self, machine: Machine, world: World, step: tuple[Any, ...]) -> World:
-        """Both make a step, which either refuse for the same reason, and are the same then: the state behind it."""
+        """Both make a step, which both refuse for the same reason, and are equal then: the state after it."""
         try:
             after, answer = apply(world, step)
         except Refused as refused:

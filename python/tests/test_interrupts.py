@@ -47,12 +47,12 @@ def twice_apart(weather: Weather[Modelled], netrev: Modelled) -> None:
 
 
 def killed(weather: Weather[Modelled], netrev: Modelled) -> None:
-    """The netrev that is asked is gone."""
+    """The netrev that is asked has ended."""
     netrev.has_ended = True
 
 
 def killed_twice(weather: Weather[Modelled], netrev: Modelled) -> None:
-    """It is gone, and so is the next one, soon after it was asked."""
+    """It has ended, and so has the next one, soon after it was asked."""
     netrev.has_ended = True
     weather.left, weather.action = 1, killed
 

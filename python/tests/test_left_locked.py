@@ -38,7 +38,7 @@ GOOD = {
 
 class LeftLocked(unittest.TestCase):
     def said(self, source: str, number: int = 4) -> list[str]:
-        """What is said for a goroutine that waits in `lookup`."""
+        """The text for a goroutine that waits in `lookup`."""
         with tempfile.TemporaryDirectory() as folder:
             file = str(Path(folder) / "book.go")
             Path(file).write_text(LOOKUP + source, encoding="utf-8")

@@ -28,7 +28,7 @@ MILLISECOND = 10**6
 
 
 def timeout_says(functions: tuple[str, ...]) -> str:
-    """What is said of a Read that timed out, whose deadline was set in these functions, the innermost first."""
+    """The text about a Read that timed out, whose deadline was set in these functions, the innermost first."""
     steps = OPEN + SETS + PASSES + LATE
     made = with_lines(steps)
     of = {True: "program", False: "go"}
@@ -60,7 +60,8 @@ class OfServers(unittest.TestCase):
 
 class OfClients(unittest.TestCase):
     def says(self, *earlier: tuple[int, int]) -> str:
-        """What is said of a limit of an http.Client, whose goroutine made timers there so much earlier that are due so much earlier."""
+        """The text about a limit of an http.Client, whose goroutine made timers there this much earlier that are due
+        this much earlier."""
         made = recording()
         lines = made.lines
         timer = next(one for one in lines.timers[0] if has(lines.stacks[one.stack], CLIENT_TIMEOUT))

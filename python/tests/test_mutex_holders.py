@@ -84,7 +84,7 @@ class Book:
         return Stack((*inner, *self.recording.lines.stacks[number].calls), None)
 
     def waits(self, number: int, stack: Stack, begin: int = 0, at: At = AT_LOCK) -> Waiting:
-        """That a goroutine waits for a mutex in a stack."""
+        """A goroutine waits for a mutex in a stack."""
         wait = Waiting(goid(number), 3, None, A_MUTEX, stack, None, (at,), begin)
         self.waiters[wait.name] = Waiter(wait.name, 3, stack, None, wait)
         return wait

@@ -191,7 +191,7 @@ class Connections(unittest.TestCase):
 
 class Timed(unittest.TestCase):
     def test_a_ticker_goes_on_and_a_timer_that_is_to_go_off_later(self) -> None:
-        """One that has gone off doesn't."""
+        """A timer that has gone off doesn't."""
         for function, due, waits in (("time.NewTicker", 5, 0), ("time.NewTimer", 500, 0), ("time.NewTimer", 5, 1)):
             recording = with_lines(TWO_ENDS)
             lines = recording.lines

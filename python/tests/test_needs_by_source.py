@@ -124,7 +124,7 @@ class WithSource(unittest.TestCase):
         self.assertIn(f"{self.file}:39 in (*queue).clear should have woken it: it changes items", said)
         (alone,) = one_alone(self.recording, wait, 3)
         self.assertIn(
-            ":35 in (*queue).close should wake all: Signal wakes one goroutine alone, and 3 still wait.", alone
+            ":35 in (*queue).close should wake all: Signal wakes only one goroutine, and 3 still wait.", alone
         )
         self.assertEqual(one_alone(self.recording, wait, 1), [])
         self.assertEqual(

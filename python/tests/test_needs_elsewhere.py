@@ -72,7 +72,8 @@ class EndedBefore(unittest.TestCase):
 
 class EndedWithAFailure(unittest.TestCase):
     def said(self, ended: int) -> list[str]:
-        """What is said of goroutine 1's only call, which is Go's goroutine 7, and was the last to put a value where another waits."""
+        """The text about goroutine 1's only call, which is Go's goroutine 7, and was the last to put a value where
+        another waits."""
         recording = waiting(3, 4, [*TWO_ENDS, *GETS, *UNLOCKS])
         lines = recording.lines
         lines.uses[4] = [use(GONE, PUT, 3, number=4)]

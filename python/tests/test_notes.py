@@ -20,7 +20,7 @@ NUMBERS = (("lock", "locks"), ("in", "inputs"), ("out", "outputs"))
 
 
 class Kept(unittest.TestCase):
-    """Random recordings, gone through once."""
+    """Random recordings, read once."""
 
     def test_all_that_the_notes_keep_is_what_the_changes_say(self) -> None:
         compared = 0
@@ -35,7 +35,7 @@ class Kept(unittest.TestCase):
 
 
 class Paused(unittest.TestCase):
-    """Random recordings, gone through in pieces of many lengths."""
+    """Random recordings, read in pieces of many lengths."""
 
     def test_each_place_has_the_pauses_of_all_steps(self) -> None:
         many = few = 0
@@ -56,7 +56,7 @@ class Paused(unittest.TestCase):
 
 
 class Behind:
-    """Where each goroutine is behind each step, since when, and whether it holds a reference."""
+    """The place of each goroutine after each step, since when, and whether it holds a reference."""
 
     def __init__(self) -> None:
         self.steps: list[dict[int, tuple[str, int, bool]]] = [{}]

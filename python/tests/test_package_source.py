@@ -202,7 +202,7 @@ def stored_waits() -> dict[Name, list[Waiting]]:
 @pytest.mark.parametrize("text, line", [("	<-a.wake", 8), ("	<-a.done", 0)])
 def test_values_that_are_lost_if_nobody_waits(recording: Recording, tmp_path: Path, text: str, line: int) -> None:
     at = call(tmp_path, "alarm", "(*alarm).deliver", text)
-    assert not dropped_notices(recording, waiting(at))  # nobody has put a value there
+    assert not dropped_notices(recording, waiting(at))  # no value was put there
     recording.lines.stacks[99] = Stack((at._replace(line=7),), None)
     recording.lines.uses[1] = [Use(1, 9, PUT, 99, 1, 1, 1, 1, 1)]
     says = dropped_notices(recording, waiting(at))

@@ -4,8 +4,9 @@ import unittest
 
 from tests.small_tree import LOG, PAGES, TREE, SmallTree
 
-# a mistake: the rule that finds it, the file, what is there, what is put in its place, and what is said of it
+# a mistake: the rule that finds it, the file, the text there, its replacement, and the message
 PLANTED: list[tuple[str, str, str, str, str]] = [
+    ("markers", "docs/proof/THEOREM.md", "result ≡ total", "\n<<<<<<< HEAD\n", "<<<<<<< HEAD marks a conflict"),
     (
         "quotes",
         "docs/proof/THEOREM.md",
@@ -41,8 +42,8 @@ PLANTED: list[tuple[str, str, str, str, str]] = [
         "",
         "Total: the files that the laws rest on, and no",
     ),
-    ("beliefs", "docs/proof/THEOREM.md", "`Sum` 5", "`Sum` 4", "has '| `adding` | `Sum` 4 | 5 |'"),
-    ("beliefs", "docs/proof/THEOREM.md", "| `counting` | `Count` 4 | 4 |\n", "", "has 'no row'"),
+    ("beliefs", "docs/proof/THEOREM.md", "`Sum` | 5", "`Sum` | 4", "has '| `adding` | `Sum` | 4 |'"),
+    ("beliefs", "docs/proof/THEOREM.md", "| `counting` | `Count` | 4 |\n", "", "has 'no row'"),
     (
         "beliefs",
         "docs/proof/TRUSTED.md",
@@ -163,7 +164,7 @@ PLANTED: list[tuple[str, str, str, str, str]] = [
 class Pages(SmallTree):
     def test_finds_nothing_where_there_is_no_mistake(self) -> None:
         self.keep(LOG)
-        self.assertEqual(self.run_over(), (0, "pages: 7 pages, 21 rules, 0 findings\n"))
+        self.assertEqual(self.run_over(), (0, "pages: 7 pages, 22 rules, 0 findings\n"))
 
     def test_each_mistake_is_found_by_its_rule(self) -> None:
         for rule, path, old, new, says in PLANTED:

@@ -26,7 +26,7 @@ from tests.test_causes import CAUSED, in_the_folder_of_the_source
 
 FILE = CAUSED / "once-bad.jsonl"
 MODEL = recording_at(FILE)
-READS = "main.go:46"  # where the lines are read, each time round
+READS = "main.go:46"  # the place where the lines are read, in each round
 
 
 def session_of(said: io.StringIO) -> Session:
@@ -54,7 +54,7 @@ class Prompt(unittest.TestCase):
         self.positions = place.positions
 
     def told(self, line: str) -> str:
-        """What is said to a line."""
+        """The reply to a line."""
         self.said.seek(0)
         self.said.truncate()
         self.session.run(line)
@@ -124,7 +124,7 @@ class Prompt(unittest.TestCase):
             self.assertRegex(self.told("frame"), r"=>    46 .*for lines.Scan\(\)")
             self.assertIn("main.once.func1", self.told("up"))
             self.assertIn("main.echo", self.told("down"))
-            self.assertIn("frames from 0", self.told("frame 99"))
+            self.assertIn("frames 0", self.told("frame 99"))
             self.session.text().lines.written = 0.0
             self.assertIn("has changed since it was recorded", self.told(f"list {bug_line('once')}"))
         self.assertIn("the source isn't here", self.told("list main.go:46"))

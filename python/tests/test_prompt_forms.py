@@ -42,7 +42,7 @@ def test_apropos_lists_what_has_the_word_in_its_description(prompt: Prompt) -> N
     assert any(line.startswith("| cell rd:") for line in output)
     assert any(line.startswith("| info timers:") for line in output)
     assert all("deadline" in line.lower() for line in output)
-    assert prompt("apropos no such word") == "| nothing has no such word in its description; help lists all\n"
+    assert prompt("apropos no such word") == "| no description contains no such word; help lists all commands\n"
     assert prompt("apropos").startswith("| apropos WORD: ")
 
 
@@ -51,7 +51,7 @@ def test_delete_alone_deletes_all_marks_and_says_which(prompt: Prompt) -> None:
         prompt(line)
     assert prompt("delete") == "| deleted: 1 (break rwlock), 2 (watch rd 2), p1 (break main.echo)\n"
     assert "p1" not in prompt("info breakpoints") and not prompt.session.netrev.marks()
-    assert prompt("d") == "| no mark stands\n"
+    assert prompt("d") == "| there are no marks\n"
 
 
 def test_list_shows_the_source_of_a_function(prompt: Prompt) -> None:

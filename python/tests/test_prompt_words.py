@@ -1,5 +1,5 @@
-"""What the prompt prints where a line is too long for it, or an answer for its screen; what is saved and set again; what help and hints
-say to words of other debuggers."""
+"""The prompt's output if a line is too long for it, or an answer for its screen; saved settings; and help and hints for
+words of other debuggers."""
 
 import io
 import os
@@ -10,7 +10,8 @@ from typing import Iterator
 from unittest.mock import patch
 
 from nrdb.commands import COMMANDS, whole_words
-from nrdb.line_hints import FOREIGN, hint
+from nrdb.line_hints import hint
+from nrdb.messages.lines import FOREIGN
 from nrdb.lines_of_text import width_of, wrapped
 from nrdb.output import TextPrinter
 from nrdb.prompt.answers import help_of
@@ -78,7 +79,7 @@ class Paging(unittest.TestCase):
         self.addCleanup(size.stop)
 
     def shown(self, text: str, *words: str) -> str:
-        """What is on the screen of an answer, with these words where it waits."""
+        """The screen with an answer, with these keys when it pauses."""
         answers: Iterator[str] = iter(words)
         pager = Paged(self.screen, lambda: next(answers), lambda: self.is_on)
         pager.begins()
@@ -196,7 +197,9 @@ class Saving(unittest.TestCase):
 class Words(unittest.TestCase):
     def test_help_has_all_that_a_word_means(self) -> None:
         told = list(help_of(["info"]))
-        self.assertIn("info goroutines [all|G]: what each does that is neither idle nor gone", told)
+        self.assertIn(
+            "info goroutines [all|G]: what each goroutine does, without those that are idle or have ended", told
+        )
         self.assertTrue(told[-1].startswith("cell info: "))
         for word in (*KINDS, *CELLS, *COMMANDS):
             self.assertTrue(list(help_of([word])), word)

@@ -16,7 +16,8 @@ from netrev_machine.observing import Observer
 from netrev_machine.program import replay
 from netrev_words.vocabulary import CELLS, Of
 from nrdb import changed_lines, recorded_changes
-from nrdb.arriving_changes import SILENT, ArrivingChanges
+from nrdb.arriving_changes import ArrivingChanges
+from nrdb.messages.session import COMPUTING_CHANGES
 from nrdb.changed_lines import NoChanges
 from nrdb.interrupts import Interrupted, Interrupts
 from nrdb.recorded_changes import RecordedChanges
@@ -29,7 +30,7 @@ FEW = b"1 gor 1 = idle\n3 lock 0 = 0\n3 in 0 = 0\n4 lock 0 = 8\nok 5 steps\n"
 
 
 def said(path: Path) -> bytes:
-    """What netrev says of a recording, as the model has it."""
+    """netrev's output for a recording, by the model."""
     lines, _ = said_by_model(path.read_bytes(), Observer())
     return "".join(f"{line}\n" for line in lines).encode()
 
@@ -134,7 +135,7 @@ def netrev(tmp_path: Path) -> Path:
 
 
 def arriving(netrev: Path, script: str, interrupts: "Interrupts | None" = None) -> tuple[ArrivingChanges, list[str]]:
-    """The changes that this script of the shell says, and what is told meanwhile."""
+    """The changes that this shell script prints, and the output meanwhile."""
     netrev.write_text(f"#!/bin/sh\n{script}\n")
     netrev.chmod(0o755)
     told: list[str] = []
@@ -149,7 +150,7 @@ def test_what_has_come_is_there_before_the_end(netrev: Path) -> None:
 
 def test_who_waits_long_is_told_so_once(netrev: Path) -> None:
     changes, told = arriving(netrev, "sleep 1.3; echo 3 lock 0 = 0; echo ok 3 steps")
-    assert list(changes.steps_of("lock 0")) == [3] and told == [SILENT]
+    assert list(changes.steps_of("lock 0")) == [3] and told == [COMPUTING_CHANGES]
     changes.drop()
 
 
@@ -173,8 +174,8 @@ def test_an_interrupted_wait_can_be_begun_anew(netrev: Path, tmp_path: Path) -> 
         ("echo 1 gor 1 = idle; exit 2", "it ended with status 2"),
         ("kill -9 $$", "it ended with status -9"),
         ("echo fault 108 memory; exit 1", "fault 108 memory"),
-        ("echo hello", "a line that is no change"),
-        ("echo 1 = 2", "a line that is no change"),
+        ("echo hello", "a line isn't a change"),
+        ("echo 1 = 2", "a line isn't a change"),
     ],
 )
 def test_a_netrev_that_fails_is_told(netrev: Path, script: str, why: str) -> None:
@@ -199,7 +200,7 @@ def test_a_netrev_that_was_killed_is_begun_anew(netrev: Path, tmp_path: Path) ->
 
 def test_a_line_in_the_middle_that_is_no_change_is_told(netrev: Path) -> None:
     changes, _ = arriving(netrev, "printf '1 gor 1 = idle\\nno number = 3\\n2 clock = 5\\nok 2 steps\\n'")
-    with pytest.raises(Lost, match="a line that is no change"):
+    with pytest.raises(Lost, match="a line isn't a change"):
         list(changes)
     changes.drop()
 

@@ -27,10 +27,10 @@ def test_within_a_call_it_goes_to_the_end_of_the_call() -> None:
 
 
 def test_a_function_that_does_not_return_is_named() -> None:
-    with pytest.raises(Stay, match="goroutine 0 is in no call, and makes no step after main.ask returns"):
+    with pytest.raises(Stay, match="goroutine 0 isn't in a call, and makes no step after main.ask returns"):
         finish_goal(POOL, 0, POOL.length)
 
 
 def test_without_lines_of_the_program_it_says_that_there_is_no_call() -> None:
-    with pytest.raises(Stay, match="goroutine 0 is in no call$"):
+    with pytest.raises(Stay, match="goroutine 0 isn't in a call$"):
         finish_goal(Recording.read(str(EXAMPLES / "first.jsonl")), 0, 0)

@@ -1,4 +1,4 @@
-"""The scout, which looks at positions by a netrev of its own, or by one that it was lent."""
+"""The scout, which queries positions by a netrev of its own, or by one that it was lent."""
 
 import gc
 from pathlib import Path

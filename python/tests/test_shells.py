@@ -21,7 +21,7 @@ SHELLS = {
     "bash": (["bash", "--norc", "--noprofile", "-i"], "for file in of_bash/*; do . $file; done"),
     "zsh": (["zsh", "-f", "-i"], "fpath=($PWD/of_zsh $fpath); autoload -Uz compinit; compinit -u -D"),
 }
-# what is typed before the key, and what stands there behind it
+# the text before the key, and the text after it
 COMPLETED = (
     ("netrev che", "check"),
     ("netrev cha", "changes"),
@@ -82,7 +82,7 @@ class Shells(unittest.TestCase):
                 (self.folder / f"of_{shell}" / f"_{name}").write_bytes(made)
 
     def completes(self, shell: str) -> None:
-        """What is typed becomes what it should: the programs are functions here, which tell their words."""
+        """The typed text becomes the expected one: the programs are functions here that print their words."""
         command, loads = SHELLS[shell]
         if not shutil.which(shell):
             self.skipTest(f"no {shell} is here (Debian: apt-get install {shell})")

@@ -16,7 +16,8 @@ from typing import Callable, Iterator
 from unittest import mock
 
 from netrev_words.plain import plain
-from nrdb.cli import SILENT, main
+from nrdb.cli import main
+from nrdb.messages.session import NO_REPLY_YET
 
 ROOT = Path(__file__).resolve().parents[2]
 FIRST = ROOT / "examples/first.jsonl"
@@ -48,7 +49,7 @@ Answers = Callable[[bytes], bytes]
 
 
 def unseen(text: str) -> list[str]:
-    """The characters of a text, but for line feeds, that a terminal obeys or that can't be seen."""
+    """The characters of a text, except line feeds, that a terminal obeys or that can't be seen."""
     return [character for character in text if unicodedata.category(character) in UNSEEN and character != "\n"]
 
 
@@ -65,7 +66,7 @@ def nrdb(*words: object) -> tuple[int, str]:
 
 @contextlib.contextmanager
 def server(answers: Answers) -> Iterator[str]:
-    """The address of a server that answers each line so, and nothing where that is empty."""
+    """The address of a server that answers each line so, and nothing if that is empty."""
 
     def serve() -> None:
         with contextlib.suppress(OSError):
@@ -92,7 +93,7 @@ def joined(answers: Answers, *more: object, asked: tuple[str, ...] = ASKED) -> t
 
 
 def behind_position(answer: bytes) -> Answers:
-    """Answers where it stands, as netrev does, and all else by this."""
+    """Answers its position, as netrev does, and everything else by this."""
     return lambda line: POSITION if line == b"info position" else answer
 
 
@@ -132,13 +133,13 @@ class Strangers(unittest.TestCase):
             shown = answer.decode().rstrip()
             shown = shown if len(shown) <= 60 else f"{shown[:58]}.."
             self.assertEqual(
-                (status, said), (3, f'| what answers isn\'t netrev: to "info position" it said "{shown}"\n')
+                (status, said), (3, f'| the other program isn\'t netrev: it answered "info position" with "{shown}"\n')
             )
 
     def test_a_reply_without_an_end_is_cut(self) -> None:
         with mock.patch("nrdb.netrev.LONGEST", 100_000):
             status, said = joined(lambda _: b"a" * 1_000_000)
-        right = f'| what answers isn\'t netrev: to "info position" it said "{"a" * 58}.."\n'
+        right = f'| the other program isn\'t netrev: it answered "info position" with "{"a" * 58}.."\n'
         self.assertEqual((status, said), (3, right))
 
     def test_a_front_in_use_is_waited_for_aloud(self) -> None:
@@ -149,7 +150,7 @@ class Strangers(unittest.TestCase):
             return POSITION if line == b"info position" else b"fault 201 unknown command\n"
 
         def told(text: str) -> None:
-            if text == SILENT:
+            if text == NO_REPLY_YET:
                 there.set()
             before(text)
 
@@ -157,7 +158,7 @@ class Strangers(unittest.TestCase):
             before = mock.Mock()
             note.side_effect = lambda _, text: told(text)
             status, _ = joined(late, asked=())
-        self.assertEqual((status, before.mock_calls[0]), (0, mock.call(SILENT)))
+        self.assertEqual((status, before.mock_calls[0]), (0, mock.call(NO_REPLY_YET)))
         self.assertTrue(there.is_set())
 
 
@@ -226,7 +227,7 @@ class Plain(unittest.TestCase):
                         self.assertEqual(unseen(said), [])
 
     def test_the_text_of_a_recording_that_a_server_has_another_of(self) -> None:
-        """Where a session is joined, netrev has never read the file."""
+        """If a session is joined, netrev has never read the file."""
         for text in OBEYED:
             spelled = json.dumps(text)[1:-1]
             steps = [f'["{spelled}",0]', f'["rwlock",0,0,"{spelled}"]', f'["tick",0,"{spelled}"]'] * 4

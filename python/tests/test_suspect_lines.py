@@ -490,7 +490,7 @@ ROWS = [pytest.param(hunt, *row, id=f"{hunt}: {name}") for hunt, rows in ALL.ite
 
 
 def text_of(steps: Steps) -> bytes:
-    """A recording of these steps, all of which have to apply, with the machine's answers."""
+    """A recording of these steps, all of which must apply, with the machine's answers."""
     world, answers = World(LIMITS), []
     for step in steps:
         world, answer = apply(world, step)
@@ -499,7 +499,7 @@ def text_of(steps: Steps) -> bytes:
 
 
 def random_recording(dice: random.Random) -> Recording:
-    """A random recording, which often ends where a goroutine is parked."""
+    """A random recording, which often ends when a goroutine is parked."""
     recording, worlds = Author(dice, themes=THEMES).recording(dice.choice([12, 40, 80, 120]))
     parked = [position for position, world in enumerate(worlds) if world.waiters]
     if not parked or dice.random() > 0.7:

@@ -151,7 +151,7 @@ def found(recording: Recording, is_listed: bool = True) -> list[Suspect]:
 
 
 def told(suspects: list[Suspect]) -> list[tuple[object, ...]]:
-    """All that is told of suspects but netrev's lines."""
+    """The text of suspects without netrev's lines."""
     return [(one.weight, one.sentence(), one.looks, one.steps, one.evidence, *one.subject) for one in suspects]
 
 
@@ -301,7 +301,7 @@ def test_random_recordings_have_the_same_facts_by_the_notes() -> None:
 
 
 def without_lines(facts: Iterable[Union[LostWakeUp, OfDeadline]]) -> list[str]:
-    """Facts but for netrev's lines, in one order."""
+    """Facts without netrev's lines, in one order."""
     return sorted(repr(one._replace(line="")) for one in facts)
 
 

@@ -1,5 +1,5 @@
 """The rules of `info suspects`: each finds its bug in a small recording and not in one that nearly has it; the bugs of the
-examples are named first; bugs that are planted at random are, and traffic without one has no suspect."""
+examples are named first; so are bugs planted at random, and traffic without one has no suspect."""
 
 import json
 import unittest
@@ -79,7 +79,7 @@ PAIRS = {
         OPEN + [["increfclose", 0, 0]] + WHILE,
         OPEN + [["increfclose", 0, 0], ["evict", 0, 0], ["decref", 0, 0]] + WHILE,
     ),
-    "write behind CloseWrite": Pair(
+    "write after CloseWrite": Pair(
         OPEN + [["closewrite", 0, 0], ["syswrite", 1, 0, "6869"]],
         OPEN + [["syswrite", 1, 0, "6869"], ["closewrite", 0, 0]],
     ),
@@ -122,6 +122,28 @@ class Rules(unittest.TestCase):
                 self.assertEqual({suspect.rule for suspect in found}, {rule.name})
                 near = rule.suspects(Run(Notes(recording_of(PAIRS[rule.name].good))))
                 self.assertEqual([suspect.sentence() for suspect in near if suspect.is_shown], [])
+
+    def test_a_deadline_from_before_the_recording_is_left_behind_if_the_other_side_alone_is_set(self) -> None:
+        before: Steps = [["setdeadline", 0, 0, "r", 4], ["setdeadline", 0, 0, "w", 5]]
+        moves: Steps = [["setdeadline", 0, 0, "r", 60], ["setdeadline", 0, 0, "r", 70]]
+        passes: Steps = [["tick", 9], ["pop"], ["fire", 0]]
+        prelude = len(OPEN + before)
+        for name, steps, begins, expected in (
+            ("left behind", moves, prelude, ["deadline left behind"]),
+            ("in one recording", moves, 0, []),
+            ("moved once", moves[:1], prelude, []),
+            ("moved too", [*moves, ["setdeadline", 0, 0, "w", 5]], prelude, []),
+        ):
+            with self.subTest(name):
+                recording = recording_of(OPEN + before + steps + passes)
+                recording.lines.prelude = begins
+                self.assertEqual([suspect.rule for suspect in shown(recording)], expected)
+
+    def test_an_error_event_whose_tag_go_compared_is_of_this_use(self) -> None:
+        for has_tags, expected in ((False, ["error event on a reused descriptor"]), (True, [])):
+            recording = recording_of(PAIRS["error event on a reused descriptor"].bad)
+            recording.lines.has_tags = has_tags
+            self.assertEqual([suspect.rule for suspect in shown(recording)], expected)
 
     def test_the_page_has_the_definition_of_each(self) -> None:
         page = (EXAMPLES.parent / "docs" / "reference" / "NRDB.md").read_text(encoding="utf-8")

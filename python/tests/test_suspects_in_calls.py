@@ -18,8 +18,8 @@ POLL = "internal/poll."
 
 
 def found(steps: Steps, functions: Optional[list[str]], others: str = "main.main") -> list[object]:
-    """The rules of the suspects that are shown, where the steps of goroutine 1 come from these functions of internal/poll, one after
-    the other; without them no lines are known."""
+    """The rules of the suspects, if the steps of goroutine 1 come from these functions of internal/poll, one after the
+    other; without them no lines are known."""
     recording = recording_of(OPEN + steps + WHILE)
     if functions is not None:
         recording.lines = lines_of(OPEN + steps + WHILE, functions, others)

@@ -132,6 +132,23 @@ class Trace(unittest.TestCase):
                 [event["name"].split()[0] for event in steps], [values[0] for values in recording.arrays()]
             )
 
+    def test_begins_where_the_recording_does(self) -> None:
+        recording = Recording.read(str(EXAMPLES / "real/hijacked.jsonl"))
+        whole, length = traced(recording), recording.length
+        for begins in (1, 40, 200, length - 1):
+            recording.lines.prelude = begins
+            events = traced(recording)
+            self.assertEqual(faults_of(events), [])
+            steps = [event["args"] for event in events if event.get("cat") == "step"]
+            self.assertEqual([step["step"] for step in steps], list(range(begins + 1, length + 1)))
+            of_whole = [event["args"] for event in whole if event.get("cat") == "step"]
+            self.assertEqual(steps, of_whole[begins:])
+            self.assertEqual(statuses_of(events, length), [{}] * begins + statuses_of(whole, length)[begins:])
+            self.assertEqual(min(event["ts"] for event in events if "ts" in event), begins)
+            ends = [call["ts"] + call["dur"] for call in whole if call.get("cat") == "call"]
+            later = [call["ts"] + call["dur"] for call in events if call.get("cat") == "call"]
+            self.assertEqual(sorted(later), sorted(end for end in ends if end > begins))
+
     def test_each_wake_up_is_a_flow(self) -> None:
         events, world = traced(Recording(traffic().text())), World(traffic().limits)
         woken = []

@@ -9,7 +9,7 @@ from nrdb.recording import Recording
 from tests.go_caused import NAMES, TURNS, bug_line, source_of
 from tests.test_causes import CAUSED, in_the_folder_of_the_source
 
-# By name, what has to be said; {} is the line of the bug.
+# The expected text by name; {} is the line of the bug.
 REASONS = {
     "doubled": (
         r"^Calls gave back more than they took: goroutine 0 took 3 values there at main.go:\d+ in borrow and put 3 back \(2 at main.go:\d+ in "
@@ -55,7 +55,7 @@ REASONS = {
         r"^Write at main.go:\d+ in ask, .* came after the other end was closed, in step \d+: nobody read it\.$",
     ),
     "unwoken": (
-        r"^Perhaps {} in \(\*mailbox\).close should have woken it: it changes closed, at which the loop round the Wait looks, and that function "
+        r"^Perhaps {} in \(\*mailbox\).close should have woken it: it changes closed, which the loop around the Wait tests, and that function "
         r"calls neither Signal nor Broadcast\.$",
     ),
     "stays": (
@@ -74,7 +74,7 @@ REASONS = {
 
 class Turns(unittest.TestCase):
     def said(self, name: str, kind: str) -> list[str]:
-        """What is printed first, without what to type next."""
+        """The first output, without the line to type next."""
         recording = Recording.read(str(CAUSED / f"{name}-{kind}.jsonl"))
         recording.lines.written = float("inf")  # (a clone's files are newer than the recording)
         with in_the_folder_of_the_source(source_of(name)):
@@ -97,7 +97,7 @@ class Turns(unittest.TestCase):
         self.assertRegex(self.said("undone", "good")[0], r"^Dial at .* failed: socket \d+ was never connected\.$")
 
     def test_they_hang_only_as_long_as_that_is_so(self) -> None:
-        """At an earlier position nothing of it is said."""
+        """At an earlier position it isn't reported."""
         for name in ("doubled", "undone", "uncounted", "stays"):
             recording = Recording.read(str(CAUSED / f"{name}-bad.jsonl"))
             words = "\n".join(row.text for row in hangs_table(recording, 10).rows)

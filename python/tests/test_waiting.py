@@ -19,6 +19,7 @@ from nrdb.prompt.answers import ANSWERS
 from nrdb.recording import Recording
 from nrdb.scout import Scout
 from nrdb.session import Session
+from nrdb.waiting import goroutines_table
 from nrdb.world import World
 
 from .modelled import Modelled, changes_at, changes_in, recording_at
@@ -26,8 +27,8 @@ from .folders import folder_of
 
 
 def waiters(count: int, sockets: int = 1) -> str:
-    """A recording in which so many wait for the read lock of each socket, a few for the write lock of socket 0, and some are
-    done. Then the clock ticks, a hundred times for each who waits."""
+    """A recording in which this many goroutines wait for the read lock of each socket, a few for the write lock of
+    socket 0, and some are done. Then the clock ticks, a hundred times for each waiter."""
     steps = ['["spawn"]'] * (count * sockets + 3) + ['["sockopen",1,1]'] * sockets
     steps += [f'["rwlock",0,{socket},"r"]' for socket in range(sockets)] + ['["rwlock",1,0,"w"]']
     steps += [
@@ -64,6 +65,31 @@ class Asked(unittest.TestCase):
         session.begin(session.ask("info position"))
         session.run(f"goto {session.length}")
         return session, out
+
+    def test_a_number_that_is_used_again_has_gos_own_beside_it(self) -> None:
+        session, out = self.session(waiters(3), Counter())
+        assert session.recording
+        last = session.length
+        for owners, goid in (
+            ([[5, 0, 41]], 41),
+            ([[5, 0, 41], [5, last - 1, 42]], 42),
+            ([[5, 0, 41], [5, last, 42]], 41),
+        ):
+            session.recording.lines.owners.clear()
+            session.recording.lines.add_owners(owners)
+            session.run("info goroutines")
+            rows = {row["goroutine"]: row for row in json.loads(out.getvalue().splitlines()[-1])["rows"]}
+            self.assertEqual((rows[5]["goid"], "goid" in rows[4]), (goid, False))
+            texts = [row.text for row in goroutines_table(session.world()).rows]
+            self.assertIn(f"gor 5    (goid {goid}) queued 0 r ", "\n".join(texts))
+
+    def test_a_group_has_gos_own_numbers_of_those_that_are_used_again(self) -> None:
+        session, out = self.session(waiters(5), Counter())
+        assert session.recording
+        session.recording.lines.add_owners([[5, 0, 41], [6, 0, 43]])
+        session.run("info goroutines")
+        (group,) = [row for row in json.loads(out.getvalue().splitlines()[-1])["rows"] if "goroutines" in row]
+        self.assertEqual((group["goroutines"], group["goids"]), ([4, 5, 6, 7, 8], {"5": 41, "6": 43}))
 
     def test_a_lock_is_asked_for_once_however_many_wait(self) -> None:
         asked: dict[int, Counter[str]] = {}

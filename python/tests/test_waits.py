@@ -20,7 +20,7 @@ def point(number: int, kind: Kind, goroutine: int, a: int = 0, stack: int = 0) -
 
 
 def waits(*points: Point) -> list[Wait]:
-    """The waits of these points, as NAME.where has them of the recording's goroutines."""
+    """The waits of these points, in NAME.where's form for the recording's goroutines."""
     return waits_of(goroutines_of(points, STEPS, 0), NUMBERS)
 
 
@@ -54,7 +54,7 @@ class Points(unittest.TestCase):
 
 
 def hung(extra: list[dict[str, Any]], steps: Steps) -> str:
-    """What `info hangs` says at the end of these steps, with further lines of NAME.where."""
+    """The output of `info hangs` at the end of these steps, with further lines of NAME.where."""
     recording = with_lines(steps)
     told = [
         {"where": 1, "steps": len(steps)},
@@ -100,7 +100,7 @@ class Hangs(unittest.TestCase):
 
     def test_lines_of_no_such_form_are_a_fault(self) -> None:
         for waits in ([[1, 2]], [[1, 2, 3, 4, 5, 6]], 7, [["1", 0, 0, "", 0, 0]]):
-            with self.subTest(waits), self.assertRaisesRegex(AssertionError, "isn't one of its form"):
+            with self.subTest(waits), self.assertRaisesRegex(AssertionError, "is malformed"):
                 hung([{"waits": waits}], TWO_ENDS)
 
 

@@ -17,7 +17,7 @@ from nrdb.web.streams import Streams
 
 from .web_client import LOOPBACK, Address, Listener
 
-SVG = 'xmlns="http://www.w3.org/2000/svg"'  # a name, which nobody fetches, of what the page saves
+SVG = 'xmlns="http://www.w3.org/2000/svg"'  # a name, never fetched, of what the page saves
 TOKEN = "right-token"
 DATA = b'{"cells":{}}'
 
@@ -68,7 +68,7 @@ class Served(unittest.TestCase):
         self.addCleanup(server.stop)
 
     def expect_that_it_goes_on(self) -> None:
-        """The page is there, a line is taken, and events come."""
+        """The page is there, a line is accepted, and events come."""
         self.assertEqual(self.address.get(f"/?token={TOKEN}").status, 200)
         with Listener(self.address) as listener:
             self.assertEqual(self.address.type("stepi", Netrev_Browser=str(listener.you["number"])).status, 202)
@@ -308,7 +308,7 @@ class Hostile(Served):
                 self.assertEqual(self.address.send(part).status, 408)
             with self.address.connect() as connection:
                 begun = time.monotonic()
-                while time.monotonic() - begun < 10:  # a byte now and then, which keeps nobody
+                while time.monotonic() - begun < 10:  # a byte from time to time, which blocks no other connection
                     try:
                         connection.sendall(b"G")
                     except ConnectionError:

@@ -21,7 +21,8 @@ from nrdb.web.painting import MOST_WAITING as MOST_PICTURES
 from nrdb.web.painting import Painter
 from nrdb.web.running import MOST_WAITING, Running
 from nrdb.web.serving import Unavailable
-from nrdb.web.shared import NO_END, NO_FILES, NO_LINES, Saying, Shared
+from nrdb.messages.browsers import NO_COMMANDS, NO_FILES, NO_QUIT
+from nrdb.web.shared import Saying, Shared
 
 from .modelled import Modelled, changes_at, recording_at
 from .folders import folder_of
@@ -35,7 +36,7 @@ PATIENCE = 60  # seconds
 
 
 class Streams:
-    """Browsers that write down what they are told."""
+    """Browsers that write down what they receive."""
 
     def __init__(self) -> None:
         self.events: list[dict[str, Any]] = []
@@ -82,7 +83,7 @@ class Played(unittest.TestCase):
         return self.streams.take()
 
     def says(self, line: str) -> list[str]:
-        """What is said to a line."""
+        """The reply to a line."""
         return [text for event in self.types(line) if event["event"] == "said" for text in event["lines"]]
 
     def look(self) -> list[dict[str, Any]]:
@@ -159,15 +160,16 @@ class NotHere(Played):
         ):
             self.assertEqual(self.says(line), [f"| {NO_FILES}"], line)
         self.types("break @3")
-        self.assertEqual(self.says("commands 1"), [f"| {NO_LINES}"])
+        self.assertEqual(self.says("commands 1"), [f"| {NO_COMMANDS}"])
         for line in ("quit", "q", "exit", "qui", "stepi; quit"):
-            self.assertEqual(self.says(line)[-1], f"| {NO_END}")
+            self.assertEqual(self.says(line)[-1], f"| {NO_QUIT}")
         self.assertEqual(self.says("info position")[0], "at 1 of 10 forward")
 
     def test_a_line_that_is_none_of_nrdbs(self) -> None:
         self.assertEqual(self.says("nonsense")[0], "fault 201 unknown command")
         self.assertEqual(
-            self.says("info holders"), ["| info holders S: who holds the references of socket S, and since which step"]
+            self.says("info holders"),
+            ["| info holders S: which goroutines hold references of socket S, and since which step"],
         )
         self.assertEqual(self.says(""), [])
         self.assertEqual(self.says("#comment"), [])
@@ -218,7 +220,7 @@ class Stopped(Played):
 
 
 class Gone(Played):
-    GONE = "netrev has ended: lines aren't answered until it is there again"
+    GONE = "netrev has ended: lines aren't answered until it is back"
 
     def test_it_is_said_and_lines_arent_answered(self) -> None:
         self.running.post("browser 2", "print clock")  # which was taken before anybody knew
@@ -259,7 +261,7 @@ class Gone(Played):
         self.look()
         self.opened = lambda _: Modelled(OTHER_MODEL, self.interrupts, lambda _: None)
         (told,) = self.look()
-        self.assertIn("the recording has 10 steps, and that of the session 22", told["says"])
+        self.assertIn("the recording has 10 steps, but the session's has 22", told["says"])
         with self.assertRaises(Unavailable):
             self.running.post("browser 1", "stepi")
 
@@ -270,7 +272,7 @@ class Gone(Played):
         with mock.patch.object(Modelled, "_next", lambda *_: "220 mail.example ESMTP"):
             self.opened = lambda _: strange
             (told,) = self.look()
-        self.assertIn("what answers isn't netrev", told["says"])
+        self.assertIn("the other program isn't netrev", told["says"])
         self.assertTrue(strange.has_ended)
 
 

@@ -42,6 +42,15 @@ class ManyAtOnce(Served):
             self.assertGreaterEqual(len(ended), HUNDRED - MOST_CONNECTIONS)
         self.expect_that_it_goes_on()
 
+    def test_one_that_was_answered_makes_room_at_once(self) -> None:
+        with ExitStack() as stack:
+            stack.enter_context(mock.patch("nrdb.web.wire.IN_TIME", 600))
+            for _ in range(HUNDRED):
+                stack.enter_context(self.address.connect())
+            for _ in range(HUNDRED):
+                self.assertEqual(self.address.get(f"/?token={TOKEN}").status, 200)
+                self.assertEqual(self.address.type("stepi").status, 202)
+
     def test_a_hundred_streams(self) -> None:
         with ExitStack() as stack:
             listeners = [stack.enter_context(Listener(self.address)) for _ in range(HUNDRED)]

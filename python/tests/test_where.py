@@ -12,6 +12,7 @@ from netrev_words.files import whole, written_whole
 from nrdb.files import written
 from nrdb.recording import NoRecording, Recording
 from nrdb.session import Misused
+from nrdb.waits import Name, name_of_goid, waits_of
 from nrdb.where import MOST_BYTES, MOST_LINE, Lines
 from .folders import folder_of
 
@@ -20,9 +21,9 @@ CALL = {"call": 1, "function": "main.main", "file": "main.go", "line": 3, "of": 
 STACK = {"stack": 1, "calls": [1]}
 STEPS = {"step": 1, "stacks": [1, 0]}
 GOOD: list[Any] = [FIRST, CALL, STACK, STEPS]
-SAID = "isn't one of its form"
+SAID = "is malformed"
 
-# what stands in place of a line, counted from 0, and what is said of the file then
+# a line's replacement, counted from 0, and the message about the file then
 WRONG: tuple[tuple[int, Any, str], ...] = (
     (0, [], SAID), (0, {}, SAID), (0, {"where": 3, "steps": 2}, "another version"),
     (0, {"where": [], "steps": 2}, "another version"), (0, 7, SAID),
@@ -55,7 +56,7 @@ class Where(unittest.TestCase):
         return Recording.read(str(self.recording)).lines
 
     def fault(self, data: bytes) -> str:
-        """What is said of such a file, of which nothing is used then."""
+        """The message about such a file, which is then not used."""
         self.file.write_bytes(data)
         lines = self.lines()
         if lines.fault:
@@ -80,6 +81,30 @@ class Where(unittest.TestCase):
         for steps in ([1], [1, "1"], 7):
             self.assertIn(SAID, self.fault(text_of([*GOOD, {"test": "T", "package": "p", "steps": steps}])))
 
+    def test_a_number_that_several_goroutines_had_is_the_one_s_that_has_it_at_the_step(self) -> None:
+        of_go = [[42, -1, 0, 0, 0, 1, 5, 6], [99, 3, 0, 0, 0, -1, 5, -1], [7, 4, 0, 0, 0, -1, 5, -1]]
+        parks = [
+            [99, 0, 1, 5, 6, "a select", 1, 42, []],
+            [99, 2, -1, 7, -1, "a select", 1, 0, []],
+            [42, 0, 1, 5, 6, "a select", 1, 0, []],
+        ]
+        more = [{"taken": [[3, 0, 42], [3, 1, 99]]}, {"goroutines": of_go}, {"parks": parks}]
+        self.assertEqual(self.fault(text_of([FIRST | {"where": 2}, *GOOD[1:], *more])), "")
+        recording = Recording.read(str(self.recording))
+        lines = recording.lines
+        self.assertEqual([lines.goid_of(3, step) for step in (0, 1, 2)], [42, 42, 99])
+        self.assertEqual((lines.goid_of(3), lines.goid_of(4, 1), lines.goid_of(4)), (99, 7, 7))
+        names = [str(name_of_goid(lines, goid, step)) for goid in (42, 99, 7) for step in (1, 2, None)]
+        own, seven = "goroutine 3", ["goroutine 4"] * 3
+        self.assertEqual(names, [own, "goid 42", "goid 42", "goid 99", own, own, *seven])
+        waits = waits_of(recording).of
+        spans = {str(name): [(wait.first, wait.last) for wait in some] for name, some in waits.items()}
+        self.assertEqual(spans, {"goid 99": [(0, 1)], own: [(0, 1), (2, None)]})
+        self.assertEqual(str(waits[Name(99, True)][0].by), own)
+        for wrong in ([[3, 0]], [[3, 0, "42"]], 7, [[3, 0, 42, 1]]):
+            self.assertIn(SAID, self.fault(text_of([*GOOD, {"taken": wrong}])))
+            self.assertEqual(self.lines().owners, {})
+
     def test_one_that_is_not_is_not_used_and_that_is_said(self) -> None:
         for place, value, said in WRONG:
             with self.subTest(value):
@@ -95,32 +120,37 @@ class Where(unittest.TestCase):
         for beginning in (b"", text_of(GOOD)):
             self.assertEqual(self.fault(beginning + b"\xff"), "it isn't text")
         said = self.lines().why_unused(str(self.recording))
-        self.assertTrue(said.startswith("x.where isn't used: it isn't text; docs/reference/RECORDING.md"), said)
+        self.assertTrue(
+            said.startswith(
+                "x.where isn't used: it isn't text. The recording works without it; docs/reference/RECORDING.md"
+            ),
+            said,
+        )
 
     def test_what_is_no_file_is_not_waited_for(self) -> None:
         begun = time.monotonic()
         os.mkfifo(self.file)
-        self.assertEqual(self.lines().fault, "it isn't a file")
+        self.assertEqual(self.lines().fault, "it isn't a regular file")
         self.file.unlink()
         self.file.symlink_to("/dev/zero")
-        self.assertEqual(self.lines().fault, "it isn't a file")
+        self.assertEqual(self.lines().fault, "it isn't a regular file")
         self.file.unlink()
         self.file.mkdir()
-        self.assertEqual(self.lines().fault, "it isn't a file")
+        self.assertEqual(self.lines().fault, "it isn't a regular file")
         self.file.rmdir()
         self.file.symlink_to(self.file)
         self.assertIn("symbolic link", self.lines().fault)
         self.file.unlink()
         with open(self.file, "wb") as sparse:
             sparse.truncate(MOST_BYTES + 1)
-        self.assertEqual(self.lines().fault, "it has more than 64 MB")
+        self.assertEqual(self.lines().fault, "it is larger than 64 MB")
         self.assertLess(time.monotonic() - begun, 5)
 
     def test_a_recording_that_can_be_read_once_alone_is_refused(self) -> None:
         pipe = self.recording.with_name("pipe")
         os.mkfifo(pipe)
         for path in (pipe, "/dev/zero"):
-            with self.assertRaisesRegex(NoRecording, "isn't a file: nrdb reads a recording twice"):
+            with self.assertRaisesRegex(NoRecording, "isn't a regular file: nrdb reads a recording twice"):
                 Recording.read(str(path))
         for path in ("a\0b", "\ud800"):
             with self.assertRaisesRegex(OSError, "no file can have that name"):
@@ -162,7 +192,7 @@ class Files(unittest.TestCase):
             path.with_suffix(".where").write_text("lines")
             other.symlink_to(path)
             for name in (path, other, path.with_suffix(".where")):
-                with self.assertRaisesRegex(Misused, "is the recording itself, or its lines"):
+                with self.assertRaisesRegex(Misused, "is the recording itself, or its NAME.where"):
                     written(str(name), str(path), b"page")
             written(str(Path(folder, "c")), str(path), b"page")
             self.assertEqual((path.read_text(), Path(folder, "c").read_text()), ("steps", "page"))

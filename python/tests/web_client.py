@@ -17,7 +17,7 @@ Event = dict[str, Any]
 
 
 class Answer(NamedTuple):
-    """What a request was answered: the status, 0 where the connection ended without one; the headers, and the body."""
+    """The answer to a request: the status, 0 if the connection ended without one; the headers, and the body."""
 
     status: int
     headers: dict[str, str]
@@ -34,7 +34,7 @@ class Answer(NamedTuple):
 
 
 class Address(NamedTuple):
-    """Where a page is, and its token."""
+    """The address of a page, and its token."""
 
     port: int
     token: str
@@ -54,8 +54,8 @@ class Address(NamedTuple):
         return socket.create_connection((LOOPBACK, self.port), timeout=PATIENCE)
 
     def request(self, method: str, target: str, body: bytes = b"", /, **headers: str) -> bytes:
-        """A request as the page makes it, but for headers that are given, by their names with _ for -; one without a text is left
-        out."""
+        """A request as the page makes it, with the given headers, by their names with _ for -; one without a text is
+        omitted."""
         own = {"Host": f"{LOOPBACK}:{self.port}", "Netrev-Token": self.token}
         if method == "POST":
             own |= {"Origin": f"http://{LOOPBACK}:{self.port}", "Content-Length": str(len(body))}
@@ -89,7 +89,7 @@ def rest_of(connection: socket.socket) -> bytes:
 
 
 class Listener:
-    """Somebody who listens to the events of a session, and types lines."""
+    """A client that listens to the events of a session, and types lines."""
 
     def __init__(self, address: Address):
         self._address, self._connection = address, address.connect()
@@ -109,7 +109,7 @@ class Listener:
         self._connection.close()
 
     def next(self) -> Event:
-        """The next event; EOFError where none comes any more, and TimeoutError where nothing but pulses does."""
+        """The next event; EOFError if none comes any more, and TimeoutError if only pulses come."""
         limit = time.monotonic() + PATIENCE
         while line := self._lines.readline():
             if line.startswith(b"data: "):
@@ -121,7 +121,7 @@ class Listener:
         raise EOFError
 
     def until(self, is_it: Callable[[Event], bool]) -> Event:
-        """The next event of which this is true."""
+        """The next event for which this is true."""
         limit = time.monotonic() + PATIENCE
         while time.monotonic() < limit:
             if is_it(event := self.next()):
@@ -133,7 +133,7 @@ class Listener:
         return self.until(lambda event: event["event"] == name)
 
     def asks(self, line: str) -> list[Event]:
-        """Types a line; the events from its beginning to its end, but those of who is here."""
+        """Types a line; the events from its beginning to its end, without those of participants."""
         taken = self._address.type(line, Netrev_Browser=str(self.you["number"]))
         assert taken.status == 202, taken
         mine = {"who": self.you["who"], "line": line}
@@ -143,5 +143,5 @@ class Listener:
         return [event for event in self.events[before:] if event["event"] != "browsers"]
 
     def said(self, line: str) -> list[str]:
-        """Types a line; what is said to it."""
+        """Types a line; the reply to it."""
         return [text for event in self.asks(line) if event["event"] == "said" for text in event["lines"]]

@@ -10,7 +10,7 @@ from dataclasses import dataclass, field
 
 from page_rules.tree import Tree
 
-# the first line of a definition: at the left, or in a `module _` that has parameters
+# the first line of a definition: at the left, or in a `module _` with parameters
 HEAD = re.compile(
     r"(?:  )?(?:(?:abbrev|unfoldable|opaque) (?:pub )?(?:abbrev )?|(?:pub )?(?:record|data) )([^\s(]\S*)(?=\s|$)(?! \{)"
 )
@@ -40,18 +40,18 @@ class Place:
 
 @dataclass
 class Definition:
-    """The lines of a definition, its comment among them."""
+    """The lines of a definition, including its comment."""
 
     lines: list[str] = field(default_factory=list)
 
     @property
     def comments(self) -> int:
-        """How many of its lines are of its comment."""
+        """The number of its comment's lines."""
         return sum(line.lstrip().startswith("--") for line in self.lines)
 
     @property
     def words(self) -> set[str]:
-        """All words and signs that it has, but for those of comments and texts."""
+        """All words and signs of it, without comments and texts."""
         code = " ".join(
             TEXT.sub("", COMMENT.sub("", line)) for line in self.lines if not line.lstrip().startswith("--")
         )
@@ -60,15 +60,15 @@ class Definition:
 
 @dataclass
 class Module:
-    """What a file of specs/ defines, and where it has other names from."""
+    """The definitions of a file of specs/, and the origins of its other names."""
 
     definitions: dict[str, Definition] = field(default_factory=dict)
-    owners: dict[str, str] = field(default_factory=dict)  # of a constructor: the type that it makes
-    imports: dict[str, tuple[str, str]] = field(default_factory=dict)  # the other file, and the name that it has there
+    owners: dict[str, str] = field(default_factory=dict)  # for a constructor, the type that it makes
+    imports: dict[str, tuple[str, str]] = field(default_factory=dict)  # the other file, and the name there
     aliases: dict[str, str] = field(default_factory=dict)
 
     def add_import(self, line: str) -> None:
-        """Notes where a line has names from."""
+        """Notes the names that a line imports."""
         found = USE.fullmatch(line)
         if found is None:
             return
@@ -81,13 +81,14 @@ class Module:
 
 
 def _name_of(line: str, in_module: bool) -> str:
-    """The name that a line begins to define, or none."""
+    """The name that a line begins to define, or None."""
     found = HEAD.match(line) or PLAIN.match(line) or (PLAIN_IN_MODULE.match(line) if in_module else None)
     return found.group(1) if found else ""
 
 
 def _pieces(block: list[str], in_module: bool) -> Iterator[tuple[str, list[str]]]:
-    """A block's definitions, each with its lines. A block that goes on with one that began before has its first word."""
+    """A block's definitions, each with its lines. A block that continues an earlier one has the earlier one's first
+    word."""
     name, kept = "", []  # type: str, list[str]
     for line in block:
         found = "" if name and CONSTRUCTOR.match(line) else _name_of(line, in_module)
@@ -101,7 +102,7 @@ def _pieces(block: list[str], in_module: bool) -> Iterator[tuple[str, list[str]]
 
 
 def module_of(text: str) -> Module:
-    """What a file defines."""
+    """The definitions of a file."""
     module, last = Module(), ""
     in_module = IN_MODULE.search(text) is not None
     code = [line for line in text.split("\n") if not line.startswith("use ")]
@@ -122,7 +123,7 @@ def module_of(text: str) -> Module:
 
 
 class Beliefs:
-    """The definitions of a tree's crates, and which of them some rest on."""
+    """The definitions of a tree's crates, and those that some rest on."""
 
     def __init__(self, tree: Tree) -> None:
         self.tree = tree
@@ -166,7 +167,7 @@ class Beliefs:
         return {one for word in words for one in self._named_by(place, word)} - {place}
 
     def below(self, seeds: set[Place], closed: set[Place]) -> set[Place]:
-        """All that these rest on, they among it. Those that are closed count, and what they name doesn't."""
+        """All that these rest on, including themselves. Closed ones count, but not what they name."""
         seen: set[Place] = set()
         left = set(seeds)
         while left:

@@ -12,7 +12,7 @@ from page_rules.sources import Crate, crates_of
 from page_rules.tree import Finding, Tree
 
 PROMISES = "docs/proof/PROMISES.md"
-# what of a cell is the label of a clause: all in code font up to one of these words
+# the end of the labels in a cell: all code font up to one of these words
 UP_TO = re.compile(r"\b(?:against|over|with|by|of|within|in|which|for|whatever)\b|\(")
 NAME = re.compile(r"(?:\w+::)*[\w-]+")
 QUALIFIED = re.compile(r"(?:\w+::)*?(?:(?P<owner>\w+)::)?(?P<name>[\w-]+)")
@@ -22,14 +22,14 @@ OUTSIDE_CODE = re.compile(r"([;:])(?=(?:[^`]*`[^`]*`)*[^`]*$)")
 
 
 class Cited:
-    """What may be cited in a section: of its crate, and of the crates below it."""
+    """The names that a section may cite: of its crate, and of the crates below it."""
 
     def __init__(self, crates: dict[str, Crate], own: list[str]) -> None:
         self.own = [crates[name] for name in own]
         self.all = self.own + [crate for name, crate in crates.items() if name not in own]
 
     def members_of(self, subject: str) -> set[str]:
-        """The labels that stand behind a subject: of a function's clauses, of all of an `impl`, of a definition."""
+        """The labels of a subject: of a function's clauses, of all of an `impl`, of a definition."""
         if found := IMPL.fullmatch(subject):
             trait, owner = found.groups()
             functions = [one for crate in self.all for one in crate.functions if trait in (one.owner, one.trait)]
@@ -50,7 +50,7 @@ class Cited:
         return any(name in crate.definitions or name in crate.members for crate in self.all)
 
     def has(self, name: str) -> bool:
-        """Whether there is a function, type, member, definition or text of this name."""
+        """Whether a function, type, member, definition or text of this name exists."""
         *_, owner, last = ["", *name.split("::")] if NAME.fullmatch(name) else ["", name]
         for crate in self.all:
             if crate.called(last, owner) or name in crate.definitions or name in crate.names or name in crate.members:
@@ -63,7 +63,7 @@ class Cited:
 
 
 def _wrong_in(part: str, cited: Cited, before: list[str]) -> Iterator[str]:
-    """What a part of a cell cites that isn't there. Its subjects are left in the list of those before."""
+    """The citations of a part of a cell that don't exist. Its subjects are added to the list of earlier ones."""
     left, colon, right = (OUTSIDE_CODE.split(part, maxsplit=1) + ["", ""])[:3]
     subjects = CODE.findall(left) if colon else CODE.findall(part)
     before.extend(subjects)
@@ -83,7 +83,7 @@ def _wrong_in(part: str, cited: Cited, before: list[str]) -> Iterator[str]:
 
 
 def promises(tree: Tree) -> Iterator[Finding]:
-    """What the right column of PROMISES cites that isn't there."""
+    """The citations in the right column of PROMISES that don't exist."""
     if not tree.has(PROMISES):
         return
     crates, before, cell = crates_of(tree), [], Block(0, "text", "")  # type: dict[str, Crate], list[str], Block
@@ -101,14 +101,14 @@ def promises(tree: Tree) -> Iterator[Finding]:
 
 # names of Go, Python and the system
 ELSEWHERE = {"TestMain", "RuntimeError", "O_NONBLOCK", "ReadTimeout"}
-# the page of what was, whose names needn't be there any more
+# the page of the past, whose names needn't exist any more
 HISTORY = "CHANGELOG.md"
 # a name that a page gives to something of the sources: with an owner, or of more than one word
 OURS = re.compile(r"[A-Za-z]\w*(?:::\w+)+|[a-z]+(?:_[a-z0-9]+)+|(?:[A-Z][a-z0-9]+){2,}|[A-Z]+(?:_[A-Z]+)+")
 
 
 def names(tree: Tree) -> Iterator[Finding]:
-    """Names in code font that nothing here has."""
+    """Names in code font that exist nowhere here."""
     sources = tree.matching("crates/*.rt", "crates/*.antt", "*.py", "*.go", "*.sh")
     words = {*tree.crates, *ELSEWHERE, *re.findall(r"\w+", "".join(map(tree.text, sources)))}
     for page in tree.pages:
@@ -117,7 +117,7 @@ def names(tree: Tree) -> Iterator[Finding]:
                 yield Finding(page, block.line, f"nothing here has the name {code}")
 
 
-# names, and behind "in" or "of" the file that has them
+# names, and after "in" or "of" their file
 IN_FILE = re.compile(r"((?:`[^`]+`(?:, | and )?)+) (?:in|of) `([\w./*-]+\.(?:rt|antt|py|sh|rs|go))`")
 
 

@@ -9,11 +9,11 @@ MOST_COLUMNS = 100
 
 # the first line of a comment: of a doc comment, of one of a definition, of a docstring
 FIRST = re.compile(r"^(?P<indent>\s*)(?P<mark>///|--|\"\"\") ?(?P<text>\S.*)$")
-# how a comment begins that says nothing alone
+# beginnings of comments that mean nothing alone
 LEANS = re.compile(
     r"the same(?! \w)|the same (of|for|where|with|in|but|by)\b|so (are|is|do|does|did|has|have|can|may)\b"
     r"|those (who|that|which)\b|likewise\b|ditto\b"
-    # a sentence that ends where it would have to say what: "The timers of both sides are."
+    # a sentence that ends without its predicate: "The timers of both sides are."
     r"|the (?!.*\b(that|which|it|they)\b)\w[\w ]* (are|is|do|does|has|have)\.$",
     re.IGNORECASE,
 )
@@ -39,10 +39,10 @@ def _leaning(tree: Tree, paths: list[str]) -> Iterator[Finding]:
 
 
 def leaning_docstrings(tree: Tree) -> Iterator[Finding]:
-    """Docstrings of Python that say nothing without what is before them."""
+    """Docstrings of Python that mean nothing without what is before them."""
     return _leaning(tree, tree.matching("python/*.py", "scripts/*.py"))
 
 
 def leaning_comments(tree: Tree) -> Iterator[Finding]:
-    """Comments of the crates that say nothing without the one before."""
+    """Comments of the crates that mean nothing without the one before."""
     return _leaning(tree, tree.matching("crates/*/src/*.rt", "crates/*/specs/*.antt"))

@@ -20,14 +20,14 @@ FOR_CALLERS, INSIDE = "what callers need", "inner"
 IMPORT = re.compile(r"use Rattle\.(\w+)\.specs\.([A-Z]\w*)(?:\.\{([^}]*)\}| as (\w+))")
 EXPORT = re.compile(r"^pub (mod|use) ([^;]+);", re.MULTILINE)
 MEMBER = re.compile(r"^    ghost (\w+) = (.*(?:\n        .*)*)", re.MULTILINE)
-# members that no caller reads: laws, which are as their trait has them, and what a type keeps to itself
+# members that no caller reads: laws, which are as in their trait, and what a type keeps to itself
 NOT_READ = re.compile(
     r".*_is_unique|.*_unique|.*_are|refused_has_no_step|memory_is_.*|means_well_formed|allowance_is_within|invariant"
 )
 
 
 def _exports(tree: Tree, crate: str) -> tuple[set[str], set[str]]:
-    """The modules of a crate that are public, and the names that it exports. A program exports to its `main` alone."""
+    """The public modules of a crate, and the names that it exports. A program exports only to its `main`."""
     if not tree.has(f"crates/{crate}/src/lib.rt"):
         return {PurePosixPath(path).stem for path in tree.matching(f"crates/{crate}/src/*.rt")}, set()
     found = EXPORT.findall(tree.text(f"crates/{crate}/src/lib.rt"))
@@ -36,7 +36,7 @@ def _exports(tree: Tree, crate: str) -> tuple[set[str], set[str]]:
 
 
 def _public_contracts(tree: Tree, crate: str, path: str) -> str:
-    """What contracts say that a caller sees: of public functions, and of what public types are seen as."""
+    """The contracts that a caller sees: those of public functions, and of the views of public types."""
     modules, names = _exports(tree, crate)
     text = without_comments(tree.text(path))
     is_public = PurePosixPath(path).stem in {*modules, "lib"}
@@ -87,7 +87,7 @@ def groups(tree: Tree) -> Iterator[Finding]:
 
 
 def defined(tree: Tree) -> dict[str, dict[str, tuple[str, int]]]:
-    """Where each name is defined: by crate the file and the line."""
+    """The definition of each name: by crate the file and the line."""
     found: dict[str, dict[str, tuple[str, int]]] = defaultdict(dict)
     for path in tree.matching("crates/*/specs/*.antt"):
         for number, line in enumerate(without_comments(tree.text(path)).split("\n"), 1):
@@ -100,7 +100,7 @@ def shared_names(tree: Tree) -> Iterator[Finding]:
     """Names that definitions of two crates have, and that the glossary doesn't list with each of these crates."""
     if not tree.has(GLOSSARY):
         return
-    together: dict[int, set[str]] = defaultdict(set)  # what an item or a row of a table has in code font
+    together: dict[int, set[str]] = defaultdict(set)  # the code font of an item or of a table's row
     for block in blocks(tree.text(GLOSSARY)):
         if block.heading == SHARED:
             together[block.line].update(CODE.findall(block.text))

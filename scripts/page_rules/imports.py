@@ -31,7 +31,7 @@ class Row:
         return self.places[0]
 
     def fits(self, path: str) -> int:
-        """How long the place is that a module is of, by its path below python/; 0 where it is of none."""
+        """The length of the row's place that fits a module, by its path below python/; 0 if none does."""
         return max((len(place) for place in self.places if f"{path}/".startswith(f"{place}/")), default=0)
 
 
@@ -50,7 +50,7 @@ def rows_of(tree: Tree) -> list[Row]:
 
 
 def imported(tree: Tree, path: str) -> Iterator[tuple[int, str]]:
-    """The lines of a module that import, and the modules below python/ that they name, by their paths."""
+    """The lines of a module that import, and the paths of the modules below python/ that they name."""
     folder = path.split("/")[1:-1]
     for node in ast.walk(ast.parse(tree.text(path))):
         if isinstance(node, ast.Import):
@@ -67,7 +67,7 @@ def imported(tree: Tree, path: str) -> Iterator[tuple[int, str]]:
 
 
 def _path_of(tree: Tree, name: list[str]) -> str:
-    """The module that a dotted name is of, or has a name of; empty where it isn't below python/."""
+    """The module of a dotted name, or of one of its names; empty if it isn't below python/."""
     for length in range(len(name), 0, -1):
         path = "/".join(name[:length])
         for file in (f"{path}.py", f"{path}/__init__.py"):
@@ -77,7 +77,8 @@ def _path_of(tree: Tree, name: list[str]) -> str:
 
 
 def uses(tree: Tree, rows: list[Row]) -> Iterator[tuple[str, int, Row, str, Row]]:
-    """The imports of modules that one row's makes of another's: the module, its line, its row, what it imports, and that one's row."""
+    """The imports between modules of two rows: the module, its line, its row, the imported module, and that one's
+    row."""
     for path in tree.matching("python/*.py"):
         own = _row_of(rows, path.removeprefix(PYTHON))
         for line, other in sorted(set(imported(tree, path))) if own else ():
@@ -87,7 +88,7 @@ def uses(tree: Tree, rows: list[Row]) -> Iterator[tuple[str, int, Row, str, Row]
 
 
 def imports(tree: Tree) -> Iterator[Finding]:
-    """Imports that aren't as the table has them, and what it names that nothing imports."""
+    """Imports that the table doesn't allow, and those in the table that no module makes."""
     rows = rows_of(tree)
     if not rows:
         yield Finding(PAGE, 1, f"no table under {HEADING!r}")
@@ -114,9 +115,9 @@ def imports(tree: Tree) -> Iterator[Finding]:
 
 
 def written(tree: Tree) -> str:
-    """The page with its table's column of imports as the tree has them, in the order of the rows. Which packages there are, what each is
-    and which one imports all above stays as it is; and what is imported from below a row isn't put there: that is a fault of the tree.
-    """
+    """The page with the table's column of imports as the tree has them, in the order of the rows. The packages, their
+    descriptions and the row that imports all above stay; an import from below a row isn't written, because it is a
+    fault of the tree."""
     rows, lines = rows_of(tree), tree.text(PAGE).split("\n")
     met: dict[str, set[str]] = {row.name: set() for row in rows}
     for _, _, own, _, other in uses(tree, rows):
@@ -132,6 +133,6 @@ def written(tree: Tree) -> str:
 
 
 def _row_of(rows: list[Row], path: str) -> Row | None:
-    """The row that a module is of: that with the longest place."""
+    """The row of a module: that with the longest place."""
     longest = max(rows, key=lambda row: row.fits(path))
     return longest if longest.fits(path) else None

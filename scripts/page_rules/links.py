@@ -1,4 +1,4 @@
-"""Each path and each link of a page leads somewhere, and each anchor is a heading's."""
+"""Each path and each link of a page exists, and each anchor is a heading's."""
 
 import re
 from collections.abc import Iterator
@@ -17,9 +17,9 @@ FILLED_IN = re.compile(r"[A-Z][A-Z0-9_]*(?:-[\w-]+)?(?:\.\w+){0,2}|my\.\w+|\.\.\
 ELSEWHERE = re.compile(
     r"(?:.*/)?out/|recordings/|(?:internal|runtime|net|encoding|go/parser|go/ast|std|text|application)(?:/|$)"
 )
-# what is in an archive, what a page takes for an example, and a reader's own
+# names in an archive, examples of a page, and a reader's own files
 NAMED_ONLY = {"bin/nrdb", "src/m.rt", "bad.jsonl", "recording.jsonl", "recording.where", "now.jsonl", "bug.md", "./pkg"}
-# the page of what was: its files needn't be there any more
+# the page of the past: its files needn't exist any more
 HISTORY = "CHANGELOG.md"
 
 
@@ -45,7 +45,7 @@ def links(tree: Tree) -> Iterator[Finding]:
 
 
 def is_there(tree: Tree, path: str) -> bool:
-    """Whether a file or folder has this path, or one that ends so: a page names `src/kind.rt` where the crate is plain."""
+    """Whether a file or folder has this path, or one that ends so: a page names `src/kind.rt` if the crate is clear."""
     wanted = path.rstrip("/")
     if "*" in wanted:
         return any(fnmatch(place, wanted) or fnmatch(place, "*/" + wanted) for place in tree.places)

@@ -31,13 +31,13 @@ class Vocabulary:
     """Names of which some files have most, each in one of its spellings."""
 
     what: str
-    heading: str  # the part of the page that lists these files
-    least: int  # of so many a file has most
+    heading: str  # the section of the page that lists these files
+    least: int  # the least number of names for a file to count
     names: tuple[tuple[str, ...], ...]
-    files: tuple[str, ...]  # how the names of those files end that are looked at
+    files: tuple[str, ...]  # the endings of the files to examine
 
     def counted_in(self, text: str) -> int:
-        """How many of the names a text has."""
+        """The number of the names that occur in a text."""
         return sum(any(_has(spelling, text) for spelling in spellings) for spellings in self.names)
 
 
@@ -46,13 +46,13 @@ def _has(name: str, text: str) -> bool:
 
 
 def _found(tree: Tree, path: str, pattern: re.Pattern[str]) -> list[tuple[str, ...]]:
-    """What a pattern finds in a file: each time the spellings of a name."""
+    """The matches of a pattern in a file: each time the spellings of a name."""
     found = pattern.findall(tree.text(path)) if tree.has(path) else []
     return [(one,) if isinstance(one, str) else one for one in found]
 
 
 def vocabularies(tree: Tree) -> list[Vocabulary]:
-    """The kinds of steps, the cells and the commands, of the files that define them."""
+    """The kinds of steps, the cells and the commands, from the files that define them."""
     kinds = _found(tree, "crates/nr_rev/src/kind.rt", KIND)
     cells = [(name, f'"{typed}"') for name, typed in _found(tree, "crates/nr_rev/specs/CellName.antt", CELL)]
     commands = _found(tree, "crates/nr_command/src/command.rt", VARIANT)
@@ -66,7 +66,7 @@ def vocabularies(tree: Tree) -> list[Vocabulary]:
 
 
 def named_many(tree: Tree) -> Iterator[Finding]:
-    """Files that name most kinds, cells or commands, and that the page's list leaves out."""
+    """Files that name most kinds, cells or commands, and that the page's list omits."""
     page = list(codes(tree.text(ARCHITECTURE))) if tree.has(ARCHITECTURE) else []
     paths = tree.matching(
         "crates/*/src/*", "crates/*/specs/*", "crates/*/proofs/*", "python/*", "docs/*", "*.md", "bench/*"
@@ -89,7 +89,7 @@ def _below(tree: Tree, crate: str) -> set[str]:
 
 
 def drawn(tree: Tree) -> str:
-    """The crates that the program is made of, as a diagram: each beside those it imports that none of these imports."""
+    """The crates of the program as a diagram: each beside those it imports that none of these imports."""
     rows = ["flowchart TD"]
     shown = {PROGRAM, *_below(tree, PROGRAM)} if PROGRAM in tree.crates else set(tree.crates)
     for crate, imports in reversed(tree.crates.items()):

@@ -13,17 +13,17 @@ CELLS = re.compile(r"(?<!\\)\|")
 
 @dataclass(frozen=True)
 class Block:
-    """A part of a page, and the line that it begins in. A cell of a table is one, named by its column."""
+    """A part of a page, and its first line. A cell of a table is a part, named by its column."""
 
     line: int
     kind: str  # "heading", "text", "cell" or "code"
     text: str
-    heading: str = ""  # the heading that it is under
+    heading: str = ""  # the heading above it
     column: int = 0
 
 
 def _cells(line: int, row: str, heading: str) -> Iterator[Block]:
-    """The cells of a table's row, of which code font may hide a bar."""
+    """The cells of a table's row; a bar in code font doesn't end a cell."""
     hidden = CODE.sub(lambda code: code.group(0).replace("|", "\0"), row.strip().strip("|"))
     for column, cell in enumerate(CELLS.split(hidden)):
         text = cell.replace("\0", "|").strip()
@@ -56,12 +56,12 @@ def blocks(text: str) -> Iterator[Block]:
 
 
 def prose(text: str) -> Iterator[Block]:
-    """All parts but blocks of code."""
+    """All parts except blocks of code."""
     return (block for block in blocks(text) if block.kind != "code")
 
 
 def codes(text: str) -> Iterator[tuple[Block, str]]:
-    """All words in code font, with the part that each is in."""
+    """All words in code font, each with its part."""
     for block in prose(text):
         for code in CODE.findall(block.text):
             yield block, code

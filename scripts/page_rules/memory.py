@@ -11,14 +11,14 @@ from page_rules import verdict
 from page_rules.sources import without_comments
 from page_rules.tree import Finding, Tree
 
-# whatever keeps a value's memory from being given back
+# calls that keep a value's memory from being freed
 FORGETS = re.compile(r"\bmem::forget\b|\bManuallyDrop\b|\b(?:Box|Vec|String)::leak\b|\.leak\(\)|\binto_raw\b")
-# where one who keeps no way back is given one
+# the place that gets a value without keeping a way back
 MAY_FORGET = "crates/nr_rev/src/keeper.rt"
 
 
 def forgotten(tree: Tree) -> Iterator[Finding]:
-    """Values of the crates that are forgotten elsewhere than in the one place."""
+    """Values of the crates that are forgotten elsewhere than in the one allowed place."""
     for path in tree.matching("crates/*/src/*.rt"):
         for number, line in enumerate(without_comments(tree.text(path)).split("\n"), 1):
             if path != MAY_FORGET and (found := FORGETS.search(line)):
@@ -29,14 +29,14 @@ def forgotten(tree: Tree) -> Iterator[Finding]:
 TYPE = re.compile(
     r", AllocError>|\bFrom<AllocError>|\bfn from\(\w+: AllocError\)|^use std::alloc::(?:AllocError|\{[\w, ]*\});$"
 )
-# its name anywhere else makes one, or gives it another name
+# its name anywhere else makes one, or renames it
 MADE = re.compile(r"\bAllocError\b")
-# where a library says that it was refused memory by a word of its own, which carries none
+# a library's own word for a refused allocation, which carries none
 SAID = re.compile(r"\b(?:\w+::OutOfMemory|Category::Memory)\b.*=>")
-# what is printed where memory was refused
+# the output after refused memory
 PRINTED = re.compile(r'"fault 108 memory')
 MESSAGE = re.compile(r"\s*#\[error\(")
-# the type that carries a refusal, and where the types stand that are printed so, each of which carries one
+# the type that carries a refusal, and the places of the types that are printed so, each of which carries one
 CARRIES = "crates/nr_rev/src/memory.rt"
 PRINTS = "crates/nr_recording/src/fault.rt"
 

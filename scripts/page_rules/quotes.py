@@ -15,10 +15,10 @@ PAGE = "docs/proof/THEOREM.md"
 EXAMPLES = "crates/nr_programs/specs/Examples.antt"
 SHORT = "crates/nr_programs/specs/ShortRuns.antt"
 
-# a line that names a file, and the block under it
+# a line that names a file, and the block below it
 QUOTE = re.compile(r"^`([^`\n]+)`:?\n\n```\w*\n(.*?)^```$", re.MULTILINE | re.DOTALL)
 BLOCK = re.compile(r"^```", re.MULTILINE)
-# a comment that names a file, the name of its bytes, and they
+# a comment that names a file, the name of its bytes, and the bytes
 BYTES = re.compile(r"^-- (examples/\S+)\nabbrev pub (\w+) : List ℕ\n\2 =(.*?)(?=\n\n|\Z)", re.MULTILINE | re.DOTALL)
 TEXT = re.compile(r'codes "((?:[^"\\]|\\.)*)"')
 # a comment that names a recording, its limits and its steps
@@ -43,7 +43,7 @@ ESCAPES = {"n": "\n", "r": "\r", "t": "\t", '"': '"', "\\": "\\"}
 
 
 def quotes(tree: Tree) -> Iterator[Finding]:
-    """Quotes of the page that aren't in their files."""
+    """Quotes of the page that differ from their files."""
     page = tree.text(PAGE) if tree.has(PAGE) else ""
     found = list(QUOTE.finditer(page))
     if page and (2 * len(found) != len(BLOCK.findall(page)) or not found):
@@ -55,7 +55,7 @@ def quotes(tree: Tree) -> Iterator[Finding]:
 
 
 def bytes_of(text: str) -> bytes | None:
-    """The bytes that a definition has, or none where it is more than texts."""
+    """The bytes of a definition, or None if it isn't only texts."""
     parts = TEXT.findall(text)
     if TEXT.sub("", text).replace("++", "").split():
         return None
@@ -63,7 +63,7 @@ def bytes_of(text: str) -> bytes | None:
 
 
 def texts(tree: Tree) -> Iterator[Finding]:
-    """Definitions that have other bytes than the file that they are of."""
+    """Definitions with other bytes than their files."""
     source = tree.text(EXAMPLES) if tree.has(EXAMPLES) else ""
     found = list(BYTES.finditer(source))
     if source and not found:
@@ -75,7 +75,7 @@ def texts(tree: Tree) -> Iterator[Finding]:
 
 
 def argument(word: str) -> str | int:
-    """What a recording has for an argument of a step: a word, a number, a time, or bytes."""
+    """The recording's form of a step's argument: a word, a number, a time, or bytes."""
     if word in WORDS:
         return WORDS[word]
     inside = word.strip("()")
@@ -91,7 +91,7 @@ def argument(word: str) -> str | int:
 
 
 def steps_of(text: str) -> list[list[str | int]]:
-    """The steps of a run, as a recording has them."""
+    """The steps of a run, in the recording's form."""
     line = " ".join(text.split())
     *steps, end = re.split(r" ∷ (?![^()]*\))", line)
     words = [WORD.findall(step) for step in steps if end == "[]"]
@@ -110,7 +110,7 @@ def _is_run(tree: Tree, name: str, limits: str, steps: str) -> bool:
 
 
 def runs(tree: Tree) -> Iterator[Finding]:
-    """Definitions that aren't the run of the recording that they are of."""
+    """Definitions that aren't the run of their recording."""
     for path in filter(tree.has, (EXAMPLES, SHORT)):
         source = tree.text(path)
         found = list(RUN.finditer(source))

@@ -16,7 +16,7 @@ from page_rules.tree import Finding, Tree
 PAGE = "docs/proof/TRUSTED.md"
 LOOPBACK = "crates/netrev/src/loopback.rt"
 
-# a call, and the functions that make it, each so often: of a raw stream, of what wraps it, or of a log
+# a call, and the functions that make it, each this often: of a raw stream, of its wrapper, or of a log
 CALLS: dict[str, dict[str, int]] = {
     ".read(": {"LoggedReader::read": 1, "Source::read": 1, "answer_by": 1, "read_away": 1},
     ".write(": {"LoggedWriter::write": 1, "write_some": 1},
@@ -70,23 +70,23 @@ HELD = {
     "serve_one",
     "write_some",
 }
-# what makes none of these calls and is read by eye too, since it puts together what those make
+# a function that makes none of these calls and is read by eye too, because it joins those that do
 JOINS = {"LoggedCallers::serve_next"}
-# files of which all is read by eye
+# files that are read by eye as a whole
 FILES = {LOOPBACK, "crates/netrev/src/main.rt"}
 
-HEADING = "## What is read by eye"
+HEADING = "## Code read by eye"
 ROW = re.compile(r"^\| `([\w:./]+)`", re.MULTILINE)
 
 
 def _count(call: str, line: str) -> int:
-    """How often a call stands in a line: one of a method, or of a function of this name."""
+    """The number of times that a call occurs in a line: a method's, or a function's of this name."""
     before = "" if call.startswith(".") else r"(?<!\w)"
     return 0 if re.search(rf"\bfn {re.escape(call)}", line) else len(re.findall(before + re.escape(call), line))
 
 
 def _made(tree: Tree) -> dict[str, Counter[tuple[str, str]]]:
-    """Which functions of which files make each call, and how often."""
+    """The functions of each file that make each call, and how often."""
     made: dict[str, Counter[tuple[str, str]]] = {call: Counter() for call in CALLS}
     for crate in verdict.below(tree, verdict.PROGRAM):
         for path in tree.matching(f"crates/{crate}/src/*.rt"):
@@ -98,7 +98,7 @@ def _made(tree: Tree) -> dict[str, Counter[tuple[str, str]]]:
 
 
 def _by_eye(tree: Tree, made: dict[str, Counter[tuple[str, str]]]) -> Iterator[Finding]:
-    """Places that are read by eye and that TRUSTED's table lacks, or has without need."""
+    """Places read by eye that TRUSTED's table lacks, or has without need."""
     text = tree.text(PAGE)
     if HEADING not in text:
         return
@@ -119,7 +119,8 @@ def _by_eye(tree: Tree, made: dict[str, Counter[tuple[str, str]]]) -> Iterator[F
 
 
 def raw_calls(tree: Tree) -> Iterator[Finding]:
-    """Calls past the logs, calls that a function makes more or less often than is said here, and what TRUSTED says of them."""
+    """Calls past the logs, calls that a function makes more or less often than listed, and differences from TRUSTED's
+    table."""
     made = _made(tree)
     for call, functions in made.items():
         wanted = CALLS[call]

@@ -17,10 +17,10 @@ from page_rules.markdown import prose
 from page_rules.tree import Finding, Tree
 
 PAGE = "docs/proof/THEOREM.md"
-HEADING = "## What to read"
-# where else the numbers are, in words
+HEADING = "## Reading list"
+# other places with the numbers as text
 PAGES = (PAGE, "docs/proof/TRUSTED.md")
-# under which a crate's specs/Lib.antt lists the files that the laws rest on
+# the heading in a crate's specs/Lib.antt of the files that the laws rest on
 BELIEVED = "-- what the laws of THEOREM.md rest on, whole files"
 LISTED = re.compile(r"pub mod (\w+)")
 IN_WORDS = re.compile(r"([\d,]+) definitions in ([\d,]+) lines")
@@ -28,7 +28,8 @@ IN_WORDS = re.compile(r"([\d,]+) definitions in ([\d,]+) lines")
 
 @dataclass(frozen=True)
 class Law:
-    """A law, by the definitions that its contract cites: CRATE/FILE:NAME. Whoever needs more lines for one says so here."""
+    """A law, by the definitions that its contract cites: CRATE/FILE:NAME. A developer who needs more lines for one
+    changes the number here."""
 
     says: str
     cites: tuple[str, ...]
@@ -87,11 +88,11 @@ HUNTS = (
 
 @dataclass(frozen=True)
 class Count:
-    """How many definitions some laws rest on, of how many lines, in how many files."""
+    """The number of definitions that some laws rest on, and of their lines and files."""
 
     definitions: int
     lines: int  # without comments
-    comments: int  # lines besides
+    comments: int  # comment lines
     files: int
     types: int  # of Rust, that the definitions name
 
@@ -110,7 +111,7 @@ def placed(text: str) -> Place:
 
 
 class ReadingList:
-    """What some laws rest on, in a tree."""
+    """The definitions that some laws rest on, in a tree."""
 
     def __init__(self, tree: Tree, laws: tuple[Law, ...]) -> None:
         self.tree = tree
@@ -127,7 +128,7 @@ class ReadingList:
         return self.beliefs.below(set(map(placed, law.cites)), set(map(placed, law.handed)))
 
     def defined(self, places: Iterable[Place]) -> list[Place]:
-        """Those of some places that are definitions, and no types of Rust."""
+        """Those of some places that are definitions, not types of Rust."""
         return [place for place in places if self.beliefs.definition(place)]
 
     def lines(self, places: Iterable[Place]) -> int:
@@ -135,14 +136,14 @@ class ReadingList:
         return sum(len(definition.lines) for definition in found if definition)
 
     def count(self, places: set[Place]) -> Count:
-        """How much some places come to."""
+        """The count for some places."""
         here = self.defined(places)
         comments = sum(definition.comments for definition in map(self.beliefs.definition, here) if definition)
         types = {(place.crate, *f"{place.module}.{place.name}".split(".")[1:3]) for place in places if _is_type(place)}
         return Count(len(here), self.lines(here) - comments, comments, len({place.path for place in here}), len(types))
 
     def _behind(self, path: str, by_file: dict[str, set[Place]], ordered: list[str]) -> None:
-        """Adds a file to those that are ordered, behind those of its crate that it rests on."""
+        """Appends a file to the ordered ones, after those of its crate that it rests on."""
         if path in ordered:
             return
         named = set().union(*map(self.beliefs.named, sorted(by_file[path])))
@@ -151,7 +152,7 @@ class ReadingList:
         ordered.append(path)
 
     def files(self, crate: str) -> list[tuple[str, list[Place]]]:
-        """The files of a crate in the order in which they are read, each with the definitions that the laws rest on."""
+        """The files of a crate in reading order, each with the definitions that the laws rest on."""
         by_file: dict[str, set[Place]] = {}
         for place in self.defined(self.all):
             if place.crate == crate:
@@ -171,7 +172,8 @@ class ReadingList:
             yield from ((path, name) for name in sorted(others))
 
     def misplaced(self) -> Iterator[tuple[str, str]]:
-        """Files that a crate lists under the heading, and no law rests on, or the other way round: the list and the name."""
+        """Files that a crate lists under the heading although no law rests on them, and the reverse: the list and the
+        name."""
         for crate in self.tree.crates:
             wanted = {_file(path) for path, _ in self.files(crate)}
             path = f"crates/{crate}/specs/Lib.antt"
@@ -181,17 +183,17 @@ class ReadingList:
             yield from ((path, name) for name in sorted(wanted ^ listed))
 
     def rows(self) -> Iterator[str]:
-        """The two tables, as the page has them."""
+        """The two tables, as on the page."""
         yield "| Law | Definitions | Lines | At most | Of comment besides | Files | Types of Rust |"
         yield "|---|--:|--:|--:|--:|--:|--:|"
         yield from (self.count(places).row(law.says, law.most_lines) for law, places in zip(self.laws, self.of_laws))
         yield self.count(self.all).row("all of these", 0)
         yield ""
-        yield "| Crate | Its files in `specs/`, and how many lines to read in each | Lines |"
+        yield "| Crate | Its files in `specs/` | Lines to read |"
         yield "|---|---|--:|"
         for crate in self.tree.crates:
             if files := self.files(crate):
-                names = ", ".join(f"`{_file(path)}` {self.lines(places):,}" for path, places in files)
+                names = ", ".join(f"`{_file(path)}`" for path, _ in files)
                 lines = self.lines(place for _, places in files for place in places)
                 yield f"| `{crate}` | {names} | {lines:,} |"
 
@@ -201,12 +203,12 @@ def _is_type(place: Place) -> bool:
 
 
 def _file(path: str) -> str:
-    """A file's name, as the page has it."""
+    """The page's name for a file."""
     return path.rpartition("/")[2].removesuffix(".antt")
 
 
 def reading_list(tree: Tree) -> Iterator[Finding]:
-    """Where the page's tables aren't what the laws rest on, and where that is more than may be."""
+    """Differences between the page's tables and what the laws rest on, and laws that rest on too much."""
     if not tree.has(PAGE):
         return
     found, hunts = ReadingList(tree, LAWS), ReadingList(tree, HUNTS)
@@ -231,7 +233,7 @@ def tables(tree: Tree) -> list[str]:
 
 
 def _in_words(tree: Tree, counted: set[tuple[str, str]]) -> Iterator[Finding]:
-    """Sentences that have other numbers of definitions and lines than those that were counted."""
+    """Sentences with other numbers of definitions and lines than the counted ones."""
     for page in filter(tree.has, PAGES):
         for block in prose(tree.text(page)):
             for numbers in IN_WORDS.findall(block.text):
@@ -240,7 +242,7 @@ def _in_words(tree: Tree, counted: set[tuple[str, str]]) -> Iterator[Finding]:
 
 
 def _differences(page: str, wanted: list[str]) -> Iterator[Finding]:
-    """The first row of the page's tables that isn't the one that is printed, or that one lacks or has besides."""
+    """The first row of the page's tables that differs from the printed one, is missing or superfluous."""
     _, heading, rest = page.partition(f"{HEADING}\n")
     at = page.count("\n", 0, len(page) - len(rest)) + 1
     section = rest.split("\n## ")[0].split("\n") if heading else []

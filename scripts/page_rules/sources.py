@@ -1,4 +1,5 @@
-"""What the sources of a crate have, as `rt fmt` lays them out: functions with the labels of their clauses, and definitions."""
+"""The contents of a crate's sources, as `rt fmt` lays them out: functions with the labels of their clauses, and
+definitions."""
 
 import re
 from collections.abc import Iterator
@@ -23,11 +24,11 @@ MEMBER = re.compile(r"^\s+(?:pub )?([\w-]+) :", re.MULTILINE)
 
 @dataclass(frozen=True)
 class Function:
-    """A function of a source: whose it is, and what its contract says."""
+    """A function of a source: its owner, and its contract."""
 
     name: str
-    owner: str  # a type, a trait, or nothing
-    trait: str  # the trait that an `impl` is of, or nothing
+    owner: str  # a type, a trait, or empty
+    trait: str  # the trait of its `impl`, or empty
     module: str
     is_public: bool
     contract: str
@@ -39,7 +40,7 @@ class Function:
 
 @dataclass
 class Crate:
-    """What a crate has: its functions, the names in its sources, and its definitions with their members."""
+    """The contents of a crate: its functions, the names in its sources, and its definitions with their members."""
 
     functions: list[Function] = field(default_factory=list)
     names: set[str] = field(default_factory=set)
@@ -48,7 +49,7 @@ class Crate:
     text: str = ""
 
     def called(self, name: str, owner: str = "") -> list[Function]:
-        """The functions of a name, of an owner or a module where one is named."""
+        """The functions of a name, of an owner or a module if given."""
         return [one for one in self.functions if one.name == name and owner in ("", one.owner, one.trait, one.module)]
 
 
@@ -58,7 +59,7 @@ def without_comments(text: str) -> str:
 
 
 def _contract(lines: list[str], at: int, indent: str) -> str:
-    """A function's signature and clauses: the lines up to its body, or to its end where it has none."""
+    """A function's signature and clauses: the lines up to its body, or to its end if it has none."""
     kept: list[str] = []
     for line in lines[at:]:
         if line == indent + "{" or (kept and FUNCTION.match(line)):
@@ -88,7 +89,7 @@ def functions_of(path: str, text: str) -> Iterator[Function]:
 
 
 def lines_by_function(text: str) -> Iterator[tuple[str, str]]:
-    """Each line of a source without comments, with the function that it stands in: `Type::name`, `name`, or nothing."""
+    """Each line of a source without comments, with its function: `Type::name`, `name`, or empty."""
     owner = function = ""
     for line in text.split("\n"):
         if line == "}":

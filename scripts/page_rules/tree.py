@@ -1,4 +1,4 @@
-"""The files of the repository, as the rules read them, and what a rule finds."""
+"""The files of the repository, as the rules read them, and the findings of rules."""
 
 import os
 import re
@@ -8,13 +8,13 @@ from fnmatch import fnmatch
 from functools import cached_property
 from pathlib import Path
 
-# what is built or kept beside the files that are committed
+# built or kept beside the committed files
 LEFT_OUT = {".git", "out", "__pycache__", ".mypy_cache", "build", "dist"}
 
 
 @dataclass(frozen=True, order=True)
 class Finding:
-    """Something that a rule doesn't allow, and where."""
+    """A violation of a rule, and its place."""
 
     path: str
     line: int
@@ -30,7 +30,7 @@ class Tree:
     def __init__(self, root: Path) -> None:
         self.root = root
         self._texts: dict[str, str] = {}
-        self.notes: list[str] = []  # what a rule couldn't look at
+        self.notes: list[str] = []  # what a rule couldn't examine
 
     @cached_property
     def paths(self) -> list[str]:
@@ -50,19 +50,19 @@ class Tree:
 
     @cached_property
     def endings(self) -> set[str]:
-        """What a file's or a folder's path ends with, as `src/kind.rt` or `src/kind` of `crates/nr_rev/src/kind.rt`."""
+        """The ends of the paths of files and folders, as `src/kind.rt` or `src/kind` of `crates/nr_rev/src/kind.rt`."""
         places = self.places.union(os.path.splitext(path)[0] for path in self.paths if "/" in path)
         return {"/".join(place.split("/")[at:]) for place in places for at in range(place.count("/") + 1)}
 
     def matching(self, *patterns: str) -> list[str]:
-        """The files whose paths are like one of these; a `*` stands for folders too."""
+        """The files whose paths match one of these; a `*` stands for folders too."""
         return [path for path in self.paths if any(fnmatch(path, pattern) for pattern in patterns)]
 
     def has(self, path: str) -> bool:
         return path in self.places
 
     def text(self, path: str) -> str:
-        """What a file holds."""
+        """The text of a file."""
         if path not in self._texts:
             self._texts[path] = (self.root / path).read_text(encoding="utf-8")
         return self._texts[path]
@@ -73,12 +73,12 @@ class Tree:
 
     @cached_property
     def pages(self) -> list[str]:
-        """The pages: what is written for readers."""
+        """The pages for readers."""
         return self.matching("*.md")
 
     @cached_property
     def crates(self) -> dict[str, list[str]]:
-        """The crates of crates.txt, lowest first, and which of them each imports."""
+        """The crates of crates.txt, lowest first, and the crates that each imports."""
         if not self.has("crates.txt"):
             return {}
         rows = [line.split(":") for line in self.text("crates.txt").splitlines() if line.strip()]
@@ -87,10 +87,10 @@ class Tree:
 
 
 def line_at(text: str, offset: int) -> int:
-    """The number of the line that an offset of a text is in."""
+    """The line number of an offset in a text."""
     return text.count("\n", 0, offset) + 1
 
 
 def has_word(word: str, flags: int = 0) -> re.Pattern[str]:
-    """Finds a word, or some words in a row, also where a line ends between them."""
+    """Finds a word, or some words in a row, also across the end of a line."""
     return re.compile(r"(?<!\w)" + r"\s+".join(map(re.escape, word.split())) + r"(?!\w)", flags)

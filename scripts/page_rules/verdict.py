@@ -17,13 +17,13 @@ KEPT = "out/verdicts.json"
 PROGRAM = "netrev"
 # functions that take `Wait` and that no program calls, by crate
 WRAPPERS = {"nr_lines": 1}
-# how many functions a crate has is no matter of trust
+# the number of a crate's functions doesn't concern trust
 NOT_OF_TRUST = {"functions"}
 
 SECTION = re.compile(r"^== (\w+)$")
 # on the page a line may be broken
 LINE = re.compile(r"^    (logic=proved .*(?:\n    \S.*)*)", re.MULTILINE)
-# words of lines that are no verdict on a crate: of its tests, and of a check that went on from what an earlier one left
+# words of lines that aren't a verdict on a crate: of its tests, and of a check that continued an earlier one
 NO_VERDICT = re.compile(r" (?:tests|incremental)=")
 KIT = re.compile(r"rattle-kit-\w+ logic (\w+)")
 MAY_WAIT = re.compile(r"^(\w+)\b[^:\n]*\bmay_wait=(\d+)", re.MULTILINE)
@@ -32,7 +32,7 @@ Words = dict[str, str]
 
 
 def words_of(line: str) -> Words:
-    """The words of a verdict's line, by what each is of."""
+    """The words of a verdict's line, by key."""
     pairs = (word.partition("=") for word in line.split())
     return {name: value for name, _, value in pairs if name not in NOT_OF_TRUST}
 
@@ -58,7 +58,7 @@ def below(tree: Tree, crate: str) -> list[str]:
 
 
 def _own_sum(tree: Tree, crate: str) -> str:
-    """A sum of a crate's own files."""
+    """A checksum of a crate's own files."""
     summed = hashlib.sha256()
     for path in tree.matching(f"crates/{crate}/src/*", f"crates/{crate}/specs/*", f"crates/{crate}/proofs/*"):
         summed.update(f"{path}\n{tree.text(path)}\n".encode())
@@ -66,7 +66,7 @@ def _own_sum(tree: Tree, crate: str) -> str:
 
 
 def sums(tree: Tree) -> dict[str, str]:
-    """Of each crate a sum of the files that a verdict is of: its own, and those of all that it imports."""
+    """For each crate a checksum of the files that a verdict covers: its own, and those of all that it imports."""
     found: dict[str, str] = {}
     for name, imports in tree.crates.items():
         summed = [_own_sum(tree, name), *(found.get(other, "") for other in imports)]
@@ -75,7 +75,7 @@ def sums(tree: Tree) -> dict[str, str]:
 
 
 def kept(tree: Tree) -> dict[str, str]:
-    """The verdicts that are kept of the files as they are, by crate."""
+    """The verdicts that are kept for the files as they are, by crate."""
     file = tree.root / KEPT
     records = json.loads(file.read_text(encoding="utf-8")) if file.exists() else {}
     now = sums(tree) if records else {}
@@ -83,7 +83,7 @@ def kept(tree: Tree) -> dict[str, str]:
 
 
 def _of_page(tree: Tree, page: Words) -> Iterator[str]:
-    """What the page says that README.md and crates.txt don't."""
+    """Statements of the page that README.md and crates.txt contradict."""
     if found := KIT.search(tree.text(README) if tree.has(README) else ""):
         if found.group(1) != page.get("sum"):
             yield f"the verdict is of logic {page.get('sum')}, and {README} names {found.group(1)}"
@@ -96,7 +96,7 @@ def _of_page(tree: Tree, page: Words) -> Iterator[str]:
 
 
 def _of_verdicts(tree: Tree, page: Words, lines: dict[str, str]) -> Iterator[str]:
-    """What the page says that these verdicts don't."""
+    """Statements of the page that these verdicts contradict."""
     waits = dict(MAY_WAIT.findall(tree.text(CRATES)))
     for name, line in lines.items():
         words = words_of(line)
@@ -108,7 +108,7 @@ def _of_verdicts(tree: Tree, page: Words, lines: dict[str, str]) -> Iterator[str
 
 
 def verdict(tree: Tree) -> Iterator[Finding]:
-    """What the page says of the verdict that isn't so."""
+    """Statements of the page about the verdict that are wrong."""
     if not tree.has(PAGE):
         return
     lines = LINE.findall(tree.text(PAGE))

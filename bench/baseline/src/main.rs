@@ -20,6 +20,8 @@ use std::process::exit;
 
 /// Steps between two copies.
 const EVERY: usize = 1_024;
+/// Bytes that are read at once, as many as netrev reads: both answer the lines of one read by one write.
+const CHUNK: usize = 512;
 const USAGE: &str = "usage: netrev-baseline check FILE, netrev-baseline run FILE, or netrev-baseline FILE";
 
 fn fail(status: i32, text: &str) -> ! {
@@ -59,7 +61,7 @@ fn check(file: &OsStr) -> String {
 fn run(film: &Film) -> std::io::Result<()> {
     let mut session = Session::new(film);
     let (mut input, mut output) = (std::io::stdin().lock(), std::io::stdout().lock());
-    let mut chunk = vec![0u8; 65_536];
+    let mut chunk = [0u8; CHUNK];
     let mut rest = Vec::new();
     let mut replies = Vec::new();
     loop {

@@ -101,4 +101,20 @@ impl GTable {
             limit: self.limit,
         })
     }
+
+    /// Becomes an equal one of another with the same limits, links included, in the room that it has. It takes no memory.
+    pub fn copy_from(&mut self, other: &GTable)
+        requires limit { self.old.limit ≡ other.now.limit }
+        requires semaphores { length self.old.semaphores ≡ length other.now.semaphores }
+        ensures well_formed { IsQueuedUp self.new }
+        ensures equal { self.new ≡ other.now }
+    {
+        other.queues_hold_the_queued();
+        self.nodes.clear();
+        let Ok(()) = self.nodes.extend_from_slice(&other.nodes) else {
+            unreachable!()
+        };
+        self.semaphores.copy_from_slice(&other.semaphores);
+        self.waits.copy_from(&other.waits);
+    }
 }

@@ -1,6 +1,6 @@
 //! How many goroutines are inside a wait of each side of a descriptor.
 
-ghost use Rattle.std.specs.Prelude.{◌≡◌, IfOk, replicate};
+ghost use Rattle.std.specs.Prelude.{◌≡◌, IfOk, length, replicate, take};
 ghost use Rattle.nr_rev.specs.Sides.{twice};
 ghost use Rattle.nr_rev.specs.World.{wait_of};
 ghost use Rattle.nr_gsema.specs.Waits.{CanJoin, waiting_of, joined, left, moved_between};
@@ -41,6 +41,15 @@ impl WaitCounts {
         Ok(WaitCounts {
             counts: Vec::from_slice(alloc, &self.counts)?,
         })
+    }
+
+    /// Takes the counts of another for its own, of the descriptors that both count. It takes no memory.
+    pub(crate) fn copy_from(&mut self, other: &WaitCounts)
+        ensures { self.new ≡ take (length self.old) other.now }
+    {
+        let count = self.counts.len().min(other.counts.len());
+        self.counts.truncate(count);
+        self.counts.copy_from_slice(&other.counts[..count]);
     }
 
     /// How many are inside a wait of the descriptor and side; `None` where the descriptor is not below the limit.

@@ -15,6 +15,7 @@ pub mod GoroutinesLemmas
 pub mod TimersLemmas
 pub mod DescriptorLemmas
 pub mod FreshLemmas
+pub mod SnapshotLemmas
 pub mod ClosingLemmas
 pub mod ResetLemmas
 pub mod PopLemmas

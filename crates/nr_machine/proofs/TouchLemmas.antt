@@ -5,7 +5,6 @@ use Rattle.std.specs.Option.{option_map_or}
 use Rattle.nr_rev.specs.declared.descriptor.Descriptor.{Descriptor}
 use Rattle.nr_rev.specs.declared.descriptor.DescriptorRow.{DescriptorRow}
 use Rattle.nr_rev.specs.declared.sides.Side.{Side}
-use Rattle.nr_rev.specs.Cell.{queue_of}
 use Rattle.nr_rev.specs.Semaphore.{front_of}
 use Rattle.nr_rev.specs.Sides.{of_side}
 use Rattle.nr_rev.specs.Socket.{Socket}

@@ -16,6 +16,7 @@ pub mod ReversibleLaws
 pub mod NumberedLaws
 pub mod SameLaws
 pub mod Worlds
+pub mod Snapshot
 pub mod Transfers
 pub mod Fresh
 pub mod Goroutines

@@ -147,7 +147,7 @@ impl Reversible for World {
 
     #[inline(always)]
     fn undo(&mut self, delta: WorldDelta) {
-        self.lead_back(delta.undo);
+        self.lead_back(&delta.undo);
     }
 
     ghost back_is_unique = { WorldBack-unique };

@@ -1,8 +1,10 @@
 //! A packed world at rest.
 
-ghost use Rattle.std.specs.Prelude.{◌≡◌, ◌-◌, ◌≤◌, ◌++◌, length, take, replicate, IfOk};
+ghost use Rattle.std.specs.Prelude.{◌≡◌, ◌-◌, ◌≤◌, ◌++◌, length, take, drop, replicate, IfOk};
 ghost use Rattle.nr_sockbuf.specs.Sock.{never_opened};
+ghost use Rattle.nr_machine.specs.Snapshot.{AreClosedFrom, HaveLimit};
 
+use crate::world::World;
 use crate::world_core::Core;
 use nr_rev::Memory;
 use nr_sockbuf::{Sock, SockSnapshot};
@@ -82,4 +84,36 @@ pub(crate) fn restored_socks(
         socks.push(Sock::with_limits(alloc, buffer)?)?;
     }
     Ok(socks)
+}
+
+impl World {
+    /// The buffers of the first sockets become those at rest.
+    pub(crate) fn restore_opened(&mut self, opened: &[SockSnapshot])
+        requires count { length opened.now ≤ length self.old.socks }
+        requires limit { HaveLimit self.old.core.limits.buffer self.old.socks }
+        requires kept { HaveLimit self.old.core.limits.buffer opened.now }
+        ensures { self.new ≡ record self.old {
+          socks = opened.now ++ drop (length opened.now) self.old.socks;
+        } }
+    {
+        for socket in 0..opened.len() {
+            self.socks[socket].restore(&opened[socket]);
+        }
+    }
+
+    /// The sockets from number `first` on become such as were never opened. Those that have no lock are that already.
+    pub(crate) fn reset_from(&mut self, first: usize)
+        requires first { first ≤ length self.old.socks }
+        requires locks { self.old.core.locks.room ≡ length self.old.socks }
+        requires limit { HaveLimit self.old.core.limits.buffer self.old.socks }
+        requires closed { AreClosedFrom first (length self.old.core.locks.items) self.old.socks }
+        ensures { self.new ≡ record self.old {
+          socks = take first self.old.socks
+              ++ replicate (length self.old.socks - first) (never_opened self.old.core.limits.buffer);
+        } }
+    {
+        for socket in first..self.core.locks.len() {
+            self.socks[socket].reset();
+        }
+    }
 }

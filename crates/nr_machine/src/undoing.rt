@@ -143,53 +143,53 @@ impl Core {
 impl World {
     /// The buffers of a socket are as they were.
     #[inline(always)]
-    fn untransfer(&mut self, socket: usize, delta: SockDelta)
-        requires { (old : WorldParts) × SockBack socket delta self.old old }
-        ensures { SockBack socket delta self.old self.new }
+    fn untransfer(&mut self, socket: usize, delta: &SockDelta)
+        requires { (old : WorldParts) × SockBack socket delta.now self.old old }
+        ensures { SockBack socket delta.now self.old self.new }
     {
         let sock = &mut self.socks[socket];
-        sock.undo(delta);
+        sock.lead_back(&delta.undo);
     }
 
     /// The socket that was opened last isn't.
     #[inline(always)]
-    fn unopen(&mut self, delta: SockDelta)
-        requires { (old : WorldParts) × OpenedBack delta self.old old }
-        ensures { OpenedBack delta self.old self.new }
+    fn unopen(&mut self, delta: &SockDelta)
+        requires { (old : WorldParts) × OpenedBack delta.now self.old old }
+        ensures { OpenedBack delta.now self.old self.new }
     {
         self.core.locks.drop_last();
         let socket = self.core.locks.len();
         self.untransfer(socket, delta);
     }
 
-    /// Leads back over a step.
+    /// Leads back over the step whose undo this is, and leaves the undo as it is.
     #[inline(always)]
-    pub(crate) fn lead_back(&mut self, undo: WorldUndo)
-        requires { (old : WorldParts) × UndoBack undo self.old old }
-        ensures { UndoBack undo self.old self.new }
+    pub(crate) fn lead_back(&mut self, undo: &WorldUndo)
+        requires { (old : WorldParts) × UndoBack undo.now self.old old }
+        ensures { UndoBack undo.now self.old self.new }
     {
         match undo {
             WorldUndo::Still => {}
-            WorldUndo::Goroutine(delta) => self.core.goroutines.undo(delta),
-            WorldUndo::Locked { lock, moved } => self.core.unlock_moved(lock, moved),
-            WorldUndo::Sock { socket, delta } => self.untransfer(socket as usize, delta),
+            WorldUndo::Goroutine(delta) => self.core.goroutines.undo(*delta),
+            WorldUndo::Locked { lock, moved } => self.core.unlock_moved(*lock, *moved),
+            WorldUndo::Sock { socket, delta } => self.untransfer(*socket as usize, delta),
             WorldUndo::Opened(delta) => self.unopen(delta),
             WorldUndo::Made => self.core.descriptors.drop_last(),
-            WorldUndo::Reopened(desc) => self.core.free_again(desc),
-            WorldUndo::Closed(desc) => self.core.unclose(desc),
-            WorldUndo::Described(desc) => self.core.undescribe(desc),
+            WorldUndo::Reopened(desc) => self.core.free_again(*desc),
+            WorldUndo::Closed(desc) => self.core.unclose(*desc),
+            WorldUndo::Described(desc) => self.core.undescribe(*desc),
             WorldUndo::Waited {
                 desc,
                 moved,
                 parked,
-            } => self.core.unwait(desc, moved, parked),
-            WorldUndo::Clock(before) => self.core.clock = before,
-            WorldUndo::Timers(delta) => self.core.timers.undo(delta),
+            } => self.core.unwait(*desc, *moved, *parked),
+            WorldUndo::Clock(before) => self.core.clock = *before,
+            WorldUndo::Timers(delta) => self.core.timers.undo(*delta),
             WorldUndo::Changed {
                 desc,
                 timers,
                 woken,
-            } => self.core.unchange(desc, timers, woken),
+            } => self.core.unchange(*desc, *timers, *woken),
         }
     }
 }

@@ -11,7 +11,7 @@ ghost use Rattle.nr_machine.specs.Fits.{CoreFits, IsWorld};
 ghost use Rattle.nr_machine.specs.Fresh.{empty_core};
 ghost use Rattle.nr_machine.specs.World.{meant};
 
-use crate::delta::WorldDelta;
+use crate::delta::{WorldDelta, WorldUndo};
 use crate::snapshot::{WorldSnapshot, count_opened, restored_socks, snapshots};
 use crate::world::World;
 use crate::world_core::Core;
@@ -66,6 +66,22 @@ impl Core {
             clock: self.clock,
             waiters: self.waiters,
         })
+    }
+
+    /// Becomes an equal one of another with the same limits, in the room that it has. It takes no memory.
+    fn copy_from(&mut self, other: &Core)
+        requires fits { CoreFits self.old }
+        requires other { CoreFits other.now }
+        requires limits { self.old.limits ≡ other.now.limits }
+        ensures { self.new ≡ other.now }
+    {
+        self.goroutines.copy_from(&other.goroutines);
+        self.locks.copy_from(&other.locks);
+        self.descriptors.copy_from(&other.descriptors);
+        self.free.copy_from(&other.free);
+        self.timers.copy_from(&other.timers);
+        self.clock = other.clock;
+        self.waiters = other.waiters;
     }
 }
 
@@ -163,6 +179,17 @@ impl Worlds for World {
         })
     }
 
+    fn restore(&mut self, snapshot: &WorldSnapshot) -> Result<(), Memory> {
+        if !self.core.limits.is(snapshot.core.limits) {
+            *self = World::restored(snapshot)?;
+            return Ok(());
+        }
+        self.restore_opened(&snapshot.opened);
+        self.reset_from(snapshot.opened.len());
+        self.core.copy_from(&snapshot.core);
+        Ok(())
+    }
+
     #[inline(always)]
     fn no_delta() -> WorldDelta {
         WorldDelta::default()
@@ -172,6 +199,12 @@ impl Worlds for World {
     #[tactic(auto, using(crate::proofs::MadeLemmas::made_fits))]
     fn apply_to(&mut self, step: &Step, delta: &mut WorldDelta) -> Result<Answer, Refusal> {
         self.make(step, &mut delta.undo)
+    }
+
+    #[inline(always)]
+    fn undo_from(&mut self, delta: &mut WorldDelta) {
+        self.lead_back(&delta.undo);
+        delta.undo = WorldUndo::Still;
     }
 
     #[inline(always)]

@@ -103,6 +103,19 @@ impl PlainSocket {
         })
     }
 
+    /// Becomes an equal one of another with as much room. It takes no memory.
+    pub(crate) fn copy_from(&mut self, other: &PlainSocket)
+        requires queues { self.old.queue_room ≡ other.now.queue_room }
+        requires buffers { self.old.byte_room ≡ other.now.byte_room }
+        ensures { self.new ≡ other.now }
+    {
+        self.state = other.state;
+        self.read_queue.copy_from(&other.read_queue);
+        self.write_queue.copy_from(&other.write_queue);
+        self.input.copy_from(&other.input);
+        self.output.copy_from(&other.output);
+    }
+
     /// Makes it a new one with buffers of these capacities.
     pub(crate) fn renew(&mut self, read_capacity: u32, write_capacity: u32)
         ensures { self.new ≡ record self.old {

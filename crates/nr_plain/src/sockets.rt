@@ -77,6 +77,19 @@ impl Sockets {
         })
     }
 
+    /// Becomes an equal one of another with as much room. It takes no memory.
+    pub(crate) fn copy_from(&mut self, other: &Sockets)
+        requires room { self.old.room ≡ other.now.room }
+        requires queues { self.old.queue_room ≡ other.now.queue_room }
+        requires buffers { self.old.byte_room ≡ other.now.byte_room }
+        ensures { self.new ≡ other.now }
+    {
+        for place in 0..other.opened {
+            self.all[place].copy_from(&other.all[place]);
+        }
+        self.opened = other.opened;
+    }
+
     /// How many are opened.
     pub(crate) fn len(&self) -> usize
         ensures { result ≡ length self.now.sockets }

@@ -8,10 +8,11 @@ use crate::descriptor::summary;
 use crate::sockets::Sockets;
 use crate::world::PlainWorld;
 use nr_rev::{
-    Answer, Bytes, Cell, CellValue, Limits, Memory, NoWayBack, Queue, Refusal, RoomedList, Side,
-    Status, Step, Worlds,
+    Answer, Bytes, Cell, CellValue, Limits, Memory, NoWayBack, Queue, Refusal, Reversible,
+    RoomedList, Side, Status, Step, Worlds,
 };
 use std::alloc::Global;
+use std::mem;
 
 /// A copy of the items. Of none it takes no memory.
 fn copy_of<T: Copy + Drop>(alloc: Global, items: &[T]) -> Result<Vec<T>, Memory>
@@ -81,12 +82,32 @@ impl Worlds for PlainWorld {
         snapshot.try_copy()
     }
 
+    fn restore(&mut self, snapshot: &PlainWorld) -> Result<(), Memory> {
+        if !self.limits.is(snapshot.limits) {
+            *self = snapshot.try_copy()?;
+            return Ok(());
+        }
+        self.goroutines.copy_from(&snapshot.goroutines);
+        self.sockets.copy_from(&snapshot.sockets);
+        self.descriptors.copy_from(&snapshot.descriptors);
+        self.firings.copy_from(&snapshot.firings);
+        self.free.copy_from(&snapshot.free);
+        self.clock = snapshot.clock;
+        self.waiters = snapshot.waiters;
+        self.next_arming = snapshot.next_arming;
+        Ok(())
+    }
+
     fn no_delta() -> PlainDelta {
         PlainDelta::default()
     }
 
     fn apply_to(&mut self, step: &Step, delta: &mut PlainDelta) -> Result<Answer, Refusal> {
         self.make(step, delta)
+    }
+
+    fn undo_from(&mut self, delta: &mut PlainDelta) {
+        self.undo(mem::take(delta));
     }
 
     fn advance(&mut self, step: &Step) -> Result<Answer, Refusal> {

@@ -3,6 +3,7 @@ pub mod PlainLemmas
 pub mod ElementsLemmas
 pub mod LineValueLemmas
 pub mod MembersLemmas
+pub mod LineLemmas
 pub mod ReadLoopLemmas
 pub mod BoundPartLemmas
 pub mod TextLaws

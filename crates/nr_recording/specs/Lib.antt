@@ -7,7 +7,6 @@ pub mod Version
 pub mod Numbers
 pub mod Answer
 pub mod Arguments
-pub mod Spelling
 pub mod Shapes
 pub mod Steps
 pub mod Header
@@ -16,5 +15,6 @@ pub mod Writing
 -- inner: what only definitions and proofs of this crate use
 pub mod Part
 pub mod Plain
+pub mod Spelling
 -- what goes on with the files that the laws rest on
 pub mod Auxiliary

@@ -6,7 +6,6 @@ use Rattle.serde_json.specs.Data.{Data}
 use Rattle.serde_json.specs.Read.{read}
 use Rattle.nr_recording.specs.declared.fault.Fault.{Fault}
 use Rattle.nr_recording.specs.declared.fault.Fault.TheVariants as fault
-use Rattle.nr_recording.specs.declared.fault.LineError.TheVariants as line
 use Rattle.nr_recording.specs.declared.fault.ReadFault.{ReadFault}
 use Rattle.nr_recording.specs.declared.fault.ReadFault.TheVariants as errors
 use Rattle.nr_recording.specs.declared.reading.TheConstants.{MOST_LINE_BYTES}

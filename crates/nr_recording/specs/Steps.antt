@@ -10,9 +10,8 @@ use Rattle.nr_recording.specs.declared.fault.Fault.TheVariants as fault
 use Rattle.nr_recording.specs.declared.version.Version.{Version}
 use Rattle.nr_recording.specs.declared.version.Version.TheVariants.{One, Two}
 use Rattle.nr_recording.specs.Faults.{◌>>=◌, or_fault}
-use Rattle.nr_recording.specs.Arguments.{◌and◌, answer as answer_at}
+use Rattle.nr_recording.specs.Arguments.{answer as answer_at}
 use Rattle.nr_recording.specs.Shapes.{bare, one, pair, triple, sided, arrival, transfer, deadline, event, timed}
-use Rattle.nr_recording.specs.Spelling.{answer}
 use Rattle.nr_recording.specs.Version.{kind_in}
 use Rattle.nr_recording.specs.declared.recording.RecordedStep.{RecordedStep}
 

@@ -1,6 +1,6 @@
 //! Reading a recording, line after line.
 
-ghost use Rattle.std.specs.Prelude.{◌≡◌, ◌<◌, ◌≤◌, [], ◌∷◌, ◌++◌, length, true, IfOk, OnErr, OnOk, Some, option_to_list};
+ghost use Rattle.std.specs.Prelude.{◌≡◌, ◌<◌, ◌≤◌, [], ◌∷◌, ◌++◌, length, true, IfOk, OnErr, OnOk, Some, option_map, option_to_list};
 ghost use Rattle.serde_json.specs.Data.{array};
 ghost use Rattle.serde_json.specs.View.{view};
 ghost use Rattle.nr_rev.specs.Refusing.{refused_memory};
@@ -9,8 +9,8 @@ ghost use Rattle.nr_recording.specs.Recording.{Recorded};
 ghost use Rattle.nr_recording.specs.Auxiliary.Recording.{is_writable};
 ghost use Rattle.nr_recording.specs.declared.recording.TheConstants.{MOST_STEPS};
 ghost use Rattle.nr_recording.specs.Auxiliary.Faults.{ReadsBy};
-ghost use Rattle.nr_recording.specs.Reading.{value_of, is_space, is_blank, nothing, with_value, with_line, recording_at_end, reading};
-ghost use Rattle.nr_recording.specs.Auxiliary.Reading.{value_takes_memory, line_takes_memory, IsUnlessMemory, text_takes_memory};
+ghost use Rattle.nr_recording.specs.Reading.{value_of, is_space, is_blank, lines, nothing, with_value, with_line, recording_at_end, reading};
+ghost use Rattle.nr_recording.specs.Auxiliary.Reading.{lines_behind, value_takes_memory, line_takes_memory, IsUnlessMemory, text_takes_memory};
 ghost use Rattle.nr_recording.specs.Text.{IsTextOf};
 
 use crate::fault::{Fault, LineError, ReadFault};
@@ -21,6 +21,7 @@ use crate::recording::{MOST_STEPS, RecordedStep, Recording};
 use crate::steps::step;
 use crate::version::Version;
 use arrayvec::ArrayVec;
+use memchr::memchr;
 use nr_rev::{Answer, Limits, Memory, Step};
 use serde_json::Value;
 use std::alloc::Global;
@@ -206,6 +207,21 @@ impl RecordingReader {
     }
 }
 
+/// The first line of a text, and what is behind its line feed.
+#[inline(always)]
+fn first_line(text: &[u8]) -> (&[u8], Option<&[u8]>)
+    ensures { lines text.now ≡ result.0.now ∷ lines_behind (option_map (λ behind. behind.now) result.1) }
+{
+    let Some(end) = memchr(b'\n', text) else {
+        return (text, None);
+    };
+    let (line, behind) = text.split_at(end);
+    let [_, behind @ ..] = behind else {
+        return (line, None);
+    };
+    (line, Some(behind))
+}
+
 fn read_lines(alloc: Global, bytes: &[u8]) -> Result<Recording, ReadFault>
     ensures exact { IsUnlessMemory result (reading bytes.now) }
     ensures memory { result ≡ Err (ReadFault.Memory refused_memory) → text_takes_memory bytes.now ≡ true }
@@ -213,11 +229,14 @@ fn read_lines(alloc: Global, bytes: &[u8]) -> Result<Recording, ReadFault>
     let mut reader = RecordingReader::new(alloc);
     let mut parts = ArrayVec::new();
     let mut number = 0;
-    for line in bytes.split(|byte| *byte == b'\n') {
+    let mut left = Some(bytes);
+    while let Some(text) = left {
+        let (line, behind) = first_line(text);
         number += 1;
         if let Err(e) = reader.line(alloc, line, &mut parts) {
             return Err(e.at(number));
         }
+        left = behind;
     }
     reader.finish(number)
 }

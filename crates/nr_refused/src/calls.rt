@@ -26,6 +26,8 @@ pub(crate) enum Call {
     SnapshotPlain,
     Restored,
     RestoredPlain,
+    RestoredInPlace,
+    RestoredInPlacePlain,
     TableWithLimits,
     TableWithDescriptors,
     SockWithLimits,
@@ -63,7 +65,7 @@ pub(crate) enum Call {
 }
 
 /// Their names.
-pub(crate) static CALLS: [(&str, Call); 46] = [
+pub(crate) static CALLS: [(&str, Call); 48] = [
     ("read", Call::Read),
     ("write", Call::Write),
     ("load", Call::Load),
@@ -76,6 +78,8 @@ pub(crate) static CALLS: [(&str, Call); 46] = [
     ("snapshot-plain", Call::SnapshotPlain),
     ("restored", Call::Restored),
     ("restored-plain", Call::RestoredPlain),
+    ("restored-in-place", Call::RestoredInPlace),
+    ("restored-in-place-plain", Call::RestoredInPlacePlain),
     ("goroutines-with-limits", Call::TableWithLimits),
     ("goroutines-with-descriptors", Call::TableWithDescriptors),
     ("buffers-with-limits", Call::SockWithLimits),
@@ -160,6 +164,12 @@ impl Call {
             Call::SnapshotPlain => worlds::make_of_world_twice::<PlainWorld>(rt, Made::Snapshot),
             Call::Restored => worlds::make_of_world_twice::<World>(rt, Made::Restored),
             Call::RestoredPlain => worlds::make_of_world_twice::<PlainWorld>(rt, Made::Restored),
+            Call::RestoredInPlace => {
+                worlds::make_of_world_twice::<World>(rt, Made::RestoredInPlace)
+            }
+            Call::RestoredInPlacePlain => {
+                worlds::make_of_world_twice::<PlainWorld>(rt, Made::RestoredInPlace)
+            }
             _ => self.make_part_twice(rt, handles),
         }
     }

@@ -160,6 +160,30 @@ fn restore<W: Worlds + Drop>(rt: &HostRuntime, world: &W, snapshot: &W::Snapshot
     }
 }
 
+// Another world becomes the one of a snapshot, in the room that it has. From then on there is memory.
+fn restore_in_place<W: Worlds + Drop>(
+    rt: &HostRuntime,
+    world: &W,
+    snapshot: &W::Snapshot,
+    other: &mut W,
+) -> Came
+    requires well_formed { W.is_well_formed world.now }
+    requires other { W.is_well_formed other.old }
+    requires kept { W.kept snapshot.now ≡ world.now }
+    ensures { W.is_well_formed other.new }
+{
+    match other.restore(snapshot) {
+        Ok(()) => {
+            grant(rt);
+            Came::of(are_alike(world, other))
+        }
+        Err(_) => {
+            grant(rt);
+            Came::Refused
+        }
+    }
+}
+
 /// What is made of a world.
 #[derive(Clone, Copy)]
 pub(crate) enum Made {
@@ -167,23 +191,29 @@ pub(crate) enum Made {
     Snapshot,
     /// The world, from its snapshot.
     Restored,
+    /// The world, from its snapshot in the room of another one.
+    RestoredInPlace,
 }
 
 fn make_of<W: Worlds + Drop>(
     rt: &HostRuntime,
     world: &W,
     snapshot: &W::Snapshot,
+    other: &mut W,
     made: Made,
 ) -> Came
 where
     W::Snapshot: Drop,
     requires well_formed { W.is_well_formed world.now }
+    requires other { W.is_well_formed other.old }
     requires kept { W.kept snapshot.now ≡ world.now }
+    ensures { W.is_well_formed other.new }
 {
     match made {
         Made::Copy => copy(rt, world),
         Made::Snapshot => rest(rt, world, snapshot),
         Made::Restored => restore(rt, world, snapshot),
+        Made::RestoredInPlace => restore_in_place(rt, world, snapshot, other),
     }
 }
 
@@ -194,11 +224,12 @@ where
 {
     let none: Option<W::Snapshot> = None;
     let snapshot = world.snapshot(none.as_ref()).ok()?;
+    let mut other = W::fresh(rt.alloc(), LIMITS).ok()?;
     refuse(rt);
-    let first = make_of(rt, world, &snapshot, made);
+    let first = make_of(rt, world, &snapshot, &mut other, made);
     Some(Twice {
         first,
-        again: make_of(rt, world, &snapshot, made),
+        again: make_of(rt, world, &snapshot, &mut other, made),
     })
 }
 

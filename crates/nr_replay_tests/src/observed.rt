@@ -8,6 +8,7 @@ use nr_rev::{
 };
 use std::alloc::{AllocError, Global};
 use std::marker::Model;
+use std::sync::Arc;
 use std::sync::atomic::{AtomicU32, Ordering};
 
 /// A world over lists that counts the calls that it gets, and whose copies may run out of memory. None of that is part of
@@ -20,8 +21,8 @@ pub struct Observed {
     undos: u32,
     // how often `was_seen` was asked of it
     seen: AtomicU32,
-    // bit by bit from the lowest: whether the next copy is refused, and the one behind it, and so on
-    refusals: AtomicU32,
+    // which copies are refused; a world shares this with its copies and its snapshots
+    refusals: Arc<AtomicU32>,
 }
 
 impl Model for Observed {
@@ -32,8 +33,41 @@ impl Model for Observed {
     ghost view = { λ o. o.world };
 }
 
+/// Such a world at rest.
+#[derive(Drop)]
+pub struct ObservedSnapshot {
+    world: <PlainWorld as Worlds>::Snapshot,
+    refusals: Arc<AtomicU32>,
+}
+
+impl Model for ObservedSnapshot {
+    ghost use Rattle.nr_rev.specs.World.{World};
+
+    ghost Value = { World };
+
+    ghost view = { λ s. s.world };
+}
+
+// One more owner of what says which copies are refused.
+fn share(refusals: &Arc<AtomicU32>) -> Result<Arc<AtomicU32>, Memory> {
+    match Arc::try_clone(refusals) {
+        Ok(shared) => Ok(shared),
+        Err(_) => Err(Memory::from(AllocError)),
+    }
+}
+
+// Whether the next copy is refused, by the lowest bit, and the one after it, and so on.
+fn allow(refusals: &Arc<AtomicU32>) -> Result<(), Memory> {
+    let bits = refusals.load(Ordering::SeqCst);
+    refusals.store(bits / 2, Ordering::SeqCst);
+    if bits % 2 == 1 {
+        return Err(Memory::from(AllocError));
+    }
+    Ok(())
+}
+
 impl Observed {
-    fn around(world: PlainWorld) -> Observed
+    fn around(world: PlainWorld, refusals: Arc<AtomicU32>) -> Observed
         ensures { result ≡ world }
     {
         Observed {
@@ -41,21 +75,21 @@ impl Observed {
             applies: 0,
             undos: 0,
             seen: AtomicU32::new(0),
-            refusals: AtomicU32::new(0),
+            refusals,
         }
     }
 
-    /// How often it was led forwards and back since it was made.
+    /// How often it was led forwards and back since it was made or restored.
     pub fn moves(&self) -> (u32, u32) {
         (self.applies, self.undos)
     }
 
-    /// Whether this was asked before of this very world: it wasn't of a copy that was made since.
+    /// Whether this was asked before of this very world: it wasn't of a copy that was made since, nor of what it was restored to.
     pub fn was_seen(&self) -> bool {
         self.seen.fetch_add(1, Ordering::SeqCst) > 0
     }
 
-    /// Of the copies to come those are refused whose bits are set, from the lowest on.
+    /// Of the copies to come, and of the worlds made from a snapshot, those are refused whose bits are set, from the lowest on.
     pub fn refuse(&self, refusals: u32) {
         self.refusals.store(refusals, Ordering::SeqCst);
     }
@@ -119,31 +153,45 @@ impl Reversible for Observed {
 impl Worlds for Observed {
     ghost use Rattle.nr_plain.specs.Worlds.{meant, steps_are, reasons_are, memory_is_for_bytes, bytes_out_are, means_well_formed};
 
-    type Snapshot = <PlainWorld as Worlds>::Snapshot;
+    type Snapshot = ObservedSnapshot;
 
     ghost world = { meant };
 
     ghost kept = { λ snapshot. snapshot };
 
     fn fresh(alloc: Global, limits: Limits) -> Result<Self, Memory> {
-        Ok(Observed::around(PlainWorld::fresh(alloc, limits)?))
+        let refusals = Arc::new(alloc, AtomicU32::new(0))?;
+        Ok(Observed::around(PlainWorld::fresh(alloc, limits)?, refusals))
     }
 
     fn try_copy(&self) -> Result<Self, Memory> {
-        let refusals = self.refusals.load(Ordering::SeqCst);
-        self.refusals.store(refusals / 2, Ordering::SeqCst);
-        if refusals % 2 == 1 {
-            return Err(Memory::from(AllocError));
-        }
-        Ok(Observed::around(self.world.try_copy()?))
+        allow(&self.refusals)?;
+        Ok(Observed::around(self.world.try_copy()?, share(&self.refusals)?))
     }
 
     fn snapshot(&self, last: Option<&Self::Snapshot>) -> Result<Self::Snapshot, Memory> {
-        self.world.snapshot(last)
+        let last = match last {
+            Some(last) => Some(&last.world),
+            None => None,
+        };
+        Ok(ObservedSnapshot {
+            world: self.world.snapshot(last)?,
+            refusals: share(&self.refusals)?,
+        })
     }
 
     fn restored(snapshot: &Self::Snapshot) -> Result<Self, Memory> {
-        Ok(Observed::around(PlainWorld::restored(snapshot)?))
+        allow(&snapshot.refusals)?;
+        let world = PlainWorld::restored(&snapshot.world)?;
+        Ok(Observed::around(world, share(&snapshot.refusals)?))
+    }
+
+    fn restore(&mut self, snapshot: &Self::Snapshot) -> Result<(), Memory> {
+        self.world.restore(&snapshot.world)?;
+        self.applies = 0;
+        self.undos = 0;
+        self.seen.store(0, Ordering::SeqCst);
+        Ok(())
     }
 
     fn no_delta() -> Self::Delta {
@@ -153,6 +201,11 @@ impl Worlds for Observed {
     fn apply_to(&mut self, step: &Step, delta: &mut Self::Delta) -> Result<Answer, Refusal> {
         self.applies = self.applies.wrapping_add(1);
         self.world.apply_to(step, delta)
+    }
+
+    fn undo_from(&mut self, delta: &mut Self::Delta) {
+        self.undos = self.undos.wrapping_add(1);
+        self.world.undo_from(delta);
     }
 
     fn advance(&mut self, step: &Step) -> Result<Answer, Refusal> {

@@ -4,7 +4,7 @@ use crate::films::{LIMITS, OPEN, add_ticks, recording_of, ticking};
 use nr_machine::World;
 use nr_recording::{Recording, Version};
 use nr_rev::{Answer, Cell, CellValue, Refusal, Step, Worlds};
-use nr_snaps::{Film, LoadFault, Snap, Snaps};
+use nr_snaps::{Film, LoadFault, Snaps};
 use std::alloc::Global;
 use std::test::Fail;
 
@@ -22,7 +22,7 @@ fn clock_below(film: &Film<World>, n: usize) -> Option<CellValue> {
     if n > film.len() {
         return None;
     }
-    let world = film.snap_below(n).to_world().ok()?;
+    let world = World::restored(film.snap_below(n)).ok()?;
     Some(world.cell(Cell::Clock))
 }
 

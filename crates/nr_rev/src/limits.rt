@@ -30,6 +30,7 @@ pub struct Limits {
 }
 
 impl Limits {
+    ghost use Rattle.std.specs.Prelude.{◌≡◌, ◌≢◌, MatchBool};
     ghost use Rattle.std.specs.Bool.{OnTrue};
     ghost use Rattle.nr_rev.specs.Limits.{AreInRange};
     ghost use Rattle.nr_rev.specs.Auxiliary.Limits.{are_in_range};
@@ -44,6 +45,13 @@ impl Limits {
             && is_limit(MOST_SOCKETS, self.sockets)
             && is_limit(MOST_DESCRIPTORS, self.descriptors)
             && is_limit(MOST_BUFFER, self.buffer)
+    }
+
+    /// Whether they are the same limits as others.
+    pub fn is(self, other: Limits) -> bool
+        ensures { MatchBool result (self ≡ other) (self ≢ other) }
+    {
+        self == other
     }
 }
 

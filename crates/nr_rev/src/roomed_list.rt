@@ -140,6 +140,15 @@ impl<T: Copy + Drop> RoomedList<T> {
         copy.extend(self.items.as_slice());
         Ok(copy)
     }
+
+    /// Takes the items of another list for its own, which has no more room than it. It takes no memory.
+    pub fn copy_from(&mut self, other: &RoomedList<T>)
+        requires { other.now.room ≤ self.old.room }
+        ensures { self.new ≡ record self.old { items = other.now.items } }
+    {
+        self.items.clear();
+        self.extend(other.as_slice());
+    }
 }
 
 impl<T: Copy> RoomedList<T> {

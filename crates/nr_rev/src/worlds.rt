@@ -1,6 +1,6 @@
 //! What a world owes, whatever represents it.
 
-ghost use Rattle.std.specs.Prelude.{◌≡◌, Ok, Some, IfOk, IfErr, OnOk, OnErr};
+ghost use Rattle.std.specs.Prelude.{◌≡◌, ◌≢◌, Ok, Some, IfOk, IfErr, OnOk, OnErr};
 ghost use Rattle.nr_rev.specs.Cell.{cell, bytes_of, queue_of};
 ghost use Rattle.nr_rev.specs.Reversible.{Refuses};
 ghost use Rattle.nr_rev.specs.Auxiliary.Reversible.{IsLight};
@@ -57,6 +57,15 @@ pub trait Worlds: Reversible<Op = Step, Answer = Answer> + Sized {
     fn restored(snapshot: &Self::Snapshot) -> Result<Self, Memory>
         ensures { IfOk result (λ w. w ≡ kept snapshot.now) };
 
+    /// Becomes the world that the snapshot keeps. If the limits of both are the same, the room that it has is used again, and no
+    /// memory is taken.
+    fn restore(&mut self, snapshot: &Self::Snapshot) -> Result<(), Memory>
+        requires well_formed { Self.is_well_formed self.old }
+        requires kept { Self.is_well_formed (kept snapshot.now) }
+        ensures ok { OnOk result (self.new ≡ kept snapshot.now) }
+        ensures unchanged { OnErr result (self.new ≡ self.old) }
+        ensures limits { OnErr result ((world self.old).limits ≢ (world (kept snapshot.now)).limits) };
+
     /// A delta that puts nothing back, whose place `apply_to` may be given.
     fn no_delta() -> Self::Delta;
 
@@ -70,6 +79,11 @@ pub trait Worlds: Reversible<Op = Step, Answer = Answer> + Sized {
         ensures weight { IfOk result (λ answer. IsLight Self.weight Self.allowance Self.bytes_out step.now answer delta.new) }
         ensures refusal { IfErr result (Refuses Self.reason Self.takes_memory self.old step.now) }
         ensures unchanged { OnErr result (self.new ≡ self.old) };
+
+    /// Leads back as `undo` does, over the step whose delta lies in the place. Afterwards that place may hold any delta.
+    fn undo_from(&mut self, delta: &mut Self::Delta)
+        requires { (old : Self) × Self.back delta.old self.old old }
+        ensures { Self.back delta.old self.old self.new };
 
     /// Applies the step as `apply` does, and keeps no way back. Takes no memory.
     fn advance(&mut self, step: &Step) -> Result<Answer, Refusal>

@@ -1,5 +1,5 @@
 -- Where no mark can hit, none hits, and each watches what it watched.
-use Rattle.std.proofs.Common.{◌≡◌, ℕ, ◌+◌, Bool, true, false, not, ◌||◌, cond, inl, inr, ◌<◌, ◌≤◌, length, set, get_or, arith, List, [], ◌∷◌, filter, map, slice_get, rules, Option, Some, None, Ok, Err, refl, sym, ap, ◌∙◌, zero, suc}
+use Rattle.std.proofs.Common.{◌≡◌, ℕ, ◌+◌, Bool, true, false, not, ◌||◌, cond, inl, inr, ◌<◌, ◌≤◌, length, set, get_or, arith, List, [], ◌∷◌, filter, map, slice_get, Option, Some, None, Ok, Err, refl, sym, ap, ◌∙◌, zero, suc}
 use Rattle.std.specs.Option.{option_and_then}
 use Rattle.nr_rev.specs.Cell.{cell, same_value}
 use Rattle.std.proofs.lemmas.Option.{get_or_from_slice_get, slice_get-get_or}

@@ -1,6 +1,6 @@
 //! A stretch of a film, searched position by position.
 
-ghost use Rattle.std.specs.Prelude.{◌≡◌, ◌<◌, ◌≤◌, ◌+◌, length, slice_get, false, IfOk, IfSome};
+ghost use Rattle.std.specs.Prelude.{◌≡◌, ◌<◌, ◌≤◌, ◌+◌, ◌*◌, ◌/◌, length, slice_get, false, IfOk, IfSome};
 ghost use Rattle.nr_marks.specs.Hit.{hits_at, numbered};
 ghost use Rattle.nr_search.specs.Auxiliary.Nearest.{IsFound};
 ghost use Rattle.nr_search.specs.Quiet.{IsOutlook};
@@ -128,7 +128,8 @@ where
     }
 }
 
-/// The world at position n: the one at hand, if it is there; else a copy of the film's copy below, led on.
+/// The world at position n: the one at hand, if it is there; else the film's copy below, led on. The world at hand becomes that
+/// copy; if there is none, one is made.
 pub(crate) fn world_at<W: Worlds + Drop>(
     film: &Film<W>,
     held: Option<WorldAt<W>>,
@@ -142,24 +143,33 @@ where
 {
     match held {
         Some(held) if held.position == n => Ok(held.world),
-        _ => copy_at(film, n),
+        Some(held) => {
+            let mut world = held.world;
+            film.restore_below(&mut world, n)?;
+            Ok(led_on(film, world, n))
+        }
+        None => {
+            let world = film.world_below(n)?;
+            Ok(led_on(film, world, n))
+        }
     }
 }
 
-// A copy of the world at position n, led on from the film's copy below.
-fn copy_at<W: Worlds + Drop>(film: &Film<W>, n: usize) -> Result<W, Memory>
+// The world of the film's copy at or below position n, led on to n.
+fn led_on<W: Worlds + Drop>(film: &Film<W>, world: W, n: usize) -> W
 where
     W::Snapshot: Drop,
-    requires { n ≤ length film.now.recording.steps }
-    ensures { IfOk result (λ world. IsFrame W.is_well_formed W.world W.steps film.now n world) }
+    requires within { n ≤ length film.now.recording.steps }
+    requires frame { IsFrame W.is_well_formed W.world W.steps film.now
+        (n / film.now.every * film.now.every) world }
+    ensures { IsFrame W.is_well_formed W.world W.steps film.now n result }
 {
-    let world = film.world_below(n)?;
     let every = film.every();
     let below = WorldAt {
         position: n / every * every,
         world,
     };
-    Ok(below.lead_to(film, n))
+    below.lead_to(film, n)
 }
 
 /// The numbers of the marks that hit at position 0, rising.

@@ -3,7 +3,6 @@ pub mod Answers
 pub mod Fault
 -- what callers need besides
 pub mod Film
-pub mod Snap
 -- inner: what only definitions and proofs of this crate use
 pub mod Replay
 -- what goes on with the files that the laws rest on

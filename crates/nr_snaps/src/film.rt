@@ -7,10 +7,8 @@ ghost use Rattle.nr_rev.specs.Run.{IsGood};
 ghost use Rattle.nr_rev.specs.Auxiliary.Run.{LosesBytesAt};
 ghost use Rattle.nr_snaps.specs.Answers.{answer_at};
 ghost use Rattle.nr_snaps.specs.Film.{IsFrame};
-ghost use Rattle.nr_snaps.specs.Snap.{snap_world};
 ghost use Rattle.nr_snaps.specs.declared.film.TheConstants.{LEAST_EVERY, MOST_EVERY};
 
-use crate::snap::Snap;
 use nr_recording::Recording;
 use nr_rev::{Answer, Memory, Refusal, Step, Worlds};
 use std::alloc::Global;
@@ -32,8 +30,9 @@ where
     pub(crate) alloc: Global,
     pub(crate) recording: Recording,
     pub(crate) every: usize,
-    // the world at position 0
+    // the world at position 0, and the same at rest
     pub(crate) start: W,
+    pub(crate) first: W::Snapshot,
     // those at `every`, twice `every` and so on, each at rest
     pub(crate) later: Vec<W::Snapshot>,
 }
@@ -43,6 +42,7 @@ where
     W::Snapshot: Drop,
 {
     ghost use Rattle.nr_recording.specs.Recording.{run_of};
+    ghost use Rattle.std.specs.Prelude.{◌≡◌};
     ghost use Rattle.nr_snaps.specs.Film.{Reel, IsFilm};
 
     ghost Value = { Reel W };
@@ -50,7 +50,8 @@ where
     ghost view = { λ f. record { recording = run_of f.recording; every = f.every; origin = f.start } };
 
     ghost invariant = { λ f. IsFilm W.is_well_formed W.world W.steps W.kept
-        (record { recording = run_of f.recording; every = f.every; origin = f.start }) f.later.items };
+        (record { recording = run_of f.recording; every = f.every; origin = f.start }) f.later.items
+        × (W.kept f.first ≡ f.start) };
 }
 
 impl<W: Worlds + Drop> Film<W>
@@ -90,16 +91,16 @@ where
     }
 
     /// The copy at position n, or the nearest one below it. It takes no memory.
-    pub fn snap_below(&self, n: usize) -> Snap<'_, W, W::Snapshot>
+    pub fn snap_below(&self, n: usize) -> &W::Snapshot
         requires { n ≤ length self.now.recording.steps }
         ensures { IsFrame W.is_well_formed W.world W.steps self.now
-            (n / self.now.every * self.now.every) (snap_world W.kept result) }
+            (n / self.now.every * self.now.every) (W.kept result.now) }
     {
         let copy = n / self.every;
         if copy == 0 {
-            Snap::Start(&self.start)
+            &self.first
         } else {
-            Snap::AtRest(&self.later[copy - 1])
+            &self.later[copy - 1]
         }
     }
 
@@ -109,7 +110,19 @@ where
         ensures { IfOk result (λ world. IsFrame W.is_well_formed W.world W.steps self.now
             (n / self.now.every * self.now.every) world) }
     {
-        self.snap_below(n).to_world()
+        W::restored(self.snap_below(n))
+    }
+
+    /// A world becomes that of the copy at position n, or of the nearest one below it. If it has the limits of that one, its room
+    /// is used again and no memory is taken. Out of memory, it stays.
+    pub fn restore_below(&self, world: &mut W, n: usize) -> Result<(), Memory>
+        requires within { n ≤ length self.now.recording.steps }
+        requires well_formed { W.is_well_formed world.old }
+        ensures frame { OnOk result (IsFrame W.is_well_formed W.world W.steps self.now
+            (n / self.now.every * self.now.every) world.new) }
+        ensures unchanged { OnErr result (world.new ≡ world.old) }
+    {
+        world.restore(self.snap_below(n))
     }
 
     /// Leads a world from position n to the next one, and puts the way back in the place of a delta. Only a step that takes bytes

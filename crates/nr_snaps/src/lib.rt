@@ -9,9 +9,7 @@ mod fault;
 mod film;
 pub mod laws;
 mod loading;
-mod snap;
 
 pub use fault::LoadFault;
 pub use film::{Film, LEAST_EVERY, MOST_EVERY};
 pub use loading::{Snaps, differs};
-pub use snap::Snap;

@@ -15,7 +15,7 @@ ghost use Rattle.nr_snaps.specs.declared.film.TheConstants.{LEAST_EVERY, MOST_EV
 use crate::fault::LoadFault;
 use crate::film::Film;
 use nr_recording::Recording;
-use nr_rev::{Answer, Refusal, Worlds};
+use nr_rev::{Answer, Memory, Refusal, Worlds};
 use std::alloc::Global;
 
 /// Makes films.
@@ -45,15 +45,27 @@ impl Snaps {
         ensures fault { IfErr result (IsLoadFault recording) }
     {
         let start = W::fresh(alloc, recording.limits())?;
+        let first = first_copy(&start)?;
         let later = replay(alloc, &start, &recording, every)?;
         Ok(Film {
             alloc,
             recording,
             every,
             start,
+            first,
             later,
         })
     }
+}
+
+// The copy at position 0, which shares with none.
+fn first_copy<W: Worlds>(start: &W) -> Result<W::Snapshot, Memory>
+where
+    W::Snapshot: Drop,
+    ensures { IfOk result (λ snapshot. W.kept snapshot ≡ start.now) }
+{
+    let none: Option<W::Snapshot> = None;
+    start.snapshot(none.as_ref())
 }
 
 // Replays all steps, and returns the copies after position 0, each at rest.

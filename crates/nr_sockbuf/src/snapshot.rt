@@ -1,6 +1,7 @@
 //! The buffers of a socket at rest.
 
 ghost use Rattle.std.specs.Prelude.{◌≡◌, IfOk};
+ghost use Rattle.nr_sockbuf.specs.Sock.{never_opened};
 
 use crate::pipe::PipeSnapshot;
 use crate::sock::Sock;
@@ -52,6 +53,25 @@ impl Sock {
             input,
             output,
         })
+    }
+
+    /// Becomes the buffers at rest, whose limit is its own, in the room that it has. It takes no memory.
+    pub fn restore(&mut self, snapshot: &SockSnapshot)
+        requires { self.old.limit ≡ snapshot.now.limit }
+        ensures { self.new ≡ snapshot.now }
+    {
+        self.made = snapshot.made;
+        self.peer_closed = snapshot.peer_closed;
+        self.shut = snapshot.shut;
+        self.input.restore(&snapshot.input);
+        self.output.restore(&snapshot.output);
+    }
+
+    /// Becomes the buffers of a socket that was never opened.
+    pub fn reset(&mut self)
+        ensures { self.new ≡ never_opened self.old.limit }
+    {
+        self.made = false;
     }
 }
 

@@ -65,6 +65,18 @@ impl Heap {
         })
     }
 
+    /// Becomes an equal one of another with the same limit, in the room that it has. It takes no memory.
+    pub(crate) fn copy_from(&mut self, other: &Heap)
+        requires { self.old.limit ≡ other.now.limit }
+        ensures { self.new ≡ other.now }
+    {
+        self.places.clear();
+        let Ok(()) = self.places.extend_from_slice(&other.places) else {
+            unreachable!()
+        };
+        self.index.copy_from_slice(&other.index);
+    }
+
     /// How many entries there are.
     #[inline(always)]
     pub(crate) fn len(&self) -> usize

@@ -81,6 +81,17 @@ impl Timers {
         })
     }
 
+    /// Becomes an equal one of another for as many descriptors, each entry at its place, in the room that it has. It takes no
+    /// memory.
+    pub fn copy_from(&mut self, other: &Timers)
+        requires { self.old.descriptors ≡ other.now.descriptors }
+        ensures { self.new ≡ other.now }
+    {
+        self.heap.copy_from(&other.heap);
+        self.firings.copy_from(&other.firings);
+        self.next = other.next;
+    }
+
     /// How many timers are armed.
     #[inline(always)]
     pub fn len(&self) -> usize

@@ -1,7 +1,6 @@
 -- The way back that a walker keeps.
-use Rattle.std.specs.Prelude.{◌≡◌, ℕ, ◌+◌, ◌≤◌, length}
-use Rattle.circular_buffer.specs.Buffer.{Buffer}
-use Rattle.nr_rev.specs.Transaction.{LeadsBack}
+use Rattle.std.specs.Prelude.{◌≡◌, ℕ, ◌+◌, ◌%◌, ◌<◌, ◌≤◌, List, length, slice_get, Some, vec_capacity}
+use Rattle.std.specs.Global.{Vec}
 use Rattle.nr_rev.specs.World.{World}
 use Rattle.nr_rev.specs.declared.answer.Answer.{Answer}
 use Rattle.nr_rev.specs.declared.step.Step.{Step}
@@ -11,17 +10,31 @@ use Rattle.nr_walker.specs.declared.walker.TheConstants.{LEAST_DEPTH, MOST_DEPTH
 module _ {State Delta : Type 0} (is_well_formed : State → Type 0) (world : State → World)
     (steps : State → Step → Answer → State → Type 0) (back : Delta → State → State → Type 0)
     (film : Reel State) where
-  -- the delta leads back over one step, to the film's state of the position before
-  pub record LeadsBackOne (delta : Delta) (new old : ℕ × State) : Type 0 where
-    pub one_before : new.0 ≡ old.0 + 1
-    pub undone : back delta new.1 old.1
-    pub frame : IsFrame is_well_formed world steps film old.0 old.1
+  -- the delta leads back over the step after position k, from the film's state of the next position
+  -- to that of k
+  pub record LeadsBackTo (k : ℕ) (delta : Delta) : Type 0 where
+    pub new : State
+    pub old : State
+    pub after : IsFrame is_well_formed world steps film (k + 1) new
+    pub before : IsFrame is_well_formed world steps film k old
+    pub undone : back delta new old
 
-  -- the film's state of the position, with deltas that lead back from it
-  pub record IsWay (position : ℕ) (state : State) (deltas : Buffer Delta) : Type 0 where
+  -- the place of the step after position k has a delta that leads back over it
+  pub record IsKept (depth : ℕ) (places : List Delta) (k : ℕ) : Type 0 where
+    pub delta : Delta
+    pub there : slice_get places (k % (depth + 1)) ≡ Some delta
+    pub leads_back : LeadsBackTo k delta
+
+  -- the film's state of the position; the deltas of the last steps are in their places, and the
+  -- next step has a place beside them
+  pub record IsWay (position : ℕ) (state : State) (places : Vec Delta) (next kept depth : ℕ) :
+      Type 0 where
     pub within : position ≤ length film.recording.steps
     pub frame : IsFrame is_well_formed world steps film position state
-    pub least : LEAST_DEPTH ≤ deltas.capacity
-    pub most : deltas.capacity ≤ MOST_DEPTH
-    pub start : ℕ × State
-    pub leads_back : LeadsBack LeadsBackOne deltas.items (position, state) start
+    pub least : LEAST_DEPTH ≤ depth
+    pub most : depth ≤ MOST_DEPTH
+    pub behind : kept ≤ position
+    pub few : kept ≤ depth
+    pub next_is : next ≡ position % (depth + 1)
+    pub room : depth + 1 ≤ vec_capacity places
+    pub deltas : (k : ℕ) → k < position → position ≤ k + kept → IsKept depth places.items k

@@ -7,6 +7,7 @@
 
 pub mod laws;
 mod moved;
+mod places;
 mod route;
 mod walker;
 

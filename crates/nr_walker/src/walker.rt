@@ -7,8 +7,8 @@ ghost use Rattle.nr_walker.specs.Walk.{IsRefusedBy, StopsShort, at_copy, backwar
 ghost use Rattle.nr_walker.specs.declared.walker.TheConstants.{LEAST_DEPTH, MOST_DEPTH};
 
 use crate::moved::Moved;
+use crate::places::{make_places, place_after, place_before};
 use crate::route::Route;
-use circular_buffer::HeapCircularBuffer;
 use nr_rev::{Memory, Worlds};
 use nr_snaps::Film;
 use std::alloc::Global;
@@ -21,6 +21,10 @@ pub const LEAST_DEPTH: usize = 1;
 pub const MOST_DEPTH: usize = 65_536;
 
 /// A world at a position of a film, with the way back over the last steps.
+///
+/// The delta of a step is written to its place and stays there: that of the step after position k lies in place k modulo
+/// `depth + 1`. So there is one place more than deltas are kept, and the next step writes to a place of no kept one, even if it
+/// is refused. A place that isn't used yet is made when a step comes to it, in room that was made at once.
 #[derive(Drop)]
 pub struct Walker<'f, W: Worlds + Drop>
 where
@@ -30,7 +34,11 @@ where
     film: &'f Film<W>,
     world: W,
     position: usize,
-    deltas: HeapCircularBuffer<W::Delta>,
+    places: Vec<W::Delta>,
+    // the place of the next step
+    next: usize,
+    kept: usize,
+    depth: usize,
 }
 
 impl<'f, W: Worlds + Drop> Model for Walker<'f, W>
@@ -38,7 +46,7 @@ where
     W::Delta: Drop,
     W::Snapshot: Drop,
 {
-    ghost use Rattle.std.specs.Prelude.{length};
+    ghost use Rattle.std.specs.Prelude.{◌<◌, vec_len};
     ghost use Rattle.nr_walker.specs.Walk.{Walk};
     ghost use Rattle.nr_walker.specs.Way.{IsWay};
 
@@ -47,12 +55,13 @@ where
     ghost view = { λ w. record {
       film = w.film.now;
       position = w.position;
-      kept = length w.deltas.items;
-      depth = w.deltas.capacity;
+      kept = w.kept;
+      depth = w.depth;
     } };
 
     ghost invariant = { λ w. IsWay W.is_well_formed W.world W.steps W.back
-        w.film.now w.position w.world w.deltas };
+        w.film.now w.position w.world w.places w.next w.kept w.depth
+        × (w.next < vec_len w.places) };
 }
 
 impl<'f, W: Worlds + Drop> Walker<'f, W>
@@ -69,11 +78,16 @@ where
             ≡ record { film = film.now; position = 0; kept = 0; depth = depth }) }
     {
         let world = film.start().try_copy()?;
+        let mut places = Vec::with_capacity(alloc, depth + 1)?;
+        make_places::<W>(&mut places, 1);
         Ok(Walker {
             film,
             world,
             position: 0,
-            deltas: HeapCircularBuffer::with_capacity(alloc, depth)?,
+            places,
+            next: 0,
+            kept: 0,
+            depth,
         })
     }
 
@@ -98,7 +112,7 @@ where
         ensures within { result ≤ self.now.depth }
         ensures behind { result ≤ self.now.position }
     {
-        self.deltas.len()
+        self.kept
     }
 
     /// How many deltas it keeps at most.
@@ -107,7 +121,7 @@ where
         ensures least { LEAST_DEPTH ≤ result }
         ensures most { result ≤ MOST_DEPTH }
     {
-        self.deltas.capacity()
+        self.depth
     }
 
     /// The world at its position: the very state that the film's replay has there.
@@ -121,9 +135,9 @@ where
     /// Goes to position n, and returns what it took.
     ///
     /// Back to a position over deltas that are all kept it undoes them. Forward by fewer steps than
-    /// lie between two copies of the film it applies them. Else a copy of the film's copy at or below
-    /// n replaces its world, the deltas are dropped, and the steps from there are applied. Of the
-    /// steps that it applied it keeps the last deltas, up to its depth.
+    /// lie between two copies of the film it applies them. Else its world becomes the film's copy at or below
+    /// n, no delta is kept, and the steps from there are applied. Of the steps that it applied it keeps the last
+    /// deltas, up to its depth.
     ///
     /// Going back over deltas takes no memory, and a step takes some only where bytes leave a buffer.
     /// Where such a step runs out of memory, the walker is before it, with the deltas of the steps so
@@ -171,8 +185,7 @@ where
         ensures is { result ≡ route self.now n }
         ensures kept { self.now.kept ≤ self.now.depth }
     {
-        let kept = self.deltas.len();
-        if n <= self.position && self.position - n <= kept {
+        if n <= self.position && self.position - n <= self.kept {
             return Route::Back;
         }
         if self.position <= n && n - self.position < self.film.every() {
@@ -206,22 +219,22 @@ where
         Ok(())
     }
 
-    // A copy of the film's copy at or below n replaces the world. Out of memory, nothing has
-    // changed.
+    // The world becomes the film's copy at or below n. Out of memory, nothing has changed.
     fn to_copy_below(&mut self, n: usize) -> Result<(), Memory>
         requires { n ≤ length self.old.film.recording.steps }
         ensures ok { OnOk result (self.new ≡ at_copy self.old n) }
         ensures err { OnErr result (self.new ≡ self.old) }
     {
-        let copy = self.film.world_below(n)?;
-        self.deltas.clear();
-        self.world = copy;
+        self.film.restore_below(&mut self.world, n)?;
         let every = self.film.every();
         self.position = n / every * every;
+        self.next = self.position % (self.depth + 1);
+        self.kept = 0;
+        make_places::<W>(&mut self.places, self.next + 1);
         Ok(())
     }
 
-    // One step forward; where the ring is full, the oldest delta is dropped. Out of memory, it stays.
+    // One step forward; if as many deltas are kept as may be, the oldest is kept no more. Out of memory, it stays.
     #[inline(always)]
     fn forward(&mut self) -> Result<(), Memory>
         requires within { self.old.position < length self.old.film.recording.steps }
@@ -230,10 +243,13 @@ where
         ensures unchanged { OnErr result (self.new ≡ self.old) }
         ensures refused { OnErr result (LosesBytesAt self.old.film.recording self.old.position) }
     {
-        let mut delta = W::no_delta();
-        self.film.apply(&mut self.world, self.position, &mut delta)?;
-        let _ = self.deltas.push_back(delta);
+        self.film.apply(&mut self.world, self.position, &mut self.places[self.next])?;
         self.position += 1;
+        self.next = place_after(self.next, self.depth);
+        if self.next == self.places.len() {
+            self.places.push_reserved(W::no_delta());
+        }
+        self.kept = (self.kept + 1).min(self.depth);
         Ok(())
     }
 
@@ -246,10 +262,9 @@ where
           kept = self.old.kept - 1;
         } }
     {
-        let Some(delta) = self.deltas.pop_back() else {
-            unreachable!()
-        };
-        self.world.undo(delta);
+        self.next = place_before(self.next, self.depth);
+        self.world.undo_from(&mut self.places[self.next]);
         self.position -= 1;
+        self.kept -= 1;
     }
 }

@@ -1,5 +1,5 @@
-"""Why calls failed, and why calls hang: who set the deadline, who closed, what would wake who waits, and who could have. It is
-reckoned from the recording's steps and from NAME.where, and is nrdb's own, unproved; each sentence names steps to look at."""
+"""The causes of failed calls and of hangs: the goroutine that set a deadline, closed a socket, or could have ended a
+wait. They are derived from the recording's steps and NAME.where, and unproved; each sentence names steps."""
 
 from .failing import causes_of
 from .first import first_words, opening_words, root_sentence

@@ -1,4 +1,4 @@
-"""Prints what is said first of a recording of a program that failed:  python3 python nrdb.causes FILE"""
+"""Prints the causes of a program that failed, as netrev-go does: python3 python nrdb.causes FILE"""
 
 import sys
 
@@ -11,7 +11,7 @@ from .first import first_words
 
 
 def main(words: list[str]) -> int:
-    """Prints the lines; the exit status."""
+    """Prints the lines and returns the exit status."""
     if len(words) != 1:
         print(__doc__, file=sys.stderr)
         return 2

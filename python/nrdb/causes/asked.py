@@ -1,28 +1,35 @@
-"""How many bytes each Read asked for: by that the Reads are known that are parts of one io.ReadFull."""
+"""The number of bytes that each Read asked for, which shows the Reads of one io.ReadFull."""
 
-from bisect import bisect_right
 from functools import lru_cache
-from operator import attrgetter
 from typing import Optional
 
 from ..one_call import Call
 from ..recording import Recording
 from .index import Index, index_of
 
-FIRST = attrgetter("first")
+SYSREAD = "sysread"
 
 
 class Asked:
-    """Of each Read how many bytes its first system call asked for, and the Read of the same goroutine and socket before it."""
+    """For each Read the bytes that its first system call asked for, and the Read of the same goroutine and socket
+    before it."""
 
     def __init__(self, index: Index) -> None:
-        self._asked: dict[int, int] = {}  # by the first step of a call
+        self._asked: dict[int, int] = {}  # keyed by the first step of a call
         self._before: dict[int, Call] = {}
-        for step in index.recording.steps_of(("sysread",), index.recording.length):
-            calls = index.by_goroutine.get(step.argument("g"), [])
-            at = bisect_right(calls, step.number, key=FIRST) - 1
-            if at >= 0 and calls[at].name == "Read" and (not calls[at].last or calls[at].last >= step.number):
-                self._asked.setdefault(calls[at].first, step.argument("n"))
+        begun: dict[int, int] = {}  # the number of calls that each goroutine had begun
+        by_goroutine, asked = index.by_goroutine, self._asked
+        for number, values in index.recording.arrays_like((SYSREAD,), index.recording.length):
+            if values[0] != SYSREAD:
+                continue
+            _, g, _, count, *_ = values
+            calls, after = by_goroutine.get(g, ()), begun.get(g, 0)
+            while after < len(calls) and calls[after].first <= number:
+                after += 1
+            begun[g] = after
+            call = calls[after - 1] if after else None
+            if call is not None and call.name == "Read" and (not call.last or call.last >= number):
+                asked.setdefault(call.first, count)
         latest: dict[tuple[int, int], Call] = {}
         for call in index.book.calls:
             if call.name == "Read":
@@ -32,7 +39,7 @@ class Asked:
                 latest[key] = call
 
     def of(self, call: Call) -> Optional[int]:
-        """How many bytes a Read asked for; None if it asked for none."""
+        """The number of bytes that a Read asked for; None if it asked for none."""
         return self._asked.get(call.first)
 
     def before(self, call: Call) -> Optional[Call]:
@@ -40,19 +47,19 @@ class Asked:
         return self._before.get(call.first)
 
     def begin_of(self, call: Call) -> Call:
-        """The first Read of the io.ReadFull that a Read is a part of: each asks for what the one before left. The Read itself if it is
-        the first, or alone."""
+        """The first Read of the io.ReadFull that a Read belongs to: each asks for what the one before left. The Read
+        itself if it is the first, or alone."""
         while (before := self.before(call)) and self.is_next(before, call):
             call = before
         return call
 
     def is_next(self, before: Call, call: Call) -> bool:
-        """Whether a Read asks for just what the one before left."""
+        """Whether a Read asks for exactly what the Read before left."""
         asked, rest = self.of(before), self.of(call)
         return asked is not None and rest is not None and bool(before.moved) and rest == asked - (before.moved or 0) > 0
 
 
 @lru_cache(maxsize=2)
 def asked_of(recording: Recording) -> Asked:
-    """How many bytes the Reads of a recording asked for."""
+    """The numbers of bytes that the Reads of a recording asked for."""
     return Asked(index_of(recording))

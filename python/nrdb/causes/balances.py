@@ -1,5 +1,5 @@
-"""Channels from which goroutines take something and give it back in the same function: a pool of connections, or a semaphore. How often each
-goroutine did either, what it has now, and which calls gave back twice or never."""
+"""Channels from which goroutines take a value and give it back in the same function: a pool of connections, or a
+semaphore. For each goroutine how often it did either, and which calls gave back twice or never."""
 
 from collections import Counter, defaultdict
 from operator import attrgetter
@@ -13,22 +13,22 @@ from ..waits import Name, name_of_goid
 from ..where import OF_THE_PROGRAM, Call, Stack
 from .words import short
 
-DEFERRED = ".deferwrap"  # in the names of functions that run as another ends
+DEFERRED = ".deferwrap"  # in the names of functions that run when another ends
 BEGIN = attrgetter("begin")
 TAKEN_WORDS = {TOOK: ("took", "put", "back"), PUT: ("put", "took", "out again")}
 Frames = tuple[Call, ...]
-Path = tuple[Call, ...]  # the calls outside of the one that takes and gives back
+Path = tuple[Call, ...]  # the calls around the one that takes and gives back
 
 
 class Place(NamedTuple):
-    """Where a use stands in the function that takes and gives back: its line there, and from where that was called."""
+    """The place of a use in the function that takes and gives back: its line there, and the caller's line."""
 
     line: Call
     path: Path
 
 
 class Form(NamedTuple):
-    """The function that takes and gives back, with what it takes, and at which lines it does either."""
+    """The function that takes and gives back, what it takes, and the lines at which it does so."""
 
     function: str
     takes: str
@@ -36,15 +36,16 @@ class Form(NamedTuple):
     giving: set[Call]
 
     def has_at(self, line: Call) -> bool:
-        """Whether a call that is at a line has taken and not yet given back: it does so later, or in a deferred function."""
+        """Whether a call at this line has taken and not yet given back: it does so later, or in a deferred function."""
         deferred = any(one.function != self.function for one in self.giving)
         is_behind = any(one.line < line.line for one in self.taking)
         return is_behind and (deferred or any(line.line < one.line for one in self.giving))
 
 
 class Balance(NamedTuple):
-    """What a goroutine did at a channel by calls from one place: with what it takes (PUT for a semaphore), how often at which lines it took and
-    gave back, whether a call under way has one, and whether it waits to take one or to give one back."""
+    """What a goroutine did at a channel by calls from one place: what it takes (PUT for a semaphore), how often it took
+    and gave back at which lines, whether a call in progress has a value, and whether it waits to take or to give
+    back."""
 
     name: Name
     takes: str
@@ -53,16 +54,16 @@ class Balance(NamedTuple):
     has_one: bool = False
     is_taking: bool = False
     is_giving: bool = False
-    called: str = ""  # from where, if a goroutine called the function from several places
+    called: str = ""  # the caller's line, if a goroutine called the function from several places
 
     @property
     def missing(self) -> int:
-        """How many it took and hasn't given back by calls that are over."""
+        """The number of values that it took and hasn't given back by calls that ended."""
         return self.taken.total() - self.given.total() - (self.has_one or self.is_giving)
 
     @property
     def says(self) -> str:
-        """It in words: `goroutine 3 took 9 values there at a.go:52 and put 10 back: 9 at a.go:53, 1 at a.go:60`."""
+        """The sentence: `goroutine 3 took 9 values there at a.go:52 and put 10 back: 9 at a.go:53, 1 at a.go:60`."""
         did, gave, back = TAKEN_WORDS[self.takes]
         many, given = self.taken.total(), self.given.total()
         words = f"{self.name} {did} {counted(many, 'value')} there{at_lines(self.taken)} and {gave} "
@@ -73,7 +74,8 @@ class Balance(NamedTuple):
 
 
 def at_lines(often: Counter[Call]) -> str:
-    """At which lines something was done: ` at a.go:3 in take`, or how often at each of several: ` (9 at a.go:3 in give, 1 at a.go:7 in give)`."""
+    """The lines of uses: ` at a.go:3 in take`, or the number at each line: ` (9 at a.go:3 in give, 1 at a.go:7 in
+    give)`."""
     places = Counter[str]()
     for line, count in often.items():
         places[f"{line.place()} in {short(line.function).partition(DEFERRED)[0]}"] += count
@@ -83,7 +85,8 @@ def at_lines(often: Counter[Call]) -> str:
 
 
 def balances_of(recording: Recording, number: int, now: dict[Name, Stack]) -> list[Balance]:
-    """The balances at a channel, of each function that takes there and gives back. `now` are the stacks of the goroutines that wait."""
+    """The balances at a channel, for each function that takes and gives back. `now` are the stacks of the goroutines
+    that wait."""
     lines = recording.lines
     uses = [use for use in lines.uses.get(number, ()) if use.what in (PUT, TOOK)]
     takes, functions = takes_of(recording, uses)
@@ -105,7 +108,7 @@ def give_back(balances: list[Balance]) -> bool:
 def of_function(
     recording: Recording, function: str, takes: str, found: dict[tuple[Name, Path], list[Use]], now: dict[Name, Stack]
 ) -> list[Balance]:
-    """The balances of a function that takes and gives back, by whose calls of it are from which place."""
+    """The balances of a function that takes and gives back, by goroutine and caller's line."""
     every = [use for some in found.values() for use in some]
     form = Form(function, takes, *lines_of_form(recording, every, takes, function))
     often = Counter(name for name, _ in found)
@@ -117,7 +120,7 @@ def of_function(
 
 
 def called_at(path: Path) -> str:
-    """From where a function is called: `a.go:3`."""
+    """The caller's line of a function: `a.go:3`."""
     return path[0].place() if path else ""
 
 
@@ -131,8 +134,8 @@ def lines_of_form(recording: Recording, uses: list[Use], takes: str, function: s
 
 
 def takes_of(recording: Recording, uses: list[Use]) -> tuple[str, set[str]]:
-    """With what goroutines take at a channel, PUT or TOOK, and the innermost functions of the program that do both, but for those that only call one
-    which does. A function takes first, and gives back after that."""
+    """What goroutines take at a channel, PUT or TOOK, and the innermost functions of the program that take it and then
+    give it back, without those that only call such a function."""
     stacks, functions, outer = recording.lines.stacks, Counter[str](), set[str]()
     frames: dict[tuple[int, str], set[Frames]] = defaultdict(set)
     for use in uses:
@@ -149,7 +152,7 @@ def takes_of(recording: Recording, uses: list[Use]) -> tuple[str, set[str]]:
 
 
 def first_of(recording: Recording, uses: list[Use], function: str) -> str:
-    """Whether most goroutines first put something there in a function, or took it."""
+    """Whether most goroutines first put a value in a function, or took one."""
     inside = [use for use in uses if place_in(function, program_frames(recording.lines.stacks[use.stack]))]
     first: dict[int, str] = {}
     for use in sorted(inside, key=BEGIN):
@@ -162,7 +165,7 @@ def program_frames(stack: Stack) -> Frames:
 
 
 def place_in(function: str, frames: Frames) -> Optional[Place]:
-    """The innermost call of a function in a stack. The line of what it defers is that of the `defer` statement."""
+    """The innermost call of a function in a stack. For a deferred function it is the line of the `defer` statement."""
     for at, call in enumerate(frames):
         if call.function == function:
             inner = frames[at - 1] if at and frames[at - 1].function.startswith(f"{function}.") else call
@@ -191,14 +194,14 @@ def balance_of(
 
 
 def has_ended(recording: Recording, name: Name) -> bool:
-    """Whether a goroutine is known to have ended."""
+    """Whether a goroutine has certainly ended."""
     lines = recording.lines
     known = lines.goroutines.get(name.number if name.is_goid else lines.goid_of(name.number))
     return known is not None and known.last >= 0
 
 
 def current_in(function: str, path: Path, stack: Optional[Stack]) -> Optional[tuple[Call, Frames]]:
-    """Where a goroutine stands now in a call of the function from the same place, and its whole stack."""
+    """The place of a goroutine now in a call of the function from the same caller's line, and its whole stack."""
     frames = program_frames(stack) if stack else ()
     for at, call in enumerate(frames):
         if call.function == function and frames[at + 1 :] == path:

@@ -1,4 +1,5 @@
-"""What calls kept of a channel from which goroutines take and give back, or gave back too often, in words."""
+"""Sentences about calls that kept a value of a channel from which goroutines take and give back, or gave back too
+often."""
 
 from netrev_words.plurals import counted
 
@@ -7,11 +8,12 @@ from .balances import Balance
 from .kept_ways import ways_that_keep
 from .siblings import lines_words
 
-MOST_BALANCES = 3  # that are said
+MOST_BALANCES = 3  # the most sentences
 
 
 def kept_says(recording: Recording, balances: list[Balance]) -> list[str]:
-    """Which goroutines' calls kept what they took, and the lines that only those passed of the ones that one `go` statement made."""
+    """The goroutines whose calls kept what they took, and the lines that only they passed, of those that one `go`
+    statement started."""
     kept = [one for one in balances if one.missing > 0]
     if not kept:
         return []
@@ -30,11 +32,11 @@ def kept_says(recording: Recording, balances: list[Balance]) -> list[str]:
 
 
 def excess_says(balances: list[Balance]) -> list[str]:
-    """Which goroutines' calls gave back more than they took."""
+    """The goroutines whose calls gave back more than they took."""
     found = [one for one in balances if one.missing < 0]
     return [f"Calls gave back more than they took: {balances_words(found)}."] if found else []
 
 
 def balances_words(balances: list[Balance]) -> str:
-    """Balances in words, the worst first."""
+    """The sentences of balances, the worst first."""
     return "; ".join(one.says for one in sorted(balances, key=lambda one: -abs(one.missing))[:MOST_BALANCES])

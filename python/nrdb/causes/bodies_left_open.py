@@ -1,4 +1,5 @@
-"""Connections of net/http that wait until the body of a response is read to its end or closed, and the lines whose requests those are."""
+"""Connections of net/http that wait until the body of a response is read to its end or closed, and the lines of those
+requests."""
 
 from collections import defaultdict
 from operator import attrgetter
@@ -18,7 +19,7 @@ READ_LOOP = "net/http.(*persistConn).readLoop"
 
 
 def open_bodies(recording: Recording, ledger: Ledger, waits: Waits, position: int) -> list[str]:
-    """Sentences about the connections that wait so, and the ways on which a body isn't closed; none if no connection does."""
+    """Sentences about such connections, and the paths on which a body isn't closed; none if no connection waits."""
     kept = [wait for wait in waits.left(position) if is_kept(wait)]
     if not kept:
         return []
@@ -36,13 +37,13 @@ def open_bodies(recording: Recording, ledger: Ledger, waits: Waits, position: in
 
 
 def is_kept(wait: Waiting) -> bool:
-    """Whether a connection's goroutine waits until a body is read: in a select that sends nothing."""
+    """Whether a connection's goroutine waits until a body is read: it is in a select that sends nothing."""
     in_loop = bool(wait.stack.calls) and any(call.function == READ_LOOP for call in wait.stack.calls[:3])
     return in_loop and len(wait.objects) > 1 and all(at.use == FOR_VALUE for at in wait.objects)
 
 
 def request_of(recording: Recording, wait: Waiting) -> Optional[tuple[Name, Stack]]:
-    """The goroutine of the last request that a connection's goroutine took, and the stack from which it was made."""
+    """The goroutine of the last request that a connection's goroutine took, and the stack that made it."""
     lines = recording.lines
     goid = wait.name.number if wait.name.is_goid else lines.goid_of(wait.name.number)
     found = []

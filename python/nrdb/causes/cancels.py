@@ -1,5 +1,5 @@
-"""Why a goroutine closed a connection that found a channel closed just before, as net/http does if the context of a request has ended: which
-goroutine cancelled that, from which line, or which limit of time had passed."""
+"""Why a goroutine closed a connection after it found a channel closed, as net/http does if the context of a request
+ended: the goroutine and line that cancelled it, or the limit that had passed."""
 
 import re
 from collections import defaultdict
@@ -29,7 +29,7 @@ LATE = 1_000_000_000  # nanoseconds by which a timer may be late
 
 
 class Found(NamedTuple):
-    """A channel that was found closed, when, and by which function."""
+    """A channel that was found closed, with the time and the function that found it."""
 
     object: int
     time: int
@@ -37,7 +37,7 @@ class Found(NamedTuple):
 
 
 class Cancel(NamedTuple):
-    """That a goroutine had found a channel closed, by which use that was; and the timers one of which did it, if that was one's doing."""
+    """A goroutine found a channel closed: by which use, or by which timers, one of which closed it."""
 
     goroutine: int
     use: Use
@@ -49,11 +49,11 @@ class Cancel(NamedTuple):
 
 
 def cancel_before(index: Index, step: int) -> Optional[Cancel]:
-    """Why the goroutine of a step went on to make it: in a function that it is in it had found a channel closed, and done nothing at a socket
-    since."""
+    """Why the goroutine of a step made it: a function that it is in found a channel closed, and the goroutine did
+    nothing at a socket since."""
     recording = index.recording
     lines, goroutine = recording.lines, recording.step(step).argument("g")
-    goid = lines.goid_of(goroutine)
+    goid = lines.goid_of(goroutine, step)
     since = last_step_before(index, goroutine, step)
     inside = {call.function for call in lines.of(step).calls}
     found = [one for one in found_closed(recording, goid, since, step) if one.looker in inside]
@@ -65,7 +65,7 @@ def cancel_before(index: Index, step: int) -> Optional[Cancel]:
 
 
 def found_closed(recording: Recording, goid: int, since: int, until: int) -> Iterator[Found]:
-    """The channels that a goroutine found closed between two steps: as it looked, or as one who closed it woke it there."""
+    """The channels that a goroutine found closed between two steps: it tested them, or the close woke it."""
     lines = recording.lines
     for use in looks_of(recording).get(goid, ()):
         if any(since <= at < until for at in (use.first, use.last)):
@@ -79,7 +79,7 @@ def found_closed(recording: Recording, goid: int, since: int, until: int) -> Ite
 
 @lru_cache(maxsize=2)
 def looks_of(recording: Recording) -> dict[int, list[Use]]:
-    """The channels that each goroutine found closed as it looked."""
+    """The channels that each goroutine tested and found closed."""
     found: dict[int, list[Use]] = defaultdict(list)
     for uses in recording.lines.uses.values():
         for use in uses:
@@ -89,19 +89,19 @@ def looks_of(recording: Recording) -> dict[int, list[Use]]:
 
 
 def looker_of(stack: Stack) -> str:
-    """The function that looked at a channel."""
+    """The function that tested a channel."""
     return next((call.function for call in stack.calls if not call.function.startswith(OF_CONTEXTS)), "")
 
 
 def last_step_before(index: Index, goroutine: int, step: int) -> int:
-    """The last step of a goroutine's calls before the one that a step is in."""
+    """The last step of the goroutine's call before the call of a step."""
     calls = [one for one in index.by_goroutine.get(goroutine, ()) if 0 < one.last < step]
     return max((one.last for one in calls), default=0)
 
 
 def limits_of(recording: Recording, use: Use, goid: int) -> list[Timer]:
-    """The timers of contexts one of which closed a channel; none if something else did. That of the goroutine which found it is meant, if it has
-    one."""
+    """The timers of contexts that may have closed a channel; none if something else did. The timer of the goroutine
+    that found it closed is preferred."""
     stack = recording.lines.stacks[use.stack]
     if stack.own() or not any(call.function.startswith(OF_A_LIMIT) for call in stack.calls):
         return []
@@ -109,7 +109,8 @@ def limits_of(recording: Recording, use: Use, goid: int) -> list[Timer]:
 
 
 def limits_before(recording: Recording, time: int, goid: int) -> list[Timer]:
-    """The timers of contexts that went off just before a time; those of a goroutine if it has one, the last one first."""
+    """The timers of contexts that went off just before a time, the last one first; if this goroutine has some, only
+    those."""
     timers = [
         timer for timer in recording.lines.timers.get(0, ())
         if has(recording.lines.stacks[timer.stack], OF_A_LIMIT) and timer.due <= time < timer.due + LATE
@@ -119,7 +120,7 @@ def limits_before(recording: Recording, time: int, goid: int) -> list[Timer]:
 
 
 def cancel_says(index: Index, cancel: Cancel) -> str:
-    """Who cancelled, or whose limit had passed."""
+    """Says which goroutine cancelled, or which limit had passed."""
     lines, found = index.recording.lines, f"Goroutine {cancel.goroutine} had found"
     if not cancel.timers:
         stack, name = lines.stacks[cancel.use.stack], name_of_goid(lines, cancel.use.goid)
@@ -149,7 +150,7 @@ def perhaps_of(index: Index, timers: list[Timer]) -> str:
 
 
 def limit_says(index: Index, timers: list[Timer]) -> str:
-    """That the limit of a context had passed, by the timers one of which it was."""
+    """Says that the limit of a context had passed, from the timers of which one was the context's."""
     lines, timer = index.recording.lines, timers[0]
     return (
         f"the limit of a context, {perhaps_of(index, timers)}{duration(timer.due - timer.time)}, had passed since that was "
@@ -158,8 +159,8 @@ def limit_says(index: Index, timers: list[Timer]) -> str:
 
 
 def is_of_a_rest(recording: Recording, timer: Timer) -> bool:
-    """Whether a timer may be of what a redirect left of a limit: the same goroutine made one there earlier that is due at nearly the same
-    time. (Timers of two requests are as far apart when they are due as when they were made.)"""
+    """Whether a timer may be the rest of a limit after a redirect: the same goroutine made an earlier timer there that
+    is due at nearly the same time. Timers of two requests are as far apart when due as when made."""
     return any(
         (one.goid, one.stack) == (timer.goid, timer.stack) and 2 * abs(one.due - timer.due) < timer.time - one.time
         for one in recording.lines.timers.get(0, ())
@@ -167,8 +168,8 @@ def is_of_a_rest(recording: Recording, timer: Timer) -> bool:
 
 
 def deferred_says(index: Index, cancel: Cancel) -> list[str]:
-    """Of a context that was cancelled as a function returned: the line that defers that, and the one that makes the context, by the source if it
-    is here and there is one such alone."""
+    """Says, for a context that was cancelled when a function returned, the line that defers the cancel and the line
+    that makes the context, if the source has only one such line."""
     own = index.recording.lines.stacks[cancel.use.stack].own()
     if cancel.timers or not own or not text_at(index.recording, own[0]).strip().startswith(("return", "}")):
         return []
@@ -181,16 +182,17 @@ def deferred_says(index: Index, cancel: Cancel) -> list[str]:
 
 
 def under_way(index: Index, call: Call, step: int) -> str:
-    """What the goroutine did at a step that serves the other end of a connection of net/http; empty if that isn't known."""
+    """What the goroutine that serves the other end of a net/http connection did at a step; empty if unknown."""
     server = server_of(index, call.socket, step)
     wait = waits_of(index.recording).at(server, step) if server else None
     return f"{str(server).capitalize()}, which serves the request, {waits_words(wait)}." if wait else ""
 
 
 def after_says(index: Index, step: int, goroutine: int) -> list[str]:
-    """Of a step by a goroutine that context.AfterFunc had started: who had cancelled the context, and where, or which limit had passed."""
+    """Says, for a step of a goroutine that context.AfterFunc started, who had cancelled the context and where, or which
+    limit had passed."""
     lines = index.recording.lines
-    known = lines.goroutines.get(lines.goid_of(goroutine))
+    known = lines.goroutines.get(lines.goid_of(goroutine, step))
     if known is None or known.made is None or not known.made.function.startswith(AFTER_FUNC):
         return []
     closes = [

@@ -1,4 +1,5 @@
-"""What held up the goroutine for which a failed call waited, at the step at which it failed: the goroutine that one waited for, and so on."""
+"""What held up the goroutine that a failed call waited for, at the step at which the call failed, and so on along the
+chain."""
 
 from ..one_call import Call
 from ..waits import Name
@@ -14,7 +15,7 @@ MOST_LINKS = 4
 
 
 def chain_says(index: Index, call: Call, need: Need, position: int) -> list[str]:
-    """The sentences about the goroutines in turn, from the one that a failed call needed."""
+    """The sentences about the goroutines of the chain, from the one that a failed call needed."""
     waiters = waiters_during(index, position)
     needs, told = Needs(index, waiters, position), list(need.says)
     says, seen, by = list[str](), {Name(call.goroutine)}, need.by
@@ -31,13 +32,13 @@ def chain_says(index: Index, call: Call, need: Need, position: int) -> list[str]
 
 
 def is_elsewhere(index: Index, call: Call, waiter: Waiter, need: Need) -> bool:
-    """Whether a goroutine is needed just because it used the other end, and is in a call of another connection."""
+    """Whether a goroutine is needed only because it used the other end, and is now in a call of another connection."""
     ends = (call.socket, index.other_end(call.socket))
     return waiter.call is not None and waiter.call.socket not in ends and need.how.endswith("the other end last")
 
 
 def is_still_so(index: Index, waiter: Waiter, position: int) -> bool:
-    """Whether what goroutines did at the channels at which one waits is what they had done up to a step: nobody gave there later what it waits for."""
+    """Whether nothing happened at the channels of a wait since a step, so that the same goroutines are needed."""
     lines, objects = index.recording.lines, waiter.wait.objects if waiter.wait else ()
     return not any(
         use.what == GIVES.get(at.use) and use.last > position for at in objects for use in lines.uses.get(at.object, ())
@@ -45,7 +46,7 @@ def is_still_so(index: Index, waiter: Waiter, position: int) -> bool:
 
 
 def link_says(index: Index, waiter: Waiter, need: Need, is_back: bool, told: list[str]) -> list[str]:
-    """The sentences about one goroutine. Of one that waits for the failed call's own goroutine only what is said besides that."""
+    """The sentences about one goroutine. If it waits for the failed call's own goroutine, only the rest of them."""
     more = [*need.says, *need.more] if not (is_back and waiter.call) else need.more
     place = place_in(waiter.stack)
     is_told = bool(place) and any(place in line for line in told)

@@ -1,5 +1,5 @@
-"""Selects that another goroutine would end later: it is in a function before a line that closes a channel, or cancels a context, for which the select has a
-case. By the program's source, if that is here."""
+"""Selects that another goroutine would end later, because it is in a function before a line that closes a channel, or
+cancels a context, of a case. From the program's source."""
 
 import re
 from typing import Iterable, Iterator, Optional
@@ -18,7 +18,8 @@ DONE = ".Done"
 
 
 def closed_later(recording: Recording, wait: Waiting, stacks: Iterable[tuple[Name, Stack]]) -> Optional[Need]:
-    """The need of a goroutine that waits in a select; None if it doesn't, or no other one is before such a line."""
+    """The need of a goroutine that waits in a select; None if it doesn't, or if no other goroutine is before such a
+    line."""
     own = wait.stack.own()
     lines = source_of(recording, own[0].file) if own and own[0].of == OF_THE_PROGRAM else None
     if wait.kind != A_SELECT or not own or not lines:

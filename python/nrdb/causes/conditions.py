@@ -1,5 +1,5 @@
-"""What may have to wake a goroutine that waits for a sync.Cond, by the program's source if that is here: a function that changes what the loop
-round the Wait looks at, and calls neither Signal nor Broadcast."""
+"""What should wake a goroutine that waits for a sync.Cond, from the program's source: a function that changes what the
+loop around the Wait tests, and calls neither Signal nor Broadcast."""
 
 import re
 from typing import Iterator, NamedTuple, Optional
@@ -22,8 +22,8 @@ MOST = 2
 
 
 class Waking(NamedTuple):
-    """A function that changes what a Wait's loop looks at: where, which field, the line that wakes somebody there, if one does, and whether it
-    waits itself."""
+    """A function that changes what a Wait's loop tests: its line, the field, the line that wakes a waiter, if there is
+    one, and whether it waits itself."""
 
     function: str
     changes: int
@@ -34,29 +34,30 @@ class Waking(NamedTuple):
 
 
 def unsignalled(recording: Recording, wait: Waiting) -> list[str]:
-    """What is said of functions that change what a Wait's loop looks at, and wake nobody."""
+    """Sentences about functions that change what a Wait's loop tests and wake no goroutine."""
     own = wait.stack.own()
     return [
-        f"Perhaps {own[0].file}:{one.changes} in {one.function} should have woken it: it changes {one.field}, at which the loop round the Wait "
-        "looks, and that function calls neither Signal nor Broadcast."
+        f"Perhaps {own[0].file}:{one.changes} in {one.function} should have woken it: it changes {one.field}, which the loop around the Wait "
+        "tests, and that function calls neither Signal nor Broadcast."
         for one in wakings_of(recording, wait)
         if own and not one.signal and not one.is_waiting
     ][:MOST]
 
 
 def one_alone(recording: Recording, wait: Waiting, waiting: int) -> list[str]:
-    """What is said of a function that sets what all wait for, and wakes one alone."""
+    """Sentences about a function that sets what all goroutines wait for, and wakes only one."""
     own = wait.stack.own()
     lines = source_of(recording, own[0].file) if own else None
     return [
-        f"Perhaps {own[0].file}:{one.signal} in {one.function} should wake all: Signal wakes one goroutine alone, and {waiting} still wait."
+        f"Perhaps {own[0].file}:{one.signal} in {one.function} should wake all: Signal wakes only one goroutine, and {waiting} still wait."
         for one in wakings_of(recording, wait)
         if own and lines and one.signal and not one.is_for_all and waiting > 1 and FLAG.search(lines[one.changes - 1])
     ][:MOST] or mistaken_signal(recording, wait)
 
 
 def mistaken_signal(recording: Recording, wait: Waiting) -> list[str]:
-    """Of a loop that looks at an entry of its own: that a Signal perhaps wakes another one, whose entry it isn't."""
+    """Says, for a loop that tests an entry of its own, that a Signal perhaps wakes another goroutine, whose entry it
+    isn't."""
     own = wait.stack.own()
     lines = source_of(recording, own[0].file) if own else None
     head = head_of(lines, own[0]) if own and lines else 0
@@ -66,7 +67,7 @@ def mistaken_signal(recording: Recording, wait: Waiting) -> list[str]:
     if own and others:
         return [
             f"Perhaps {own[0].file}:{one.signal} in {one.function} woke another one: goroutines wait there at {others[0]} too, for something else, "
-            "and Signal wakes one goroutine alone."
+            "and Signal wakes only one goroutine."
             for one in wakings_of(recording, wait)
             if one.signal and not one.is_for_all
         ][:MOST]
@@ -74,7 +75,7 @@ def mistaken_signal(recording: Recording, wait: Waiting) -> list[str]:
         return []
     return [
         f"Perhaps {own[0].file}:{one.signal} in {one.function} woke another one: the loop at {own[0].file}:{head} looks at {entry[0]}, of which each "
-        "that waits has its own, and Signal wakes one goroutine alone."
+        "that waits has its own, and Signal wakes only one goroutine."
         for one in wakings_of(recording, wait)
         if one.signal and not one.is_for_all
     ][:MOST]
@@ -95,13 +96,13 @@ def have_waited(recording: Recording, wait: Waiting) -> bool:
 
 
 def head_of(lines: Lines, call: Call) -> int:
-    """The line of the loop round a call; 0 if it is in none."""
+    """The line of the loop around a call; 0 if it is in none."""
     within = range_of(lines, call)
     return loop_round(lines, within, call.line) if within else 0
 
 
 def wakings_of(recording: Recording, wait: Waiting) -> list[Waking]:
-    """The functions of the waiting one's type, or package, that change what the loop round the Wait looks at."""
+    """The functions of the waiter's type, or package, that change what the loop around the Wait tests."""
     own = wait.stack.own()
     lines = source_of(recording, own[0].file) if own else None
     name = WAIT.search(lines[own[0].line - 1]) if own and lines and own[0].line <= len(lines) else None
@@ -125,7 +126,7 @@ def wakings_of(recording: Recording, wait: Waiting) -> list[Waking]:
 
 
 def fields_of(lines: Lines, call: Call) -> set[str]:
-    """The fields in the condition of the loop in which a call is."""
+    """The fields in the condition of the loop around a call."""
     margin = indent_of(lines[call.line - 1])
     within = range_of(lines, call)
     for number in range(call.line - 1, within.start if within else call.line, -1):
@@ -140,19 +141,19 @@ def fields_of(lines: Lines, call: Call) -> set[str]:
 
 
 def conditions_of(lines: Lines, head: int) -> list[str]:
-    """The conditions in the body of a loop that has none of its own."""
+    """The conditions in the body of a loop without a condition."""
     texts = (lines[number - 1].partition("//")[0].strip() for number in body_of(lines, head))
     is_endless = lines[head - 1].strip() == "for {"
     return [text for text in texts if text.startswith(("if ", "for "))] if is_endless else []
 
 
 def conditions_in(lines: Lines, head: int) -> set[str]:
-    """The fields in the conditions of a loop that has none of its own."""
+    """The fields in the conditions of a loop without a condition."""
     return {field for text in conditions_of(lines, head) for field in FIELD.findall(text)}
 
 
 def functions_of(lines: Lines) -> list[tuple[str, range]]:
-    """The functions of a file, by their names as in a stack, and their lines."""
+    """The functions of a file, by their names as in a stack, with their lines."""
     found = []
     for number, text in enumerate(lines, 1):
         if named := FUNCTION.match(text):

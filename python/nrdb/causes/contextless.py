@@ -1,5 +1,5 @@
-"""Requests of net/http that carry no context, made in a function that has one: of a goroutine that waits for a response, by the program's source if
-that is here."""
+"""Requests of net/http that carry no context, made in a function that has one, while a goroutine waits for the
+response. From the program's source."""
 
 import re
 
@@ -13,7 +13,8 @@ GIVEN = re.compile(r"\b(\w+) (?:context\.Context|\*http\.Request)\b")
 
 
 def contextless_says(recording: Recording, wait: Waiting) -> list[str]:
-    """That the request for whose response a goroutine waits doesn't end with a context that its function was given."""
+    """Says that the request whose response a goroutine waits for doesn't end with the context that its function was
+    given."""
     for call in wait.stack.calls:
         lines = source_of(recording, call.file) if call.of == OF_THE_PROGRAM else None
         within = range_of(lines, call) if lines else None

@@ -1,5 +1,5 @@
-"""Lines of the program's source that copy a struct which has the mutex that a goroutine waits for: a mutex that was locked as it was copied stays locked in the
-copy, and nobody unlocks that."""
+"""Lines of the program's source that copy a struct with the mutex that a goroutine waits for: a mutex that was locked
+when it was copied stays locked in the copy."""
 
 import os
 import re
@@ -16,7 +16,8 @@ MOST = 2
 
 
 def copies_says(recording: Recording, lock: Call) -> str:
-    """Where the struct of a mutex is copied that a goroutine waits for in the call `lock`: `, as a.go:12 copies it`; empty if no line is known to copy one."""
+    """The line that copies the struct of the mutex that a goroutine waits for in the call `lock`: `, as a.go:12 copies
+    it`; empty if unknown."""
     name = LOCK.search(text_at(recording, lock)) if lock.of == OF_THE_PROGRAM else None
     field = place_of_variable(recording, lock, name[1]) if name else None
     places = list(copies_of(recording, lock.file, field.partition(".")[0])) if field else []
@@ -25,7 +26,7 @@ def copies_says(recording: Recording, lock: Call) -> str:
 
 
 def copies_of(recording: Recording, file: str, struct: str) -> Iterator[str]:
-    """The lines of a package that copy what a pointer to a struct of this type points to."""
+    """The lines of a package that copy the struct behind a pointer of this type."""
     for path, lines in files_of(recording, file):
         for number, text in enumerate(lines, 1):
             found = COPY.search(text.partition("//")[0])

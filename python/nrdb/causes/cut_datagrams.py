@@ -1,4 +1,5 @@
-"""Datagrams that were longer than the buffer into which they were read: the system throws the rest away, and says nothing."""
+"""Datagrams that were longer than the buffer into which they were read: the system discards the rest without an
+error."""
 
 import re
 from collections import defaultdict
@@ -30,7 +31,7 @@ class CutDatagram(NamedTuple):
     read: Call
 
     def says(self, index: Index) -> list[str]:
-        """It in sentences."""
+        """The sentences."""
         recording, length = index.recording, counted(size_of(index, self.read), "byte")
         wrote = f"{told(recording, self.wrote)} sent a datagram of {counted(size_of(index, self.wrote), 'byte')} in {self.wrote.steps()}"
         made = made_at(index, self.read)
@@ -39,7 +40,7 @@ class CutDatagram(NamedTuple):
 
 
 def made_at(index: Index, read: Call) -> str:
-    """The line at which a function makes the buffer that it reads into: ` (a.go:30)`; empty if that isn't known."""
+    """The line at which a function makes the buffer that it reads into: ` (a.go:30)`; empty if unknown."""
     own = index.recording.lines.of(read.first).own()
     into = INTO.search(text_at(index.recording, own[0])) if own else None
     if not own or not into:
@@ -51,14 +52,14 @@ def made_at(index: Index, read: Call) -> str:
 
 @lru_cache(maxsize=2)
 def cut_datagrams(index: Index) -> tuple[CutDatagram, ...]:
-    """Those of a recording, in the order of their Reads: of each socket the Reads are paired with what was sent to its address, as long as the
-    lengths fit one another."""
+    """The cut datagrams of a recording, in the order of their Reads: the Reads of each socket are paired with what was
+    sent to its address, as long as the lengths fit."""
     found = [pair for socket in sorted(index.by_socket) for pair in cut_at(index, socket)]
     return tuple(sorted(found, key=lambda pair: pair.read.last))
 
 
 def cut_at(index: Index, socket: int) -> Iterator[CutDatagram]:
-    """The datagrams that were cut as they were read at a socket."""
+    """The datagrams that were cut when they were read at a socket."""
     asked = asked_of(index.recording)
     reads = [one for one in index.by_socket[socket] if one.name == "Read" and one.moved and one.last]
     sent = sent_to(index, socket) if reads and is_datagram(index, socket) else []
@@ -80,7 +81,7 @@ def sent_to(index: Index, socket: int) -> list[Call]:
 
 
 def causes_of_cuts(index: Index) -> list[Cause]:
-    """They as what may be the matter: of each line that read the first one."""
+    """Possible causes from cut datagrams: for each line that read some, the first one."""
     found: dict[object, list[CutDatagram]] = defaultdict(list)
     for pair in cut_datagrams(index):
         found[index.recording.lines.of(pair.read.first).own()].append(pair)
@@ -88,15 +89,15 @@ def causes_of_cuts(index: Index) -> list[Cause]:
 
 
 def cause_of(index: Index, pair: CutDatagram, others: int) -> Cause:
-    """A datagram that was cut as a cause, with how many others there are."""
+    """The cause for a datagram that was cut, with the number of others."""
     more = [f"{others} more like it."] if others else []
     looks = [f"goto {pair.read.last}", f"calls sock {pair.read.socket}"]
     return Cause(pair.read, [*pair.says(index), *more], [pair.wrote.first, pair.read.first], looks)
 
 
 def cut_says(index: Index, call: Call, position: int) -> list[str]:
-    """Of a Read that waits for a datagram: that the last datagram of its goroutine there was cut, with what the goroutine did that read it; else that
-    the last one which that goroutine got there was."""
+    """Says, for a Read that waits for a datagram, that the last datagram of its goroutine was cut and what the reader
+    did then; else that the last one which that goroutine got was cut."""
     wrote = index.last_use(call.socket, call.first, ("Write",)) if is_datagram(index, call.socket) else None
     pair = next((one for one in cut_datagrams(index) if wrote and one.wrote is wrote), None)
     if pair is None or pair.wrote.goroutine != call.goroutine or pair.read.last > position:
@@ -121,7 +122,7 @@ def writes_of(index: Index, read: Call) -> set[Stack]:
 
 
 def last_cut(index: Index, call: Call) -> list[str]:
-    """That the last datagram which was read at a socket before a call was cut."""
+    """Says that the last datagram that was read at a socket before a call was cut."""
     reads = [one for one in index.by_socket[call.socket] if one.name == "Read" and one.moved and one.first < call.first]
     pair = next((one for one in cut_datagrams(index) if reads and one.read is reads[-1]), None)
     return pair.says(index) if pair else []

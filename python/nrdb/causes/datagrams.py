@@ -1,4 +1,5 @@
-"""Datagrams, whose two sockets no name pairs: a request that was read at another socket, by how many bytes it has, and not answered."""
+"""Datagrams between sockets that no name pairs: a request of this many bytes that was read at another socket and not
+answered."""
 
 from typing import Optional
 
@@ -13,7 +14,8 @@ DEADLINES = ("SetReadDeadline", "SetDeadline")
 
 
 def unanswered_datagram(index: Index, call: Call, position: int) -> list[str]:
-    """Of a Read that waits for a datagram: which goroutine perhaps read the request and sent no answer, and that no deadline was set."""
+    """Says, for a Read that waits for a datagram, which goroutine perhaps read the request and sent no answer, and that
+    no deadline was set."""
     if not is_datagram(index, call.socket):
         return []
     wrote = index.last_use(call.socket, call.first, ("Write",))
@@ -37,8 +39,8 @@ def unanswered_datagram(index: Index, call: Call, position: int) -> list[str]:
 
 
 def dropped_datagram(index: Index, call: Call) -> list[str]:
-    """Of a Read of a datagram that ended with a timeout: which goroutine perhaps read the request and sent no answer, and whether that filled
-    its whole buffer."""
+    """Says, for a Read of a datagram that timed out, which goroutine perhaps read the request and sent no answer, and
+    whether it filled the whole buffer."""
     wrote = index.last_use(call.socket, call.first, ("Write",)) if is_datagram(index, call.socket) else None
     read = reader_of(index, call, wrote, call.last) if wrote and wrote.goroutine == call.goroutine else None
     if wrote is None or read is None:
@@ -63,7 +65,7 @@ def dropped_datagram(index: Index, call: Call) -> list[str]:
 
 
 def reader_of(index: Index, call: Call, wrote: Call, position: int) -> Optional[Call]:
-    """The only Read of a datagram of as many bytes at another socket since a Write; None if there are several."""
+    """The only Read of a datagram of this length at another socket since a Write; None if there are several."""
     found = [
         one
         for socket, calls in index.by_socket.items()

@@ -1,4 +1,4 @@
-"""The deadlines under which calls wait that haven't passed yet: such a call ends by itself."""
+"""The deadlines of calls that wait and haven't passed yet: such a call ends by itself."""
 
 from collections import defaultdict
 from functools import lru_cache
@@ -12,7 +12,8 @@ from .words import name_of, place_of_step
 
 
 class Setting(NamedTuple):
-    """A `setdeadline` of a descriptor: its step, its goroutine, for which sides, and how far ahead: 0 for none, below 0 for the past."""
+    """A `setdeadline` of a descriptor: its step, its goroutine, its sides, and how far ahead: 0 for none, below 0 for
+    the past."""
 
     step: int
     goroutine: int
@@ -44,13 +45,13 @@ def deadline_ahead(index: Index, call: Call, position: int) -> Optional[Setting]
 
 
 def until_words(index: Index, call: Call) -> str:
-    """Until when a call with a deadline waits: `until the deadline of the Read at a.go:3 passes`."""
+    """The end of a wait with a deadline: `until the deadline of the Read at a.go:3 passes`."""
     place = index.recording.lines.of(call.first).place()
     at = f" at {place}" if place and not place.startswith("in ") else f" {place}".rstrip()
     return f"until the deadline of the {name_of(index.recording, call)}{at} passes"
 
 
 def setting_says(index: Index, setting: Setting) -> str:
-    """Where a deadline was set, and how far ahead."""
+    """The line that set a deadline, and how far ahead."""
     at = place_of_step(index.recording, setting.step, setting.goroutine)
     return f"Its deadline was set{at}, {duration(setting.time)} ahead, and hasn't passed."

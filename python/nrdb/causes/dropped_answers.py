@@ -1,5 +1,5 @@
-"""Answers that a goroutine read whole and handed to nobody: of a goroutine that wrote a request, and waits at a channel for another to hand the
-answer on, as the clients of many RPC protocols do."""
+"""Answers that a goroutine read whole and passed to no other, while the goroutine that wrote the request waits at a
+channel, as in clients of many RPC protocols."""
 
 import re
 from collections import defaultdict
@@ -28,7 +28,7 @@ MOST_WAYS = 2
 
 
 class Hand(NamedTuple):
-    """A goroutine that reads at a socket and hands on what it read, by a line that puts values into channels."""
+    """A goroutine that reads at a socket and passes on what it read, by a line that puts values into channels."""
 
     reader: Waiter
     call: Call
@@ -36,13 +36,13 @@ class Hand(NamedTuple):
 
 
 def is_for_values(wait: Waiting) -> bool:
-    """Whether a goroutine waits for values from channels alone."""
+    """Whether a goroutine waits only for values from channels."""
     return bool(wait.objects) and all(at.use == FOR_VALUE for at in wait.objects)
 
 
 def dropped_answer(index: Index, wait: Waiting, hands: Mapping[int, list[Hand]]) -> Optional[Need]:
-    """The need of a goroutine that waits for an answer which one of some goroutines, by their sockets, read and handed to nobody; None if that isn't
-    known to be so."""
+    """The need of a goroutine that waits for an answer which one of these goroutines, keyed by socket, read and passed
+    to no other; None if unknown."""
     sockets = asked_at(index, wait) if hands else set()
     for hand in (hand for socket in sorted(sockets) for hand in hands.get(socket, ())):
         wrote = request_of(index, wait, hand.call.socket)
@@ -53,9 +53,9 @@ def dropped_answer(index: Index, wait: Waiting, hands: Mapping[int, list[Hand]])
 
 
 def hands_of(recording: Recording, wait: Waiting, waiters: Mapping[Name, Waiter]) -> list[Hand]:
-    """The goroutines that wait to read, and that put values into channels from which others took them at the line of the waiting one, or that are in
-    the function in which another does so; else, if none ever has, those that are in a function which does so by the source.
-    """
+    """The goroutines that wait to read and put values into channels from which others took them at the waiter's line,
+    or that are in the function in which another does so; if none ever has, those in a function that does so by its
+    source."""
     readers = {name: waiter for name, waiter in waiters.items() if waiter.call and waiter.call.name == "Read"}
     lines, own = recording.lines, wait.stack.own()
     taken = {
@@ -77,7 +77,7 @@ def hands_of(recording: Recording, wait: Waiting, waiters: Mapping[Name, Waiter]
 
 
 def by_socket(hands: list[Hand]) -> dict[int, list[Hand]]:
-    """The goroutines by the sockets at which they read."""
+    """The goroutines, keyed by the sockets at which they read."""
     found: dict[int, list[Hand]] = defaultdict(list)
     for hand in hands:
         found[hand.call.socket].append(hand)
@@ -90,7 +90,8 @@ def hand_of(reader: Waiter, line: LineCall) -> Hand:
 
 
 def by_source(recording: Recording, wait: Waiting, readers: Mapping[Name, Waiter]) -> list[Hand]:
-    """The goroutines that read in a function with a line that puts a value into a channel of the name at which the other waits."""
+    """The goroutines that read in a function with a line that puts a value into a channel of the name that the waiter
+    uses."""
     own = wait.stack.own()
     name = RECEIVE.search(text_at(recording, own[0])) if own and own[0].of == OF_THE_PROGRAM else None
     source = source_of(recording, own[0].file) if own and name else None
@@ -106,7 +107,8 @@ def by_source(recording: Recording, wait: Waiting, readers: Mapping[Name, Waiter
 
 
 def request_of(index: Index, wait: Waiting, socket: int) -> Optional[Call]:
-    """The last Write of a goroutine at a socket before it waits; else the one of another, to which it handed its request."""
+    """The last Write of a goroutine at a socket before it waits; else that of the goroutine to which it passed its
+    request."""
     calls = [] if wait.name.is_goid else index.by_goroutine.get(wait.name.number, [])
     writes = [one for one in calls if one.name == "Write" and one.socket == socket and one.moved and one.last]
     own = next((one for one in reversed(writes) if one.first <= wait.first), None)
@@ -114,7 +116,7 @@ def request_of(index: Index, wait: Waiting, socket: int) -> Optional[Call]:
 
 
 def read_since(index: Index, hand: Hand, wrote: Call) -> Optional[Call]:
-    """The last Read of a goroutine that got something after a Write, before the one in which it waits now."""
+    """The last Read of a goroutine that got bytes after a Write, before the Read in which it waits now."""
     calls = [one for one in index.by_goroutine.get(hand.call.goroutine, []) if one.socket == hand.call.socket]
     reads = [one for one in calls if one.name == "Read" and one.moved and one.last]
     return next((one for one in reversed(reads) if wrote.first < one.last < hand.call.first), None)
@@ -127,8 +129,8 @@ def has_put(recording: Recording, wait: Waiting, read: Call) -> bool:
 
 
 def is_answered(index: Index, wrote: Call) -> bool:
-    """Whether all requests at a socket were answered, as far as that is known: a goroutine of the other end read after the request, wrote after
-    that, and reads on; or there are as many Writes at the other end."""
+    """Whether all requests at a socket were answered, as far as known: a goroutine of the other end read after the
+    request, wrote, and reads on; or the other end made as many Writes."""
     other = index.other_end(wrote.socket)
     if other is None:
         return False
@@ -150,7 +152,8 @@ def reads_on(index: Index, goroutine: int, socket: int) -> bool:
 
 
 def says_of(index: Index, wait: Waiting, hand: Hand, wrote: Call, read: Call) -> list[str]:
-    """It in sentences: the request, who read after that, and by which lines it goes on without handing anything on."""
+    """The sentences: the request, the goroutine that read after it, and the lines by which it goes on without passing
+    the answer on."""
     recording, name = index.recording, hand.reader.name
     was = "was" if Name(wrote.goroutine) == wait.name else "was perhaps"
     says = [
@@ -169,8 +172,8 @@ def ways_words(file: str, ways: list[int]) -> str:
 
 
 def ways_past(recording: Recording, stack: Stack, file: str, number: int) -> list[int]:
-    """The lines by which a goroutine goes on from where it waits without passing a line that puts a value: `continue`, `default:`, or the
-    condition of that line."""
+    """The lines by which a goroutine goes on from its wait without passing a line that puts a value: `continue`,
+    `default:`, or that line's condition."""
     lines = source_of(recording, file)
     calls = (
         [call for call in stack.calls if call.file == file and call.of == OF_THE_PROGRAM and call.line < number]
@@ -187,7 +190,7 @@ def ways_past(recording: Recording, stack: Stack, file: str, number: int) -> lis
 
 
 def defaults_behind(lines: Lines, number: int) -> list[int]:
-    """The `default:` of the select whose case a line is."""
+    """The `default:` of the select that has this line as a case."""
     if not lines[number - 1].lstrip().startswith("case "):
         return []
     margin = indent_of(lines[number - 1])
@@ -202,7 +205,7 @@ def defaults_behind(lines: Lines, number: int) -> list[int]:
 
 
 def conditions_round(lines: Lines, begin: int, number: int) -> list[int]:
-    """The innermost condition that a line is in, behind another line."""
+    """The innermost condition around a line, after another line."""
     margin = indent_of(lines[number - 1])
     for at in range(number - 1, begin, -1):
         if lines[at - 1].strip() and indent_of(lines[at - 1]) < margin:

@@ -1,5 +1,5 @@
-"""Values that are dropped if nobody waits for them: of a goroutine that waits at a channel, by the program's source if that is here, the lines that put a value there
-in a select with a `default`."""
+"""Values that are dropped if no goroutine waits for them: for a goroutine that waits at a channel, the lines that put a
+value there in a select with a `default`. From the program's source."""
 
 import re
 from typing import Optional
@@ -19,7 +19,7 @@ MOST, MOST_FRAMES, NEAR = 2, 6, 8
 
 
 def dropped_notices(recording: Recording, wait: Waiting) -> list[str]:
-    """What is said of them; nothing if the source has no such line."""
+    """Sentences about such lines; none if the source has none."""
     own = wait.stack.own()
     if not own or own[0].of != OF_THE_PROGRAM or not any(at.use == FOR_VALUE for at in wait.objects):
         return []
@@ -48,14 +48,14 @@ def dropped_notices(recording: Recording, wait: Waiting) -> list[str]:
 
 
 def is_near(place: str, other: str) -> bool:
-    """Whether a case of a select is at a place, or the line where the select begins is just before."""
+    """Whether a case of a select is at a place, or the select begins just before it."""
     file, _, number = place.rpartition(":")
     other_file, _, other_number = other.rpartition(":")
     return file == other_file and 0 <= int(number) - int(other_number) <= NEAR
 
 
 def names_at(recording: Recording, call: Call) -> list[str]:
-    """The channels from which the line of a call takes values: of a select those of its cases."""
+    """The channels from which the line of a call takes values; for a select those of its cases."""
     taken = TAKES.search(text_at(recording, call))
     if taken:
         return [taken[1]]
@@ -64,8 +64,8 @@ def names_at(recording: Recording, call: Call) -> list[str]:
 
 
 def is_dropping(recording: Recording, own: Call, name: str, line: Call, lines: Lines) -> bool:
-    """Whether a line is a case of a select that puts a value into the channel which is named so in the function of a call, and the select has a
-    `default`."""
+    """Whether a line is a case of a select with a `default` that puts a value into the channel of this name in the
+    function of a call."""
     sends = SENDS.match(lines[line.line - 1].partition("//")[0])
     if sends is None or default_of(lines, line.line) is None:
         return False
@@ -77,7 +77,7 @@ def is_dropping(recording: Recording, own: Call, name: str, line: Call, lines: L
 
 
 def default_of(lines: Lines, number: int) -> Optional[int]:
-    """The `default:` of the select that a case is of."""
+    """The `default:` of the select that has this case."""
     margin = indent_of(lines[number - 1])
     for at in range(number + 1, len(lines) + 1):
         text, indent = lines[at - 1], indent_of(lines[at - 1])

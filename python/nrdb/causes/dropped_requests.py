@@ -1,5 +1,5 @@
-"""Requests that went through a channel to a goroutine which took them, and that goes on to the next one without an answer: of a goroutine that
-put a request there and waits at another channel for the answer."""
+"""Requests that went through a channel to a goroutine that took them and goes on to the next without an answer, while
+the goroutine that sent the request waits at another channel."""
 
 from typing import Mapping, NamedTuple, Optional
 
@@ -27,7 +27,7 @@ class Taken(NamedTuple):
 
 
 def dropped_request(recording: Recording, wait: Waiting, waiters: Mapping[Name, Waiter]) -> Optional[Need]:
-    """The need of a goroutine whose request another took without an answer; None if that isn't known to be so."""
+    """The need of a goroutine whose request another took without an answer; None if unknown."""
     if not wait.objects or any(at.use != FOR_VALUE for at in wait.objects):
         return None
     request = put_before(recording, wait)
@@ -50,27 +50,27 @@ def dropped_request(recording: Recording, wait: Waiting, waiters: Mapping[Name, 
 
 
 def answered_before(recording: Recording, wait: Waiting) -> int:
-    """Behind which step the last wait of a goroutine at the same line ended; 0 if there was none."""
+    """The step after which the last wait of a goroutine at the same line ended; 0 if none did."""
     earlier = (one for one in waits_of(recording).of.get(wait.name, ()) if one.stack.own() == wait.stack.own())
     return max((one.last for one in earlier if one.last is not None and one.last <= wait.first), default=0)
 
 
 def left_to_a_timer(recording: Recording, taker: Waiter) -> str:
-    """Of a goroutine that took a request and waits in a select: that it perhaps answers when a timer goes off that nobody has set anew; empty
-    if that isn't so by the program's source."""
+    """Says, for a goroutine that took a request and waits in a select, that it perhaps answers when a timer goes off
+    that nothing resets; empty if the program's source has no such timer."""
     says = timers_of_select(recording, taker.wait) if taker.wait else []
     is_skipped = taker.wait is not None and bool(says) and ways_past_reset(recording, taker.wait)
     return f"Perhaps {taker.name} keeps it until a timer goes off. {says[0]}" if is_skipped else ""
 
 
 def has_answer(recording: Recording, wait: Waiting, request: Use) -> bool:
-    """Whether somebody put a value at one of a wait's channels after a request."""
+    """Whether a value was put at one of a wait's channels after a request."""
     uses = (use for at in wait.objects for use in recording.lines.uses.get(at.object, ()))
     return any(use.what == PUT and use.end >= request.end for use in uses)
 
 
 def taker_of(recording: Recording, wait: Waiting, request: Use, waiters: Mapping[Name, Waiter]) -> Optional[Taken]:
-    """The goroutine that took a request, if all were taken, and all that took some have ended or wait for the next one."""
+    """The goroutine that took a request, if all were taken, and all takers have ended or wait for the next one."""
     lines, number = recording.lines, request.object
     uses = lines.uses[number]
     put, took = (sum(use.often for use in uses if use.what == what) for what in (PUT, TOOK))
@@ -95,8 +95,8 @@ def is_free(recording: Recording, use: Use, number: int, waiters: Mapping[Name, 
 
 
 def answer_line(recording: Recording, wait: Waiting, taker: Waiter) -> int:
-    """The line of a function that a goroutine is in, or of a literal in it, behind the line where it waits, that puts a value into a channel of the
-    name at which the other waits; 0 if there is none."""
+    """The line, after the wait, of a function that a goroutine is in, or of a literal in it, that puts a value into a
+    channel of the name that the other waits at; 0 if none does."""
     own = wait.stack.own()
     numbers = [giving.number for giving in givings_at(recording, wait)]
     for call in taker.stack.calls:

@@ -1,5 +1,5 @@
-"""Requests of net/http's client that weren't sent, since their contexts had ended before; and contexts of handlers that goroutines use after those have
-returned, by the program's source if that is here."""
+"""Requests of net/http's client that weren't sent because their contexts had ended; and contexts of handlers that
+goroutines use after the handlers returned. From the program's source."""
 
 import re
 from typing import Iterator, NamedTuple, Optional
@@ -24,12 +24,12 @@ REQUEST = re.compile(r"\b(\w+) \*http\.Request\b")
 
 
 class EndedBefore(NamedTuple):
-    """That a goroutine found the context of its request ended, before it sent that."""
+    """A goroutine found the context of its request ended before it sent the request."""
 
     use: Use
 
     def says(self, recording: Recording) -> list[str]:
-        """It in sentences."""
+        """The sentences."""
         name, stack = name_of_goid(recording.lines, self.use.goid), recording.lines.stacks[self.use.stack]
         request = f"The request{place_in(stack)} ({name}, step {self.use.last})"
         if any(call.function == GET_CONNECTION for call in stack.calls[:3]):
@@ -43,7 +43,7 @@ class EndedBefore(NamedTuple):
 
 
 def ended_before(index: Index) -> Iterator[EndedBefore]:
-    """The requests of the program that weren't sent for that reason."""
+    """The requests of the program that weren't sent because their contexts had ended."""
     lines = index.recording.lines
     for uses in lines.uses.values():
         for use in uses:
@@ -54,7 +54,8 @@ def ended_before(index: Index) -> Iterator[EndedBefore]:
 
 
 def of_a_handler(recording: Recording, goid: int) -> list[str]:
-    """That a goroutine was started by a handler of net/http in a function that takes its request's context: that ends as the handler returns."""
+    """Says that a handler of net/http started a goroutine in a function that takes the request's context, which ends
+    when the handler returns."""
     known = recording.lines.goroutines.get(goid)
     made = known.made if known else None
     lines = source_of(recording, made.file) if made and made.of == OF_THE_PROGRAM else None
@@ -75,8 +76,8 @@ def of_a_handler(recording: Recording, goid: int) -> list[str]:
 
 
 def kept_by_a_handler(recording: Recording, stack: Stack) -> list[str]:
-    """The only line of a package at which a handler of net/http keeps the context of its request; nothing if it is in the stack, or there are
-    several."""
+    """The only line of a package at which a handler of net/http keeps the context of its request; empty if it is in the
+    stack, or if several lines do."""
     own = stack.own()
     if own is None or any(call.function == SERVE for call in stack.calls):
         return []
@@ -87,12 +88,12 @@ def kept_by_a_handler(recording: Recording, stack: Stack) -> list[str]:
 
 
 def causes_of_ended(index: Index) -> list[Cause]:
-    """They as causes."""
+    """The causes."""
     return [cause for one in ended_before(index) if (cause := cause_of(index, one))]
 
 
 def cause_of(index: Index, ended: EndedBefore) -> Optional[Cause]:
-    """It as a cause, at the call before it; None if there is none."""
+    """The cause, at the call before it; None if there is none."""
     near = next(back(index.book.calls, ended.use.last), None)
     looks = [f"goto {ended.use.last}", "info goroutines"]
     return Cause(near, ended.says(index.recording), [ended.use.last], looks) if near else None

@@ -1,5 +1,5 @@
-"""Goroutines that have ended without what another waits for at a channel, by the program's source if that is here: they were in, or started, a function
-with a line that puts a value there, or takes one, and didn't come to it."""
+"""Goroutines that ended without doing what another waits for at a channel: they were in, or started, a function with a
+line that puts or takes a value there, and didn't come to it. From the program's source."""
 
 import re
 from typing import Iterator, Optional
@@ -18,11 +18,11 @@ from .source_functions import source_of, text_at
 
 STARTS = re.compile(r"\bgo (?:[\w.]+\.)?(\w+)\(")
 FUNCTION = re.compile(r"func (?:\([^)]*\) )?(\w+)[(\[]")
-MOST = 50  # goroutines that are looked at
+MOST = 50  # the most goroutines to examine
 
 
 def ended_giver(index: Index, wait: Waiting) -> Optional[Need]:
-    """The goroutines that perhaps should have given what is waited for, and ended; None if none is found."""
+    """The goroutines that perhaps should have given what is waited for, and ended; None if there are none."""
     own, recording = wait.stack.own(), index.recording
     is_select = wait.kind == A_SELECT
     if not own or own[0].of != OF_THE_PROGRAM or not wait.objects or wait.objects[0].use not in WORDS:
@@ -32,7 +32,7 @@ def ended_giver(index: Index, wait: Waiting) -> Optional[Need]:
     givings = givings_of_select(recording, own[0]) if is_select else givings_at(recording, wait)
     if not givings:
         return None
-    found = dict[int, list[int]]()  # the goroutines, by the line that they should have come to
+    found = dict[int, list[int]]()  # the goroutines, by the line that they should have reached
     for goid in ended_before(recording, wait, own[0].file, givings):
         number = upcoming(recording, goid, own[0].file, givings)
         if number:
@@ -49,7 +49,7 @@ def givings_of_select(recording: Recording, call: Call) -> list[Giving]:
 
 
 def need_of(index: Index, wait: Waiting, found: list[int], own: Call, number: int) -> Need:
-    """The need of those that ended before a line."""
+    """The need for those that ended before a line."""
     lines, names = index.recording.lines, [name_of_goid(index.recording.lines, goid) for goid in found]
     known = lines.goroutines[found[0]]
     made = f", started at {known.made.place()}," if known.made else ","
@@ -63,8 +63,8 @@ def need_of(index: Index, wait: Waiting, found: list[int], own: Call, number: in
 
 
 def ended_before(recording: Recording, wait: Waiting, file: str, givings: list[Giving]) -> Iterator[int]:
-    """The goroutines that have ended and didn't pass a line that gives, the last ones first: those that the waiting one started, if it started
-    any that have ended."""
+    """The goroutines that ended without passing a line that gives, the last ones first; if the waiter started some of
+    them, only those."""
     waiter, passed, numbers = goid_of(recording, wait.name), lines_of(recording), {one.number for one in givings}
     ended = [goid for goid, known in recording.lines.goroutines.items() if known.last >= 0 and known.made]
     mine = [goid for goid in ended if recording.lines.goroutines[goid].maker == waiter] or ended
@@ -74,8 +74,8 @@ def ended_before(recording: Recording, wait: Waiting, file: str, givings: list[G
 
 
 def upcoming(recording: Recording, goid: int, file: str, givings: list[Giving]) -> int:
-    """The line that gives in a function that a goroutine was in, behind the last line of it that it passed, or in one that it was started as; 0
-    if there is none."""
+    """The line that gives, in a function that a goroutine was in after the last line that it passed, or in one that it
+    was started with; 0 if there is none."""
     made, passed = recording.lines.goroutines[goid].made, lines_of(recording).of(goid)
     for giving in givings:
         last = max((call.line for call in passed if call.file == file and call.line in giving.within), default=0)
@@ -85,7 +85,7 @@ def upcoming(recording: Recording, goid: int, file: str, givings: list[Giving]) 
 
 
 def starts(recording: Recording, made: Call, file: str, giving: Giving) -> bool:
-    """Whether a `go` statement starts the function that a line is in."""
+    """Whether a `go` statement starts the function of a line."""
     if made.file != file:
         return False
     text = text_at(recording, made)

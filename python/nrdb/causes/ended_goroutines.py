@@ -1,4 +1,5 @@
-"""Goroutines that have ended, and from which others wait for something: where each was last, and by which lines it may have left its loop."""
+"""Goroutines that ended while others wait for them: the last place of each, and the lines by which it may have left its
+loop."""
 
 import re
 from functools import lru_cache
@@ -18,7 +19,7 @@ MOST_LEAVES = 2
 
 
 class Passed(NamedTuple):
-    """That a goroutine was in a stack: after which step, when, and its place among the goroutine's calls."""
+    """A goroutine was in a stack: after which step, when, and the index of that among the goroutine's calls."""
 
     step: int
     time: int
@@ -32,13 +33,13 @@ def goid_of(recording: Recording, name: Name) -> int:
 
 @lru_cache(maxsize=1024)
 def last_stack(index: Index, name: Name) -> Optional[Stack]:
-    """The last stack in which a goroutine is known to have been, but for those of what it deferred."""
+    """The last known stack of a goroutine, without those of deferred functions."""
     last = max(passed_by(index, name), key=lambda one: (one.step, one.time), default=None)
     return last.stack if last else None
 
 
 def passed_by(index: Index, name: Name) -> Iterator[Passed]:
-    """The stacks in which a goroutine was, with a line of the program."""
+    """The stacks of a goroutine with a line of the program."""
     recording, goid = index.recording, goid_of(index.recording, name)
     lines, calls = recording.lines, index.by_goroutine.get(name.number, []) if not name.is_goid else []
     found = [Passed(call.first, time_of(recording, call.first), lines.of(call.first)) for call in calls[-3:]]
@@ -53,14 +54,14 @@ def passed_by(index: Index, name: Name) -> Iterator[Passed]:
 
 
 def time_of(recording: Recording, step: int) -> int:
-    """The time of a step; 0 if it isn't known."""
+    """The time of a step; 0 if unknown."""
     times = recording.lines.times
     return times[step - 1] if 0 < step <= len(times) else 0
 
 
 def ended_where(index: Index, name: Name, known: Optional[Stack] = None) -> str:
-    """Where a goroutine was last that has ended, if that isn't the line that is known: `, last known at a.go:15 in parse, from whose loop only
-    a.go:18 leads`; empty if it isn't known."""
+    """The last place of a goroutine that ended, if it isn't the known line: `, last known at a.go:15 in parse, from
+    whose loop only a.go:18 leads`; empty if unknown."""
     stack = last_stack(index, name)
     own = [call for call in stack.calls if call.of == OF_THE_PROGRAM and WRAPPED not in call.function] if stack else []
     if not own:
@@ -77,13 +78,14 @@ def ended_where(index: Index, name: Name, known: Optional[Stack] = None) -> str:
 
 
 def loop_words(recording: Recording, stack: Stack) -> str:
-    """The lines that leave the loop in which a goroutine did something in a function that isn't its outermost: as `ended_where` has them."""
+    """The lines that leave the loop in which a goroutine did something, in a function that isn't its outermost, in the
+    form of `ended_where`."""
     own = [call for call in stack.calls if call.of == OF_THE_PROGRAM and WRAPPED not in call.function]
     return ways_out(recording, own[0]) if len(own) > 1 else ""
 
 
 def ways_out(recording: Recording, call: Call) -> str:
-    """The lines that leave the loop round a line, in words; empty if they aren't few."""
+    """The lines that leave the loop around a line, as text; empty if there are many."""
     leaves, over = leaves_of(recording, call), ranged_over(recording, call)
     ways = " and ".join(f"{call.file}:{number}" for number in leaves)
     lead = f"lead{'s' if len(leaves) == 1 else ''}"
@@ -93,8 +95,8 @@ def ways_out(recording: Recording, call: Call) -> str:
 
 
 def left_by(index: Index, call: OneCall) -> str:
-    """The line by which a goroutine that has ended left the loop in which it made a call, as `ended_where` has it: if there are several, the first
-    one after the line of that function at which it was last."""
+    """The line by which a goroutine that ended left the loop in which it made a call, in the form of `ended_where`: if
+    several are possible, the first one after the goroutine's last line in that function."""
     own = index.recording.lines.of(call.first).own()
     leaves = every_leave(index.recording, own[0]) if own and own[0].of == OF_THE_PROGRAM else []
     if not own or not leaves:
@@ -109,7 +111,7 @@ def left_by(index: Index, call: OneCall) -> str:
 
 
 def ranged_over(recording: Recording, call: Call) -> str:
-    """What the innermost loop round a line of a function ranges over; empty if it has no end of its own."""
+    """What the innermost loop around a line ranges over; empty if the loop has no end of its own."""
     lines = source_of(recording, call.file)
     within = range_of(lines, call) if lines else None
     head = loop_round(lines, within, call.line) if lines and within else 0
@@ -118,13 +120,14 @@ def ranged_over(recording: Recording, call: Call) -> str:
 
 
 def leaves_of(recording: Recording, call: Call) -> list[int]:
-    """The lines that leave the innermost loop round a line of a function, if they are few."""
+    """The lines that leave the innermost loop around a line of a function, if there are few."""
     found = every_leave(recording, call)
     return found if len(found) <= MOST_LEAVES else []
 
 
 def every_leave(recording: Recording, call: Call) -> list[int]:
-    """The lines that leave the innermost loop round a line of a function, if that doesn't end by itself: it is over a channel or has no condition."""
+    """The lines that leave the innermost loop around a line of a function, if the loop is over a channel or has no
+    condition."""
     lines = source_of(recording, call.file)
     within = range_of(lines, call) if lines else None
     head = loop_round(lines, within, call.line) if lines and within else 0
@@ -135,7 +138,7 @@ def every_leave(recording: Recording, call: Call) -> list[int]:
 
 
 def loop_round(lines: Lines, within: range, line: int) -> int:
-    """The line at which the innermost loop begins that a line is in; 0 if it is in none."""
+    """The line at which the innermost loop around a line begins; 0 if it is in none."""
     margin = indent_of(lines[line - 1])
     if LOOP.match(lines[line - 1]):
         return line
@@ -151,13 +154,13 @@ def loop_round(lines: Lines, within: range, line: int) -> int:
 
 
 def is_endless(text: str) -> bool:
-    """Whether a loop has no condition, or is over what may be a channel's values."""
+    """Whether a loop has no condition, or may be over a channel's values."""
     head = text.partition("//")[0].strip()
     return head == "for {" or re.match(r"for (\w+ :?= )?range [\w.]+ \{\Z", head) is not None
 
 
 def body_of(lines: Lines, head: int) -> Iterator[int]:
-    """The lines of a loop's body, but for those of function literals."""
+    """The lines of a loop's body, without function literals."""
     margin, number = indent_of(lines[head - 1]), head + 1
     while number <= len(lines) and (indent_of(lines[number - 1]) > margin or not lines[number - 1].strip()):
         text, inner = lines[number - 1].partition("//")[0].rstrip(), indent_of(lines[number - 1])
@@ -170,7 +173,7 @@ def body_of(lines: Lines, head: int) -> Iterator[int]:
 
 
 def is_inner_break(lines: Lines, head: int, number: int) -> bool:
-    """Whether a `break` is one of a loop, a switch or a select inside of the loop."""
+    """Whether a `break` belongs to a loop, a switch or a select inside the loop."""
     text, margin = lines[number - 1].strip(), indent_of(lines[number - 1])
     if not text.startswith("break") or text.partition("//")[0].strip() != "break":
         return False

@@ -1,5 +1,6 @@
-"""Goroutines that put values for others into channels, each of which has a channel of its own, and have ended: of one that waits for such a value. The
-clients of many RPC protocols have one that hands the answers on, and servers have workers that put their results so."""
+"""Goroutines that put values for others into the others' own channels, and have ended, while one waits for such a
+value. Clients of many RPC protocols have a goroutine that passes the answers on, and servers have workers that send
+their results so."""
 
 from functools import lru_cache
 from typing import NamedTuple, Optional, Sequence
@@ -20,7 +21,7 @@ MOST_NAMED = 4
 
 
 class EndedHand(NamedTuple):
-    """A goroutine that has ended, its last putting of a value for another, and the line of that."""
+    """A goroutine that ended, the last value that it put for another, and the line of that."""
 
     name: Name
     use: Use
@@ -28,8 +29,8 @@ class EndedHand(NamedTuple):
 
 
 def ended_hand(index: Index, wait: Waiting) -> Optional[Need]:
-    """The need of a goroutine that waits for a value, if all goroutines have ended that put values for others which waited at the same line; None
-    if one hasn't, or nobody did."""
+    """The need of a goroutine that waits for a value, if all goroutines that put values for others at the same line
+    have ended; None if one hasn't, or if none did."""
     lines, own = index.recording.lines, wait.stack.own()
     if not own or own[0].of != OF_THE_PROGRAM or len(wait.objects) != 1 or wait.objects[0].use != FOR_VALUE:
         return None
@@ -45,7 +46,8 @@ def ended_hand(index: Index, wait: Waiting) -> Optional[Need]:
 
 @lru_cache(maxsize=256)
 def hands_at(index: Index, line: Call) -> tuple[EndedHand, ...]:
-    """The goroutines that put values into channels of which others took them at a line, in the order of their last."""
+    """The goroutines that put values into channels from which others took them at a line, in the order of their last
+    ones."""
     lines, found = index.recording.lines, dict[Name, EndedHand]()
     taken = [
         uses
@@ -60,7 +62,7 @@ def hands_at(index: Index, line: Call) -> tuple[EndedHand, ...]:
 
 
 def says_of(index: Index, hands: Sequence[EndedHand]) -> list[str]:
-    """It in sentences: where they put values for others, and what each did last."""
+    """The sentences: the lines at which they put values for others, and what each did last."""
     last, recording = hands[-1], index.recording
     if len(hands) > 1:
         names = of_names([hand.name for hand in hands[:MOST_NAMED]])
@@ -82,7 +84,7 @@ def says_of(index: Index, hands: Sequence[EndedHand]) -> list[str]:
 
 
 def failed_last(index: Index, name: Name) -> Optional[OneCall]:
-    """The last Read or Write of a goroutine, if that failed, or met the end of the stream."""
+    """The last Read or Write of a goroutine, if it failed or met the end of the stream."""
     calls = [] if name.is_goid else index.by_goroutine.get(name.number, [])
     moving = [call for call in calls if call.name in ("Read", "Write") and call.last]
     return moving[-1] if moving and (moving[-1].outcome.is_error or moving[-1].outcome in ENDED) else None

@@ -1,4 +1,5 @@
-"""What a Read that waits looks for, by the functions that it is called in: the end of the stream, the end of a line, or anything at all."""
+"""What a Read that waits looks for, from the functions that called it: the end of the stream, the end of a line, or any
+bytes."""
 
 import re
 from typing import Optional
@@ -9,7 +10,7 @@ from ..where import OF_THE_PROGRAM
 from .index import Index
 from .package_source import places_with
 from .responses import SERVE, has
-from .words import is_of_go, told
+from .words import is_of_go, since_begin, told
 
 TO_THE_END = ("io.ReadAll", "io.copyBuffer", "io.Copy", "net.genericReadFrom", "internal/poll.Splice")
 CLOSES_WRITE, MOST_CLOSES = re.compile(r"\.CloseWrite\(\)"), 2
@@ -24,7 +25,7 @@ OF_A_LINE = {
 
 
 def end_says(index: Index, call: Call, other: int, position: int) -> list[str]:
-    """What is said of it; nothing of Go's own code alone."""
+    """The sentence; none for Go's own code alone."""
     if call.name != "Read" or is_of_go(index.recording, call):
         return []
     functions = {one.function for one in index.recording.lines.of(call.first).calls}
@@ -33,12 +34,13 @@ def end_says(index: Index, call: Call, other: int, position: int) -> list[str]:
     if says := bound_says(functions, other):
         return [says, *(half_closes(index, other, position) if "for writing" in says else [])]
     if not index.moved(call.socket, "Write", position) and not index.moved(other, "Write", position):
-        return ["Nobody has written anything on this connection."]
+        since = since_begin(index.recording, index.by_socket[call.socket][0].first)
+        return [f"Nobody has written anything on this connection{since}."]
     return []
 
 
 def half_closes(index: Index, socket: int, position: int) -> list[str]:
-    """The lines of the program that close a connection for writing, of which none has done so at a socket."""
+    """The lines of the program that close a connection for writing, if none of them did so at a socket."""
     used = index.last_use(socket, position, ("Write",)) or index.last_use(socket, position, ("Read",))
     own = index.recording.lines.of(used.first).own() if used else None
     if own is None or own[0].of != OF_THE_PROGRAM:
@@ -51,14 +53,16 @@ def half_closes(index: Index, socket: int, position: int) -> list[str]:
 
 
 def is_served(index: Index, socket: int, position: int) -> bool:
-    """Whether the goroutine that wrote last at a socket is in a handler of net/http yet, so that it may write more."""
+    """Whether the goroutine that wrote last at a socket is still in a handler of net/http, so that it may write
+    more."""
     wrote = index.last_use(socket, position, ("Write",))
     wait = waits_of(index.recording).at(Name(wrote.goroutine), position) if wrote else None
     return wait is not None and has(wait.stack, SERVE)
 
 
 def bound_says(functions: set[str], other: int) -> str:
-    """Up to where the functions read in which a Read is called: the length of a body, a number of bytes, or the end of the stream."""
+    """The bound up to which a Read's callers read: the length of a body, a number of bytes, or the end of the
+    stream."""
     if functions.intersection(OF_A_BODY):
         return "It reads a body of net/http: perhaps fewer bytes came than the header says."
     if "io.CopyN" in functions:

@@ -1,5 +1,5 @@
-"""Requests and answers on a connection, by the order of its Writes and Reads: a Read that waits for an answer without a request, a request that
-was read and not answered, and a Read that asks for more bytes than the other end wrote."""
+"""Requests and answers on a connection, by the order of its Writes and Reads: a Read that waits for an answer without a
+request, a request that was read and not answered, and a Read that asks for more bytes than the other end wrote."""
 
 from typing import Iterator, NamedTuple, Optional
 
@@ -17,14 +17,14 @@ from .sizes import are_known, moved_at, size_of
 from .unaccepted import is_dialed
 from .words import place_of, told
 
-MOST_ASKED = 65_536  # bytes, as which a Read counts that asks for more
-FEW_ASKED = 256  # bytes that a Read may ask for at once, as of a head
-FEWEST = 2  # exchanges before, by which a habit is known
+MOST_ASKED = 65_536  # bytes that a Read counts as at most
+FEW_ASKED = 256  # bytes that a Read may ask for at once, as for a header
+FEWEST = 2  # earlier exchanges that show a habit
 READ_FULL = "io.ReadAtLeast"
 
 
 class Exchange(NamedTuple):
-    """Writes of a goroutine at a socket, and the Reads after them that got something."""
+    """Writes of a goroutine at a socket, and the Reads after them that got bytes."""
 
     writes: list[Call]
     reads: list[Call]
@@ -52,7 +52,8 @@ def exchanges_of(index: Index, goroutine: int, socket: int, until: int) -> list[
 
 
 def is_client(index: Index, goroutine: int, socket: int) -> bool:
-    """Whether a goroutine alone reads and writes at a socket that was dialed, or wrote before it got anything at one of which that isn't known."""
+    """Whether a goroutine is the only one that reads and writes at a socket, and the socket was dialed; if that isn't
+    known, whether it wrote before it got bytes."""
     calls = index.by_socket.get(socket, [])
     moved = [call for call in calls if call.name in MOVING and call.moved]
     stack = index.recording.lines.of(calls[0].first) if calls else None
@@ -62,7 +63,8 @@ def is_client(index: Index, goroutine: int, socket: int) -> bool:
 
 
 def unasked(index: Index, call: Call) -> list[str]:
-    """Of a Read that waits: that its goroutine wrote no request before, as it did before each of its answers."""
+    """Says, for a Read that waits, that its goroutine wrote no request before, although it did before each of its
+    answers."""
     found = exchanges_of(index, call.goroutine, call.socket, call.first)
     *before, last = found or [Exchange([], [])]
     if not is_client(index, call.goroutine, call.socket):
@@ -82,8 +84,8 @@ def unasked(index: Index, call: Call) -> list[str]:
 
 
 def unanswered(index: Index, call: Call, other: int, position: int) -> list[str]:
-    """Of a Read that waits for an answer: that the request was read at the other end by a goroutine that answered those before, and that then
-    read on, or did something else, without a Write."""
+    """Says, for a Read that waits for an answer, that the request was read by a goroutine that answered earlier ones,
+    and that then read on, or did something else, without a Write."""
     wrote = index.last_use(call.socket, call.first, ("Write",))
     if wrote is None or wrote.goroutine != call.goroutine or not wrote.moved:
         return []
@@ -115,7 +117,7 @@ def unanswered(index: Index, call: Call, other: int, position: int) -> list[str]
 
 
 def unended(index: Index, wrote: Call, read: Call, now: Call) -> list[str]:
-    """Of a first request, which was read, and of which nothing was answered: that its reader looks for the end of a line yet."""
+    """Says, for a first request that was read and not answered, that its reader still looks for the end of a line."""
     line = line_reader_of(index, now)
     if not line or line_reader_of(index, read) != line:
         return []
@@ -129,8 +131,9 @@ def unended(index: Index, wrote: Call, read: Call, now: Call) -> list[str]:
 
 
 def perhaps_why(index: Index, call: Call, now: Call) -> str:
-    """Why a goroutine that looks for the end of a line perhaps reads on. The answer is meant first if its function writes through a buffer, or,
-    where that isn't known, if requests in as many Writes were answered before; else the request."""
+    """Why a goroutine that looks for the end of a line perhaps reads on. It is about the answer if its function writes
+    through a buffer, or, if that isn't known, if requests in as many Writes were answered before; else about the
+    request."""
     line = line_reader_of(index, now)
     if not line:
         return ""
@@ -150,7 +153,7 @@ def perhaps_why(index: Index, call: Call, now: Call) -> str:
 
 
 def skips_an_answer(index: Index, now: Call) -> str:
-    """That a goroutine perhaps reads on without an answer on one of its ways; empty if it has none by the source."""
+    """Says that a goroutine perhaps reads on without an answer on one of its paths; empty if the source has none."""
     calls = (one for one in index.by_socket[now.socket] if one.goroutine == now.goroutine and one.name == "Write")
     stacks = {index.recording.lines.of(one.first) for one in calls}
     ways = ways_without_an_answer(index.recording, index.recording.lines.of(now.first), stacks)
@@ -164,14 +167,15 @@ def are_alike(index: Index, writes: list[Call], others: list[Call]) -> bool:
 
 
 def reader_of(index: Index, other: int, wrote: Call, position: int) -> Optional[Call]:
-    """The last Read at the other end that got something of a Write."""
+    """The last Read at the other end that got bytes of a Write."""
     reads = (one for one in back(index.by_socket.get(other, ()), position) if one.name == "Read")
     read = next((one for one in reads if one.moved and one.last and one.last > wrote.first), None)
     return read if read and read.goroutine != wrote.goroutine else None
 
 
 def lacking(index: Index, call: Call, other: int) -> list[str]:
-    """Of a Read in an io.ReadFull that waits: how many bytes it asked for and has, and that the other end wrote no more."""
+    """Says, for a Read in an io.ReadFull that waits, how many bytes it asked for and has, and that the other end wrote
+    no more."""
     recording = index.recording
     stack = recording.lines.of(call.first)
     if call.name != "Read" or not any(one.function == READ_FULL for one in stack.calls):
@@ -221,8 +225,8 @@ def lacking(index: Index, call: Call, other: int) -> list[str]:
 
 
 def begin_of_full(index: Index, asked: Asked, call: Call) -> Call:
-    """The first Read of the io.ReadFull that a Read is a part of. Of a Read whose bytes are counted only in part the next one says how many
-    it got: that asks for the rest."""
+    """The first Read of the io.ReadFull that a Read belongs to. If a Read's bytes are counted only in part, the next
+    Read shows how many it got, because it asks for the rest."""
     lines, most = index.recording.lines, index.recording.lines.bytes
     begin = asked.begin_of(call)
     while (before := asked.before(begin)) and lines.of(before.first) == lines.of(begin.first):

@@ -1,4 +1,4 @@
-"""Connections that couldn't be opened: a socket that Go closed as it failed to connect it."""
+"""Connections that couldn't be opened: Go closed the socket when connecting failed."""
 
 from typing import Iterator, NamedTuple, Optional
 
@@ -20,12 +20,12 @@ class UnconnectedSocket(NamedTuple):
     close: Call
 
     def words(self, recording: Recording) -> str:
-        """It in words, without whose it is: `Dial at a.go:3 in ask failed (step 9)`."""
+        """The text, without the goroutine: `Dial at a.go:3 in ask failed (step 9)`."""
         return f"Dial{place_in(recording.lines.of(self.close.first))} failed (step {self.close.first})"
 
 
 def failed_dial(index: Index, goroutine: int) -> Optional[UnconnectedSocket]:
-    """The last Dial of a goroutine if that failed; None if a later one, of the same line, went well."""
+    """The last Dial of a goroutine if it failed; None if a later one, at the same line, succeeded."""
     lines, calls = index.recording.lines, index.by_goroutine.get(goroutine, ())
     failed = [
         one for one in calls
@@ -38,7 +38,8 @@ def failed_dial(index: Index, goroutine: int) -> Optional[UnconnectedSocket]:
 
 
 def refused(recording: Recording, goid: int) -> Optional[FailedDial]:
-    """The last connect of a goroutine that the system refused, or that was given up, if no later one of it went well, as far as steps show."""
+    """The last connect of a goroutine that the system refused, or that was given up, if the steps show no later one
+    that succeeded."""
     failed = recording.lines.failed_dials.get(goid, ())
     number = recording.lines.goroutines[goid].number if goid in recording.lines.goroutines else -1
     index = index_of(recording)
@@ -55,19 +56,21 @@ def connected_by(index: Index, goroutine: int) -> Iterator[Call]:
 
 
 def reason_words(failed: FailedDial) -> str:
-    """Why a connect failed: `ECONNREFUSED, 127.0.0.1:80`; empty if that isn't known."""
+    """Why a connect failed: `ECONNREFUSED, 127.0.0.1:80`; empty if unknown."""
     return ", ".join(word for word in (failed.why, failed.address) if word)
 
 
 def refused_words(recording: Recording, failed: FailedDial) -> str:
-    """A connect that failed in words: `Dial at a.go:3 in ask (goid 4, step 9) failed: ECONNREFUSED, 127.0.0.1:80`."""
+    """The text of a connect that failed: `Dial at a.go:3 in ask (goid 4, step 9) failed: ECONNREFUSED,
+    127.0.0.1:80`."""
     name, stack = name_of_goid(recording.lines, failed.goid), recording.lines.stacks[failed.stack]
     why = reason_words(failed)
     return f"Dial{place_in(stack)} ({name}, step {failed.step}) failed" + (f": {why}" if why else "")
 
 
 def ended_says(recording: Recording, failed: FailedDial) -> list[str]:
-    """Of a dial that failed: who had cancelled its context, and where; or that a sync.Once made it, which isn't made again."""
+    """Says, for a dial that failed, who had cancelled its context and where; or that a sync.Once made it, which doesn't
+    run again."""
     lines = recording.lines
     closes = [use for use in lines.uses.get(failed.context, ()) if use.what == CLOSED and use.begin <= failed.time]
     stack = lines.stacks[closes[0].stack] if failed.context and closes else None
@@ -80,7 +83,7 @@ def ended_says(recording: Recording, failed: FailedDial) -> list[str]:
 
 
 def refused_dials(recording: Recording) -> Iterator[FailedDial]:
-    """The last connects of goroutines that were refused at a line of the program, one for each line and address."""
+    """The last refused connects of goroutines at a line of the program, one for each line and address."""
     lines, seen = recording.lines, set[tuple[Optional[str], str]]()
     for goid in sorted(lines.failed_dials):
         failed = refused(recording, goid)
@@ -91,7 +94,8 @@ def refused_dials(recording: Recording) -> Iterator[FailedDial]:
 
 
 def failed_dials(index: Index) -> Iterator[Cause]:
-    """The goroutines whose last Dial failed, each as a cause; with the listener that was closed before, if there was one alone."""
+    """The goroutines whose last Dial failed, each as a cause; with the listener that was closed before, if there was
+    only one."""
     recording = index.recording
     for goroutine in sorted(index.by_goroutine):
         dial = failed_dial(index, goroutine)
@@ -119,15 +123,16 @@ def failed_dials(index: Index) -> Iterator[Cause]:
 
 
 def refusal_of(recording: Recording, dial: UnconnectedSocket, goroutine: int) -> Optional[FailedDial]:
-    """Why a socket wasn't connected, if the recorder saw that: the last connect of its goroutine that failed, at the same line."""
+    """Why a socket wasn't connected, if the recorder saw it: the last failed connect of its goroutine at the same
+    line."""
     lines = recording.lines
-    failed = refused(recording, lines.goid_of(goroutine))
+    failed = refused(recording, lines.goid_of(goroutine, dial.close.first))
     is_same = failed and lines.stacks[failed.stack].own() == lines.of(dial.close.first).own()
     return failed if is_same else None
 
 
 def is_listener(index: Index, socket: int) -> bool:
-    """Whether connections are taken at a socket, or might be."""
+    """Whether a socket accepts connections, or may."""
     opened = index.by_socket[socket][0]
     listens = any(
         call.function.startswith("net.(*netFD).listen") for call in index.recording.lines.of(opened.first).calls

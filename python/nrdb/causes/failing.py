@@ -1,5 +1,5 @@
-"""Each call that failed, with what brought that about: of a timeout the deadline, of a closed descriptor who closed it, of an end
-or a broken connection who closed the other end."""
+"""The failed calls with their causes: the deadline of a timeout, the close of a descriptor, the close of the other end
+for an end of stream or a broken connection."""
 
 from typing import NamedTuple, Optional
 
@@ -34,7 +34,7 @@ OF_A_SERVER = ("net/http.(*conn).readRequest", "net/http.(*conn).serve")
 OF_CONNECTIONS = ("internal/poll.", "net.", "crypto/tls.")
 OF_A_FILE = "os.(*File)."
 CONN_READ = "net.(*conn).Read"
-DEEP = 3  # causes of causes that are told
+DEEP = 3  # the most causes of causes
 
 
 def causes_of(recording: Recording, position: int) -> list[Cause]:
@@ -49,7 +49,7 @@ def failed_at(index: Index, position: int) -> list[Call]:
 
 
 def cause_of(index: Index, call: Call, deep: int = 0) -> Cause:
-    """What brought a call's error about."""
+    """The cause of a call's error."""
     recording = index.recording
     ended = ENDED.get(call.outcome, f"ended with {call.error}")
     begins = f"{told(recording, call)} {ended}"
@@ -63,7 +63,7 @@ def cause_of(index: Index, call: Call, deep: int = 0) -> Cause:
 
 
 def of_timeout(index: Index, call: Call, begins: str) -> Cause:
-    """Who set the deadline, when, what went well under it before, and what the call waited for."""
+    """Who set the deadline and when, what succeeded under it before, and what the call waited for."""
     recording = index.recording
     step = recording.step(call.cause)
     side = "r" if call.name in READING else "w"
@@ -101,14 +101,14 @@ def of_timeout(index: Index, call: Call, begins: str) -> Cause:
 
 
 def is_of_a_server(stack: Stack) -> bool:
-    """Whether a server of net/http itself set a deadline. The innermost function outside of connections did: a handler may, by its
-    http.ResponseController too, and the server is below each of them."""
+    """Whether a server of net/http itself set a deadline: the innermost function outside the connection's methods did.
+    A handler may set one too, by its http.ResponseController, and the server is below each handler."""
     outside = (one.function for one in stack.calls if not one.function.startswith(OF_CONNECTIONS))
     return next(outside, "").startswith(OF_A_SERVER)
 
 
 def between(index: Index, call: Call) -> str:
-    """What a call's goroutine waited for last outside of the poller, between the setting of a deadline and the call."""
+    """What a call's goroutine waited for last outside the poller, between the setting of a deadline and the call."""
     waits = waits_of(index.recording).of.get(Name(call.goroutine), [])
     some = [wait for wait in waits if wait.last is not None and call.cause <= wait.first and wait.last <= call.first]
     if not some:
@@ -118,14 +118,14 @@ def between(index: Index, call: Call) -> str:
 
 
 def under(well: list[Call], late: list[Call], name: str) -> str:
-    """What went on under a deadline before a call timed out by it; of it nothing where the deadline was this call's own."""
+    """What happened under a deadline before a call timed out by it; nothing if the deadline was this call's own."""
     did = [f"{counted(len(well), name)} went well under it"] if well else []
     did += [f"{counted(len(late), name)} had timed out by it before"] if late else []
     return f"; {' and '.join(did)}, and nobody has moved it since." if did else "."
 
 
 def of_close(index: Index, call: Call, begins: str, deep: int) -> Cause:
-    """Who closed the descriptor, or the write side, and whether that came while the call was under way."""
+    """Who closed the descriptor, or the write side, and whether the call was in progress then."""
     recording = index.recording
     by = index.at(call.cause)
     goroutine = recording.step(call.cause).argument("g")
@@ -147,8 +147,8 @@ def of_close(index: Index, call: Call, begins: str, deep: int) -> Cause:
 
 
 def context_says(index: Index, call: Call, by: Optional[Call]) -> list[str]:
-    """Of a descriptor that was closed because a request's context had ended, or a channel was closed: who did that, or which limit had passed;
-    and what the goroutine did that served the request."""
+    """Says, for a descriptor that was closed because a request's context had ended or a channel was closed, who did
+    that, or which limit had passed; and what the goroutine did that served the request."""
     request = next((one for one in cancelled_requests(index) if by and one.closed.first == by.first), None)
     cancel = None if request else cancel_before(index, call.cause)
     if request is None and cancel is None:
@@ -164,14 +164,14 @@ def context_says(index: Index, call: Call, by: Optional[Call]) -> list[str]:
 
 
 def served_says(index: Index, call: Call, step: int) -> list[str]:
-    """What the goroutine did at a step that served the request of a call's connection; nothing if that isn't known."""
+    """What the goroutine that served the request of a call's connection did at a step; empty if unknown."""
     server, served = server_of(index, call.socket, step), under_way(index, call, step)
     chain = chain_says(index, call, Need([served], server), step) if server else []
     return list(map(in_the_past, [*([served] if served else []), *chain]))
 
 
 def of_the_other_end(index: Index, call: Call, begins: str, deep: int) -> Cause:
-    """Who closed the other end, where that is in the recording."""
+    """Who closed the other end, if the recording has it."""
     recording, other = index.recording, index.other_end(call.socket)
     looks = [f"goto {call.last}", f"calls sock {call.socket}"]
     by = None if other is None else index.closing(other, call.last, call.outcome is not Outcome.EOF)
@@ -196,8 +196,8 @@ def of_the_other_end(index: Index, call: Call, begins: str, deep: int) -> Cause:
 
 
 def part_says(index: Index, call: Call, last: Call) -> list[str]:
-    """Of a connection whose other end was closed before all bytes were read there: the last Read, if the program made it itself for more than it
-    got."""
+    """The last Read, for a connection whose other end was closed before all bytes were read, if the program itself
+    asked for more than it got."""
     recording, own = index.recording, index.recording.lines.of(last.first).own()
     functions = [one.function for one in recording.lines.of(last.first).calls]
     is_direct = own is not None and (CONN_READ, own[0].function) in zip(functions, functions[1:])
@@ -213,7 +213,7 @@ def part_says(index: Index, call: Call, last: Call) -> list[str]:
 
 
 def late_write(index: Index, call: Call, by: Call) -> Optional[Call]:
-    """The last Write of a call's goroutine at its socket, if that came after the other end was closed as a whole."""
+    """The last Write of a call's goroutine at its socket, if it came after the other end was closed."""
     wrote = index.last_use(call.socket, call.first, ("Write",))
     return (
         wrote
@@ -223,7 +223,8 @@ def late_write(index: Index, call: Call, by: Call) -> Optional[Call]:
 
 
 def is_late(index: Index, call: Call) -> bool:
-    """Whether a Read met the end of a stream for which its goroutine, a client, had sent a request after the other end was closed."""
+    """Whether a Read met the end of a stream after its goroutine, a client, had sent a request to an end that was
+    already closed."""
     if call.outcome is not Outcome.EOF or not is_client(index, call.goroutine, call.socket):
         return False
     other = index.other_end(call.socket)
@@ -232,14 +233,14 @@ def is_late(index: Index, call: Call) -> bool:
 
 
 class Before(NamedTuple):
-    """What failed before something: sentences, and the calls."""
+    """Earlier failures: sentences, and the calls."""
 
     says: list[str]
     calls: list[Call]
 
 
 def why(index: Index, by: Optional[Call], deep: int) -> Before:
-    """What failed just before somebody closed, with its own cause. The end of a file is no failure."""
+    """The failure just before a close, with its own cause. The end of a file isn't a failure."""
     before = index.before(by) if by else None
     if before is None or deep >= DEEP or not (before.outcome.is_error or before.outcome is Outcome.EOF):
         return Before([], [])

@@ -1,5 +1,5 @@
-"""What is said first of a recording of a program that failed: each failed call of the program's with its cause, what all that hangs waits
-for, and if there is neither, what may be the matter; with the line to type next."""
+"""The first output for a program that failed: each of the program's failed calls with its cause, and what all hanging
+goroutines wait for; if there is neither, what may be wrong; with the line to type next."""
 
 from collections import defaultdict
 from typing import Callable, Hashable, Union
@@ -35,7 +35,7 @@ CAUSE, INDENT, NEXT = "cause:  ", "        ", "next:   "
 
 
 def first_words(recording: Recording, name: str) -> list[str]:
-    """The lines, ready to be shown but for what `plain` does; none where there is nothing to say."""
+    """The lines, complete except for what `plain` does; none if there is nothing to say."""
     failed = failures_of(recording)
     graph = graph_at(recording, recording.length)
     hangs = hangs_of(graph, bool(failed))
@@ -69,23 +69,23 @@ def first_words(recording: Recording, name: str) -> list[str]:
 
 
 def topics_of(graph: WaitGraph, failed: list[Cause], hangs: list[Hang]) -> list[Topic]:
-    """The causes in their order, each hang with the failed call that it explains or comes of."""
+    """The causes in their order, each hang with the failed call that it explains or follows from."""
     order = [Topic(None, one) if isinstance(one, Hang) else Topic(one) for one in in_order(graph, failed, hangs)]
     return joined(graph, order)
 
 
 def count_in(hangs: list[Hang], topics: list[Topic]) -> int:
-    """How many of some hangs are in topics."""
+    """The number of these hangs that are in topics."""
     return sum(any(topic.hang is hang for topic in topics) for hang in hangs)
 
 
 def topic_looks(topic: Topic) -> list[str]:
-    """What to type next for a cause."""
+    """The line to type next for a cause."""
     return topic.cause.looks if topic.cause else hang_looks(topic.hang) if topic.hang else []
 
 
 def topic_lines(graph: WaitGraph, topic: Topic, shown: set[int]) -> list[str]:
-    """A cause in lines: a hang that is joined to a failed call is indented below that."""
+    """The lines of a cause: a hang that belongs to a failed call is indented below the call."""
     cause, left = topic.cause, left_by(graph, topic.cause.call) if topic.cause else []
     source = text_after(graph.recording, cause.stopped) if cause else []
     if cause:
@@ -98,8 +98,8 @@ def topic_lines(graph: WaitGraph, topic: Topic, shown: set[int]) -> list[str]:
 
 
 def in_order(graph: WaitGraph, failed: list[Cause], hangs: list[Hang]) -> list[Union[Cause, Hang]]:
-    """The causes in their order. Failures come first, but for those that a hang of the main goroutine has nothing to do with, if it is known why
-    that hangs: the program went on after them."""
+    """The causes in their order. Failures come first, except those unrelated to a hang of the main goroutine whose
+    reason is known: the program went on after them."""
     first = next(iter(hangs), None)
     if first is None or not is_of_main(graph, first):
         return [*failed, *hangs]
@@ -108,14 +108,14 @@ def in_order(graph: WaitGraph, failed: list[Cause], hangs: list[Hang]) -> list[U
 
 
 def is_of_main(graph: WaitGraph, hang: Hang) -> bool:
-    """Whether the main goroutine hangs with others, and it is known why."""
+    """Whether the main goroutine hangs, with a known reason."""
     is_explained = hang.is_deadlock or bool(hang.needs[0].says or hang.needs[0].more)
     return is_explained and any(waiter.name == graph.main for waiter in waiters_of(hang))
 
 
 def has_to_do_with(graph: WaitGraph, hang: Hang, call: Call) -> bool:
-    """Whether a failed call may have to do with a hang: its goroutine hangs, or ended without what another needs, or its connection is open and
-    used by one that hangs."""
+    """Whether a failed call may be related to a hang: its goroutine hangs, or ended without what another needs, or its
+    connection is open and used by a goroutine that hangs."""
     index, names = index_of(graph.recording), {waiter.name for waiter in waiters_of(hang)}
     needs = [graph.needs[name] for name in names]
     of_needs = {name for need in needs for name in (need.gone, *need.ended)}
@@ -128,10 +128,10 @@ def has_to_do_with(graph: WaitGraph, hang: Hang, call: Call) -> bool:
 
 
 def left_by(graph: WaitGraph, call: Call) -> list[str]:
-    """That the goroutine of a failed call, which was its last, has ended since, and which one waits for that."""
+    """Says that the goroutine of a failed call, which was its last, ended, and which goroutine waits for it."""
     name, index = Name(call.goroutine), index_of(graph.recording)
     left = next((waiter for waiter in graph.waiters.values() if graph.needs[waiter.name].gone == name), None)
-    ended = ended_behind(index, call.goroutine, graph.position)
+    ended = ended_behind(index, call, graph.position)
     later = [one for one in index.by_goroutine[call.goroutine] if one.first > call.last and one.name != CLOSE]
     if left is None or not left.wait or ended is None or later:
         return []
@@ -144,10 +144,10 @@ def left_by(graph: WaitGraph, call: Call) -> list[str]:
 
 
 def hangs_of(graph: WaitGraph, has_failures: bool) -> list[Hang]:
-    """The hangs that are said first. A read, a select and the like that nobody waits for may have nothing to do: they are said if nothing else
-    is, and not of a program that ended by itself; of that a mutex that was left locked is, if nothing else. If the main goroutine is one of those,
-    it alone is said: the program ends when that does.
-    """
+    """The hangs of the first output. A read or a select that no goroutine waits for may have nothing to do: it is
+    listed only if nothing else is, and not for a program that ended by itself, whose only hang of this kind is a mutex
+    that was left locked. If the main goroutine hangs, only that hang is listed, because the program ends when it
+    does."""
     hangs = [hang for hang in graph.shown if not hang.is_quiet]
     if graph.has_ended:
         hangs = [hang for hang in hangs if not hang.root.is_of_go or hang.is_deadlock]
@@ -160,14 +160,14 @@ def hangs_of(graph: WaitGraph, has_failures: bool) -> list[Hang]:
 
 
 def is_waited_for(hang: Hang) -> bool:
-    """Whether a goroutine of the program waits for a root, not just one of Go's own."""
+    """Whether a goroutine of the program, not only of Go's own, waits for a root."""
     roots = {waiter.name for waiter in hang.every_root}
     return any(waiter.name not in roots and not waiter.is_of_go for waiter in waiters_of(hang))
 
 
 def failures_of(recording: Recording) -> list[Cause]:
-    """What is said of a program that failed besides of what hangs: ends of streams that weren't passed on, the calls that failed, and requests
-    of net/http whose deadlines passed."""
+    """The failures of a program besides its hangs: ends of streams that weren't passed on, failed calls, and net/http
+    requests whose deadlines passed."""
     index = index_of(recording)
     ends = [
         Cause(
@@ -188,8 +188,8 @@ def failures_of(recording: Recording) -> list[Cause]:
 
 
 def telling_failures(recording: Recording) -> list[Cause]:
-    """The failed calls that tell something of a program, with their causes. Those of one stack that one step brought about have one cause: it
-    is looked for once, since a program may spin at a closed descriptor."""
+    """The failed calls that are worth printing, with their causes. Failures of one stack by one step share a cause,
+    which is computed once, because a program may loop at a closed descriptor."""
     index, alike = index_of(recording), dict[Hashable, list[Call]]()
     of_line: dict[Hashable, list[Call]] = defaultdict(list)
     stacks = recording.lines.steps
@@ -213,13 +213,14 @@ def telling_failures(recording: Recording) -> list[Cause]:
 
 
 def late_reads(index: Index) -> list[Call]:
-    """The Reads that met the end of a stream in place of an answer to what was written after the other end was closed."""
+    """The Reads that met the end of a stream instead of an answer to what was written after the other end was
+    closed."""
     return [call for call in index.book.calls if call.outcome is Outcome.EOF and call.last and is_late(index, call)]
 
 
 def opening_words(recording: Recording) -> list[str]:
-    """What a session opens with: the first call that failed, else what hangs first, and what to type next. What nobody waits for is only
-    counted, if it may have nothing to do (a read, a select and the like) or the program ended by itself."""
+    """The opening text of a session: the first failed call, else the first hang, and the line to type next. What no
+    goroutine waits for is only counted, if it may have nothing to do or the program ended by itself."""
     failed = failures_of(recording)
     graph = graph_at(recording, recording.length)
     hangs = hangs_of(graph, True)
@@ -234,13 +235,13 @@ def opening_words(recording: Recording) -> list[str]:
 
 
 def root_sentence(recording: Recording) -> str:
-    """The first sentence of what a session opens with; empty if nothing failed and nothing hangs that others wait for."""
+    """The first sentence of the opening text; empty if nothing failed and no hang has others that wait for it."""
     first = next(iter(opening_words(recording)), "")
     return first.removeprefix(CAUSE) if first.startswith(CAUSE) else ""
 
 
 def quiet_words(hangs: list[Hang]) -> list[str]:
-    """That goroutines wait which may have nothing to do, and where; nothing if there are none."""
+    """Says where goroutines wait that may have nothing to do; empty if none do."""
     count = sum(1 + len(hang.alike) for hang in hangs)
     places = [place.strip() for hang in hangs if (place := place_in(hang.root.stack))]
     at = f", {'; '.join(places[:MOST_HANGS])}{' ..' if places[MOST_HANGS:] else ''}" if places else ""
@@ -250,8 +251,8 @@ def quiet_words(hangs: list[Hang]) -> list[str]:
 
 
 def hang_lines(graph: WaitGraph, hang: Hang, shown: set[int]) -> list[str]:
-    """A hang's sentences, the source behind the line where a goroutine that could have gone on stopped, if that isn't shown yet, and who
-    waits."""
+    """A hang's sentences, the source after the line at which a goroutine stopped that could have gone on, unless it was
+    shown, and the goroutines that wait."""
     stopped = 0 if hang.is_deadlock else hang.needs[0].stopped
     source = (
         text_after(graph.recording, stopped) if not any(alike(graph.recording, stopped, one) for one in shown) else []
@@ -261,18 +262,18 @@ def hang_lines(graph: WaitGraph, hang: Hang, shown: set[int]) -> list[str]:
 
 
 def alike(recording: Recording, step: int, other: int) -> bool:
-    """Whether two steps are of one line of the program."""
+    """Whether two steps are at the same line of the program."""
     return recording.lines.of(step).own() == recording.lines.of(other).own()
 
 
 def paragraph(says: list[str]) -> list[str]:
-    """A cause in lines, a sentence each."""
+    """The lines of a cause, a sentence each."""
     first, *rest = says
     return [f"{CAUSE}{first}", *(f"{INDENT}{line}" for line in rest)]
 
 
 def is_telling(recording: Recording, call: Call) -> bool:
-    """Whether a failed call tells something of a program: not one of Go's own code alone, no listener's end, and none of a
+    """Whether a failed call is worth printing: not of Go's own code alone, not a listener's end, and not at a
     descriptor that was known to be closed."""
     if is_of_go(recording, call) or call.name not in READING + WRITING:
         return False
@@ -280,7 +281,7 @@ def is_telling(recording: Recording, call: Call) -> bool:
 
 
 def once(recording: Recording, causes: list[Cause], counts: list[int]) -> list[Cause]:
-    """One of those that are of the same lines, which says how many calls are like it; each cause is of so many calls."""
+    """One cause for those with the same lines, with the number of calls."""
     kept: dict[object, Cause] = {}
     many: dict[object, int] = {}
     at: Callable[[int], object] = recording.lines.words

@@ -1,5 +1,5 @@
-"""Ways round a Flush, by the program's source if that is here: a loop that reads a request, writes its answer into a buffer, and goes on or
-ends before the line that flushes."""
+"""Paths around a Flush, from the program's source: a loop that reads a request, writes its answer into a buffer, and
+goes on or ends before the line that flushes."""
 
 import re
 from typing import Iterable, Optional
@@ -18,7 +18,8 @@ BUFFERED = re.compile(r"bufio\.NewWriter|bufio\.NewReadWriter|\.Flush\(\)")
 
 
 def ways_round_a_flush(recording: Recording, stack: Stack) -> str:
-    """Those of the function in which a goroutine reads: ` (main.go:57 goes on without main.go:66, which flushes)`; empty if there is none."""
+    """The paths in the function in which a goroutine reads: ` (main.go:57 goes on without main.go:66, which flushes)`;
+    empty if there are none."""
     own = stack.own()
     lines = source_of(recording, own[0].file) if own and own[0].of == OF_THE_PROGRAM else None
     within = range_of(lines, own[0]) if lines and own else None
@@ -39,8 +40,8 @@ def ways_round_a_flush(recording: Recording, stack: Stack) -> str:
 
 
 def unflushed_line(lines: Lines, within: range, read: int, named: Named) -> int:
-    """The line of a function after its read that writes into a buffer which nothing flushes before it reads again, though it calls functions that flush
-    on other ways; 0 if there is none."""
+    """The line of a function, after its read, that writes into a buffer which nothing flushes before the next read,
+    though it calls functions that flush on other paths; 0 if there is none."""
     later = range(read + 1, within.stop)
     habit = any(calls_one_of(code(lines, number), named.flushes) for number in later)
     for number in later if habit else ():
@@ -52,7 +53,7 @@ def unflushed_line(lines: Lines, within: range, read: int, named: Named) -> int:
 
 
 def flushes_after(lines: Lines, within: range, read: int, written: int, named: Named) -> bool:
-    """Whether a line after one, on the way to the next read, calls a function that flushes: not one of another case."""
+    """Whether a line on the path to the next read calls a function that flushes, not counting lines of other cases."""
     margin, is_other = indent_of(lines[written - 1]), False
     for number in range(written + 1, within.stop):
         text = code(lines, number)
@@ -67,8 +68,8 @@ def flushes_after(lines: Lines, within: range, read: int, written: int, named: N
 
 
 def ways_without_an_answer(recording: Recording, stack: Stack, writes: Iterable[Stack]) -> str:
-    """The ways of the function in which a goroutine reads, from there on to its next read, that pass none of the lines by which it has written:
-    `main.go:58 goes on without main.go:60, which answers`; empty if there is none."""
+    """The paths of the function in which a goroutine reads, up to its next read, that pass none of the lines by which
+    it has written: `main.go:58 goes on without main.go:60, which answers`; empty if there are none."""
     own = stack.own()
     lines = source_of(recording, own[0].file) if own and own[0].of == OF_THE_PROGRAM else None
     within = range_of(lines, own[0]) if lines and own else None
@@ -85,7 +86,7 @@ def ways_without_an_answer(recording: Recording, stack: Stack, writes: Iterable[
 
 
 def writes_to(writer: str, function: str) -> Test:
-    """Whether a statement writes into a buffer, or by an encoder that a function has for it."""
+    """Whether a statement writes into a buffer, or by an encoder over one."""
     name = re.escape(writer)
     made = re.findall(rf"\b(\w+) :?= \w+\.NewEncoder\({name}\)", function)
     encoders = "|".join([rf"NewEncoder\({name}\)", *made])
@@ -93,7 +94,7 @@ def writes_to(writer: str, function: str) -> Test:
 
 
 def writes_through_a_buffer(recording: Recording, stack: Stack) -> Optional[bool]:
-    """Whether the function in which a goroutine reads has a buffer for what it writes; None where the source isn't here."""
+    """Whether the function in which a goroutine reads writes through a buffer; None if the source isn't available."""
     own = stack.own()
     lines = source_of(recording, own[0].file) if own and own[0].of == OF_THE_PROGRAM else None
     within = range_of(lines, own[0]) if lines and own else None

@@ -1,5 +1,5 @@
-"""Lengths that stand before what they are of: of a Read that asks for more bytes than came, the lines that wrote its length and read it, by the
-program's source if that is here."""
+"""Lengths in front of data: for a Read that asks for more bytes than came, the lines that wrote its length and read it,
+from the program's source."""
 
 import re
 from typing import NamedTuple, Optional
@@ -33,7 +33,8 @@ class Line(NamedTuple):
 
 
 def length_says(recording: Recording, wrote: Call, read: Call) -> list[str]:
-    """Which lines wrote the length that a Read asks for, and read it; and that it is of something else than what was written."""
+    """The lines that wrote the length that a Read asks for, and that read it; and whether it is the length of something
+    other than what was written."""
     written = length_line(recording, wrote)
     if written is None:
         return []
@@ -48,13 +49,13 @@ def length_says(recording: Recording, wrote: Call, read: Call) -> list[str]:
 
 
 def is_of_a_body(recording: Recording, read: Call) -> bool:
-    """Whether a Read is made behind a line of its function that reads a length."""
+    """Whether a Read is made after a line of its function that reads a length."""
     own, parsed = recording.lines.of(read.first).own(), line_of(recording, read, PARSED)
     return own is not None and parsed is not None and parsed.file == own[0].file and parsed.number < own[0].line
 
 
 def length_line(recording: Recording, wrote: Call) -> Optional[Line]:
-    """The line that writes a length, of the function of a Write: of something, or of a variable that has it."""
+    """The line of a Write's function that writes a length: of a value, or of a variable that has it."""
     if found := line_of(recording, wrote, LENGTH):
         return found
     own = recording.lines.of(wrote.first).own()
@@ -67,7 +68,7 @@ def length_line(recording: Recording, wrote: Call) -> Optional[Line]:
 
 
 def line_of(recording: Recording, call: Call, pattern: "re.Pattern[str]") -> Optional[Line]:
-    """The last line with a pattern, up to the one that a call is made from, in the innermost function of the program that has one."""
+    """The last line with a pattern, up to the line of a call, in the innermost function of the program that has one."""
     for one in recording.lines.of(call.first).calls:
         lines = source_of(recording, one.file) if one.of == OF_THE_PROGRAM else None
         within = range_of(lines, one) if lines else None
@@ -80,7 +81,7 @@ def line_of(recording: Recording, call: Call, pattern: "re.Pattern[str]") -> Opt
 
 
 def bodies_of(recording: Recording, wrote: Call) -> set[str]:
-    """The variables that the function of a Write writes or puts together, but for those that are named as a header is."""
+    """The variables that the function of a Write writes or assembles, without those named like a header."""
     own = recording.lines.of(wrote.first).own()
     lines = source_of(recording, own[0].file) if own and own[0].of == OF_THE_PROGRAM else None
     within = range_of(lines, own[0]) if lines and own else None

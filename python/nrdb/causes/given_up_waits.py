@@ -1,4 +1,5 @@
-"""Waits at a channel that were given up, as of a pool whose slots are all taken: the channel was full, or empty, and is so to the end."""
+"""Waits at a channel that were given up, as at a pool whose slots are all taken: the channel was full, or empty, and
+stays so to the end."""
 
 from operator import attrgetter
 from typing import Iterator
@@ -15,11 +16,11 @@ from .index import Cause, Index
 from .kept_ways import ways_with_an_error
 from .words import place_in
 
-A_WHILE = 20_000_000  # nanoseconds, as long as a wait has to be
+A_WHILE = 20_000_000  # nanoseconds, the shortest wait that counts
 
 
 def given_up_waits(index: Index) -> Iterator[Cause]:
-    """The first of those at each channel with room: a select that went on by another case."""
+    """The first such wait at each channel with room: a select that went on by another case."""
     recording, seen = index.recording, set[int]()
     every = [wait for some in waits_of(recording).of.values() for wait in some]
     for wait in sorted(every, key=attrgetter("first", "begin")):
@@ -50,7 +51,7 @@ def is_given_up(recording: Recording, wait: Waiting) -> bool:
 
 
 def is_stuck(recording: Recording, at: At) -> bool:
-    """Whether a channel with room is full at the end, for one that waits for room, or empty, for one that waits for a value."""
+    """Whether a channel with room is full at the end, for a wait for room, or empty, for a wait for a value."""
     known, uses = recording.lines.objects.get(at.object), recording.lines.uses.get(at.object, ())
     put, took = (sum(use.often for use in uses if use.what == what) for what in (PUT, TOOK))
     if known is None or known.room <= 0 or not put or not recording.lines.made:
@@ -61,7 +62,7 @@ def is_stuck(recording: Recording, at: At) -> bool:
 
 
 def says(recording: Recording, wait: Waiting, at: At) -> list[str]:
-    """It in sentences."""
+    """The sentences."""
     room = recording.lines.objects[at.object].room
     what = (
         f"for room in a channel that has {counted(room, 'value')}, as many as it has room for"

@@ -1,25 +1,27 @@
-"""Who has done at a channel so far what a goroutine waits for there, in words; and whether a goroutine is in a function yet."""
+"""Which goroutines have done at a channel what a goroutine waits for there, as text; and whether a goroutine is still
+in a function."""
 
 from ..all_goroutines import CLOSED, FOR_ROOM, FOR_VALUE, TOOK
 from ..recording import Recording
 from ..waits import Waiting, name_of_goid
 from ..where import Call, Stack
 from .ledger import GIVES
-from .words import place_in
+from .words import place_in, since_begin
 
-MOST_GIVEN = 50  # uses that are looked at
+MOST_GIVEN = 50  # the most uses to examine
 
 
 def untouched(recording: Recording, wait: Waiting) -> list[str]:
-    """Of a channel at which nobody has done yet what is waited for: that."""
+    """Says that no goroutine has yet done at a channel what is waited for."""
     uses = recording.lines.uses.get(wait.objects[0].object, ()) if len(wait.objects) == 1 else ()
     if wait.objects[0].use != FOR_ROOM or any(use.what == TOOK for use in uses):
         return []
-    return ["Nobody has taken a value from that channel so far."]
+    return [f"Nobody has taken a value from that channel{since_begin(recording) or ' so far'}."]
 
 
 def have_ended(recording: Recording, wait: Waiting) -> list[str]:
-    """Of a channel at which only goroutines that have ended did what is waited for: that, and that nobody closed it."""
+    """Says that only goroutines that have ended did at a channel what is waited for, and that no goroutine closed
+    it."""
     at, lines = wait.objects[0], recording.lines
     uses, what = lines.uses.get(at.object, ()), GIVES.get(at.use, "")
     goids = {use.goid for use in uses if use.what == what}
@@ -31,21 +33,23 @@ def have_ended(recording: Recording, wait: Waiting) -> list[str]:
         return []
     did, unclosed_too = ("put", ", and nobody has closed it") if at.use == FOR_VALUE else ("took", "")
     many = f"All {len(goids)} goroutines that {did}" if len(goids) > 1 else f"The goroutine that {did}"
-    return [f"{many} values there ha{'ve' if len(goids) > 1 else 's'} ended{unclosed_too}."]
+    since = since_begin(recording)
+    return [f"{many} values there{since} ha{'ve' if len(goids) > 1 else 's'} ended{unclosed_too}."]
 
 
 def only_itself(recording: Recording, wait: Waiting) -> str:
-    """That only the goroutine which waits has done so far what it waits for."""
+    """Says that only the waiting goroutine itself has done so far what it waits for."""
     at, lines = wait.objects[0], recording.lines
     uses = [use for use in lines.uses.get(at.object, ())[:MOST_GIVEN] if use.what == GIVES.get(at.use, "")]
     if not uses or any(name_of_goid(lines, use.goid) != wait.name for use in uses):
         return ""
     did = "put" if at.use == FOR_VALUE else "taken"
-    return f"Only {wait.name} itself has {did} values there so far,{place_in(lines.stacks[uses[-1].stack])}."
+    since = since_begin(recording) or " so far"
+    return f"Only {wait.name} itself has {did} values there{since},{place_in(lines.stacks[uses[-1].stack])}."
 
 
 def is_in(stack: Stack, call: Call) -> bool:
-    """Whether a goroutine is in a function behind a line of it."""
+    """Whether a goroutine is in a function, after a line of it."""
     return any(one.function == call.function and one.line > call.line for one in stack.calls)
 
 

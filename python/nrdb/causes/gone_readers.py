@@ -1,4 +1,4 @@
-"""Goroutines that alone read at a connection and have ended, while it is open and bytes came after that: nobody reads them."""
+"""Goroutines that were the only readers of a connection and have ended, while it is open and bytes came after that."""
 
 from typing import Iterator, NamedTuple, Optional
 
@@ -10,14 +10,15 @@ from .words import came_of, is_of_go, told
 
 
 class GoneReader(NamedTuple):
-    """The last Read at a socket, behind which step its goroutine ended, and the first Write at the other end since, if there was one."""
+    """The last Read at a socket, the step after which its goroutine ended, and the first Write at the other end since,
+    if there was one."""
 
     read: Call
     ended: int
     wrote: Optional[Call]
 
     def says(self, index: Index) -> list[str]:
-        """It in sentences."""
+        """The sentences."""
         recording, read = index.recording, self.read
         says = [
             f"nobody reads on socket {read.socket} any more: goroutine {read.goroutine}, which alone had read there, ended after step {self.ended}.",
@@ -30,27 +31,28 @@ class GoneReader(NamedTuple):
 
 
 def gone_readers(index: Index, position: int) -> Iterator[GoneReader]:
-    """Those at a position. One of a connection that was closed at this end isn't among them."""
+    """The ended readers at a position, except at connections that were closed at this end."""
     for socket, other in sorted(index.recording.lines.peers.items()):
         calls = [one for one in index.by_socket.get(socket, ()) if one.first <= position]
         reads = [one for one in calls if one.name == "Read"]
         if not reads or len({one.goroutine for one in reads}) > 1 or any(one.name == CLOSE for one in calls):
             continue
-        last, ended = reads[-1], ended_behind(index, reads[-1].goroutine, position)
+        last, ended = reads[-1], ended_behind(index, reads[-1], position)
         if ended is not None and not is_of_go(index.recording, last):
             writes = (one for one in index.by_socket.get(other, ()) if one.name == "Write" and one.moved and one.last)
             yield GoneReader(last, ended, next((one for one in writes if ended < one.first <= position), None))
 
 
-def ended_behind(index: Index, goroutine: int, position: int) -> Optional[int]:
-    """The step behind which a goroutine had ended at a position; None if it hadn't, or that isn't known."""
+def ended_behind(index: Index, call: Call, position: int) -> Optional[int]:
+    """The step after which the goroutine of a call had ended at a position; None if it hadn't, or if unknown."""
     lines = index.recording.lines
-    known = lines.goroutines.get(lines.goid_of(goroutine))
+    known = lines.goroutines.get(lines.goid_of(call.goroutine, call.first))
     return known.last if known is not None and 0 <= known.last <= position else None
 
 
 def without_reader(index: Index) -> Iterator[Cause]:
-    """They as what may be the matter at the end: those after which bytes came, and that didn't end with an error or at the end of the stream."""
+    """Possible causes at the end: ended readers after which bytes came, and whose last Read didn't fail or meet the end
+    of the stream."""
     for one in gone_readers(index, index.recording.length):
         if not one.wrote or not one.read.moved or one.read.outcome is not Outcome.DONE:
             continue
@@ -59,7 +61,8 @@ def without_reader(index: Index) -> Iterator[Cause]:
 
 
 def ended_reader(index: Index, call: Call, other: int, position: int) -> list[str]:
-    """Of a Read that waits for an answer: that the goroutine has ended which alone had read at the other end, and by which lines it left its loop."""
+    """Says, for a Read that waits for an answer, that the only goroutine that had read at the other end has ended, and
+    by which lines it left its loop."""
     gone = next((one for one in gone_readers(index, position) if one.read.socket == other), None)
     wrote = index.last_use(call.socket, position, ("Write",))
     if gone is None or gone.read.outcome is not Outcome.DONE or wrote is None or wrote.goroutine != call.goroutine:

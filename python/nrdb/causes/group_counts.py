@@ -1,5 +1,5 @@
-"""What goroutines added to a WaitGroup, and which of them called Done: how many calls of Done are missing, and which goroutines ended without
-one."""
+"""What goroutines added to a WaitGroup, and which of them called Done: the number of missing calls, and the goroutines
+that ended without one."""
 
 from collections import Counter
 from typing import NamedTuple, Optional
@@ -15,14 +15,14 @@ MOST_PLACES, MOST_KINDS = 2, 2
 
 
 class Count(NamedTuple):
-    """What was added to a WaitGroup, and what was taken off it."""
+    """What was added to a WaitGroup, and what was subtracted."""
 
     added: list[Use]
     done: list[Use]
 
     @property
     def missing(self) -> int:
-        """How many calls of Done are missing."""
+        """The number of missing calls of Done."""
         return total(self.added) - total(self.done)
 
     @property
@@ -32,7 +32,7 @@ class Count(NamedTuple):
 
     @property
     def is_once(self) -> bool:
-        """Whether each goroutine called Done once, as one that is started for that does."""
+        """Whether each goroutine called Done once, as a goroutine that is started for one task does."""
         return total(self.done) == len(self.done_by)
 
 
@@ -41,14 +41,14 @@ def total(uses: list[Use]) -> int:
 
 
 def count_of(recording: Recording, number: int) -> Optional[Count]:
-    """The count of a WaitGroup for which calls of Done are missing; None if that isn't known."""
+    """The count of a WaitGroup with missing calls of Done; None if unknown."""
     uses = recording.lines.uses.get(number, ())
     count = Count(*([use for use in uses if use.what == what] for what in (ADDED, DONE)))
     return count if count.added and count.missing > 0 else None
 
 
 def count_says(recording: Recording, count: Count) -> str:
-    """How many calls of Done are missing."""
+    """Says how many calls of Done are missing."""
     missing = f"{count.missing} calls of Done are" if count.missing > 1 else "1 call of Done is"
     done = f"{total(count.done)} done{places_of(recording, count.done)}" if count.done else "none done"
     were = "were" if total(count.added) > 1 else "was"
@@ -56,7 +56,7 @@ def count_says(recording: Recording, count: Count) -> str:
 
 
 def places_of(recording: Recording, uses: list[Use]) -> str:
-    """Where goroutines added or called Done: the lines that did most."""
+    """The lines at which most goroutines added or called Done."""
     often = Counter[str]()
     for use in uses:
         if place := place_in(recording.lines.stacks[use.stack]).partition(", called")[0]:
@@ -66,14 +66,15 @@ def places_of(recording: Recording, uses: list[Use]) -> str:
 
 
 def started_by(recording: Recording, count: Count) -> set[int]:
-    """The goroutines that were started by those which added, after the first Add."""
+    """The goroutines that were started by those that added, after the first Add."""
     adders, begin = {use.goid for use in count.added}, min(use.begin for use in count.added)
     goroutines = recording.lines.goroutines
     return {goid for goid, known in goroutines.items() if known.maker in adders and known.begin >= begin}
 
 
 def kinds_at(recording: Recording, count: Count) -> list[Kind]:
-    """The go statements whose goroutines should call Done: those of which one did, or, if none has, the one behind the line that added."""
+    """The go statements whose goroutines should call Done: those of which one did, or, if none has, the one after the
+    line that added."""
     found, goroutines = dict[Call, Kind](), recording.lines.goroutines
     for goid in sorted(started_by(recording, count)):
         made = goroutines[goid].made
@@ -86,15 +87,15 @@ def kinds_at(recording: Recording, count: Count) -> list[Kind]:
 
 
 def next_behind(recording: Recording, count: Count, kinds: list[Kind]) -> list[Kind]:
-    """The go statement next behind the line that added, in the same function."""
+    """The next go statement after the line that added, in the same function."""
     own = recording.lines.stacks[count.added[0].stack].own()
     near = [kind for kind in kinds if own and kind.made.function == own[0].function and kind.made.line >= own[0].line]
     return sorted(near, key=lambda kind: kind.made.line)[:1]
 
 
 def ended_says(recording: Recording, count: Count) -> list[str]:
-    """Of the goroutines that should call Done those that ended without it, and by which lines they differ from the others; else that all
-    have called it."""
+    """Says which goroutines that should call Done ended without it, and by which lines they differ from the others;
+    else that all have called it."""
     kinds = kinds_at(recording, count)
     says = [kind_says(recording, count, kind) for kind in kinds if kind.ended][:MOST_KINDS]
     if says or not kinds or not count.is_once or any(kind.alive for kind in kinds):
@@ -107,13 +108,13 @@ def ended_says(recording: Recording, count: Count) -> list[str]:
 
 
 def ended_names(recording: Recording, count: Count) -> tuple[Name, ...]:
-    """The goroutines that should have called Done, and ended without it."""
+    """The goroutines that should have called Done and ended without it."""
     goids = (goid for kind in kinds_at(recording, count) for goid in kind.ended)
     return tuple(name_of_goid(recording.lines, goid) for goid in goids)
 
 
 def kind_says(recording: Recording, count: Count, kind: Kind) -> str:
-    """That goroutines of a go statement ended without Done."""
+    """Says that goroutines of a go statement ended without Done."""
     lines, every = recording.lines, [*kind.did, *kind.ended, *kind.alive]
     names = of_names(name_of_goid(lines, goid) for goid in kind.ended)
     if len(every) == 1:

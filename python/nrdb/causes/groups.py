@@ -1,5 +1,5 @@
-"""What a goroutine needs that waits for a WaitGroup: the goroutines that may still call Done, by the source or by which function started them;
-and of those that have ended, which differs from the others."""
+"""The need of a goroutine that waits for a WaitGroup: the goroutines that may still call Done, from the source or from
+the function that started them; and which of the ended ones differs from the others."""
 
 import re
 from typing import Callable, Container, NamedTuple, Optional
@@ -20,12 +20,13 @@ from .words import short
 LITERAL = re.compile(r"\.(?:func\d+|gowrap\d+|deferwrap\d+)(?:\..*)?\Z")
 ADD = re.compile(r"([\w.\[\]]+)\.Add\(")
 WAIT, DONE = re.compile(r"([\w.\[\]]+)\.Wait\(\)"), re.compile(r"(defer )?(?:func\(\) \{ )?([\w.\[\]]+)\.Done\(\)")
-MOST_MEMBERS = 50  # that are looked at
+MOST_MEMBERS = 50  # the most to examine
 STARTED_BY_GROUP = "sync.(*WaitGroup).Go"
 
 
 class Member(NamedTuple):
-    """A goroutine that may call Done, and the line at which it does so, if that is known, else the one that started it."""
+    """A goroutine that may call Done, and the line at which it does so, if known, else the goroutine that started
+    it."""
 
     name: Name
     line: Call
@@ -38,15 +39,17 @@ def outermost(function: str) -> str:
 
 
 class Groups:
-    """The goroutines that those which wait for a WaitGroup wait for. `stacks` are those of all that wait or sleep."""
+    """The goroutines for which those that wait for a WaitGroup wait. `stacks` are those of all that wait or sleep."""
 
     def __init__(self, index: Index, waits: Waits, stacks: list[tuple[Name, Stack]], position: int) -> None:
         self._index, self._recording, self._waits = index, index.recording, waits
         self._stacks, self._position = stacks, position
-        self._members: dict[tuple[Call, ...], list[Member]] = {}  # of those that wait, by the calls of the program
+        self._members: dict[
+            tuple[Call, ...], list[Member]
+        ] = {}  # those of goroutines that wait, by the calls of the program
 
     def of(self, waiter: Waiter, waiters: Container[Name], does: Callable[[Name], str]) -> Optional[Need]:
-        """The need of a goroutine that waits for a WaitGroup; None if nothing is found."""
+        """The need of a goroutine that waits for a WaitGroup; None if there is none."""
         calls = tuple(call for call in waiter.stack.calls if call.of == OF_THE_PROGRAM)
         if calls not in self._members:
             self._members[calls] = [*self._by_source(waiter), *self._started(waiter)]
@@ -77,7 +80,8 @@ class Groups:
         return Need(says) if says else None
 
     def _passed_by(self, count: Count, does: Callable[[Name], str]) -> list[str]:
-        """That a goroutine added in a function which calls Done itself, later and not deferred, and has left that without it."""
+        """Says that a goroutine added in a function that itself calls Done later, not deferred, and has left that
+        function without it."""
         lines = self._recording.lines
         if not count.done_by <= {use.goid for use in count.added}:
             return []
@@ -102,23 +106,23 @@ class Groups:
         return []
 
     def _are_level(self, call: Call, number: int) -> bool:
-        """Whether two lines of a function are in no deeper block than one another."""
+        """Whether neither of two lines of a function is in a deeper block than the other."""
         lines = source_of(self._recording, call.file)
         return lines is not None and indent_of(lines[call.line - 1]) == indent_of(lines[number - 1])
 
     def _count(self, waiter: Waiter) -> Optional[Count]:
-        """What was added to the WaitGroup, and who called Done, if the recording has that."""
+        """The count of the WaitGroup, if the recording has it."""
         at = waiter.wait.objects[:1] if waiter.wait else ()
         return count_of(self._recording, at[0].object) if at else None
 
     def _without_done(self, count: Optional[Count]) -> list[str]:
-        """How many calls of Done are missing, and which goroutines ended without one; nothing if none is known to have."""
+        """The number of missing calls of Done, and the goroutines that ended without one; empty if none is known."""
         ended = ended_says(self._recording, count) if count else []
         return [count_says(self._recording, count), *ended] if count and ended else []
 
     def _in_order(self, members: list[Member], count: Optional[Count]) -> list[Member]:
-        """The goroutines that may call Done, those first that haven't yet. If one was started by a goroutine that added, after it did so, all
-        others are left out."""
+        """The goroutines that may call Done, those that haven't yet first. If a goroutine that added started one of
+        them afterwards, all others are left out."""
         if count is None:
             return members
         started = started_by(self._recording, count)
@@ -131,11 +135,12 @@ class Groups:
         return member.name.number if member.name.is_goid else self._recording.lines.goid_of(member.name.number)
 
     def _has_done(self, member: Member, count: Count) -> bool:
-        """Whether a goroutine has called Done, and each calls it once alone."""
+        """Whether a goroutine has called Done, where each calls it only once."""
         return count.is_once and self._goid(member) in count.done_by
 
     def _by_source(self, waiter: Waiter) -> list[Member]:
-        """The goroutines that are in a function whose source calls Done of a WaitGroup of that name later: deferred, or at a line behind."""
+        """The goroutines that are in a function whose source calls Done of a WaitGroup of that name later: deferred, or
+        at a later line."""
         own = waiter.stack.own()
         name = WAIT.search(text_at(self._recording, own[0])) if own else None
         if not own or not name:
@@ -155,8 +160,8 @@ class Groups:
         ]
 
     def _started(self, waiter: Waiter) -> list[Member]:
-        """Goroutines that wait or sleep and were started by a function that the waiter is in, or by one that this is a literal of; then those of
-        another literal of that; then those that a WaitGroup started."""
+        """Goroutines that wait or sleep and were started by a function that the waiter is in, or by the function around
+        that literal; then those of another literal of it; then those that a WaitGroup started."""
         inside = {call.function for call in waiter.stack.calls if call.of == OF_THE_PROGRAM}
         outer = set(map(outermost, inside))
         made = [(name, stack.made) for name, stack in self._stacks if stack.made]
@@ -165,7 +170,7 @@ class Groups:
         return [Member(name, at) for name, at in near or others]
 
     def _how(self, waiter: Waiter, member: Member) -> str:
-        """Where a goroutine calls Done; else that the waiter started it, if that is known, or where somebody did."""
+        """The line at which a goroutine calls Done; else that the waiter started it, if known, or the line that did."""
         if member.number:
             return f"which calls Done at {member.line.file}:{member.number}{self._when(member)}"
         lines = self._recording.lines
@@ -174,13 +179,14 @@ class Groups:
         return "which it started" if known and known.maker == starter > 0 else f"started at {member.line.place()}"
 
     def _when(self, member: Member) -> str:
-        """Whether a goroutine calls Done as it ends, and not for each round of a loop, or before it does something else."""
+        """Whether a goroutine's call of Done is its last, after any loop and all other work."""
         done = [one for number, one in found_in(self._recording, member.line, DONE) if number == member.number]
         is_last = is_last_line(self._recording, member.line, member.number)
         return " as it ends" if is_last or any(one[1] for one in done) else ""
 
     def _of_ended(self, waiter: Waiter) -> list[str]:
-        """What is said if all that the waiter's functions started have ended: which of them did otherwise than the others."""
+        """Says, if all goroutines that the waiter's functions started have ended, which of them differed from the
+        others."""
         inside = {call.function for call in waiter.stack.calls if call.of == OF_THE_PROGRAM}
         started: dict[Call, list[int]] = {}
         lines = self._recording.lines
@@ -206,7 +212,7 @@ class Groups:
         return [*says, f"Perhaps {names} ended without Done{differs}{''.join(f'; {one}' for one in dials)}."]
 
     def _failed_dial(self, goid: int) -> str:
-        """That a goroutine's Dial failed; empty if none did."""
+        """Says that a goroutine's Dial failed; empty if none did."""
         if failed := refused(self._recording, goid):
             return f"its {refused_words(self._recording, failed)}"
         dial = failed_dial(self._index, self._recording.lines.goroutines[goid].number)

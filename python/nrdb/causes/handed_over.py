@@ -1,4 +1,5 @@
-"""Requests that a goroutine put into a channel, from which another took them: as one that writes all requests of a connection."""
+"""Requests that a goroutine put into a channel from which another took them, such as the one that writes all requests
+of a connection."""
 
 from collections import defaultdict
 from functools import lru_cache
@@ -15,7 +16,7 @@ from .ledger import END
 
 
 def put_before(recording: Recording, wait: Waiting) -> Optional[Use]:
-    """The last value that a goroutine put into another channel before it waits, from a function that it is in yet."""
+    """The last value that a goroutine put into another channel before it waits, from a function that it is still in."""
     at, inside = {one.object for one in wait.objects}, functions_of(wait.stack)
     found = (
         use for use in puts_of(recording).get(goid_of(recording, wait.name), ())
@@ -26,7 +27,7 @@ def put_before(recording: Recording, wait: Waiting) -> Optional[Use]:
 
 @lru_cache(maxsize=2)
 def puts_of(recording: Recording) -> dict[int, list[Use]]:
-    """What each goroutine put into channels, by Go's own numbers."""
+    """The values that each goroutine put into channels, by Go's own numbers."""
     found: dict[int, list[Use]] = defaultdict(list)
     for uses in recording.lines.uses.values():
         for use in uses:
@@ -36,12 +37,12 @@ def puts_of(recording: Recording) -> dict[int, list[Use]]:
 
 
 def asked_at(index: Index, wait: Waiting) -> set[int]:
-    """The sockets at which a goroutine wrote, or those that took what it put into a channel before it waits."""
+    """The sockets at which a goroutine wrote, or those of the goroutines to which it passed a request by a channel."""
     lines, put = index.recording.lines, put_before(index.recording, wait)
     takers = {use.goid for use in lines.uses.get(put.object, ()) if use.what == TOOK} if put else set()
-    known = (lines.goroutines.get(goid) for goid in takers)
-    numbers = {one.number for one in known if one} | (set() if wait.name.is_goid else {wait.name.number})
-    return {call.socket for number in numbers for call in index.by_goroutine.get(number, ()) if call.name == "Write"}
+    own = [] if wait.name.is_goid else index.by_goroutine.get(wait.name.number, [])
+    calls = [*own, *(call for goid in takers for call in index.by_goid(goid))]
+    return {call.socket for call in calls if call.name == "Write"}
 
 
 def functions_of(stack: Stack) -> set[str]:
@@ -49,7 +50,7 @@ def functions_of(stack: Stack) -> set[str]:
 
 
 def written_for(index: Index, wait: Waiting, socket: int) -> Optional[Call]:
-    """The first Write at a socket by a goroutine that took what the waiting one had put into a channel, after it did so."""
+    """The first Write at a socket by a goroutine that took what the waiter had put into a channel, after it did so."""
     put = put_before(index.recording, wait)
     if put is None:
         return None
@@ -60,4 +61,4 @@ def written_for(index: Index, wait: Waiting, socket: int) -> Optional[Call]:
         for call in index.by_socket.get(socket, ())
         if call.name == "Write" and call.moved and call.last and call.first >= put.last
     )
-    return next((call for call in writes if lines.goid_of(call.goroutine) in takers), None)
+    return next((call for call in writes if lines.goid_of(call.goroutine, call.first) in takers), None)

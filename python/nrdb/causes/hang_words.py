@@ -1,5 +1,5 @@
-"""Hangs in words, the same on every surface: a first sentence that says what everybody waits for, why that doesn't end, and a tree of who
-waits for whom."""
+"""The text of hangs, the same in every output: a first sentence that says what all goroutines wait for, the reasons,
+and a tree of the goroutines that wait."""
 
 from collections import defaultdict
 from typing import Sequence
@@ -33,14 +33,14 @@ VERBS = {
     "reads": "read",
 }
 SEVERAL = {"{by}, which calls": "{by}, which call", "as it ends": "as they end", "what it reads": "what they read"}
-MOST_LINES = 20  # of a tree
-MOST_BESIDE = 3  # sentences of goroutines that wait for a root
-MOST_LOOSE = 4  # goroutines that are named of those that hold mutexes for one another, it isn't known which
+MOST_LINES = 20  # lines of a tree
+MOST_BESIDE = 3  # sentences about goroutines that wait for a root
+MOST_LOOSE = 4  # the most goroutines to name that may hold mutexes for one another
 INDENT = "  "
 
 
 def hang_says(graph: WaitGraph, hang: Hang) -> list[str]:
-    """A hang in sentences, without its tree: the first says the whole, the others why it doesn't end."""
+    """The sentences of a hang, without its tree: the first sums it up, the others say why it doesn't end."""
     recording = graph.recording
     if hang.is_deadlock:
         members = zip(members_words(recording, hang), hang.needs, ahead_says(graph, hang))
@@ -71,7 +71,7 @@ def hang_says(graph: WaitGraph, hang: Hang) -> list[str]:
 
 
 def of_waiters(graph: WaitGraph, hang: Hang) -> list[str]:
-    """What is said besides of goroutines that wait for responses, each sentence once."""
+    """Further sentences about goroutines that wait for responses, each once."""
     roots = {waiter.name for waiter in hang.roots} if hang.is_deadlock else set()
     others = (waiter for waiter in waiters_of(hang) if waiter.name not in roots)
     says = (line for waiter in others for line in graph.needs[waiter.name].beside)
@@ -79,14 +79,14 @@ def of_waiters(graph: WaitGraph, hang: Hang) -> list[str]:
 
 
 def ahead_says(graph: WaitGraph, hang: Hang) -> list[list[str]]:
-    """Of each root the deadline that its call has yet."""
+    """For each root the deadline that its call still has."""
     index = index_of(graph.recording)
     found = (deadline_ahead(index, root.call, graph.position) if root.call else None for root in hang.roots)
     return [[setting_says(index, one)] if one else [] for one in found]
 
 
 def beside_words(graph: WaitGraph, hang: Hang) -> list[str]:
-    """The other roots that wait for the same goroutine, which has ended, a sentence for those that wait alike."""
+    """The other roots that wait for the same ended goroutine, a sentence for those that wait alike."""
     alike: dict[object, list[Waiter]] = defaultdict(list)
     for waiter in hang.beside:
         alike[kind_of(graph.recording, waiter)].append(waiter)
@@ -99,7 +99,8 @@ def beside_words(graph: WaitGraph, hang: Hang) -> list[str]:
 
 
 def unread_words(graph: WaitGraph, hang: Hang) -> list[str]:
-    """What is said of bytes that a goroutine of a hang wrote and nobody reads; nothing if its root waits for room, which says that."""
+    """Sentences about bytes that a goroutine of a hang wrote and no goroutine reads; none if its root waits for room,
+    which says so."""
     call, index, names = hang.root.call, index_of(graph.recording), {waiter.name for waiter in waiters_of(hang)}
     if any(root.call and root.call.name == "Write" for root in hang.roots) or (call and call.is_asking):
         return []
@@ -114,7 +115,8 @@ def wants_value(waiter: Waiter) -> bool:
 
 
 def reader_words(index: Index, names: set[Name], position: int) -> list[str]:
-    """That the goroutine has ended which read at a socket to which one of these goroutines, which wait for values from channels, wrote last."""
+    """Says that the goroutine has ended that read at a socket to which one of these goroutines, which wait for values,
+    wrote last."""
     for gone in gone_readers(index, position):
         wrote = index.last_use(gone.read.socket, position, ("Write",))
         if wrote and Name(wrote.goroutine) in names:
@@ -124,7 +126,7 @@ def reader_words(index: Index, names: set[Name], position: int) -> list[str]:
 
 
 def first_sentence(graph: WaitGraph, hang: Hang) -> str:
-    """What those that wait for a root wait for."""
+    """The sentence that says what the waiters of a root wait for."""
     recording, root, many = graph.recording, hang.root, len(hang.alike) + 1
     if not hang.waiting:
         return f"{root_words(recording, hang)}." if hang.alike else f"{waiter_words(recording, root)}."
@@ -138,7 +140,7 @@ def first_sentence(graph: WaitGraph, hang: Hang) -> str:
 
 
 def waiting_words(graph: WaitGraph, hang: Hang) -> str:
-    """How many wait for a root: `All 8 wait`."""
+    """The number of goroutines that wait for a root: `All 8 wait`."""
     others, only = graph.count - len(hang.every_root), hang.branches[0].waiters[0].name
     every = (
         f"{hang.waiting} of {graph.count} wait"
@@ -152,7 +154,7 @@ def waiting_words(graph: WaitGraph, hang: Hang) -> str:
 
 
 def root_words(recording: Recording, hang: Hang) -> str:
-    """Roots that are alike."""
+    """The text of roots that are alike."""
     if hang.root.call:
         return f"{len(hang.alike) + 1} calls wait: {call_words(recording, hang)}"
     names = of_names(waiter.name for waiter in (hang.root, *hang.alike))
@@ -160,7 +162,7 @@ def root_words(recording: Recording, hang: Hang) -> str:
 
 
 def call_words(recording: Recording, hang: Hang) -> str:
-    """The calls of roots that are alike, with their goroutines and sockets."""
+    """The calls of roots that are alike, with goroutines and sockets."""
     root, every = hang.root, [hang.root, *hang.alike]
     names = of_names(waiter.name for waiter in every)
     what = name_of(recording, root.call) if root.call else ""
@@ -168,18 +170,18 @@ def call_words(recording: Recording, hang: Hang) -> str:
 
 
 def since(waiters: Sequence[Waiter]) -> str:
-    """Since which steps they wait: `since step 9`, `since steps 9 to 17`."""
+    """The steps since which they wait: `since step 9`, `since steps 9 to 17`."""
     steps = sorted({waiter.since for waiter in waiters})
     return f"since steps {steps[0]} to {steps[-1]}" if len(steps) > 1 else f"since step {steps[0]}"
 
 
 def waits(waiter: Waiter) -> str:
-    """What a waiter does outside of the poller."""
+    """What a waiter does outside the poller."""
     return waits_words(waiter.wait) if waiter.wait else ""
 
 
 def deadlock_words(graph: WaitGraph, hang: Hang) -> str:
-    """That goroutines wait for one another; of calls of which one has a deadline, until when."""
+    """Says that goroutines wait for one another; if one of the calls has a deadline, until when."""
     many = NUMBERS.get(len(hang.roots), str(len(hang.roots)))
     what = "calls" if all(root.call for root in hang.roots) else "goroutines"
     is_perhaps = hang.certainty == Certainty.PERHAPS
@@ -204,7 +206,7 @@ def behind_it(hang: Hang) -> str:
 
 
 def members_words(recording: Recording, hang: Hang) -> list[str]:
-    """Each of those that wait for one another, and what for."""
+    """A sentence for each goroutine of a deadlock, with what it waits for."""
     found = []
     for waiter, need in zip(hang.roots, hang.needs):
         by = f"; {need.how.format(by=need.by)}" if need.how else ""
@@ -213,7 +215,7 @@ def members_words(recording: Recording, hang: Hang) -> list[str]:
 
 
 def for_what(recording: Recording, waiter: Waiter) -> str:
-    """What a call waits for that waits for another: bytes, room or a lock."""
+    """What a call that waits for another needs: bytes, room or a lock."""
     call = waiter.call
     if call is None:
         return ""
@@ -226,21 +228,22 @@ def for_what(recording: Recording, waiter: Waiter) -> str:
 
 
 def waiter_words(recording: Recording, waiter: Waiter) -> str:
-    """A waiter as a sentence without its end: `Read at a.go:3 in ask (goroutine 0) waits on socket 2 since step 9`."""
+    """The sentence of a waiter, without its end: `Read at a.go:3 in ask (goroutine 0) waits on socket 2 since step
+    9`."""
     if waiter.call:
         return f"{told(recording, waiter.call)} waits on socket {waiter.call.socket} since step {waiter.since}"
     return f"{capital(str(waiter.name))} {waits(waiter)} since step {waiter.since}"
 
 
 def tree_lines(graph: WaitGraph, hang: Hang) -> list[str]:
-    """Who waits for a root, a line for those that wait alike; of many lines the first."""
+    """The goroutines that wait for a root, a line for those that wait alike, up to the greatest number of lines."""
     lines = [line for branch in hang.branches for line in branch_lines(graph.recording, branch, 1)]
     left = len(lines) - MOST_LINES
     return [*lines[:MOST_LINES], *([f"{INDENT}and {counted(left, 'line')} more"] if left > 0 else [])]
 
 
 def branch_lines(recording: Recording, branch: Branch, depth: int) -> list[str]:
-    """A branch and what is below it."""
+    """A branch and the branches below it."""
     lines = [f"{INDENT * depth}- {branch_words(recording, branch)}"]
     return lines + [line for one in branch.branches for line in branch_lines(recording, one, depth + 1)]
 
@@ -259,7 +262,7 @@ def branch_words(recording: Recording, branch: Branch) -> str:
 
 
 def how_words(branch: Branch) -> str:
-    """What is said of the goroutines for which a branch waits."""
+    """Sentences about the goroutines that a branch waits for."""
     words = branch.need.how
     if len(set(branch.on)) > 1:
         for one, several in [
@@ -271,7 +274,7 @@ def how_words(branch: Branch) -> str:
 
 
 def of_sockets(waiters: list[Waiter]) -> str:
-    """The sockets that calls wait at."""
+    """The sockets at which calls wait."""
     numbers = sorted({waiter.call.socket for waiter in waiters if waiter.call})
     if len(numbers) == 1:
         return f"socket {numbers[0]}"
@@ -279,7 +282,7 @@ def of_sockets(waiters: list[Waiter]) -> str:
 
 
 def hang_looks(hang: Hang) -> list[str]:
-    """What to type next: the root's goroutine, and where it began to wait."""
+    """The line to type next: the root's goroutine, and the step at which it began to wait."""
     root = hang.root
     goes = [f"goto {max(waiter.since for waiter in hang.roots)}"]
     return [*goes, f"calls sock {root.call.socket}" if root.call and not hang.is_deadlock else "info goroutines"]

@@ -1,5 +1,5 @@
-"""What a handler of net/http wrote and its server holds back: that goes out when the handler returns, or calls Flush. Of a goroutine that waits for
-it, by the program's source if that is here."""
+"""Answers that a handler of net/http wrote and its server holds back until the handler returns or calls Flush, while a
+goroutine waits for them. From the program's source."""
 
 import re
 from typing import Iterator, Optional
@@ -23,7 +23,8 @@ PROXY = "net/http/httputil.(*ReverseProxy).copyResponse"
 
 
 def held_back(index: Index, socket: int, position: int) -> list[str]:
-    """Of a goroutine that waits for an answer on a socket: that the handler which serves it perhaps wrote one, and didn't flush it."""
+    """Says, for a goroutine that waits for an answer on a socket, that the handler perhaps wrote one and didn't flush
+    it."""
     other, server = index.other_end(socket), server_of(index, socket, position)
     stack = stack_of(index, server, position) if server else None
     if other is None or server is None or stack is None or not has(stack, SERVE):
@@ -47,7 +48,7 @@ def held_back(index: Index, socket: int, position: int) -> list[str]:
 
 
 def stack_of(index: Index, name: Name, position: int) -> Optional[Stack]:
-    """Where a goroutine waits at a position."""
+    """The stack in which a goroutine waits at a position."""
     if wait := waits_of(index.recording).at(name, position):
         return wait.stack
     inside = None if name.is_goid else index.inside(name.number, position)
@@ -64,7 +65,7 @@ def has_written(index: Index, server: Name, socket: int, position: int) -> bool:
 
 
 def came_since(index: Index, server: Name, socket: int, position: int) -> list[str]:
-    """That a goroutine got bytes elsewhere since it last read at a socket, and wrote none there."""
+    """Says that a goroutine got bytes elsewhere since it last read at a socket, and wrote none there."""
     calls = [one for one in index.by_goroutine.get(server.number, []) if one.first <= position]
     asked = next((one for one in reversed(calls) if one.socket == socket and one.name == "Read" and one.moved), None)
     since = [one for one in calls if asked and one.first > asked.last and one.moved]
@@ -78,7 +79,8 @@ def came_since(index: Index, server: Name, socket: int, position: int) -> list[s
 
 
 def flushed_in_vain(recording: Recording, stack: Stack) -> str:
-    """The line of a stack's function with a ResponseWriter that flushes before the line where it is, in no loop; empty if there is none."""
+    """The line of a stack's function with a ResponseWriter that flushes before the goroutine's line, outside loops;
+    empty if there is none."""
     for call in stack.calls:
         lines = source_of(recording, call.file) if call.of == OF_THE_PROGRAM else None
         within = range_of(lines, call) if lines else None
@@ -91,7 +93,8 @@ def flushed_in_vain(recording: Recording, stack: Stack) -> str:
 
 
 def unflushed(recording: Recording, stack: Stack) -> Iterator[tuple[str, bool]]:
-    """The lines of a stack's functions that write to a ResponseWriter which none of them flushes, and whether each is sure to have been passed."""
+    """The lines of a stack's functions that write to a ResponseWriter without a flush, and whether each was certainly
+    passed."""
     found: list[tuple[str, bool]] = []
     innermost = next((call for call in stack.calls if call.of == OF_THE_PROGRAM), None)
     for call in stack.calls:
@@ -105,8 +108,8 @@ def unflushed(recording: Recording, stack: Stack) -> Iterator[tuple[str, bool]]:
 
 
 def writes_of(lines: Lines, call: LineCall, within: range, is_innermost: bool) -> Iterator[tuple[str, bool]]:
-    """The lines of a function that write to its ResponseWriter, the last one before the line where it is first. That line itself is one if no
-    function of the program is called there, which may give what is to be written."""
+    """The lines of a function that write to its ResponseWriter, the last one before the goroutine's line first. That
+    line itself counts if no function of the program is called there, which may produce what is to be written."""
     named = next((match[1] for number in within if (match := WRITER.search(code_at(lines, number)))), None)
     if named is None:
         return
@@ -125,5 +128,5 @@ def writes_of(lines: Lines, call: LineCall, within: range, is_innermost: bool) -
 
 
 def is_passed(lines: Lines, number: int, line: int) -> bool:
-    """Whether a line lies in no block that ends before another one."""
+    """Whether a line is in no block that ends before another line."""
     return all(indent_of(lines[at - 1]) >= indent_of(lines[number - 1]) for at in range(number + 1, line + 1))

@@ -1,5 +1,5 @@
-"""The requests of net/http's client, by the channels of its connections: from which line, by which goroutine, and on which socket each was
-written; and those that ended because their context did."""
+"""The requests of net/http's client, from the channels of its connections: the line, the goroutine and the socket of
+each; and those that ended because their context did."""
 
 from functools import lru_cache
 from operator import attrgetter
@@ -22,7 +22,8 @@ WITH_DEADLINE, CLIENT_TIMEOUT = "context.WithDeadlineCause", "net/http.setReques
 
 
 class Request(NamedTuple):
-    """That goroutines wrote requests from one stack on a connection: how many, and behind which step and when the last one was handed over."""
+    """Requests that goroutines wrote from one stack on a connection: how many, and the step and time at which the last
+    one was handed over."""
 
     name: Name
     goid: int
@@ -34,8 +35,8 @@ class Request(NamedTuple):
 
 
 class CancelledRequest(NamedTuple):
-    """A request that ended because its context did: the request, the call that closed its connection, behind which step the context ended,
-    by the stack of which goroutine, and the timer of its deadline if that is certain."""
+    """A request that ended because its context did: the request, the call that closed its connection, the step after
+    which the context ended, the stack and goroutine that ended it, and the timer of its deadline if certain."""
 
     request: Request
     closed: Call
@@ -50,12 +51,12 @@ class CancelledRequest(NamedTuple):
         return any(call.function.startswith(BY_A_TIMER) for call in self.stack.calls[-1:])
 
     def places(self, recording: Recording) -> tuple[str, ...]:
-        """The lines that it names: of the request, of what cancelled it, and of its deadline."""
+        """The lines that it names: of the request, of its cancelling, and of its deadline."""
         of_timer = [recording.lines.stacks[self.timer.stack]] if self.timer else []
         return tuple(map(place_in, (self.request.stack, self.stack, *of_timer)))
 
     def says(self, recording: Recording) -> list[str]:
-        """It in sentences."""
+        """The sentences."""
         request = self.request
         begins = f"The request{place_in(request.stack)} ({request.name}), on socket {request.socket} since step {request.last}, ended because"
         if not self.is_late:
@@ -73,8 +74,8 @@ class CancelledRequest(NamedTuple):
 
 
 def requests_of(index: Index) -> list[Request]:
-    """The requests of which the connection is certain: a goroutine put each into a channel of which one connection's goroutine took them all,
-    and that has written to one socket alone."""
+    """The requests whose connection is certain: each was put into a channel from which only one connection's goroutine
+    took, and that goroutine wrote to only one socket."""
     lines, found = index.recording.lines, []
     for uses in lines.uses.values():
         puts = [use for use in uses if use.what == PUT and has(lines.stacks[use.stack], ROUND_TRIP)]
@@ -94,16 +95,14 @@ def request_of(recording: Recording, use: Use, socket: int) -> Request:
 
 
 def written_by(index: Index, goid: int) -> Optional[int]:
-    """The one socket to which a goroutine has written; None if there are others, or none."""
-    known = index.recording.lines.goroutines.get(goid)
-    calls = index.by_goroutine.get(known.number, []) if known and known.number >= 0 else []
-    sockets = {call.socket for call in calls if call.name == "Write"}
+    """The only socket to which a goroutine has written; None if there are several, or none."""
+    sockets = {call.socket for call in index.by_goid(goid) if call.name == "Write"}
     return sockets.pop() if len(sockets) == 1 else None
 
 
 @lru_cache(maxsize=2)
 def cancelled_requests(index: Index) -> tuple[CancelledRequest, ...]:
-    """The requests that ended because their contexts did, whose goroutines closed the connections then."""
+    """The requests that ended because their contexts did, and whose goroutines then closed the connections."""
     lines, every, found = index.recording.lines, requests_of(index), list[CancelledRequest]()
     for uses in lines.uses.values():
         closes = [use for use in uses if use.what == CLOSED]
@@ -114,13 +113,14 @@ def cancelled_requests(index: Index) -> tuple[CancelledRequest, ...]:
 
 
 def is_by_context(stack: Stack) -> bool:
-    """Whether a round trip asks why its context ended: it does so only if it waited for that."""
+    """Whether a round trip asks why its context ended: it does so only after it waited for that."""
     functions = [call.function for call in stack.calls[:3]]
     return CAUSE_OF_END in functions and ROUND_TRIP in functions
 
 
 def cancelled(index: Index, every: list[Request], ended: Use, close: Use) -> Iterator[CancelledRequest]:
-    """The request that ended so: the last that its goroutine wrote before, if that closed its connection then."""
+    """The request that ended so: the last that its goroutine wrote before, if the goroutine then closed the
+    connection."""
     lines = index.recording.lines
     own = [request for request in every if request.goid == ended.goid and request.time < close.begin]
     if not own or own[-1].name.is_goid:
@@ -139,9 +139,9 @@ def cancelled(index: Index, every: list[Request], ended: Use, close: Use) -> Ite
 
 
 def timer_of(recording: Recording, request: Request, close: Use) -> Optional[Timer]:
-    """The timer of the deadline that ended a request's context: the one of its client's Timeout, which is the last that its goroutine made for a
-    client in the same line before it handed the request over; else the only one of the program's contexts that was due by then. None if that isn't certain.
-    """
+    """The timer of the deadline that ended a request's context: that of its client's Timeout, the last that its
+    goroutine made for a client at the same line before the request was handed over; else the only one of the program's
+    contexts that was due by then. None if uncertain."""
     stacks = recording.lines.stacks
     timers = [
         timer for some in recording.lines.timers.values() for timer in some

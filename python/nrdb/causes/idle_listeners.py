@@ -1,4 +1,5 @@
-"""Listeners that are open and at which nobody has called Accept, while goroutines that one `go` statement made accept at another one together."""
+"""Open listeners at which no goroutine has called Accept, while goroutines of one `go` statement accept at another
+listener."""
 
 from collections import defaultdict
 
@@ -14,7 +15,8 @@ LISTENS = "net.(*netFD).listen"
 
 
 def idle_listeners(index: Index, position: int) -> list[str]:
-    """What is said of them to a goroutine that waits at a connection which nobody has accepted; nothing if no such goroutines accept together."""
+    """Sentences about them for a goroutine that waits at a connection that no goroutine has accepted; none if no such
+    goroutines exist."""
     listeners = [
         socket for socket in index.by_socket if is_listener(index, socket) and not closed(index, socket, position)
     ]
@@ -32,18 +34,18 @@ def idle_listeners(index: Index, position: int) -> list[str]:
 
 
 def is_listener(index: Index, socket: int) -> bool:
-    """Whether a socket was opened to listen, as a stream."""
+    """Whether a socket was opened to listen for streams."""
     opened = index.by_socket[socket][0]
     calls = index.recording.lines.of(opened.first).calls
     return opened.name == OPEN and any(call.function.startswith(LISTENS) for call in calls)
 
 
 def makers_at(index: Index, socket: int) -> dict[LineCall, set[Name]]:
-    """The goroutines that have called Accept at a listener, by the `go` statements that made them."""
+    """The goroutines that have called Accept at a listener, by the `go` statements that started them."""
     found: dict[LineCall, set[Name]] = defaultdict(set)
     lines = index.recording.lines
     for call in accepts_at(index, socket):
-        known = lines.goroutines.get(lines.goid_of(call.goroutine))
+        known = lines.goroutines.get(lines.goid_of(call.goroutine, call.first))
         if known and known.made:
             found[known.made].add(Name(call.goroutine))
     return found

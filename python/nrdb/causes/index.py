@@ -1,4 +1,4 @@
-"""The calls of a recording by whose they are, and which socket is the other end of which."""
+"""The calls of a recording by goroutine and socket, and the other end of each socket."""
 
 from bisect import bisect_right
 from collections import defaultdict
@@ -17,24 +17,25 @@ ACCEPTS = ("internal/poll.(*FD).Accept",)
 
 
 class Cause(NamedTuple):
-    """What is said of a call that failed or hangs: the call, sentences, the steps that they tell of, and what to type next."""
+    """The explanation of a call that failed or hangs: the call, sentences, the steps that they name, and the lines to
+    type next."""
 
     call: Call
     says: list[str]
     steps: list[int]
     looks: list[str]
-    stopped: int = 0  # the step behind which a goroutine that could have woken it did nothing any more
+    stopped: int = 0  # the step after which a goroutine that could have woken it did nothing more
     chain: list[Call] = []  # the failed calls that the sentences give as its causes
     beyond: list[str] = []  # the sentences about goroutines beyond the one that the call needed
 
 
 def with_more(cause: Cause, more: list[str]) -> Cause:
-    """A cause with sentences more."""
+    """A cause with further sentences."""
     return cause._replace(says=[*cause.says, *more])
 
 
 def with_others(cause: Cause, others: int) -> Cause:
-    """A cause that says of how many others it is too."""
+    """A cause with the number of others like it."""
     return cause._replace(says=[*cause.says, f"{others} more like it."]) if others else cause
 
 
@@ -48,23 +49,28 @@ class Index:
         for call in self.book.calls:
             self.by_socket[call.socket].append(call)
             self.by_goroutine[call.goroutine].append(call)
-        self._ended: dict[
-            tuple[int, str], list[Call]
-        ] = {}  # of each side that was asked for, in the order of their ends
+        self._ended: dict[tuple[int, str], list[Call]] = {}  # by side, in the order of their ends
         self._closing: dict[tuple[int, bool], Optional[Call]] = {}
         self._under_way: dict[tuple[int, int], list[Call]] = {}
 
+    def by_goid(self, goid: int) -> list[Call]:
+        """The calls of the goroutine that has a number at the end, by Go's number."""
+        lines = self.recording.lines
+        number = lines.number_of(goid)
+        calls = self.by_goroutine.get(number, []) if number >= 0 else []
+        return [call for call in calls if lines.has_step(goid, number, call.first)]
+
     def other_end(self, socket: int) -> Optional[int]:
-        """The socket at the other end of a socket's connection, where that is known."""
+        """The socket at the other end of a socket's connection, if known."""
         return self.recording.lines.peers.get(socket)
 
     def at(self, step: int) -> Optional[Call]:
-        """The innermost call that a step is part of."""
+        """The innermost call that a step belongs to."""
         begun = back(self.by_goroutine.get(self.recording.step(step).argument("g"), ()), step)
         return next((one for one in begun if not one.last or one.last >= step), None)
 
     def closing(self, socket: int, until: int, whole: bool = False) -> Optional[Call]:
-        """The first call up to a step that closed a socket, or its write side where not the whole of it is meant."""
+        """The first call, up to a step, that closed a socket, or only its write side."""
         if (socket, whole) not in self._closing:
             names = (CLOSE,) if whole else (CLOSE, CLOSE_WRITE)
             closing = (one for one in self.by_socket.get(socket, ()) if one.name in names and not one.outcome.is_error)
@@ -73,7 +79,7 @@ class Index:
         return found if found and found.first <= until else None
 
     def under_way(self, socket: int, step: int) -> list[Call]:
-        """The calls at a socket that began before a step and ended behind it."""
+        """The calls at a socket that began before a step and ended after it."""
         if (socket, step) not in self._under_way:
             begun = (one for one in self.by_socket.get(socket, ()) if one.first < step < one.last)
             self._under_way[socket, step] = list(begun)
@@ -100,17 +106,17 @@ class Index:
         return next((one for one in begun if not one.last or one.last > position), None)
 
     def is_listening(self, call: Call) -> bool:
-        """Whether a call takes connections: for that nobody has to come."""
+        """Whether a call accepts connections, which need not come."""
         return any(one.function in ACCEPTS for one in self.recording.lines.of(call.first).calls)
 
     def moved(self, socket: int, name: str, until: int) -> int:
-        """How many bytes the calls of that name, which ended up to a step, moved at a socket."""
+        """The number of bytes that the calls of a name, which ended up to a step, moved at a socket."""
         calls = self.by_socket.get(socket, ())
         return sum(one.moved or 0 for one in calls if one.name == name and 0 < one.last <= until)
 
     def under_its_deadline(self, call: Call) -> list[Call]:
-        """The calls of the same side that ended between the step which set a call's deadline and the call, in the order of their first
-        steps. (A side may have as many timeouts as calls: so none of these looks at all calls.)"""
+        """The calls of the same side that ended between the step that set a call's deadline and the call, in the order
+        of their first steps. It doesn't go over all calls, because a side may have as many timeouts as calls."""
         side = call.socket, call.name
         if side not in self._ended:
             calls = (one for one in self.by_socket[call.socket] if one.name == call.name and one.last)
@@ -130,7 +136,7 @@ def back(calls: Sequence[Call], step: int) -> Iterator[Call]:
 
 
 def went_well(call: Call) -> bool:
-    """Whether a call has ended without an error, and had something of it."""
+    """Whether a call has ended without an error, and moved something."""
     return call.last > 0 and call.outcome is Outcome.DONE and bool(call.moved)
 
 

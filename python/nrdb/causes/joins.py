@@ -1,4 +1,5 @@
-"""Hangs that explain a failed call, or come of one: those of the goroutine at the other end, or of the one that waited for the failed one."""
+"""Hangs that explain a failed call or follow from one: those of the goroutine at the other end, or of the goroutine
+that waited for the failed one."""
 
 from typing import Iterator, NamedTuple, Optional
 
@@ -12,7 +13,7 @@ from .words import name_of
 
 
 class Topic(NamedTuple):
-    """What one cause is about: a failed call, a hang, or both; and what joins the hang to the call, in a sentence."""
+    """The topic of one cause: a failed call, a hang, or both; and the sentence that joins the hang to the call."""
 
     cause: Optional[Cause]
     hang: Optional[Hang] = None
@@ -20,8 +21,8 @@ class Topic(NamedTuple):
 
 
 def joined(graph: WaitGraph, order: list[Topic]) -> list[Topic]:
-    """The topics in their order: each hang with the first failed call that it has to do with. A hang that wouldn't be among them, as of a program that
-    ended by itself, is if it explains a failed call."""
+    """The topics in their order: each hang with the first failed call that it is related to. A hang that wouldn't be
+    listed, as in a program that ended by itself, is listed if it explains a failed call."""
     hangs = [one.hang for one in order if one.hang]
     left = [*hangs, *(hang for hang in graph.shown if not any(hang is one for one in hangs))]
     of_failures: dict[int, Topic] = {}
@@ -35,7 +36,8 @@ def joined(graph: WaitGraph, order: list[Topic]) -> list[Topic]:
 
 
 def because_of(graph: WaitGraph, hang: Hang, cause: Optional[Cause]) -> str:
-    """What joins a hang to a failed call; empty if nothing does, or it isn't known why that hangs."""
+    """The sentence that joins a hang to a failed call; empty if they are unrelated, or the reason of the hang isn't
+    known."""
     is_write = hang.root.call is not None and hang.root.call.name in WRITING  # (which says who doesn't read)
     if cause is None or hang.is_quiet or hang.is_of_go or not (hang.has_reason or hang.is_deadlock or is_write):
         return ""
@@ -55,14 +57,16 @@ def because_of(graph: WaitGraph, hang: Hang, cause: Optional[Cause]) -> str:
 
 
 def has_stopped(graph: WaitGraph, waiter: Waiter, call: Call) -> bool:
-    """Whether the goroutine of a failed call began to wait after that, outside of the poller, and has used no socket since but to close it."""
+    """Whether the goroutine of a failed call began to wait after it, outside the poller, and has used no socket since
+    except to close it."""
     calls = index_of(graph.recording).by_goroutine[call.goroutine]
     later = [one for one in calls if one.first > call.last and one.name != CLOSE]
     return waiter.wait is not None and waiter.since >= call.last and not later
 
 
 def others_of(graph: WaitGraph, call: Call) -> Iterator[Name]:
-    """The goroutines at the other end of a call's connection: which served a request there, and which used that last before the call ended."""
+    """The goroutines at the other end of a call's connection: the one that served a request there, and the one that
+    used it last before the call ended."""
     index = index_of(graph.recording)
     if server := server_of(index, call.socket, call.first):
         yield server
@@ -73,7 +77,7 @@ def others_of(graph: WaitGraph, call: Call) -> Iterator[Name]:
 
 
 def is_twin(graph: WaitGraph, root: Waiter, call: Call) -> bool:
-    """Whether a root waits in a call of the same name and line as one that failed."""
+    """Whether a root waits in a call with the same name and line as a failed call."""
     recording, own = graph.recording, root.stack.own()
     if root.call is None or own is None or root.call.name not in READING:
         return False

@@ -1,5 +1,5 @@
-"""Ways on which a call keeps what it took, by the program's source if that is here: of a pool or a semaphore whose calls gave back less than they
-took, and of the body of a response of net/http that isn't closed."""
+"""Paths on which a call keeps what it took, from the program's source: in a pool or a semaphore whose calls gave back
+less than they took, and with the body of a net/http response that isn't closed."""
 
 import re
 from operator import attrgetter
@@ -35,7 +35,7 @@ TAKEN_AT, GIVEN_AT = attrgetter("taken"), attrgetter("given")
 
 
 def ways_that_keep(recording: Recording, balances: Iterable[Balance]) -> list[str]:
-    """The ways of the function that takes and gives back on which its calls have kept what they took."""
+    """The paths of the function that takes and gives back on which its calls kept what they took."""
     taken = {line for one in balances if one.missing > 0 for line in one.taken}
     given = {line for one in balances for line in one.given}
     says = []
@@ -50,8 +50,8 @@ def ways_that_keep(recording: Recording, balances: Iterable[Balance]) -> list[st
 
 
 def ways_with_an_error(recording: Recording, wait: Waiting) -> list[str]:
-    """Of a function that takes something from a pool or a semaphore where a goroutine waits, and gives it back before it returns an error: the ways on
-    which it returns one without that."""
+    """The paths of a function on which it returns an error without giving back what it took from a pool or a semaphore,
+    although it gives back on another such path."""
     own = wait.stack.own()
     if not own or own[0].of != OF_THE_PROGRAM or len(wait.objects) != 1:
         return []
@@ -73,7 +73,8 @@ def ways_with_an_error(recording: Recording, wait: Waiting) -> list[str]:
 
 
 def case_of(recording: Recording, line: Call, use: str) -> Call:
-    """The line of a select's first case that does at a channel what one waits for; of a line that is no select's, that itself."""
+    """The line of a select's first case that does at a channel what a goroutine waits for; for any other line, the line
+    itself."""
     lines = source_of(recording, line.file)
     if not lines or lines[line.line - 1].partition("//")[0].strip() != "select {":
         return line
@@ -89,7 +90,7 @@ def case_of(recording: Recording, line: Call, use: str) -> Call:
 
 
 def gives_on_most_ways(recording: Recording, balances: Iterable[Balance]) -> bool:
-    """Whether the function that takes gives back at several lines, and has fewer ways on which it doesn't."""
+    """Whether the function that takes gives back at several lines, and has fewer paths on which it doesn't."""
     taken, given = ({line for one in balances for line in some(one)} for some in (TAKEN_AT, GIVEN_AT))
     ends = gives_back(recording, given)
     for line in taken if ends else ():
@@ -102,13 +103,14 @@ def gives_on_most_ways(recording: Recording, balances: Iterable[Balance]) -> boo
 
 
 def gives_back(recording: Recording, given: Iterable[Call]) -> Optional[Test]:
-    """Whether a statement gives something back, by those that did so; None if their text isn't known."""
+    """Whether a statement gives something back, by the statements that did so; None if their text isn't known."""
     patterns = {pattern for line in given if (pattern := pattern_of(text_at(recording, line)))}
     return has("|".join(sorted(patterns))) if patterns else None
 
 
 def pattern_of(text: str) -> str:
-    """A pattern of statements that do what one does at a channel, or by the function that it calls; empty if it does neither."""
+    """A pattern for statements that do the same at a channel, or by the function that they call; empty if this one does
+    neither."""
     code = LITERAL.sub("", text.strip())
     if found := SEND.search(code):
         return rf"{re.escape(found[1])} <- "
@@ -119,14 +121,14 @@ def pattern_of(text: str) -> str:
 
 
 def value_of(text: str, form: str) -> Test:
-    """Whether a statement hands on the value that another one takes."""
+    """Whether a statement passes on the value that another one takes."""
     found = TAKEN.match(text)
     hands_on = has(form.format(name=found[1])) if found else nothing
     return lambda statement: hands_on(USES.sub("(", statement))
 
 
 def ways_of(recording: Recording, line: Call, text: str, ends: Test, keeps: Test) -> list[Way]:
-    """The ways of the function of a line that skip what `ends`."""
+    """The paths of a line's function that skip `ends`."""
     lines = source_of(recording, line.file) if line.of == OF_THE_PROGRAM else None
     within = range_of(lines, line) if lines else None
     is_whole = text[-1:] not in ("(", "{", ",")
@@ -135,7 +137,7 @@ def ways_of(recording: Recording, line: Call, text: str, ends: Test, keeps: Test
 
 
 def ways_past_close(recording: Recording, stacks: Iterable[Stack]) -> list[str]:
-    """Of requests, by the stacks in which they were made: the ways of their functions on which the response's body isn't closed."""
+    """The paths of the functions that made requests on which the response's body isn't closed, by their stacks."""
     says = dict[str, None]()
     for stack in stacks:
         for call in stack.calls:
@@ -155,8 +157,8 @@ def ways_past_close(recording: Recording, stacks: Iterable[Stack]) -> list[str]:
 
 
 def closed_in_a_loop(recording: Recording, call: Call, name: str) -> str:
-    """That something is closed only as the function returns, though the line that made it is in a loop of that: its Close is deferred. Empty if it
-    isn't so."""
+    """Says that something is closed only when the function returns, because its Close is deferred, though the line that
+    made it is in a loop; else empty."""
     lines = source_of(recording, call.file)
     within = range_of(lines, call) if lines else None
     head = loop_round(lines, within, call.line) if lines and within else 0

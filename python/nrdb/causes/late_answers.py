@@ -1,4 +1,5 @@
-"""Answers of an http.Server that its WriteTimeout cut, where Go's own code alone wrote: which handler was at work as that passed."""
+"""Answers of an http.Server that its WriteTimeout cut, if only Go's own code wrote: the handler that ran when the limit
+passed."""
 
 from typing import Iterator
 
@@ -7,11 +8,11 @@ from ..waits import Name, Waiting, waits_of
 from .index import Cause, Index
 from .words import duration, is_of_go, told, waits_words
 
-READS_A_REQUEST = "net/http.(*conn).readRequest"  # sets the deadline for the answer as it returns
+READS_A_REQUEST = "net/http.(*conn).readRequest"  # sets the deadline for the answer when it returns
 
 
 def is_of_write_timeout(index: Index, call: Call) -> bool:
-    """Whether a Write ended since the WriteTimeout of an http.Server had passed."""
+    """Whether a Write failed because the WriteTimeout of an http.Server had passed."""
     if call.name != "Write" or call.outcome is not Outcome.TIMED_OUT or not call.cause:
         return False
     stack = index.recording.lines.of(call.cause)
@@ -20,7 +21,7 @@ def is_of_write_timeout(index: Index, call: Call) -> bool:
 
 
 def late_answers(index: Index) -> Iterator[Cause]:
-    """The answers that were cut so, each with what its goroutine did as the limit passed."""
+    """The answers that were cut, each with what its goroutine did when the limit passed."""
     recording = index.recording
     for call in index.failed(recording.length):
         if not is_of_write_timeout(index, call) or not is_of_go(recording, call):
@@ -35,7 +36,8 @@ def late_answers(index: Index) -> Iterator[Cause]:
 
 
 def at_work(index: Index, call: Call) -> list[str]:
-    """What the goroutine did that served the request as the limit passed, else what it waited for last; nothing if that isn't known."""
+    """What the goroutine that served the request did when the limit passed, else what it waited for last; empty if
+    unknown."""
     passed, server = call.passed, f"goroutine {call.goroutine}, which serves the request,"
     if not call.cause < passed < call.first:
         return []
@@ -54,6 +56,6 @@ def at_work(index: Index, call: Call) -> list[str]:
 
 
 def was(wait: Waiting) -> str:
-    """What a goroutine did that waited: `slept at a.go:3 in serve for 9 ms`."""
+    """What a goroutine that waited did: `slept at a.go:3 in serve for 9 ms`."""
     words = waits_words(wait)
     return words.replace("sleeps", "slept", 1) if wait.is_asleep else words.replace("waits", "waited", 1)

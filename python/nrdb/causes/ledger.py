@@ -1,4 +1,4 @@
-"""What goroutines did at the channels and mutexes at which others wait, by the objects of NAME.where."""
+"""What goroutines did at the channels and mutexes at which others wait, from the objects of NAME.where."""
 
 from collections import defaultdict
 from operator import attrgetter
@@ -9,7 +9,7 @@ from ..recording import Recording
 from ..waits import Name, Waiting, Waits, name_of_goid
 from ..where import Call, Stack
 
-GIVES = {FOR_VALUE: PUT, FOR_ROOM: TOOK}  # what ends a wait at a channel
+GIVES = {FOR_VALUE: PUT, FOR_ROOM: TOOK}  # uses that end a wait at a channel
 GIVES_WORDS = {PUT: "put the last value there", TOOK: "took the last value there"}
 GAVE_BEFORE = {PUT: "put a value there before", TOOK: "took one there before"}
 END = attrgetter("end")
@@ -21,7 +21,7 @@ class Given(NamedTuple):
     name: Name
     what: str
     stack: Stack
-    last: int  # the step behind which it did so last
+    last: int  # the step after which it last did so
 
 
 class Ledger:
@@ -31,7 +31,7 @@ class Ledger:
         self._lines = recording.lines
         self._locked: dict[int, list[Waiting]] = defaultdict(
             list
-        )  # of each object that isn't a channel the waits, by their ends
+        )  # for each object that isn't a channel the waits, by their ends
         for some in waits.of.values():
             for wait in some:
                 for at in wait.objects:
@@ -53,12 +53,14 @@ class Ledger:
         return {found[0] for wait in self._locked[number] if (found := wait.stack.own())}
 
     def last_holder(self, number: int) -> Optional[Waiting]:
-        """The wait for a mutex that ended last, whose goroutine got it then; None if that has unlocked it for another since."""
+        """The wait for a mutex that ended last, whose goroutine got the mutex; None if that goroutine has unlocked it
+        for another since."""
         ended = [wait for wait in self._locked[number] if wait.last is not None]
         last = max(ended, key=attrgetter("last", "begin"), default=None)
         return last
 
     def had(self, number: int) -> set[Name]:
-        """The goroutines that have had a mutex: those that waited for it and got it, and those that unlocked it for another."""
+        """The goroutines that have held a mutex: those that waited for it and got it, and those that unlocked it for
+        another."""
         ended = [wait for wait in self._locked[number] if wait.last is not None]
         return {wait.name for wait in ended} | {wait.by for wait in ended if wait.by}

@@ -1,5 +1,5 @@
-"""Requests that are in a buffer yet: of a goroutine that waits for an answer, and since its last one nothing was written there, though a function that it is
-in writes into a bufio.Writer and doesn't flush that. By the program's source, if that is here."""
+"""Requests that are still in a buffer: a goroutine waits for an answer, wrote nothing since its last one, and is in a
+function that writes into a bufio.Writer without flushing it. From the program's source."""
 
 import re
 from functools import lru_cache
@@ -22,8 +22,8 @@ STARTS = re.compile(r"\b(?:go|defer)\b")
 
 
 class Named(NamedTuple):
-    """The functions of a package that write into a buffer, or flush one, by name; the variables and fields that are buffers, and those that are
-    flushed."""
+    """The functions of a package that write into a buffer, or flush one, by name; the variables and fields that are
+    buffers, and those that are flushed."""
 
     writes: frozenset[str]
     flushes: frozenset[str]
@@ -32,7 +32,8 @@ class Named(NamedTuple):
 
 
 def left_in_buffer(index: Index, call: Call) -> list[str]:
-    """What is said of a Read that waits; nothing if something was written since the last answer, or nothing is known to be in a buffer."""
+    """Sentences about a Read that waits; none if something was written since the last answer, or if no buffer is
+    known."""
     moved = [one for one in index.by_socket[call.socket] if one.name in MOVING and one.moved and one.first < call.first]
     if moved and moved[-1].name == "Write":
         return []
@@ -43,8 +44,8 @@ def left_in_buffer(index: Index, call: Call) -> list[str]:
 
 
 def unflushed_in(recording: Recording, frame: LineCall) -> str:
-    """The last line of a function, before the one at which it is, that writes into a buffer which isn't flushed up to there; empty if there is
-    none."""
+    """The last line of a function, before the goroutine's line, that writes into a buffer which isn't flushed up to
+    there; empty if there is none."""
     lines = source_of(recording, frame.file)
     within = range_of(lines, frame) if lines else None
     if not lines or not within:
@@ -61,7 +62,8 @@ def unflushed_in(recording: Recording, frame: LineCall) -> str:
 
 
 def never_flushed(recording: Recording, call: Call) -> str:
-    """Where the package in which a call is made makes a writer with a buffer, if no line of it flushes one: ` main.go:28`; empty if it isn't so."""
+    """The line at which the package of a call makes a buffered writer, if no line of it flushes one: ` main.go:28`;
+    else empty."""
     own = recording.lines.of(call.first).own()
     if own is None or own[0].of != OF_THE_PROGRAM:
         return ""
@@ -71,12 +73,12 @@ def never_flushed(recording: Recording, call: Call) -> str:
 
 @lru_cache(maxsize=64)
 def names_near(recording: Recording, file: str) -> Named:
-    """The functions and variables of the package that a file is in."""
+    """The functions and variables of a file's package."""
     return names_of(tuple(lines for _, lines in files_of(recording, file)))
 
 
 def names_of(files: tuple[Lines, ...]) -> Named:
-    """The functions of a package by what they do with buffers, those too that call one which does."""
+    """The functions of a package that write into buffers or flush them, also by calling such a function."""
     buffers = frozenset(
         name
         for lines in files
@@ -109,5 +111,5 @@ def is_write(text: str, buffers: frozenset[str]) -> bool:
 
 
 def calls_one_of(text: str, names: frozenset[str]) -> bool:
-    """Whether a text calls a function of one of these names."""
+    """Whether a text calls one of these functions."""
     return any(found[1] in names for found in re.finditer(r"\b(\w+)\(", text))

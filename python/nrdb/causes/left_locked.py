@@ -1,5 +1,5 @@
-"""Functions that return with a mutex locked on one of their ways, by the program's source if that is here: of a mutex for which a goroutine waits,
-and which nobody is known to hold."""
+"""Functions that return with a mutex locked on one of their paths, from the program's source, for a mutex that a
+goroutine waits for and that no goroutine is known to hold."""
 
 import re
 from typing import Iterator, NamedTuple, Optional
@@ -18,7 +18,7 @@ MOST = 2
 
 
 class Function(NamedTuple):
-    """A function of the source: its name, the name of its receiver, if it has one, whose it is, and its lines."""
+    """A function of the source: its name, its receiver's name, if it has one, its owner, and its lines."""
 
     name: str
     receiver: str
@@ -35,7 +35,7 @@ class Leak(NamedTuple):
 
 
 def left_locked(recording: Recording, lock: Call) -> list[str]:
-    """What is said of functions which may have left the mutex locked that a goroutine waits for in the call `lock`."""
+    """Sentences about functions that may have left the mutex locked that a goroutine waits for in the call `lock`."""
     lines, name = source_of(recording, lock.file), LOCK.search(text_at(recording, lock))
     if not lines or not name:
         return []
@@ -53,7 +53,8 @@ def left_locked(recording: Recording, lock: Call) -> list[str]:
 
 
 def returns_locked(recording: Recording, lock: Call) -> list[str]:
-    """What is said of the function that locked a mutex in a call and left it locked: at which line it returns without an Unlock, or that it has none."""
+    """Sentences about the function that locked a mutex in a call and left it locked: the line at which it returns
+    without an Unlock, or that it has none."""
     lines, name = source_of(recording, lock.file), LOCK.search(text_at(recording, lock))
     own = next((one for one in functions_of(lines, lock) if lock.line in one.within), None) if lines else None
     field = field_of(own, name[1]) if own and name else None
@@ -66,7 +67,7 @@ def returns_locked(recording: Recording, lock: Call) -> list[str]:
 
 
 def functions_of(lines: Lines, near: Call) -> Iterator[Function]:
-    """The functions of a file, in which a call is."""
+    """The functions of the file of a call."""
     for number, text in enumerate(lines, 1):
         method, function = METHOD.match(text), FUNCTION.match(text)
         within = range_of(lines, near._replace(function="", line=number)) if method or function else None
@@ -79,7 +80,8 @@ def functions_of(lines: Lines, near: Call) -> Iterator[Function]:
 
 
 def field_of(function: Function, name: str) -> Optional[str]:
-    """Which mutex an expression names: that of the receiver's field, or one of the package; None if it is another variable's."""
+    """The mutex that an expression names: that of the receiver's field, or one of the package; None if it is another
+    variable's."""
     first, dot, rest = name.partition(".")
     if function.receiver:
         return f".{rest}" if dot and first == function.receiver else None
@@ -87,7 +89,8 @@ def field_of(function: Function, name: str) -> Optional[str]:
 
 
 def leaks_of(lines: Lines, functions: list[Function], field: str) -> list[Leak]:
-    """The functions that return with the mutex locked. One that never unlocks it locks it for its callers if another only unlocks it."""
+    """The functions that return with the mutex locked. A function that never unlocks it locks it for its callers if
+    another one only unlocks it."""
     helps = any(has(UNLOCK, lines, one, field) and not has(LOCK, lines, one, field) for one in functions)
     return [
         leak
@@ -98,8 +101,8 @@ def leaks_of(lines: Lines, functions: list[Function], field: str) -> list[Leak]:
 
 
 def leak_of(lines: Lines, function: Function, field: str) -> Optional[Leak]:
-    """The first way on which a function returns with the mutex locked. None where that isn't known: it defers something that unlocks, has
-    another do it, unlocks it first or in a block that goes on, or locks it in a block that ends."""
+    """The first path on which a function returns with the mutex locked. None if unknown: it defers an unlock, lets
+    another function unlock, unlocks first or in a block that goes on, or locks in a block that ends."""
     locked, released, number = 0, 0, function.within.start + 1
     while number in function.within:
         text = lines[number - 1].partition("//")[0]
@@ -130,7 +133,7 @@ def is_unknown(text: str) -> bool:
 
 
 def leaves_block(lines: Lines, number: int) -> bool:
-    """Whether the block that a line is in ends with a `return` or the like."""
+    """Whether the block of a line ends with a `return` or the like."""
     margin, last = indent_of(lines[number - 1]), ""
     for text in lines[number:]:
         if indent_of(text) < margin:
@@ -140,11 +143,11 @@ def leaves_block(lines: Lines, number: int) -> bool:
 
 
 def has(pattern: "re.Pattern[str]", lines: Lines, function: Function, field: str) -> bool:
-    """Whether a function locks, or unlocks, the mutex that is meant."""
+    """Whether a function locks, or unlocks, the mutex in question."""
     return any(is_of(pattern, lines[number - 1].partition("//")[0], function, field) for number in function.within)
 
 
 def is_of(pattern: "re.Pattern[str]", text: str, function: Function, field: str) -> bool:
-    """Whether a line does that alone."""
+    """Whether a line does only that."""
     found = pattern.search(text)
     return found is not None and text.strip() == found[0] and field_of(function, found[1]) == field

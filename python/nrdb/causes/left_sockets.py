@@ -1,5 +1,5 @@
-"""Connections that a function dialed or accepted and left open on one of its ways, so that the other end waits: by where their goroutine is since, and by the
-program's source if that is here."""
+"""Connections that a function dialed or accepted and left open on one of its paths, so that the other end waits: from
+where their goroutine is since, and from the program's source."""
 
 import re
 from typing import Optional
@@ -22,8 +22,8 @@ TO_OTHERS = r"\breturn\b.*\b{name}\b|[=({{,:]\s*{name}\b\s*[,)}};]|[=:] *{name}$
 
 
 def left_socket(index: Index, socket: int, position: int) -> list[str]:
-    """What is said of a socket at whose other end somebody waits: that it is open, though the function that opened it has returned, and on which way
-    that doesn't close it. Nothing if that isn't known."""
+    """Sentences about a socket at whose other end a goroutine waits: it is open, though the function that opened it has
+    returned, and the path that doesn't close it. None if unknown."""
     opened = next((one for one in index.by_socket.get(socket, ()) if one.name == OPEN), None)
     if opened is None or index.closing(socket, position, whole=True):
         return []
@@ -41,14 +41,15 @@ def left_socket(index: Index, socket: int, position: int) -> list[str]:
 
 
 def kept_by(index: Index, opened: Call, line: LineCall) -> list[str]:
-    """That a function which is under way closes a socket only as it returns, and opens one in each round of a loop."""
+    """Says that a function that is still running closes a socket only when it returns, and opens one in each round of a
+    loop."""
     taken = TAKEN.match(text_at(index.recording, line).strip())
     deferred = closed_in_a_loop(index.recording, line, taken[1]) if taken else ""
     return [f"Socket {opened.socket}, opened at {line.place()}, is still open. {deferred}"] if deferred else []
 
 
 def left_by(index: Index, opened: Call, line: LineCall) -> list[str]:
-    """That a function left a socket open that it opened at a line."""
+    """Says that a function left a socket open that it opened at a line."""
     text = text_at(index.recording, line).strip()
     taken = TAKEN.match(text)
     if taken is None:
@@ -72,7 +73,7 @@ def left_by(index: Index, opened: Call, line: LineCall) -> list[str]:
 
 
 def without_users(recording: Recording, file: str, name: str, statement: str) -> str:
-    """A statement without those calls of functions of the package to which it passes a value, if they only use that."""
+    """A statement without those calls of the package's functions that only use the value that it passes to them."""
 
     def shortened(call: "re.Match[str]") -> str:
         arguments = [one.strip() for one in call[2].split(",")]
@@ -83,7 +84,8 @@ def without_users(recording: Recording, file: str, name: str, statement: str) ->
 
 
 def only_uses(recording: Recording, file: str, function: str, place: int) -> bool:
-    """Whether the function of the package with that name neither closes, keeps nor hands on its parameter at a place, by its source."""
+    """Whether, by its source, the function of the package with that name neither closes, keeps nor passes on its
+    parameter at a place."""
     found = [
         (path, lines, number, head)
         for path, lines in files_of(recording, file)
@@ -102,7 +104,7 @@ def only_uses(recording: Recording, file: str, function: str, place: int) -> boo
 
 
 def stack_at(index: Index, goroutine: int, position: int) -> Optional[Stack]:
-    """The stack of a goroutine at a position, in a call or in a wait, else of its last call."""
+    """The stack of a goroutine at a position, in a call or a wait, else that of its last call."""
     call, wait = index.inside(goroutine, position), waits_of(index.recording).at(Name(goroutine), position)
     if wait:
         return wait.stack

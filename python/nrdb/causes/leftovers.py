@@ -1,6 +1,6 @@
-"""What may be the matter where no call failed and none hangs: a reader that has ended, bytes that nobody read before their connection was closed, the end of
-a stream that came early, sockets that are left open, and writes that came between two of another goroutine's. None of it is a fault by
-itself, so each is said with `Perhaps`."""
+"""What may be wrong if no call failed and none hangs: a reader that has ended, bytes that no goroutine read before
+their connection was closed, an early end of a stream, sockets left open, and writes between two of another goroutine's.
+None of it is a fault by itself, so each begins with `Perhaps`."""
 
 from typing import Iterator, NamedTuple, Optional
 
@@ -22,18 +22,19 @@ from .unused_sockets import untaken_results
 from .words import came_of, is_of_go, place_of_step, told, waits_words
 
 
-FAREWELL = "crypto/tls.(*Conn).closeNotify"  # which nobody has to read
+FAREWELL = "crypto/tls.(*Conn).closeNotify"  # which need not be read
 
 
 class Place(NamedTuple):
-    """A function of the program, and a line of it; 0 where none is known."""
+    """A function of the program, and a line of it; 0 if none is known."""
 
     function: str
     line: int
 
 
 def leftovers_of(recording: Recording) -> list[Cause]:
-    """All that is left over at the end of a recording, of each sort in the order of its steps. Of Go's own code alone nothing is."""
+    """All findings at the end of a recording, each sort in the order of its steps, without those of Go's own code
+    alone."""
     index = index_of(recording)
     found = [
         *causes_of_cuts(index),
@@ -49,14 +50,14 @@ def leftovers_of(recording: Recording) -> list[Cause]:
 
 
 def ends_of(index: Index) -> Iterator[tuple[int, int]]:
-    """Each socket with its other end, where both are in the recording."""
+    """Each socket with its other end, if both are in the recording."""
     for socket, other in sorted(index.recording.lines.peers.items()):
         if socket in index.by_socket and other in index.by_socket:
             yield socket, other
 
 
 def never_read(index: Index) -> Iterator[Cause]:
-    """Bytes that were written at one end and that the other end was closed without reading."""
+    """Bytes that were written at one end and that the other end didn't read before it was closed."""
     recording, length = index.recording, index.recording.length
     for socket, other in ends_of(index):
         by, read = index.closing(other, length, whole=True), moved_at(index, other, "Read", length)
@@ -84,7 +85,7 @@ def never_read(index: Index) -> Iterator[Cause]:
 
 
 def first_beyond(index: Index, socket: int, count: int) -> Optional[Call]:
-    """The first Write at a socket that wrote more than so many bytes together with those before it."""
+    """The first Write at a socket with which more than this number of bytes were written."""
     together = 0
     for call in index.by_socket[socket]:
         together += size_of(index, call) if call.name == "Write" else 0
@@ -94,7 +95,7 @@ def first_beyond(index: Index, socket: int, count: int) -> Optional[Call]:
 
 
 def left_open(index: Index) -> Iterator[Cause]:
-    """A socket whose other end is closed, which nobody closes, and in whose calls nobody is."""
+    """A socket that no goroutine closes or uses, although its other end is closed."""
     recording, length = index.recording, index.recording.length
     for socket, other in ends_of(index):
         by, last = index.closing(other, length, whole=True), index.last_use(socket, length)
@@ -113,7 +114,8 @@ def left_open(index: Index) -> Iterator[Cause]:
 
 
 def serves_on(recording: Recording, last: Call) -> list[str]:
-    """Of a socket of a server of net/http whose client has gone: where the handler waits yet, that was the last to use it."""
+    """The place where the last handler that used the socket of a net/http server still waits, although the client has
+    gone."""
     wait = waits_of(recording).at(Name(last.goroutine), recording.length)
     if wait is None or not has(wait.stack, SERVE) or not wait.stack.own():
         return []
@@ -124,7 +126,7 @@ def serves_on(recording: Recording, last: Call) -> list[str]:
 
 
 def early_ends(index: Index) -> Iterator[Cause]:
-    """Reads of the program that met the end of a stream which the other end closed as a whole, in place of an answer."""
+    """Reads of the program that met the end of a stream, because the other end closed, instead of an answer."""
     for call in index.book.calls:
         other = index.other_end(call.socket)
         if call.outcome is not Outcome.EOF or other is None or is_of_go(index.recording, call):
@@ -143,12 +145,12 @@ def is_asking(index: Index, call: Call) -> bool:
 
 
 def mixed_writes(index: Index) -> Iterator[Cause]:
-    """A Write of one goroutine between two of another's to the same socket, where all three are made by one function of the program,
-    and the two by different lines of it: they may be pieces of one message."""
+    """A Write of one goroutine between two of another's to the same socket, if one function of the program makes all
+    three, the two at different lines: they may be pieces of one message."""
     recording = index.recording
     for calls in index.by_socket.values():
         writes = [(one, place_of_function(recording, one)) for one in calls if one.name == "Write" and went_well(one)]
-        latest: dict[int, int] = {}  # of each goroutine, which one was its last
+        latest: dict[int, int] = {}  # the last one of each goroutine
         for at, (last, place) in enumerate(writes):
             before = latest.get(last.goroutine, at)
             latest[last.goroutine] = at
@@ -165,6 +167,6 @@ def mixed_writes(index: Index) -> Iterator[Cause]:
 
 
 def place_of_function(recording: Recording, call: Call) -> Place:
-    """The function of the program that a call is made by, and its line there."""
+    """The function of the program that makes a call, and its line there."""
     found = recording.lines.of(call.first).own()
     return Place(found[0].function, found[0].line) if found and found[0].of == OF_THE_PROGRAM else Place("", 0)

@@ -1,5 +1,5 @@
-"""Which mutexes a goroutine perhaps holds in a call that it is in, by the program's source if that is here: a recording has no step at which a
-mutex that is free is taken."""
+"""The mutexes that a goroutine perhaps holds in a call, from the program's source: a recording has no step at which a
+free mutex is locked."""
 
 import os
 import re
@@ -24,8 +24,8 @@ class Held(NamedTuple):
 
 
 def held_at(recording: Recording, call: Call) -> list[Held]:
-    """The mutexes that a function has locked, and not unlocked, before the line at which a goroutine is in it. None where the source isn't
-    here."""
+    """The mutexes that a function has locked, and not unlocked, before the goroutine's line. None if the source isn't
+    available."""
     return _held_at(os.path.abspath(call.file), recording.lines.written, call)
 
 
@@ -51,7 +51,7 @@ def _held_at(file: str, written: float, call: Call) -> list[Held]:
 
 
 def end_of_literal(lines: Lines, number: int) -> int:
-    """The line at which a function literal ends that begins at a line; 0 if none does."""
+    """The last line of a function literal that begins at a line; 0 if none does."""
     text = lines[number - 1].partition("//")[0].rstrip()
     if "func(" not in text or not text.endswith("{"):
         return 0
@@ -60,7 +60,8 @@ def end_of_literal(lines: Lines, number: int) -> int:
 
 
 def is_left(lines: Lines, number: int, lock: int) -> bool:
-    """Whether an unlocking is on a way that leaves the function or the loop: deeper than the line that locked, and before a `return`."""
+    """Whether an unlock is on a path that leaves the function or the loop: deeper than the line that locked, and before
+    a `return`."""
     if indent_of(lines[number - 1]) <= indent_of(lines[lock - 1]):
         return False
     rest = (lines[at - 1] for at in range(number + 1, len(lines) + 1))
@@ -73,7 +74,7 @@ def is_left(lines: Lines, number: int, lock: int) -> bool:
 
 
 def owner(function: str) -> str:
-    """The type that a method is of, or the package of a function."""
+    """The type of a method's receiver, or the package of a function."""
     found = OF_A_TYPE.match(function)
     path, slash, name = function.rpartition("/")
     return found[1] if found else path + slash + name.partition(".")[0]

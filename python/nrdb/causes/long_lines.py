@@ -1,4 +1,4 @@
-"""Lines that a bufio.Scanner doesn't take: of a Read that filled its buffer of 65,536 bytes, after which Scan gives up."""
+"""Lines that are too long for a bufio.Scanner: a Read filled its buffer of 65,536 bytes, after which Scan gives up."""
 
 from ..one_call import Call
 from .asked import asked_of
@@ -8,7 +8,8 @@ SCAN, HALF = "bufio.(*Scanner).Scan", 32_768
 
 
 def long_line_says(index: Index, last: Call) -> list[str]:
-    """What is said of the last Read of a goroutine at a socket; nothing if a Scanner's buffer wasn't at its largest there."""
+    """Sentences about the last Read of a goroutine at a socket; none if a Scanner's buffer wasn't at its largest
+    there."""
     functions = (call.function for call in index.recording.lines.of(last.first).calls)
     if not last.moved or SCAN not in functions or asked_of(index.recording).of(last) != HALF:
         return []

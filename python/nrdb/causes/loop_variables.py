@@ -1,5 +1,5 @@
-"""Variables of loops that goroutines share, by the program's source if that is here: in a module whose language is older than Go 1.22 a loop has one variable for
-all its rounds."""
+"""Variables of loops that goroutines share, from the program's source: in a module whose language is older than Go 1.22
+a loop has one variable for all its rounds."""
 
 import os
 import re
@@ -13,12 +13,12 @@ from .source_functions import LITERAL, Lines, begin_of_literal, indent_of, range
 
 LOOP = re.compile(r"\bfor (?:(\w+), )?(\w+) := ")
 LANGUAGE = re.compile(r"^go 1\.(\d+)", re.MULTILINE)
-FIRST = 22  # of 1.x, in which each round has its own
+FIRST = 22  # the minor version from which each round has its own
 MOST_FOLDERS = 12
 
 
 def shared_variables(recording: Recording, file: str) -> list[str]:
-    """The loops of a file of whose variables goroutines were started that share them, a sentence each."""
+    """The loops of a file whose variables are shared by goroutines that they started, a sentence each."""
     minor = language_of(os.path.dirname(os.path.abspath(file)))
     if minor is None or minor >= FIRST:
         return []
@@ -37,7 +37,7 @@ def shared_variables(recording: Recording, file: str) -> list[str]:
 
 
 def shared_at(lines: Lines, made: Call) -> Iterator[tuple[int, str]]:
-    """The loop round a `go` statement with a function literal, and its variables that the literal uses."""
+    """The loop around a `go` statement with a function literal, and the loop's variables that the literal uses."""
     text = lines[made.line - 1]
     within = range_of(lines, made._replace(function=LITERAL.sub("", made.function)))
     begin = made.line if "go func()" in text else begin_of_literal(lines, made.line)
@@ -62,7 +62,7 @@ def shared_at(lines: Lines, made: Call) -> Iterator[tuple[int, str]]:
 
 @lru_cache(maxsize=64)
 def language_of(folder: str) -> "int | None":
-    """The language of the module that a folder is in, as 21 for Go 1.21; None if there is no module."""
+    """The language of a folder's module, as 21 for Go 1.21; None if there is no module."""
     for _ in range(MOST_FOLDERS):
         try:
             with open(os.path.join(folder, "go.mod"), encoding="utf-8") as file:

@@ -1,5 +1,5 @@
-"""Tables of those who wait for answers, by the program's source if that is here: the lines that look an entry up, put entries in, and take them out. One that is
-put in under the same key takes another's place."""
+"""Tables of goroutines that wait for answers, from the program's source: the lines that look an entry up, put entries
+in, and remove them. An entry with the same key replaces another's."""
 
 import re
 from typing import NamedTuple
@@ -15,14 +15,15 @@ MOST = 2
 
 
 class Place(NamedTuple):
-    """A line, and the key there."""
+    """A line, and its key."""
 
     place: str
     key: str
 
 
 def entry_says(recording: Recording, line: Call) -> list[str]:
-    """Of a goroutine that hands answers on at a line: in which table it looks up for whom, and which lines put entries there and take them out."""
+    """Says, for a goroutine that passes answers on at a line, in which table it looks up the receiver, and which lines
+    put entries there and remove them."""
     lines = source_of(recording, line.file)
     within = range_of(lines, line) if lines else None
     found = [

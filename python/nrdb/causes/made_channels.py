@@ -1,5 +1,5 @@
-"""Channels without room whose maker has returned: of a goroutine that waits for a receiver there, the function that made the channel for itself, as the recorder
-saw it, and by which lines that returns, by the program's source if that is here."""
+"""Channels without room whose maker has returned: a goroutine waits for a receiver, and the function that made the
+channel, as recorded, returns by these lines of the program's source."""
 
 import re
 
@@ -19,7 +19,8 @@ MOST = 2
 
 
 def without_receiver(index: Index, wait: Waiting, position: int) -> list[str]:
-    """What is said of a goroutine that waits for a receiver; nothing if the function that made the channel is under way, or isn't known."""
+    """Sentences about a goroutine that waits for a receiver; none if the function that made the channel is still
+    running, or isn't known."""
     lines = index.recording.lines
     made = lines.made.get(wait.objects[0].object) if len(wait.objects) == 1 else None
     own = lines.stacks[made.stack].own() if made else None
@@ -52,14 +53,14 @@ def has_returned(index: Index, maker: Name, line: Call, position: int) -> bool:
 
 
 def returns_says(index: Index, line: Call) -> str:
-    """The lines by which a function returns, if they are few."""
+    """The lines by which a function returns, if there are few."""
     found = [number for number, _ in found_in(index.recording, line, RETURNS) if number > line.line]
     places = " or ".join(f"{line.file}:{number}" for number in found)
     return f", by {places}" if 0 < len(found) <= MOST else ""
 
 
 def is_filled_by_maker(recording: Recording, at: At) -> bool:
-    """Whether all values were put into a channel by the function that made it, as into a bucket of tokens."""
+    """Whether the function that made a channel put in all its values, as into a bucket of tokens."""
     lines = recording.lines
     made = lines.made.get(at.object)
     own = lines.stacks[made.stack].own() if made else None

@@ -1,5 +1,5 @@
-"""Selects that nobody ends: of a goroutine that serves a request while a Shutdown waits for its end, and of a channel that was closed and that
-another select of the same type has as a case."""
+"""Selects that no goroutine ends: a goroutine serves a request while a Shutdown waits for its end, or the select lacks
+a case for a closed channel that another select of the same type has."""
 
 from operator import attrgetter
 from typing import NamedTuple, Optional
@@ -15,15 +15,15 @@ from .words import place_in
 
 
 class Lacking(NamedTuple):
-    """That a channel was closed for which another goroutine waited: how it was closed, and that wait."""
+    """A channel was closed that another goroutine waited for: how it was closed, and that wait."""
 
     closed: Use
     wait: Waiting
 
 
 def missing_case_says(recording: Recording, hang: Hang) -> list[str]:
-    """Of a root that waits in a select: which Shutdown waits for it, and which channel was closed that the select perhaps lacks. Nothing if no
-    Shutdown or WaitGroup waits."""
+    """Says, for a root that waits in a select, which Shutdown waits for it, and which closed channel the select perhaps
+    lacks. None if no Shutdown or WaitGroup waits."""
     wait = hang.root.wait
     if hang.is_deadlock or wait is None or wait.kind != A_SELECT or own_of(wait.stack) is None:
         return []
@@ -48,7 +48,8 @@ def group_wait_of(branch: Branch) -> Optional[Waiting]:
 
 
 def shutdown_of(recording: Recording, wait: Waiting) -> Optional[Waiting]:
-    """The first wait of a Shutdown, if a goroutine serves a request of net/http; the last one if that doesn't end. (It looks again and again.)"""
+    """The first wait of a Shutdown, which tests repeatedly, if a goroutine serves a request of net/http; the last one
+    if that doesn't end."""
     if not has(wait.stack, SERVE):
         return None
     every = (one for some in waits_of(recording).of.values() for one in some if one.kind == ALL_REQUESTS)
@@ -63,8 +64,8 @@ def shutdown_says(shutdown: Waiting) -> str:
 
 
 def lacking_of(recording: Recording, wait: Waiting, ends: Waiting) -> Optional[Lacking]:
-    """A channel without values that the goroutine closed which waits for the ends of others, and for which another waited before in a function
-    of the same type, or package, as this one is in."""
+    """A channel without values that was closed by the goroutine that waits for the ends of others, if an earlier wait
+    for it was in a function of the same type, or package, as this one."""
     own, closed = own_of(wait.stack), closed_by(recording, ends.name)
     for at in wait.objects:
         closed.pop(at.object, None)
@@ -84,7 +85,7 @@ def lacking_of(recording: Recording, wait: Waiting, ends: Waiting) -> Optional[L
 
 
 def closed_by(recording: Recording, name: Name) -> dict[int, Use]:
-    """The channels that a goroutine closed in a line of the program, and into which nobody has put a value."""
+    """The channels that a goroutine closed at a line of the program, and into which no value was put."""
     lines = recording.lines
     return {
         number: use
@@ -96,7 +97,7 @@ def closed_by(recording: Recording, name: Name) -> dict[int, Use]:
 
 
 def lacking_says(recording: Recording, lacking: Lacking) -> str:
-    """It in a sentence."""
+    """The sentence."""
     lines, closed, wait = recording.lines, lacking.closed, lacking.wait
     by = f"{name_of_goid(lines, closed.goid)}, step {closed.last}"
     return (

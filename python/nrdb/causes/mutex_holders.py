@@ -1,4 +1,5 @@
-"""Which goroutine holds a mutex for which another waits, by the recorder's table of the mutexes that were locked to the end."""
+"""The goroutine that holds a mutex for which another waits, from the recorder's table of the mutexes that were locked
+at the end."""
 
 from typing import Callable, Iterator, Mapping, NamedTuple, Optional
 
@@ -18,11 +19,11 @@ from .waiters import Waiter
 from .words import place_in, short
 
 MUTEX_OF_GO, READS, WRITES = "sync.(*Mutex).", "sync.(*RWMutex).RLock", "sync.(*RWMutex).Lock"
-A_MOMENT = 50_000_000  # nanoseconds, within which a goroutine that was given a mutex may not have run yet
+A_MOMENT = 50_000_000  # nanoseconds in which a goroutine that got a mutex may not have run yet
 
 
 class Holder(NamedTuple):
-    """A goroutine that holds a mutex, where it locked that, and behind which step."""
+    """A goroutine that holds a mutex, the stack that locked it, and the step after which it did so."""
 
     name: Name
     stack: Stack
@@ -37,7 +38,7 @@ class Holder(NamedTuple):
 
     @property
     def locked(self) -> str:
-        """Where it was locked: `, locked at a.go:12`, with the caller of a function that only locks it."""
+        """The line that locked it: `, locked at a.go:12`, with the caller of a function that only locks it."""
         call = self.call
         return f", locked at {call.place()}" if call else ""
 
@@ -69,8 +70,8 @@ class MutexHolders:
         return self._of_holder(wait, others[0], others[1:]) if others else self._of_nobody(wait)
 
     def _holders(self, wait: Waiting) -> Iterator[Holder]:
-        """The goroutines for which one waits: the writer, or the readers for which a writer waits that has the mutex already; and the goroutine itself
-        if it is among them."""
+        """The goroutines that a goroutine waits for: the writer, or the readers for which a writer waits that already
+        has the mutex; and the goroutine itself if it is among them."""
         held = [one for at in wait.objects for one in (self._recording.lines.held or {}).get(at.object, ())]
         writers = [self._holder(one) for one in held if one.how != READ]
         readers = [self._holder(one) for one in held if one.how == READ]
@@ -93,13 +94,13 @@ class MutexHolders:
         return not holder.is_reader and not is_in_mutex and any(WRITES in one for one in inside)
 
     def _of_itself(self, wait: Waiting, holder: Holder) -> Need:
-        """Of a mutex that the goroutine has locked before."""
+        """The need if the goroutine has locked the mutex before."""
         if left := self._left_locked(holder, wait.stack):
             return left
         return Need([f"It {holder.how} itself{holder.locked}: Lock waits for its own goroutine."], is_odd=True)
 
     def _of_holder(self, wait: Waiting, holder: Holder, more: list[Holder]) -> Need:
-        """Of a mutex that another goroutine holds."""
+        """The need if another goroutine holds the mutex."""
         call, does = holder.call, self._does(holder.name)
         if does.startswith("ended"):
             left = returns_locked(self._recording, call) if call else []
@@ -123,7 +124,8 @@ class MutexHolders:
         return Need([f"{str(holder.name).capitalize()} {holder.how}{holder.locked}{others}{doing}."], is_odd=True)
 
     def _left_locked(self, holder: Holder, now: Stack) -> Optional[Need]:
-        """That the holder has left the function that locked, which unlocks that mutex on other ways, by where it is now."""
+        """Says, from the holder's line now, that it has left the function that locked, which unlocks the mutex on other
+        paths."""
         call = holder.call
         if call is None or not now.calls or any(one.function == call.function for one in now.calls):
             return None
@@ -134,7 +136,8 @@ class MutexHolders:
         return Need([says, *returns_locked(self._recording, call)], is_odd=True, gone=holder.name)
 
     def _of_nobody(self, wait: Waiting) -> Need:
-        """Of a mutex that nobody holds: a copy of one that was locked then, if the goroutine has waited for more than a moment."""
+        """The need if no goroutine holds the mutex: a copy of a locked one, if the goroutine has waited for more than a
+        moment."""
         times = self._recording.lines.times
         if not times or times[-1] - wait.begin < A_MOMENT:
             return Need([])
@@ -147,5 +150,5 @@ class MutexHolders:
 
 
 def locked_words(holder: Holder) -> str:
-    """That a goroutine locked a mutex, and where."""
+    """Says which goroutine locked a mutex, and at which line."""
     return f"{str(holder.name).capitalize()} locked it{place_in(holder.stack)} (step {holder.step})"

@@ -1,4 +1,4 @@
-"""What a goroutine that waits needs, as it is found."""
+"""The need of a goroutine that waits."""
 
 from enum import IntEnum
 from typing import NamedTuple, Optional
@@ -10,20 +10,20 @@ GOES_FIRST = "{by} waits to lock it for writing, and goes first"  # of an RWMute
 
 
 class Certainty(IntEnum):
-    """How it is known which goroutine could give what another needs."""
+    """The evidence for which goroutine could give what another needs."""
 
-    PERHAPS = 1  # by stacks alone
+    PERHAPS = 1  # from stacks alone
     LIKELY = 2  # it did so before
-    KNOWN = 3  # it has it, by the recording's steps
+    KNOWN = 3  # it has it, from the recording's steps
 
 
 class Need(NamedTuple):
-    """Why a waiter waits, in sentences; the goroutine that could end that, what is said of it (`{by}` is its name), and how certain that
-    is; the last step of a goroutine that could have gone on, and is in no call any more; sentences that are said of a deadlock too;
-    whether goroutines of one `go` statement differ in what is needed; the goroutine that has ended which gave that before; goroutines that
-    ended without giving it; others that may be the one in `by`; whether calls that are over have kept what is needed, so that nobody who
-    waits has it; sentences that are said too if the goroutine itself waits for another; and whether `more` says only up to where it reads.
-    """
+    """Why a waiter waits, in sentences; the goroutine that could end that, a sentence about it (`{by}` is its name),
+    and how certain that is; the last step of a goroutine that could have gone on and is in no call any more; sentences
+    for a deadlock too; whether goroutines of one `go` statement differ in what is needed; the ended goroutine that gave
+    it before; goroutines that ended without giving it; others that may be the one in `by`; whether finished calls have
+    kept what is needed, so that no waiter has it; sentences to add if the goroutine itself waits for another; and
+    whether `more` says only up to where it reads."""
 
     says: list[str]
     by: Optional[Name] = None

@@ -1,5 +1,5 @@
-"""What each goroutine that waits needs, and which goroutine could give that: by the recording's steps, by which goroutine did so before,
-or by stacks alone."""
+"""What each goroutine that waits needs, and which goroutine could give it: from the recording's steps, from earlier
+uses, or from stacks alone."""
 
 from operator import attrgetter
 from typing import Optional
@@ -27,13 +27,13 @@ from .unfinished_replies import unfinished_reply
 from .unheard import unheard
 from .unread import unread_answers
 from .waiters import Waiter
-from .words import came_of, place_of_step, told, waits_words
+from .words import came_of, place_of_step, since_begin, told, waits_words
 
 DID = {"Write": "wrote to", "Read": "read at"}
 
 
 class Needs:
-    """The needs of those that wait at a position."""
+    """The needs of the goroutines that wait at a position."""
 
     def __init__(self, index: Index, waiters: dict[Name, Waiter], position: int) -> None:
         self._index, self._recording, self._position = index, index.recording, position
@@ -75,7 +75,7 @@ class Needs:
         return need._replace(more=more or ends, beside=tuple(lost), is_plain=bool(ends))
 
     def _of_exchange(self, call: Call, other: int) -> list[str]:
-        """Of a Read that waits: what its Writes before, the other end's Reads and the counts of bytes say."""
+        """The need of a Read that waits, from its earlier Writes, the other end's Reads and the counts of bytes."""
         index = self._index
         found = lacking(index, call, other)
         found = (
@@ -88,7 +88,7 @@ class Needs:
         return found
 
     def _of_lock(self, call: Call) -> Need:
-        """Of a call that waits for the lock of a socket's side: which call has that."""
+        """The need of a call that waits for the lock of a socket's side: the call that has the lock."""
         holders = [
             one for one in self._index.by_socket[call.socket]
             if one.side == call.side and not one.is_asking and one.first <= self._position and self._is_under_way(one)
@@ -104,13 +104,15 @@ class Needs:
         return not call.last or call.last > self._position
 
     def _of_other_end(self, call: Call, other: int, is_reading: bool) -> Need:
-        """Of a read that needs bytes, or a write that needs room: which goroutine used the other end last."""
+        """The need of a read for bytes, or of a write for room: the goroutine that used the other end last."""
         index, wanted = self._index, "Write" if is_reading else "Read"
         did = index.last_use(other, self._position, (wanted,))
         last = did or index.last_use(other, self._position)
         says = self._needed(call, other, did)
         if last is None:
             opened = index.last_use(other, self._position, ("Open",))
+            if opened and (since := since_begin(self._recording, opened.first)):
+                return Need([*says, f"Nobody has read or written there{since}."])
             made = place_of_step(self._recording, opened.first, opened.goroutine) if opened else ""
             says.append(f"Nobody has read or written there since it was opened{made}.")
             if opened and (started := self._started_for(opened)):
@@ -136,10 +138,10 @@ class Needs:
         return Need([*says, *self._since_then(last)], Name(last.goroutine), how, Certainty.LIKELY, self._stopped(last))
 
     def _sibling_of(self, wrote: Call) -> Optional[Name]:
-        """Of a goroutine that has ended, and was started for an answer by the one that reads the requests: another of that go statement that
-        waits yet."""
+        """Another waiting goroutine of the `go` statement with which the goroutine that reads the requests started an
+        ended one for an answer."""
         lines = self._recording.lines
-        known = lines.goroutines.get(lines.goid_of(wrote.goroutine))
+        known = lines.goroutines.get(lines.goid_of(wrote.goroutine, wrote.first))
         if known is None or known.made is None or known.last < 0 or not known.maker:
             return None
         maker = name_of_goid(lines, known.maker)
@@ -154,13 +156,13 @@ class Needs:
         return first.name if first else None
 
     def _started_by(self, last: Call) -> Optional[Name]:
-        """Of the other end of a read, to which nobody has written yet: a goroutine that its reader started after the last request that it got, and
-        that waits elsewhere while that reads on."""
+        """The goroutine for the other end of a read, to which nothing was written yet, that its reader started after
+        the last request, and that waits elsewhere while the reader reads on."""
         lines, reads = self._recording.lines, self._index.by_socket[last.socket]
         got = [
             one for one in reads if one.goroutine == last.goroutine and one.name == "Read" and one.moved and one.last
         ]
-        maker = lines.goid_of(last.goroutine)
+        maker = lines.goid_of(last.goroutine, last.first)
         if last.name != "Read" or not self._is_under_way(last) or not got or not maker:
             return None
         started = [one for one in lines.goroutines.values() if one.maker == maker and one.first >= got[-1].last]
@@ -169,8 +171,8 @@ class Needs:
         return first.name if first else None
 
     def _relay_back(self, last: Call) -> Optional[Name]:
-        """Of the other end of a read, to which nobody has written, and whose reader passes on what it reads: the goroutine that waits to read where
-        that writes, as the other half of a relay does."""
+        """The goroutine for the other end of a read, to which nothing was written, and whose reader passes on what it
+        reads: the one that waits to read where that reader writes, the other half of a relay."""
         if last.name != "Read" or Name(last.goroutine) in self._waiters:
             return None
         wrote = {
@@ -191,11 +193,11 @@ class Needs:
         return [f"Socket {call.socket} has no room: its other end, socket {other}, {ended}."]
 
     def _started_for(self, opened: Call) -> Optional[Name]:
-        """The goroutine that was started next by the one that opened a socket, before it opened another: as a server starts one for each
-        connection."""
+        """The goroutine that was started next by the one that opened a socket, before it opened another: a server
+        starts one for each connection."""
         lines, following = self._recording.lines, self._index.next_of(opened)
         until = following.first if following else self._recording.length + 1
-        maker = lines.goid_of(opened.goroutine)
+        maker = lines.goid_of(opened.goroutine, opened.first)
         started = [
             one
             for one in lines.goroutines.values()
@@ -205,14 +207,14 @@ class Needs:
         return name_of_goid(lines, first.goid) if first else None
 
     def _stopped(self, last: Call) -> int:
-        """The last step of a goroutine that is in no call any more; 0 where it waits for something else."""
+        """The last step of a goroutine that is in no call any more; 0 if it waits for something else."""
         is_busy = self._index.inside(last.goroutine, self._position) or self._waits.at(
             Name(last.goroutine), self._position
         )
         return 0 if is_busy else last.first
 
     def _since_then(self, last: Call) -> list[str]:
-        """What is said of the goroutine that used the other end last, and what it does now."""
+        """A sentence about the goroutine that used the other end last, and what it does now."""
         recording, now = self._recording, self._index.inside(last.goroutine, self._position)
         if now is last:
             return [f"There {told(recording, last)} is itself under way since step {last.first}."]

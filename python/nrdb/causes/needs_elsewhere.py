@@ -1,5 +1,5 @@
-"""What each goroutine needs that waits outside of the poller: for a mutex, a channel, a WaitGroup, a descriptor that others use, or a
-connection of net/http; and which goroutine could give that."""
+"""What each goroutine needs that waits outside the poller: for a mutex, a channel, a WaitGroup, a descriptor in use, or
+a connection of net/http; and which goroutine could give it."""
 
 from typing import Hashable, Iterator, Optional
 
@@ -33,7 +33,7 @@ from .words import told, waits_words
 
 
 class NeedsElsewhere:
-    """The needs of those that wait outside of the poller at a position."""
+    """The needs of the goroutines that wait outside the poller at a position."""
 
     def __init__(self, index: Index, waits: Waits, waiters: dict[Name, Waiter], position: int) -> None:
         self._index, self._recording, self._position = index, index.recording, position
@@ -41,9 +41,9 @@ class NeedsElsewhere:
         stacks = list(self._stacks())
         self._groups = Groups(index, waits, stacks, position)
         self._channels = NeedsOfChannels(self._recording, waits, self._ledger, waiters, dict(stacks), self._does)
-        self._hands: dict[Hashable, dict[int, list[Hand]]] = {}  # that hand values on to those that wait at a line
+        self._hands: dict[Hashable, dict[int, list[Hand]]] = {}  # that pass values on to those that wait at a line
         self._later: dict[Hashable, Optional[Need]] = {}  # what ends the selects of a line
-        self._conditions: dict[Hashable, list[str]] = {}  # what is said of waits, by their lines and objects
+        self._conditions: dict[Hashable, list[str]] = {}  # the sentences about waits, by their lines and objects
         self._mutexes = NeedsOfMutexes(self._recording, self._ledger, waiters, stacks, self._does)
         self._holders = MutexHolders(self._recording, waiters, position, self._does)
 
@@ -109,8 +109,8 @@ class NeedsElsewhere:
         return need
 
     def _reader_for(self, wait: Waiting) -> Optional[Name]:
-        """Of a goroutine that wrote, and waits for a value from a channel into which nobody has put one yet: the goroutine that waits to read at
-        that connection, as a client's does that reads for all."""
+        """The need of a goroutine that wrote, and waits for a value from a channel into which none was put yet: the
+        goroutine that waits to read at that connection, as a client's reader does."""
         if wait.name.is_goid or not self._channels.is_new(wait) or not is_for_values(wait):
             return None
         wrote = next(back(self._index.by_goroutine[wait.name.number], wait.first), None)
@@ -124,7 +124,7 @@ class NeedsElsewhere:
         return next(readers, None)
 
     def _of_answer(self, wait: Waiting) -> Optional[Need]:
-        """Of a goroutine that waits for an answer: that another read it and handed it to nobody."""
+        """The need of a goroutine that waits for an answer, if another goroutine read it and passed it to no other."""
         if not is_for_values(wait):
             return None
         own = wait.stack.own()
@@ -134,7 +134,8 @@ class NeedsElsewhere:
         return found or dropped_request(self._recording, wait, self._waiters) or ended_hand(self._index, wait)
 
     def _closed_later(self, wait: Waiting) -> Optional[Need]:
-        """Of a select: what another goroutine closes or cancels later, looked for once for those at the same line."""
+        """The need of a select whose channel or context another goroutine closes or cancels later, computed once for
+        those at the same line."""
         key = "later", wait.stack.own()
         if key not in self._later:
             self._later[key] = closed_later(self._recording, wait._replace(name=NOBODY), self._stacks())
@@ -142,11 +143,11 @@ class NeedsElsewhere:
         return closed_later(self._recording, wait, self._stacks()) if need and need.by == wait.name else need
 
     def excess_of(self, names: set[Name]) -> list[str]:
-        """Which calls of these goroutines gave something back to a channel more often than they took it."""
+        """The calls of these goroutines that gave something back to a channel more often than they took it."""
         return self._channels.excess_of(names)
 
     def _of_close(self, waiter: Waiter) -> Need:
-        """Of a Close that waits until nobody uses the descriptor: which call does."""
+        """The need of a Close that waits until the descriptor isn't used: the call that uses it."""
         closes = None if waiter.name.is_goid else self._index.inside(waiter.name.number, self._position)
         if closes is None:
             return Need([])
@@ -160,7 +161,7 @@ class NeedsElsewhere:
         return Need([says], Name(users[-1].goroutine), "{by} uses the descriptor")
 
     def _of_condition(self, wait: Waiting) -> list[str]:
-        """Of a condition: which function should have woken the goroutine, or all that wait for it."""
+        """The need of a wait for a condition: the function that should have woken the goroutine, or all that wait."""
         key = wait.stack.own(), wait.objects
         if key not in self._conditions:
             alike = [one for one in self._waiters.values() if one.wait and one.wait.objects == wait.objects]
@@ -168,14 +169,14 @@ class NeedsElsewhere:
         return self._conditions[key]
 
     def _of_connection(self) -> Need:
-        """Of a request of net/http that waits for a connection: which one perhaps has it."""
+        """The need of a net/http request that waits for a connection: the goroutine that perhaps has it."""
         asking = (name for name, one in self._waiters.items() if one.wait and one.wait.kind == A_RESPONSE)
         by = next(asking, None)
         how = "perhaps {by} has the connection, and waits for the response"
         return Need([], by, how, Certainty.PERHAPS) if by else Need([])
 
     def _of_requests(self, waiter: Waiter) -> Need:
-        """Of a Shutdown of net/http: that its goroutine serves a request itself, or which one perhaps does."""
+        """The need of a Shutdown of net/http: that its goroutine serves a request itself, or which one perhaps does."""
         if has(waiter.stack, SERVE):
             return Need([], more=["It serves a request itself, for whose end Shutdown waits."])
         serving = [
@@ -193,7 +194,8 @@ class NeedsElsewhere:
         return Need(says)
 
     def _of_response(self, wait: Waiting) -> Optional[Need]:
-        """Of a response of net/http: the goroutine that serves the request, if that is in this recording."""
+        """The need of a wait for a net/http response: the goroutine that serves the request, if it is in this
+        recording."""
         socket = socket_of(self._index, wait, self._position)
         server = None if socket is None else server_of(self._index, socket, self._position)
         if socket is None or server is None or self._reads_on(server):
@@ -210,8 +212,8 @@ class NeedsElsewhere:
         return now is not None and now.is_of_go and now.call is not None and now.call.name in READING
 
     def _ended_before(self, wait: Waiting, elsewhere: bool = False) -> Optional[Name]:
-        """The goroutine that ended the last wait of the same goroutine at the same line, and that itself waits now: at the same channel or
-        mutex, or at whichever."""
+        """The goroutine that ended the last wait of the same goroutine at the same line, and now waits itself: at the
+        same channel or mutex, or at any."""
         earlier = (
             one for one in reversed(self._waits.of[wait.name])
             if one.last is not None and one.by is not None and one.last <= wait.first
@@ -226,7 +228,8 @@ class NeedsElsewhere:
         return next((by for by in same if by in self._waiters), None)
 
     def _does(self, name: Name, stack: Optional[Stack] = None) -> str:
-        """What a goroutine does now, or that it has ended, and where it was last, but for a stack that is known; empty if that isn't known."""
+        """What a goroutine does now, or that it has ended, and its last place, unless that is the known stack; empty if
+        unknown."""
         if wait := self._waits.at(name, self._position):
             return f"{waits_words(wait)} since step {wait.first}"
         lines = self._recording.lines

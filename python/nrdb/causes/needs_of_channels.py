@@ -1,5 +1,5 @@
-"""What a goroutine needs that waits at a channel: by how often each goroutine took and gave there, by which did last what it waits for, and by
-which ended without that."""
+"""What a goroutine needs that waits at a channel: from how often each goroutine took and gave there, from the last that
+did what it waits for, and from those that ended without that."""
 
 from itertools import islice
 from typing import Any, Callable, Hashable, Iterable, Iterator, Mapping, Optional, TypeVar
@@ -34,14 +34,14 @@ from .waiters import Waiter
 from .words import place_in
 
 DID = {PUT: "putting a value there", TOOK: "taking one there"}
-MOST_GIVEN = 50  # goroutines that are looked at for each that waits
+MOST_GIVEN = 50  # the most goroutines to examine for each waiter
 NOBODY = Name(-1)
 Found = TypeVar("Found")
 Rule = Callable[[Recording, Waiting, Iterable[tuple[Name, Stack]]], Optional[Need]]
 
 
 class NeedsOfChannels:
-    """The needs of those that wait at channels. `stacks` are those of all that wait or sleep."""
+    """The needs of the goroutines that wait at channels. `stacks` are those of all that wait or sleep."""
 
     def __init__(
         self, recording: Recording, waits: Waits, ledger: Ledger, waiters: Mapping[Name, Waiter],
@@ -49,7 +49,7 @@ class NeedsOfChannels:
     ) -> None:  # fmt: skip
         self._recording, self._waits, self._ledger = recording, waits, ledger
         self._waiters, self._stacks, self._does = waiters, stacks, does
-        self._memo: dict[Hashable, Any] = {}  # what is found of a channel once, since many may wait there
+        self._memo: dict[Hashable, Any] = {}  # found once for a channel, because many may wait there
 
     def _once(self, key: Hashable, find: Callable[[], Found]) -> Found:
         if key not in self._memo:
@@ -58,7 +58,7 @@ class NeedsOfChannels:
         return found
 
     def _balances(self, number: int) -> list[Balance]:
-        """The balances at a channel; none if it isn't a pool or a semaphore, from which goroutines take and to which they give back."""
+        """The balances at a channel; none unless goroutines take from it and give back, as with a pool."""
 
         def find() -> list[Balance]:
             found = balances_of(self._recording, number, self._stacks)
@@ -67,7 +67,7 @@ class NeedsOfChannels:
         return self._once(("balances", number), find)
 
     def besides(self, wait: Waiting) -> list[str]:
-        """What is said of a channel whatever else is known: values that were perhaps lost there, or kept by a function that takes one."""
+        """Further sentences about a channel: values that were perhaps lost there, or kept by a function."""
 
         def find() -> list[str]:
             is_pool = any(self._balances(at.object) for at in wait.objects if self.is_buffered(at))
@@ -79,8 +79,8 @@ class NeedsOfChannels:
         return self._once((wait.stack.own(), wait.objects, "besides"), find)
 
     def of_balance(self, wait: Waiting) -> Optional[Need]:
-        """Of a channel from which goroutines take and give back: which calls kept something or gave it back twice; else a goroutine that has
-        something and waits. None if it isn't used so."""
+        """The need at a channel from which goroutines take and give back: the calls that kept something or gave it back
+        twice; else a goroutine that has something and waits. None if the channel isn't used so."""
         at, wanted = wait.objects[0], GIVES.get(wait.objects[0].use, "")
         balances = self._balances(at.object) if self.is_buffered(at) else []
         if not balances:
@@ -88,7 +88,7 @@ class NeedsOfChannels:
         takes = balances[0].takes
         if takes == wanted and is_filled_by_maker(self._recording, at):
             return None
-        if takes == wanted:  # it waits to give back: too much was
+        if takes == wanted:  # it waits to give back: there is too much
             return Need(excess_says(balances)) if any(one.missing < 0 for one in balances) else None
         by = next((one.name for one in balances if self._is_holder(one, wait)), None)
         says = self._once(("kept", at.object), lambda: kept_says(self._recording, balances))
@@ -102,7 +102,7 @@ class NeedsOfChannels:
         )
 
     def _of_slots(self, wait: Waiting) -> Optional[Need]:
-        """Of a semaphore whose slots nobody has given back yet: who has one."""
+        """The need at a semaphore to which no slot was given back yet: a goroutine that has one."""
         key = "slots", wait.stack.own(), wait.objects
         need = self._once(
             key, lambda: of_slots(self._recording, wait._replace(name=NOBODY), self._stacks, self._waiters)
@@ -112,7 +112,8 @@ class NeedsOfChannels:
         return need
 
     def _of_nested(self, wait: Waiting) -> Optional[Need]:
-        """Of a channel that was filled once: a goroutine that took from it in a call which it is still in, and waits there for another."""
+        """The need at a channel that was filled once: a goroutine that took from it in a call that it is still in, and
+        waits there for another."""
         at = wait.objects[0]
         found = self._once(("nested", at), lambda: list(islice(self._nested(at), MOST_GIVEN)))
         return next((need for need in found if need.by != wait.name), None)
@@ -134,7 +135,7 @@ class NeedsOfChannels:
                 yield Need([], name, f"perhaps {how}", Certainty.PERHAPS)
 
     def excess_of(self, names: set[Name]) -> list[str]:
-        """Which calls of these goroutines gave something back to a channel more often than they took it: so two may have it."""
+        """The calls of these goroutines that gave back to a channel more often than they took."""
         for number in self._recording.lines.objects:
             if self.is_buffered(At(number, "")) and (balances := self._balances(number)):
                 mine = [one for one in balances if one.name in names and one.takes == TOOK]
@@ -147,21 +148,21 @@ class NeedsOfChannels:
         return known is not None and known.room > 0
 
     def _is_holder(self, balance: Balance, wait: Waiting) -> bool:
-        """Whether a goroutine has something that another waits for, and waits itself, elsewhere."""
+        """Whether a goroutine has something that another waits for, and itself waits elsewhere."""
         return balance.name in self._waiters and balance.name != wait.name and balance.has_one
 
     def is_new(self, wait: Waiting) -> bool:
-        """Whether a goroutine waits at channels at which nobody has done yet what it waits for, as at one that is made for each request."""
+        """Whether no goroutine has yet done at its channels what a goroutine waits for."""
         since = self._made_since(wait)
         given = (one for at in wait.objects for one in self._given(at))
         return bool(wait.objects) and all(at.use for at in wait.objects) and not any(one.last >= since for one in given)
 
     def _made_since(self, wait: Waiting) -> int:
-        """Behind which step a channel was made at the earliest at which a goroutine waits."""
+        """The earliest step after which the channel was made at which a goroutine waits."""
         return self._once((wait.name, wait.objects, "made"), lambda: made_since(self._recording, wait))
 
     def of(self, wait: Waiting) -> Need:
-        """Of channels: the goroutine that last did there what the waiter waits for; else what became of it."""
+        """The need of a wait at channels: the last goroutine that did there what the waiter waits for."""
         is_one = len(wait.objects) == 1
         since = self._made_since(wait)
         given = [one for at in wait.objects for one in self._given(at) if one.name != wait.name and one.last >= since]
@@ -193,7 +194,7 @@ class NeedsOfChannels:
         return self._of_the_past(wait, given[:1], closing)
 
     def _of_ended_takers(self, wait: Waiting) -> Need:
-        """Of a select that would put a value into a channel: that all who took from that have ended."""
+        """The need of a select that would put a value into a channel from which only ended goroutines took."""
         for at in wait.objects:
             given = self._given(at) if at.use == FOR_ROOM else []
             if given and all(has_ended(self._recording, one.name) for one in given):
@@ -204,7 +205,7 @@ class NeedsOfChannels:
         return ended_giver(index_of(self._recording), wait) or Need([])
 
     def _of_the_past(self, wait: Waiting, given: list[Given], closing: Optional[Need]) -> Need:
-        """Of a channel at which nobody that waits did what is waited for: who did last, else what became of it."""
+        """The need at a channel at which no waiting goroutine did what is waited for: the last that did."""
         for one in given:
             loop = loop_words(self._recording, one.stack) if has_ended(self._recording, one.name) else ""
             did = f"{str(one.name).capitalize()} {GIVES_WORDS[one.what]}{place_in(one.stack)} (step {one.last}{loop})"
@@ -226,7 +227,7 @@ class NeedsOfChannels:
         return later
 
     def _given(self, at: At) -> list[Given]:
-        """The first goroutines of those that did at a channel what is waited for: those first that wait."""
+        """The first goroutines that did at a channel what is waited for, those that wait first."""
 
         def find() -> list[Given]:
             every = list(self._ledger.given(at))
@@ -235,34 +236,34 @@ class NeedsOfChannels:
         return self._once(("given", at), find)
 
     def _closing(self, wait: Waiting) -> Optional[Need]:
-        """What should close a channel, by the source."""
+        """The need of what should close a channel, from the source."""
         return self._by_source("closing", unclosed, wait)
 
     def _by_source(self, key: str, rule: Rule, wait: Waiting) -> Optional[Need]:
-        """What a rule finds that looks at the source, for those that wait at the same line: for each if it is that goroutine itself."""
+        """The result of a rule that reads the source, computed once for the waits of a line, and for each if it names
+        that goroutine itself."""
         nobody = wait._replace(name=NOBODY)
         place = wait.stack.own(), wait.objects, key
         need = self._once(place, lambda: rule(self._recording, nobody, self._stacks.items()))
         return rule(self._recording, wait, self._stacks.items()) if need and need.by == wait.name else need
 
     def more_of(self, wait: Waiting, by: Name) -> list[str]:
-        """What is said besides of a wait for what a goroutine gave before: that a channel isn't closed, or that an answer came and wasn't handed
-        on."""
+        """Further sentences about such a wait: a channel isn't closed, or an answer wasn't passed on."""
         closing = self._closing(wait)
         return [*(closing.more if closing else []), *perhaps_dropped(self._recording, wait, self._waiters[by])]
 
     def _of_siblings(self, wait: Waiting) -> list[str]:
-        """Of goroutines that a function of the waiting one started by one `go` statement, and some of which did what is waited for: those that
-        ended without it."""
+        """The need if some goroutines of a `go` statement of the waiter's function ended without what others did."""
         what = GIVES.get(wait.objects[0].use, "")
         return [ended_words(self._recording, kind, DID[what]) for kind in self._kinds_of(wait)]
 
     def _ended_siblings(self, wait: Waiting) -> tuple[Name, ...]:
-        """The goroutines of that `go` statement that ended without what is waited for."""
+        """The goroutines of that `go` statement that ended without doing what is waited for."""
         return tuple(name_of_goid(self._recording.lines, goid) for kind in self._kinds_of(wait) for goid in kind.ended)
 
     def _kinds_of(self, wait: Waiting) -> list[Kind]:
-        """The first `go` statement of a function of the waiting one that made some which did what is waited for, and some which ended without."""
+        """The first `go` statement of a function of the waiter's whose goroutines partly did what is waited for, and
+        partly ended without it."""
         what = GIVES.get(wait.objects[0].use, "")
         if len(wait.objects) != 1 or not what:
             return []
@@ -275,13 +276,13 @@ class NeedsOfChannels:
         return kinds_of(self._recording, did)
 
     def left_without(self, wait: Waiting) -> list[str]:
-        """Of a value that nobody ever took from a channel: which goroutine waited for it and went on without."""
+        """Says which goroutine waited for a value that was never taken from a channel, and went on without it."""
         if len(wait.objects) != 1 or not self.is_new(wait):
             return []
         return self._once(("gone", wait.objects), lambda: self._gone(wait))
 
     def _gone(self, wait: Waiting) -> list[str]:
-        """Of a value that nobody ever took: which goroutine waited for it and went on without."""
+        """The goroutine that waited for a value that was never taken, and went on without it."""
         at = wait.objects[0]
         if at.use != FOR_ROOM:
             return []

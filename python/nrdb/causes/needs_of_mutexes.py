@@ -1,5 +1,5 @@
-"""What a goroutine needs that waits for a mutex: the goroutine that perhaps holds it, by stacks, by which had it before, and by the program's
-source if that is here."""
+"""What a goroutine needs that waits for a mutex: the goroutine that perhaps holds it, from stacks, from earlier
+holders, and from the program's source."""
 
 from typing import Callable, Mapping, NamedTuple, Optional
 
@@ -17,11 +17,12 @@ from .waiters import Waiter
 
 
 DO = ("sync.(*Once).Do", "sync.(*Once).doSlow")
-MOST_HOLDERS = 50  # of a mutex that are looked at
+MOST_HOLDERS = 50  # the most mutexes to examine
 
 
 class Holder(NamedTuple):
-    """A goroutine that may hold a mutex, at which line it locked that (0: not known), and how much says so."""
+    """A goroutine that may hold a mutex, the line at which it locked it (0: unknown), and the strength of the
+    evidence."""
 
     name: Name
     file: str
@@ -34,7 +35,7 @@ class Holder(NamedTuple):
 
 
 def of_once(stack: Stack) -> str:
-    """That a goroutine which waits in a sync.Once's Do is in it already; empty if it isn't."""
+    """Says that a goroutine that waits in a sync.Once's Do is already in it; empty if it isn't."""
     lines = [
         outer for inner, outer in zip(stack.calls, stack.calls[1:])
         if inner.function in DO and outer.function not in DO and outer.of == OF_THE_PROGRAM
@@ -46,7 +47,7 @@ def of_once(stack: Stack) -> str:
 
 
 class NeedsOfMutexes:
-    """The needs of those that wait for mutexes. `stacks` are those of all that wait or sleep."""
+    """The needs of the goroutines that wait for mutexes. `stacks` are those of all that wait or sleep."""
 
     def __init__(
         self, recording: Recording, ledger: Ledger, waiters: Mapping[Name, Waiter], stacks: list[tuple[Name, Stack]],
@@ -58,7 +59,7 @@ class NeedsOfMutexes:
         self._locks: dict[tuple[Call, Call, frozenset[Call]], Optional[int]] = {}
 
     def of(self, waiter: Waiter, wait: Waiting) -> Optional[Need]:
-        """The need of a goroutine that waits for a mutex; None if nobody is found who may hold it."""
+        """The need of a goroutine that waits for a mutex; None if no possible holder is found."""
         found = waiter.stack.own()
         if not found or found[0].of != OF_THE_PROGRAM:
             return None
@@ -82,8 +83,8 @@ class NeedsOfMutexes:
         return Need([f"{held} {first.name}, which {self._does(first.name)}."])
 
     def _crossed(self, waiter: Waiter, wait: Waiting) -> Optional[Need]:
-        """Of a goroutine that holds a mutex in a function which locks a second one: another that waits in that function for another mutex than
-        this one, and holds one too. So they are, if two call it with the same mutexes in another order."""
+        """Another goroutine that waits in the same function for a mutex other than the one that a holder has, and holds
+        one too: as two do that call the function with the same mutexes in another order."""
         objects = {at.object for at in wait.objects}
         mine = {call.function for call in waiter.stack.calls if self._held(call)}
         for name, other in self._waiters.items():
@@ -96,12 +97,12 @@ class NeedsOfMutexes:
         return None
 
     def _last(self, wait: Waiting) -> set[Name]:
-        """The goroutines that were the last which are known to have got a mutex."""
+        """The goroutines that are the last known to have got a mutex."""
         numbers = [at.object for at in wait.objects]
         return {holder.name for number in numbers if (holder := self._ledger.last_holder(number))}
 
     def _of_itself(self, waiter: Waiter, lock: Call) -> str:
-        """That a goroutine has perhaps locked the mutex itself, in a call that it is in."""
+        """Says that a goroutine has perhaps locked the mutex itself, in a call that it is in."""
         name = LOCK.search(text_at(self._recording, lock))
         for call in waiter.stack.calls if name else ():
             for held in self._held(call):
@@ -113,14 +114,15 @@ class NeedsOfMutexes:
         return held_at(self._recording, call) if call.of == OF_THE_PROGRAM else []
 
     def _holders(self, waiter: Waiter, wait: Waiting, lock: Call) -> list[Holder]:
-        """The goroutines that may hold it, those first for which most speaks."""
+        """The goroutines that may hold it, those with the strongest evidence first."""
         numbers = frozenset(at.object for at in wait.objects)
         if (lock, numbers) not in self._found:
             self._found[lock, numbers] = self._found_for(lock, numbers, self._last(wait))
         return [holder for holder in self._found[lock, numbers] if holder.name != waiter.name]
 
     def _found_for(self, lock: Call, numbers: frozenset[int], last: set[Name]) -> list[Holder]:
-        """The goroutines that may hold a mutex. One that waits for the same mutex doesn't, but for one that holds it itself."""
+        """The goroutines that may hold a mutex, without those that wait for the same mutex, except a goroutine that
+        holds it itself."""
         locks = {lock}.union(*map(self._ledger.lines_of, numbers))
         had = {name for number in numbers for name in self._ledger.had(number)}
         found = list[Holder]()
@@ -136,18 +138,18 @@ class NeedsOfMutexes:
         return sorted(found, key=lambda holder: -holder.weight)[:MOST_HOLDERS]
 
     def _is_same_field(self, call: Call, name: str, other: Call, other_name: str) -> bool:
-        """Whether two expressions in functions of other types name the same field of a struct."""
+        """Whether two expressions in functions of different types name the same field of a struct."""
         place = place_of_variable(self._recording, call, name)
         return place is not None and place == place_of_variable(self._recording, other, other_name)
 
     def _waits_for(self, name: Name) -> set[int]:
-        """The mutexes for which a goroutine waits."""
+        """The mutexes that a goroutine waits for."""
         waiter = self._waiters.get(name)
         return {at.object for at in waiter.wait.objects} if waiter and waiter.wait else set()
 
     def _lock_of(self, call: Call, lock: Call, locks: set[Call]) -> Optional[int]:
-        """The line at which a goroutine that is in a call locked a mutex that may be the one which another waits for in the call `lock`, and
-        others in `locks`; 0 where the line isn't sure, None if it holds none there."""
+        """The line at which a goroutine in a call locked a mutex that may be the one that another waits for in the call
+        `lock`, and others in `locks`; 0 if the line isn't certain, None if it holds none there."""
         key = call, lock, frozenset(locks)
         if key not in self._locks:
             self._locks[key] = self._look_for_lock(call, lock, locks)

@@ -1,5 +1,5 @@
-"""Channels that a function makes for one request alone: what was done before at the same address was done at an older one, whose memory was used again. By
-the program's source, if that is here."""
+"""Channels that a function makes for one request: what was done earlier at the same address concerned an older channel,
+whose memory was used again. From the program's source."""
 
 import re
 
@@ -13,8 +13,8 @@ from .source_functions import range_of, source_of, text_at
 
 
 def made_since(recording: Recording, wait: Waiting) -> int:
-    """Behind which step the channel was made at which a goroutine waits, if the function where it waits makes it: that of its Write since, if that is in
-    no loop; else 0."""
+    """The step after which the channel was made at which a goroutine waits, if the function that waits makes it: that
+    of its Write since, if that isn't in a loop; else 0."""
     own = wait.stack.own()
     if recording.lines.made or not own or own[0].of != OF_THE_PROGRAM or len(wait.objects) != 1 or wait.name.is_goid:
         return 0  # (if the recorder saw channels being made, an address that is used again is another channel)

@@ -1,5 +1,5 @@
-"""Buffered readers that a function makes anew in each call, by the program's source if that is here: bytes that the one before had read in advance
-are lost with it, and the other end waits for the answers to them."""
+"""Buffered readers that a function makes anew in each call, from the program's source: bytes that the previous reader
+had read ahead are lost with it, and the other end waits for the answers to them."""
 
 import re
 from typing import Optional
@@ -21,8 +21,8 @@ MAKES = re.compile(r"\b(bufio\.NewReader|bufio\.NewReaderSize|bufio\.NewScanner|
 
 
 def thrown_away(index: Index, call: Call, other: int, position: int) -> list[str]:
-    """Of a Read that waits: that its function was left since the last one and makes a new reader, while the other end waits for more than one
-    answer to what it had written."""
+    """Says, for a Read that waits, that its function was left since the last one and makes a new reader, while the
+    other end waits for more than one answer."""
     lines = index.recording.lines
     own = lines.of(call.first).own()
     made = maker_line(index, own[0]) if own else 0
@@ -46,8 +46,8 @@ def thrown_away(index: Index, call: Call, other: int, position: int) -> list[str
 
 
 def left_reader(index: Index, call: Call, other: int, position: int) -> list[str]:
-    """Of a Read that waits: that an earlier one there was of a reader with a buffer which a function made for itself, and which is given up since,
-    while the other end has written nothing more."""
+    """Says, for a Read that waits, that an earlier one was of a buffered reader that a function made for itself and has
+    dropped, while the other end has written nothing more."""
     stacks, calls = index.recording.lines, index.by_socket[call.socket]
     reads = [one for one in calls if one.name == "Read" and one.moved and 0 < one.last < call.first]
     wrote = index.last_use(other, position, ("Write",))
@@ -71,8 +71,8 @@ def left_reader(index: Index, call: Call, other: int, position: int) -> list[str
 
 
 def past_a_reader(index: Index, call: Call, other: int, read: Call, position: int) -> list[str]:
-    """Of a Read without a buffer: that the last one there was of a reader with a buffer, which a function made that the goroutine is in yet, or that
-    started it; and that the other end waits to read."""
+    """Says, for a Read without a buffer, that the last one there was of a buffered reader, made by a function that the
+    goroutine is still in, or that started it; and that the other end waits to read."""
     lines = index.recording.lines
     if is_buffered(lines.of(call.first)) or not is_buffered(lines.of(read.first)):
         return []
@@ -95,13 +95,13 @@ def lines_in(index: Index, call: Call) -> tuple[LineCall, ...]:
 
 
 def since_an_answer(reads: list[Call], calls: list[Call]) -> list[Call]:
-    """The last Read of a socket, and those before it after which nothing was written there, the last one first."""
+    """The last Read of a socket, and the earlier ones after which nothing was written there, the last one first."""
     wrote = max((one.first for one in calls if one.name == "Write" and one.moved), default=0)
     return [one for one in reversed(reads) if one is reads[-1] or one.last > wrote]
 
 
 def lost_with(index: Index, file: str, line: int, read: Call, last: Call, why: str) -> str:
-    """That bytes are perhaps lost with a reader."""
+    """Says that bytes are perhaps lost with a reader."""
     since = "since" if read is last else f"since step {last.last}"
     return (
         f"Perhaps bytes that were read before are lost: {file}:{line} made a reader with a buffer, which got "
@@ -123,17 +123,18 @@ def may_have_more(index: Index, read: Call, other: int) -> bool:
 
 
 def is_of_one_statement(index: Index, frame: LineCall) -> bool:
-    """Whether a reader is made and read from in one statement, so that nothing can read from it after that."""
+    """Whether a reader is made and read from in one statement, so that nothing can read from it later."""
     return AT_ONCE.search(text_at(index.recording, frame)) is not None
 
 
 def is_buffered(stack: Stack) -> bool:
-    """Whether a reader with a buffer reads."""
+    """Whether a buffered reader reads."""
     return any(one.function.startswith(BUFFERED) for one in stack.calls)
 
 
 def own_reader(index: Index, frame: LineCall) -> int:
-    """The line of a function that makes a reader for a variable of its own, which it doesn't hand on; 0 if none does."""
+    """The line of a function that makes a reader for a variable of its own, which it doesn't pass on; 0 if none
+    does."""
     source, made = source_of(index.recording, frame.file), maker_line(index, frame)
     within = range_of(source, frame) if source else None
     if not source or not made or not within:
@@ -144,7 +145,7 @@ def own_reader(index: Index, frame: LineCall) -> int:
 
 
 def maker_line(index: Index, own: LineCall) -> int:
-    """The line of a function, up to the one where it reads, that makes a reader; 0 if none does."""
+    """The line of a function, up to the one that reads, that makes a reader; 0 if none does."""
     source = source_of(index.recording, own.file) if own.of == OF_THE_PROGRAM else None
     within = range_of(source, own) if source else None
     numbers = range(within.start, own.line + 1) if within else range(0)
@@ -156,7 +157,8 @@ def functions_of(index: Index, call: Call) -> set[str]:
 
 
 def waits_on(index: Index, other: int, read: Call, answer: Call, position: int) -> bool:
-    """Whether somebody at the other end got the answer and waits to read more, and has written nothing since what was read."""
+    """Whether a goroutine at the other end got the answer, waits to read more, and has written nothing since what was
+    read."""
     calls = list(back(index.by_socket.get(other, ()), position))
     now: Optional[Call] = next((one for one in calls if one.name == "Read"), None)
     wrote = next((one for one in calls if one.name == "Write" and one.moved), None)

@@ -1,5 +1,5 @@
-"""Goroutines that wait for what they alone would read: each is in the function that reads a connection, as one that serves its requests itself, and
-bytes are unread there."""
+"""Goroutines that wait for what only they would read: each is in the function that reads a connection, as one that
+serves its requests itself, and bytes are unread there."""
 
 from typing import Optional
 
@@ -14,7 +14,8 @@ from .words import place_in, short, told
 
 
 def of_own_reader(index: Index, wait: Waiting, position: int) -> Optional[Need]:
-    """The need of a goroutine that waits in a function which reads a connection; None if others read there too, or nothing is unread."""
+    """The need of a goroutine that waits in a function that reads a connection; None if others read there too, or if
+    nothing is unread."""
     inside = {call.function for call in wait.stack.calls if call.of == OF_THE_PROGRAM}
     if wait.name.is_goid:
         return None

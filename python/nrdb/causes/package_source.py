@@ -20,7 +20,8 @@ MOST_FILES = 40
 
 
 def files_of(recording: Recording, file: str) -> Iterator[tuple[str, Lines]]:
-    """The files of the package that a file is in, as they are named in a recording, this one first; but for its tests if it is none."""
+    """The files of the package of a file, named as in a recording, this one first; without its tests if it isn't
+    one."""
     folder, name = os.path.split(file)
     for path in (file, *others_in(os.path.abspath(folder or "."), name)):
         lines = source(os.path.abspath(os.path.join(folder, os.path.basename(path))), recording.lines.written)
@@ -30,7 +31,7 @@ def files_of(recording: Recording, file: str) -> Iterator[tuple[str, Lines]]:
 
 @lru_cache(maxsize=256)
 def places_with(recording: Recording, file: str, pattern: "re.Pattern[str]") -> tuple[str, ...]:
-    """The lines of the package that a file is in which have a pattern in their code."""
+    """The lines of a file's package that have a pattern in their code."""
     return tuple(
         f"{path}:{number}"
         for path, lines in files_of(recording, file)
@@ -79,7 +80,7 @@ def fields_in(lines: Lines) -> dict[str, dict[str, str]]:
 
 
 def variables_of(recording: Recording, lines: Lines, call: Call) -> dict[str, str]:
-    """The types of the receiver, the parameters, and plain variables of the function that a call is in."""
+    """The types of the receiver, the parameters, and simple variables of the function of a call."""
     begin = next((number for number in range(min(call.line, len(lines)), 0, -1) if HEAD.match(lines[number - 1])), 0)
     head = HEAD.match(lines[begin - 1]) if begin else None
     if head is None:
@@ -95,7 +96,7 @@ def variables_of(recording: Recording, lines: Lines, call: Call) -> dict[str, st
 
 
 def type_of(recording: Recording, file: str, variables: dict[str, str], path: list[str]) -> Optional[str]:
-    """The type of a variable's field, by the types of the variables."""
+    """The type of a variable's field, from the types of the variables."""
     first, *fields = path
     kind = variables.get(first)
     for field in fields:
@@ -104,7 +105,8 @@ def type_of(recording: Recording, file: str, variables: dict[str, str], path: li
 
 
 def place_of_variable(recording: Recording, call: Call, expression: str) -> Optional[str]:
-    """Which field of which struct an expression names in the function that a call is in: `Node.mu` for `s.node.mu`; None if that isn't known."""
+    """The field and struct that an expression names in the function of a call: `Node.mu` for `s.node.mu`; None if
+    unknown."""
     lines = source(os.path.abspath(call.file), recording.lines.written)
     *path, field = expression.split(".")
     if not lines or not path:

@@ -1,5 +1,5 @@
-"""Reads whose count is perhaps not looked at, by the program's source if that is here: of a goroutine that waits to read, the lines of its function that read
-once into a slice of just the length that is wanted. A Read returns what is there."""
+"""Reads whose count is perhaps ignored, from the program's source: a goroutine waits to read, and lines of its function
+read once into a slice of exactly the wanted length, although a Read returns what is there."""
 
 import re
 from typing import Optional
@@ -22,7 +22,7 @@ MOST = 2
 
 
 def partial_reads(index: Index, call: Call) -> list[str]:
-    """What is said of a Read that waits: of the lines of the functions that it is in, which have read there before, or name the length."""
+    """Sentences about a Read that waits: the lines of its functions that have read there before, or name the length."""
     passed = {
         (one.function, one.line)
         for read in index.by_socket[call.socket]
@@ -46,8 +46,8 @@ def partial_reads(index: Index, call: Call) -> list[str]:
 
 
 def part_taken(index: Index, call: Call) -> list[str]:
-    """Of a Read that waits: the last Read before it at that socket by a line that reads once what a length says, if that got fewer bytes than it asked
-    for."""
+    """The last Read before one that waits at a socket, by a line that reads a length once, if it got fewer bytes than
+    it asked for."""
     for read in reversed(
         [one for one in index.by_socket[call.socket] if one.name == "Read" and one.first < call.first]
     ):
@@ -63,7 +63,8 @@ def part_taken(index: Index, call: Call) -> list[str]:
 
 
 def is_of_a_length(lines: Optional[Lines], within: Optional[range], number: int) -> bool:
-    """Whether a line reads into a slice of a length that the line itself names, or that was computed as the slice was made."""
+    """Whether a line reads into a slice of a length that the line itself names, or that was computed when the slice was
+    made."""
     text = lines[number - 1].partition("//")[0] if lines else ""
     read = READ.search(text)
     made = re.compile(rf"\b{re.escape(read[1])} :?= make\(\[\]byte, [\w.]*\(") if read else None

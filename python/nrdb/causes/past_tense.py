@@ -1,4 +1,4 @@
-"""Sentences of what is, as those of what was at a step."""
+"""Sentences in the present turned into the past, for what was so at a step."""
 
 import re
 
@@ -10,7 +10,7 @@ PAST = {
 
 
 def in_the_past(words: str) -> str:
-    """A sentence of what is, as one of what was."""
+    """A sentence in the past."""
     for now, then in PAST.items():
         words = re.sub(rf"\b{now}\b", then, words)
     return words

@@ -1,4 +1,5 @@
-"""Calls that fail again and again in a loop, and by the program's source, if that is here, the `break` that leaves a select or a switch instead of the loop."""
+"""Calls that fail repeatedly in a loop, and, from the program's source, the `break` that leaves a select or a switch
+instead of the loop."""
 
 from ..one_call import Call
 from ..recording import Recording
@@ -10,7 +11,7 @@ FEWEST = 3  # failed calls
 
 
 def repeated_says(recording: Recording, calls: list[Call]) -> list[str]:
-    """What is said of failed calls that are alike; nothing if they are few, or of several goroutines."""
+    """Sentences about failed calls that are alike; none if there are few, or if several goroutines made them."""
     own = recording.lines.of(calls[0].first).own()
     if len(calls) < FEWEST or len({call.goroutine for call in calls}) > 1 or not own or own[0].of != OF_THE_PROGRAM:
         return []

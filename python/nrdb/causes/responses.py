@@ -1,4 +1,4 @@
-"""The goroutine that serves a request of net/http for whose response another waits, where both are in the recording."""
+"""The goroutine that serves a net/http request for whose response another waits, if both are in the recording."""
 
 from typing import Optional
 
@@ -12,8 +12,8 @@ WRITE_LOOP, SERVE = "net/http.(*persistConn).writeLoop", "net/http.(*conn).serve
 
 
 def socket_of(index: Index, wait: Waiting, position: int) -> Optional[int]:
-    """The socket on which the request was written: that of the connection to whose goroutine the one that waits gave
-    a request last. Another may have given that goroutine one since."""
+    """The socket on which the request was written: that of the connection to whose goroutine the waiter last gave a
+    request. Another goroutine may have given it one since."""
     lines = index.recording.lines
     goid = wait.name.number if wait.name.is_goid else lines.goid_of(wait.name.number)
     put = [
@@ -24,16 +24,15 @@ def socket_of(index: Index, wait: Waiting, position: int) -> Optional[int]:
         for use in lines.uses[number] if use.what == TOOK and has(lines.stacks[use.stack], WRITE_LOOP)
     )  # fmt: skip
     last = next(taken, None)
-    known = lines.goroutines.get(last.goid) if last else None
-    if known is None or known.number < 0:
+    if last is None:
         return None
-    wrote = (call for call in back(index.by_goroutine[known.number], position) if call.name == "Write")
+    wrote = (call for call in back(index.by_goid(last.goid), position) if call.name == "Write")
     call = next(wrote, None)
     return call.socket if call else None
 
 
 def server_of(index: Index, socket: int, position: int) -> Optional[Name]:
-    """The goroutine that serves the other end of a socket: which read a request there last."""
+    """The goroutine that serves the other end of a socket: the last that read a request there."""
     other = index.other_end(socket)
     used = back(index.by_socket.get(other, ()), position) if other is not None else iter(())
     fits = (call for call in used if call.name in MOVING and is_by_server(index, call))

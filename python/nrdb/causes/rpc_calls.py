@@ -1,4 +1,5 @@
-"""Calls of net/rpc that are done and were dropped: its client puts a call into the channel that Go was given only if there is room."""
+"""Calls of net/rpc that are done and were dropped: its client puts a call into the channel that Go was given only if
+there is room."""
 
 import re
 
@@ -17,7 +18,7 @@ DONE = "net/rpc.(*Call).done"
 
 
 def dropped_by_rpc(recording: Recording, wait: Waiting) -> list[str]:
-    """Of a goroutine that waits for a call of net/rpc at a channel which was full perhaps: that."""
+    """Says, for a goroutine that waits for a call of net/rpc, that its channel was perhaps full."""
     if len(wait.objects) != 1 or wait.objects[0].use != FOR_VALUE:
         return []
     at, lines, own = wait.objects[0], recording.lines, wait.stack.own()

@@ -1,5 +1,5 @@
-"""Who may give later what a goroutine waits for at a channel, by the program's source if that is here: a goroutine that is in a function before a
-line which puts a value there, or takes one."""
+"""Goroutines that may later do at a channel what a goroutine waits for, from the program's source: each is in a
+function before a line that puts or takes a value there."""
 
 import re
 from typing import Iterable, NamedTuple, Optional
@@ -18,14 +18,15 @@ WORDS = {FOR_VALUE: ("puts a value there", "puts a value into"), FOR_ROOM: ("tak
 
 
 class Giving(NamedTuple):
-    """A line that does at a channel what is waited for, and the lines of the function that it is in."""
+    """A line that does at a channel what is waited for, and the lines of its function."""
 
     number: int
     within: range
 
 
 def later_giver(recording: Recording, wait: Waiting, stacks: Iterable[tuple[Name, Stack]]) -> Optional[Need]:
-    """The goroutine that may do later what is waited for; else, if nothing in the file does, that. None where the source isn't here."""
+    """The goroutine that may later do what is waited for; else, if no line of the file does it, that fact. None if the
+    source isn't available."""
     own = wait.stack.own()
     if not own or own[0].of != OF_THE_PROGRAM or len(wait.objects) != 1 or wait.objects[0].use not in WORDS:
         return None
@@ -52,13 +53,13 @@ def later_giver(recording: Recording, wait: Waiting, stacks: Iterable[tuple[Name
 
 
 def is_deferred_in(lines: Lines, call: Call, number: int) -> bool:
-    """Whether a line is of a function literal that the function of a call has deferred before."""
+    """Whether a line is in a function literal that the function of a call has deferred."""
     within = range_of(lines, call)
     return within is not None and number in within and number < call.line and is_deferred(lines, number)
 
 
 def is_deferred(lines: Lines, number: int) -> bool:
-    """Whether a line runs as its function ends."""
+    """Whether a line runs when its function ends."""
     begin = begin_of_literal(lines, number)
     return any(lines[at - 1].lstrip().startswith("defer ") for at in (number, begin) if at)
 
@@ -73,7 +74,7 @@ def givings_at(recording: Recording, wait: Waiting) -> list[Giving]:
 
 
 def givings_of(source: Lines, call: Call, name: str, pattern: "re.Pattern[str]") -> list[Giving]:
-    """The lines that do something at a channel which may be the one of this name."""
+    """The lines that do something at a channel that may be the one of this name."""
     found = []
     for number, text in enumerate(source, 1):
         gives = pattern.search(text.partition("//")[0])

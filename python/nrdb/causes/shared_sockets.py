@@ -1,4 +1,4 @@
-"""Sockets for datagrams at which several goroutines read: each gets whatever comes next, also what was meant for another."""
+"""Datagram sockets at which several goroutines read: each gets whatever comes next, also what was meant for another."""
 
 from ..one_call import Call
 from ..waits import Name, of_names
@@ -9,7 +9,8 @@ MOST = 6
 
 
 def shared_says(index: Index, call: Call) -> list[str]:
-    """What is said of a Read at such a socket, if each of those goroutines writes there too, as one that waits for an answer of its own."""
+    """Sentences about a Read at such a socket, if each of those goroutines also writes there, and so waits for an
+    answer of its own."""
     if not is_datagram(index, call.socket):
         return []
     calls = index.by_socket[call.socket]

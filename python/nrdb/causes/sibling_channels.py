@@ -1,4 +1,5 @@
-"""Channels that one line makes anew each time: of a goroutine that waits at one of them, which goroutine gave at those before, as the recorder saw it."""
+"""Channels that one line makes anew each time: for a goroutine that waits at one of them, the goroutine that gave at
+earlier ones, as recorded."""
 
 from typing import Container, Optional
 
@@ -13,7 +14,8 @@ DID = {PUT: "put a value into", TOOK: "took one from", CLOSED: "closed"}
 
 
 def giver_at_siblings(recording: Recording, wait: Waiting, waiters: Container[Name]) -> Optional[Need]:
-    """The need of a goroutine that waits at a channel at which nobody has given yet: another that waits, and gave at one before."""
+    """The need of a goroutine that waits at a channel at which none has given yet: another waiting goroutine that gave
+    at an earlier channel."""
     for use in given_at_siblings(recording, wait):
         name, place = name_of_goid(recording.lines, use.goid), place_in(recording.lines.stacks[use.stack])
         if name != wait.name and name in waiters and place:
@@ -23,8 +25,8 @@ def giver_at_siblings(recording: Recording, wait: Waiting, waiters: Container[Na
 
 
 def given_at_siblings(recording: Recording, wait: Waiting) -> list[Use]:
-    """What goroutines did, at other channels that were made at the same line, which ends such a wait, the last first. None if the channel's line isn't
-    known."""
+    """The uses that end such a wait at other channels made at the same line, the last first. None if the channel's line
+    isn't known."""
     lines = recording.lines
     if len(wait.objects) != 1 or wait.objects[0].object not in lines.made:
         return []

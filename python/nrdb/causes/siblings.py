@@ -1,4 +1,5 @@
-"""Goroutines of the same `go` statement, of which some did what the others didn't: the lines of the program that only one kind passed."""
+"""Goroutines of the same `go` statement, of which only some did something: the lines of the program that only one kind
+passed."""
 
 from collections import Counter, defaultdict
 from functools import cached_property, lru_cache
@@ -14,11 +15,12 @@ from .source_functions import text_at
 from .words import short
 
 MOST_LINES = 2
-DEFERRED = ".deferwrap"  # in the names of functions that run as another ends, whichever way it does
+DEFERRED = ".deferwrap"  # in the names of functions that run when another ends, in any case
 
 
 class Kind(NamedTuple):
-    """The goroutines that one `go` statement made: those that did something, those that ended without it, and those that may yet."""
+    """The goroutines that one `go` statement made: those that did something, those that ended without it, and those
+    that still may."""
 
     made: Call
     did: list[int]
@@ -27,7 +29,7 @@ class Kind(NamedTuple):
 
 
 class Lines:
-    """The lines of the program that each goroutine is known to have passed, but for those that they defer."""
+    """The lines of the program that each goroutine is known to have passed, without deferred ones."""
 
     def __init__(self, recording: Recording) -> None:
         self._recording = recording
@@ -63,7 +65,7 @@ def lines_of(recording: Recording) -> Lines:
 
 
 def kinds_of(recording: Recording, did: Collection[int]) -> list[Kind]:
-    """The `go` statements some of whose goroutines did something, and some didn't; those first of which most did."""
+    """The `go` statements of which only some goroutines did something, those of which most did first."""
     found: dict[Call, Kind] = {}
     for goid, known in recording.lines.goroutines.items():
         if known.made and known.made.of == OF_THE_PROGRAM:
@@ -74,7 +76,7 @@ def kinds_of(recording: Recording, did: Collection[int]) -> list[Kind]:
 
 
 def odd_ones(recording: Recording, goids: list[int]) -> Optional[tuple[list[int], Call]]:
-    """Of goroutines those that didn't pass a line that most of them did, and the line."""
+    """The goroutines that didn't pass a line that most of them passed, and the line."""
     passed = lines_of(recording)
     often = Counter(line for goid in goids for line in passed.of(goid))
     most = {line: count for line, count in often.items() if len(goids) <= 2 * count < 2 * len(goids)}
@@ -87,8 +89,8 @@ def odd_ones(recording: Recording, goids: list[int]) -> Optional[tuple[list[int]
 def lines_words(
     recording: Recording, odd: Iterable[int], others: Iterable[int], known: Collection[Call] = frozenset()
 ) -> str:
-    """Which lines only the odd ones passed, and which only the others, but for those that are `known`: `; only they passed a.go:3 in ask`; empty
-    if there are none."""
+    """The lines that only the odd ones passed, and those that only the others passed, without those in `known`: `; only
+    they passed a.go:3 in ask`; empty if there are none."""
     passed = lines_of(recording)
     its, theirs = ([passed.of(goid) for goid in some] for some in (odd, others))
     if not its or not theirs:
@@ -114,13 +116,13 @@ def is_end(recording: Recording, line: Call) -> bool:
 
 
 def places(lines: set[Call]) -> str:
-    """Lines in words, the first ones."""
+    """The first of some lines, as text."""
     shown = sorted(lines, key=lambda line: (line.file, line.line))[:MOST_LINES]
     return " and ".join(f"{line.place()} in {short(line.function)}" for line in shown)
 
 
 def ended_words(recording: Recording, kind: Kind, did: str) -> str:
-    """That goroutines ended without what the others did: `goroutine 7, started at a.go:44, ended without ..`."""
+    """Says that goroutines ended without what the others did: `goroutine 7, started at a.go:44, ended without ..`."""
     names = of_names(name_of_goid(recording.lines, goid) for goid in kind.ended)
     others = counted(len(kind.did), "other")
     does = "did" if len(kind.did) != 1 else "did so"

@@ -1,4 +1,4 @@
-"""How many bytes calls moved, also where a recording counts them as fewer."""
+"""The number of bytes that calls moved, also if the recording counts fewer."""
 
 from collections import defaultdict
 from functools import lru_cache
@@ -8,7 +8,7 @@ from .index import Index
 
 
 def size_of(index: Index, call: Call) -> int:
-    """How many bytes a call read or wrote."""
+    """The number of bytes that a call read or wrote."""
     return (call.moved or 0) + sizes_of(index).get(call.first, 0)
 
 
@@ -18,14 +18,14 @@ def are_known(index: Index) -> bool:
 
 
 def moved_at(index: Index, socket: int, name: str, until: int) -> int:
-    """How many bytes the calls of a name moved at a socket that ended up to a step."""
+    """The number of bytes that the calls of a name, which ended up to a step, moved at a socket."""
     calls = index.by_socket.get(socket, ())
     return sum(size_of(index, call) for call in calls if call.name == name and 0 < call.last <= until)
 
 
 @lru_cache(maxsize=2)
 def sizes_of(index: Index) -> dict[int, int]:
-    """How many bytes each call moved beside those that count, by its first step."""
+    """The number of bytes that each call moved besides the counted ones, by its first step."""
     found: dict[int, int] = defaultdict(int)
     lines, length = index.recording.lines, index.recording.length
     for step, size in lines.sizes.items():

@@ -1,5 +1,5 @@
-"""Calls of Done that a loop skips: of a WaitGroup whose Done a goroutine calls once for each value that its loop takes from a channel, the rounds
-without it, and by the program's source, if that is here, the ways that skip it."""
+"""Calls of Done that a loop skips: a goroutine calls Done of a WaitGroup once for each value that its loop takes from a
+channel; the rounds without it, and, from the program's source, the paths that skip it."""
 
 import re
 from collections import defaultdict
@@ -19,11 +19,12 @@ from .source_functions import Lines, range_of, source_of, text_at
 OVER = re.compile(r"for \w+ :?= range [\w.]+ \{$")
 TAKES = re.compile(r"(?:case )?\w+(?:, \w+)? :?= <-[\w.]+:?$")
 DONE_OF = re.compile(r"^([\w.\[\]]+)\.Done\(\)$")
-MOST_CALLS = 3  # between a loop and Done
+MOST_CALLS = 3  # lines between a loop and Done
 
 
 class Rounds(NamedTuple):
-    """A loop that takes values from a channel at a line, and calls Done at another, or a function that does (0: none)."""
+    """A loop that takes values from a channel at a line, and calls Done at another, or a function that does so (0:
+    none)."""
 
     line: Call
     head: int
@@ -32,7 +33,7 @@ class Rounds(NamedTuple):
 
 
 def skipped_done(recording: Recording, waits: Waits, count: Count, position: int) -> list[str]:
-    """How many rounds of a loop were over without Done, if that is what is missing; nothing if that isn't known."""
+    """Says how many rounds of a loop ended without Done, if that is the missing number; empty if unknown."""
     lines = recording.lines
     loops: dict[tuple[str, int], set[Rounds]] = defaultdict(set)
     for use in count.done:
@@ -55,7 +56,7 @@ def skipped_done(recording: Recording, waits: Waits, count: Count, position: int
 
 
 def perhaps_skipped(recording: Recording, count: Count, loops: dict[tuple[str, int], set[Rounds]]) -> list[str]:
-    """Of a loop that takes values for several WaitGroups: the ways that skip Done."""
+    """Says, for a loop that takes values for several WaitGroups, which paths skip Done."""
     for of_loop in loops.values():
         every = sorted(of_loop, key=lambda rounds: rounds.line.line)
         if ways := words_of_ways(recording, every, False):
@@ -65,7 +66,8 @@ def perhaps_skipped(recording: Recording, count: Count, loops: dict[tuple[str, i
 
 
 def unput_says(recording: Recording, count: Count, puts: list[Use]) -> list[str]:
-    """Of values each of which had its Done: that fewer were put into their channel than were added, and the ways on which none is put."""
+    """Says, if each value had its Done, that fewer values were put into the channel than were added, and the paths on
+    which none is put."""
     owns = [own[0] for use in puts if (own := recording.lines.stacks[use.stack].own())]
     adders = {own[0].function for use in count.added if (own := recording.lines.stacks[use.stack].own())}
     line = next((own for own in owns if own.function in adders and own.of == OF_THE_PROGRAM), None)
@@ -81,7 +83,8 @@ def unput_says(recording: Recording, count: Count, puts: list[Use]) -> list[str]
 
 
 def rounds_of(recording: Recording, stack: Stack) -> Optional[Rounds]:
-    """The loop round a line that calls Done, or round the call of its function, if it takes its values from a channel."""
+    """The loop around a line that calls Done, or around the call of its function, if it takes its values from a
+    channel."""
     calls = [call for call in stack.calls if call.of == OF_THE_PROGRAM]
     if not calls or not DONE_OF.match(text_at(recording, calls[0]).strip()):
         return None
@@ -96,7 +99,7 @@ def rounds_of(recording: Recording, stack: Stack) -> Optional[Rounds]:
 
 
 def takes_at(lines: Lines, head: int, line: int) -> int:
-    """The line of a loop, up to one of its lines, that takes a value from a channel; 0 if there isn't one alone."""
+    """The line of a loop, up to a line of it, that takes a value from a channel; 0 unless there is exactly one."""
     if OVER.match(code(lines, head)):
         return head
     found = [number for number in body_of(lines, head) if number < line and TAKES.match(code(lines, number))]
@@ -108,13 +111,13 @@ def code(lines: Lines, number: int) -> str:
 
 
 def is_at(recording: Recording, use: Use, rounds: Rounds) -> bool:
-    """Whether a value was taken by a loop: at its line that does, or in the `select` that this is a case of."""
+    """Whether a loop took a value: at its line for that, or in the `select` of which this is a case."""
     own = recording.lines.stacks[use.stack].own()
     return own is not None and own[0].function == rounds.line.function and rounds.head <= own[0].line <= rounds.takes
 
 
 def is_by(recording: Recording, use: Use, rounds: Rounds) -> bool:
-    """Whether Done was called by a loop."""
+    """Whether a loop called Done."""
     return rounds.line in recording.lines.stacks[use.stack].calls
 
 
@@ -131,7 +134,7 @@ def has_ended(recording: Recording, use: Use) -> bool:
 
 
 def rounds_say(recording: Recording, every: list[Rounds], took: list[Use], done: list[Use]) -> list[str]:
-    """How often a loop took a value and called Done, at one line or several, and the ways that skip it."""
+    """Says how often a loop took a value and called Done, at one line or several, and the paths that skip it."""
     rounds = every[-1]
     file, place = rounds.line.file, " and ".join(dict.fromkeys(one.done.place() for one in every))
     many = f"{counted(total(took), 'value')} from a channel and called Done at {place} {counted(total(done), 'time')}"
@@ -141,7 +144,7 @@ def rounds_say(recording: Recording, every: list[Rounds], took: list[Use], done:
 
 
 def words_of_ways(recording: Recording, every: list[Rounds], has_left: bool) -> str:
-    """The ways of a loop, and of the function that it calls, by which Done is skipped, in words; empty if none is found."""
+    """The paths of a loop, and of the function that it calls, that skip Done, as text; empty if there are none."""
     rounds = every[-1]
     lines, inner = source_of(recording, rounds.line.file), source_of(recording, rounds.done.file)
     within = range_of(lines, rounds.line) if lines else None

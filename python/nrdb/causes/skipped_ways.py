@@ -1,5 +1,5 @@
-"""Ways of a function that skip what should be done: from a line where something is taken, or begun, by a `return`, a `continue`, a `break` or the
-condition of a block round the line where it is given back, or finished."""
+"""Paths of a function that skip what should be done: from a line that takes or begins something, by a `return`, a
+`continue`, a `break` or the condition of a block around the line that gives it back or finishes it."""
 
 import re
 from typing import Callable, NamedTuple, Optional
@@ -24,26 +24,26 @@ def nothing(_: str) -> bool:
 
 
 def is_text(text: str) -> Test:
-    """Whether a statement is this one."""
+    """Whether a statement equals this one."""
     return lambda other: other == text
 
 
 def has(pattern: str) -> Test:
-    """Whether a statement has what fits a pattern."""
+    """Whether a statement matches a pattern."""
     found = re.compile(pattern)
     return lambda text: found.search(text) is not None
 
 
 class Way(NamedTuple):
-    """A way that leaves without what should be done: its line, and what it does there; `passes by` for a condition."""
+    """A path that leaves without what should be done: its line, and what it does there; `passes by` for a condition."""
 
     number: int
     does: str
 
 
 class State(NamedTuple):
-    """What may be at a place: something is taken and not yet given back, or it is given back; the block by whose condition it is the one or the
-    other, 0 for none; and whether it is given back as the function ends, whatever comes before that."""
+    """The possible states at a place: something is taken and not yet given back, or it is given back; the block whose
+    condition decides, 0 for none; and whether it is given back when the function ends, whatever comes before."""
 
     is_open: bool = False
     is_done: bool = False
@@ -64,9 +64,9 @@ BEFORE, OPEN, DONE = State(), State(is_open=True), State(is_done=True)
 
 
 class Walk(NamedTuple):
-    """A walk through a function: from statements that take something to those that give it back. `keeps` tells of those by which it is handed
-    on, for which others are answerable. `ways` is filled, and `given` with the statements that a way from the first to the second passes.
-    """
+    """A walk through a function: from statements that take something to those that give it back. `keeps` finds those
+    that pass it on, for which others are responsible. `ways` is filled, and `given` with the statements that a path
+    from the first to the second passes."""
 
     begins: Test
     ends: Test
@@ -75,8 +75,8 @@ class Walk(NamedTuple):
     given: list[str]
 
     def body(self, statements: list[Statement], state: State, got: str) -> Result:
-        """The state after some statements, None if nothing passes all of them; and the exits. `got` is a variable that says whether something was
-        taken, empty if there is none."""
+        """The state after some statements, None if no path passes all of them; and the exits. `got` is a variable that
+        says whether something was taken, empty if there is none."""
         exits, now = list[Exit](), state
         for one in statements:
             after, left = self.block(one, now, got) if one.kind else self.simple(one, now)
@@ -87,7 +87,7 @@ class Walk(NamedTuple):
         return now, exits
 
     def got_by(self, one: Statement, got: str) -> str:
-        """The variable that says after a statement whether something was taken."""
+        """The variable that says, after a statement, whether something was taken."""
         if one.kind:
             return got
         name = name_of(one.text)
@@ -97,7 +97,7 @@ class Walk(NamedTuple):
         return "func(" not in text and self.begins(text)
 
     def of_text(self, text: str, now: State) -> State:
-        """The state after a statement of one line, or the head of a block."""
+        """The state after a statement of one line, or after the head of a block."""
         if now.is_deferred:
             return now
         if self.ends(text):
@@ -108,7 +108,7 @@ class Walk(NamedTuple):
         return DONE if now.is_open and self.keeps(text) else now
 
     def simple(self, one: Statement, now: State) -> Result:
-        """As `body`, of a statement that is no block."""
+        """The same as `body`, for a statement that isn't a block."""
         now = self.of_text(one.text, now)
         if DIES.match(one.text):
             return None, []
@@ -118,7 +118,7 @@ class Walk(NamedTuple):
         return now, []
 
     def block(self, one: Statement, now: State, got: str) -> Result:
-        """As `body`, of a block."""
+        """The same as `body`, for a block."""
         if one.kind == "for":
             return self.loop(one, now, got)
         now, exits = self.of_text(one.text, now), list[Exit]()
@@ -137,7 +137,7 @@ class Walk(NamedTuple):
         return joined(afters, one.number), exits
 
     def is_taken(self, one: Statement, got: str) -> Optional[bool]:
-        """Whether the first branch of a block is run just if something was taken (False: just if not); None if neither."""
+        """Whether the first branch of a block runs exactly if something was taken (False: if not); None if neither."""
         head, _, condition = one.text.removesuffix(" {").removeprefix("if ").rpartition("; ")
         begins = self.does_begin(one.text)
         if one.kind != "if" or (head and not begins and name_of(head) == got):
@@ -151,7 +151,7 @@ class Walk(NamedTuple):
         return (condition in (name, f"{name} != nil")) is not is_error
 
     def loop(self, one: Statement, now: State, got: str) -> Result:
-        """As `body`, of a loop. What each round takes it gives back."""
+        """The same as `body`, for a loop, which in each round gives back what it takes."""
         begins = self.does_begin(one.text) and not now.is_deferred
         after, left = self.body(one.branches[-1].body, OPEN if begins else now, got)
         left += [Exit("end", one.number, after)] if after is not None else []
@@ -165,7 +165,7 @@ class Walk(NamedTuple):
         return joined(behind, one.number), exits
 
     def leave(self, exit: Exit) -> None:
-        """Notes a way, if something is taken there and not given back."""
+        """Notes a path, if something is taken there and not given back."""
         if exit.state.is_open and exit.state.block:
             self.ways.append(Way(exit.state.block, PASSES))
         elif exit.state.is_open:
@@ -179,12 +179,12 @@ def name_of(text: str) -> str:
 
 
 def is_missing(head: str, now: State) -> bool:
-    """Whether a block is passed by just if something isn't there at all."""
+    """Whether a block is skipped only if something doesn't exist at all."""
     return now.is_open and IS_THERE.match(head) is not None
 
 
 def joined(states: list[State], number: int) -> Optional[State]:
-    """What may be after the branches of a block."""
+    """The possible states after the branches of a block."""
     if not states:
         return None
     is_open, is_done = any(one.is_open for one in states), any(one.is_done for one in states)
@@ -195,8 +195,8 @@ def joined(states: list[State], number: int) -> Optional[State]:
 
 
 def skipped_ways(lines: Lines, within: range, begins: Optional[Test], ends: Test, keeps: Test = nothing) -> list[Way]:
-    """The ways of a function that skip what `ends` does, after what `begins` does (None: as the function begins); none where no way
-    leads from the one to the other."""
+    """The paths of a function that skip what `ends` does, after what `begins` does (None: from the beginning of the
+    function); none if no path leads from one to the other."""
     if any(lines[number - 1].count("`") % 2 for number in within):
         return []
     walk = Walk(begins or nothing, ends, keeps, [], [])
@@ -207,17 +207,17 @@ def skipped_ways(lines: Lines, within: range, begins: Optional[Test], ends: Test
 
 
 def that_stay(ways: list[Way]) -> list[Way]:
-    """The ways by which a goroutine goes on in a function, rather than leaving it."""
+    """The paths by which a goroutine goes on in a function instead of leaving it."""
     return [one for one in ways if one.does not in (DOES["return"], DOES["end"])]
 
 
 def ways_are(ways: list[Way]) -> str:
-    """What ways are introduced by: `on this way`, or `on these ways`."""
+    """The introduction of paths: `on this way`, or `on these ways`."""
     return "on these ways" if len(ways) > 1 else "on this way"
 
 
 def ways_words(file: str, ways: list[Way]) -> str:
-    """Ways in words: `a.go:3 returns`, `a.go:3 and a.go:7 return`, `the way past a.go:3 goes on`."""
+    """Paths as text: `a.go:3 returns`, `a.go:3 and a.go:7 return`, `the way past a.go:3 goes on`."""
     by_kind: dict[str, list[str]] = {}
     for one in ways[:MOST_WAYS]:
         by_kind.setdefault(one.does, []).append(f"{file}:{one.number}")
@@ -225,7 +225,7 @@ def ways_words(file: str, ways: list[Way]) -> str:
 
 
 def kind_words(does: str, places: list[str]) -> str:
-    """Ways of a kind in words."""
+    """The text for paths of a kind."""
     is_past, lines = does == PASSES, " and ".join(places)
     if len(places) == 1:
         return f"the way past {lines} goes on" if is_past else f"{lines} {does}"

@@ -1,5 +1,5 @@
-"""Slots of a channel that is used as a semaphore: of a goroutine that waits for a slot, which goroutine has one in a call that it is still in, and
-gives it back later, by the source."""
+"""Slots of a channel that is used as a semaphore: for a goroutine that waits for a slot, the goroutine that took one in
+a call that it is still in, and that gives it back later, by the source."""
 
 import re
 from typing import Iterable, Iterator, Mapping, NamedTuple, Optional
@@ -19,7 +19,7 @@ ENTERS = {FOR_ROOM: PUT, FOR_VALUE: TOOK}  # how a slot is taken
 
 
 class Slot(NamedTuple):
-    """That a goroutine has a slot: from which line, and at which it gives it back."""
+    """A goroutine has a slot: the line that took it, and the line that gives it back."""
 
     name: Name
     taken: Call
@@ -27,7 +27,7 @@ class Slot(NamedTuple):
 
 
 def slot_holders(recording: Recording, wait: Waiting, stacks: Iterable[tuple[Name, Stack]]) -> list[Slot]:
-    """The goroutines that have a slot for which one waits, those first that came first."""
+    """The goroutines that have a slot for which one waits, in the order in which they took it."""
     at, own = wait.objects[0], wait.stack.own()
     room = recording.lines.objects[at.object].room if at.object in recording.lines.objects else 0
     enters = ENTERS.get(at.use, "")
@@ -54,7 +54,8 @@ def has_more(recording: Recording, at: At, goid: int, enters: str) -> bool:
 
 
 def slots_in(recording: Recording, name: Name, use: Use, stack: Stack, leavings: list[Giving]) -> Iterator[Slot]:
-    """The slot that a goroutine took in a call that it is still in, behind the line of the taking, and that gives it back later."""
+    """The slot that a goroutine took in a call that it is still in, after the line of the taking, and that gives it
+    back later."""
     taken = recording.lines.stacks[use.stack]
     own = taken.own()
     for call in stack.calls:
@@ -66,12 +67,13 @@ def slots_in(recording: Recording, name: Name, use: Use, stack: Stack, leavings:
 
 
 def is_behind(taken: Stack, call: Call) -> bool:
-    """Whether a call is of a function in which a slot was taken, at a line behind that."""
+    """Whether a call is in a function that took a slot, at a line after that."""
     return any(one.function == call.function and one.line < call.line for one in taken.calls)
 
 
 def leaving_line(lines: Lines, call: Call, leavings: list[Giving]) -> int:
-    """The line of a function, behind a call or deferred, that gives a slot back, or calls a function that does; 0 if there is none."""
+    """The line of a function, after a call or deferred, that gives a slot back, or calls a function that does; 0 if
+    there is none."""
     within = range_of(lines, call)
     helpers = {
         named[1]
@@ -91,7 +93,7 @@ def leaving_line(lines: Lines, call: Call, leavings: list[Giving]) -> int:
 def of_slots(
     recording: Recording, wait: Waiting, stacks: Mapping[Name, Stack], waiters: Mapping[Name, object]
 ) -> Optional[Need]:
-    """The need of a goroutine that waits for a slot; None if nobody is known to have one."""
+    """The need of a goroutine that waits for a slot; None if no goroutine is known to have one."""
     slots = [slot for slot in slot_holders(recording, wait, stacks.items()) if slot.name != wait.name]
     slot = next((slot for slot in slots if slot.name in waiters), None)
     if slot is None:

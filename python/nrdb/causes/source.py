@@ -1,5 +1,5 @@
-"""The program's own text behind the line at which somebody stopped using a connection, where the file is there and hasn't changed
-since it was recorded."""
+"""The program's own text after the line at which a goroutine stopped using a connection, if the file is available and
+hasn't changed since it was recorded."""
 
 import os
 from pathlib import Path
@@ -12,7 +12,7 @@ SHOWN = 8
 
 
 def text_after(recording: Recording, step: int) -> list[str]:
-    """The lines from the one at which a goroutine was at a step up to the end of its function; none for step 0."""
+    """The lines from the goroutine's line at a step to the end of its function; none for step 0."""
     if not step:
         return []
     found = recording.lines.of(step).own()
@@ -26,7 +26,7 @@ def text_after(recording: Recording, step: int) -> list[str]:
 
 
 def behind(lines: list[str], line: int) -> list[tuple[int, str]]:
-    """The numbered lines from this one on, to where a function ends."""
+    """The numbered lines from this one on, to the end of the function."""
     shown = []
     for number in range(line, min(line + SHOWN, len(lines) + 1)):
         if lines[number - 1].startswith("}"):

@@ -1,4 +1,5 @@
-"""Functions of the program's source, where that is here and hasn't changed since it was recorded: their lines, and what they call there."""
+"""Functions of the program's source, if it is available and hasn't changed since it was recorded: their lines, and what
+they call."""
 
 import os
 import re
@@ -16,19 +17,19 @@ LITERAL = re.compile(r"\.(?:func|gowrap|deferwrap)\d+")
 
 
 def source_of(recording: Recording, file: str) -> Optional[Lines]:
-    """The lines of a file of the program's source, if it is here and hasn't changed since it was recorded."""
+    """The lines of a file of the program's source, if it is available and hasn't changed since it was recorded."""
     return source(os.path.abspath(file), recording.lines.written)
 
 
 @lru_cache(maxsize=64)
 def source(file: str, written: float) -> Optional[Lines]:
-    """The lines of a file, if it is here and was last changed before that time."""
+    """The lines of a file, if it exists and was last changed before that time."""
     lines = lines_of(Path(file))
     return None if lines is None or os.stat(file).st_mtime > written else tuple(lines)
 
 
 def range_of(lines: Lines, call: Call) -> Optional[range]:
-    """The numbers of the lines of the function that a call is in; of a function literal its own alone."""
+    """The line numbers of the function of a call; for a function literal only its own."""
     if not 0 < call.line <= len(lines):
         return None
     if LITERAL.search(call.function) and is_literal_of_one_line(lines[call.line - 1]):
@@ -46,31 +47,32 @@ def range_of(lines: Lines, call: Call) -> Optional[range]:
 
 
 def is_inside(lines: Lines, call: Call, within: range) -> bool:
-    """Whether a call is in a function of these lines itself, not in a literal of that, or in what only starts another."""
+    """Whether a call is in a function of these lines itself, not in a literal of it, or in a function that only starts
+    another."""
     return WRAPPED not in call.function and range_of(lines, call) == within
 
 
 def is_last_line(recording: Recording, call: Call, number: int) -> bool:
-    """Whether a line is the last one of the function that a call is in, or of its only line."""
+    """Whether a line is the last of the function of a call, or its only line."""
     lines = source_of(recording, call.file)
     within = range_of(lines, call) if lines else None
     return within is not None and (number == within[-1] - 1 or len(within) == 1)
 
 
 def is_of_one_line(text: str) -> bool:
-    """Whether a function begins and ends in a line."""
+    """Whether a function begins and ends in one line."""
     code = text.partition("//")[0].rstrip()
     return code.startswith("func ") and code.endswith("}") and code.count("{") == code.count("}")
 
 
 def is_literal_of_one_line(text: str) -> bool:
-    """Whether a function literal begins and ends in a line."""
+    """Whether a function literal begins and ends in one line."""
     code = text.partition("//")[0]
     return "func(" in code and code.count("{") == code.count("}") > 0
 
 
 def begin_of_literal(lines: Lines, line: int) -> int:
-    """The line at which the function literal begins that a line is in; 0 if none is found."""
+    """The line at which the function literal around a line begins; 0 if there is none."""
     margin = indent_of(lines[line - 1])
     for number in range(line, 0, -1):
         text = lines[number - 1]
@@ -90,7 +92,7 @@ def indent_of(text: str) -> int:
 
 
 def found_in(recording: Recording, call: Call, pattern: "re.Pattern[str]") -> list[tuple[int, "re.Match[str]"]]:
-    """Where a pattern fits in the function that a call is in."""
+    """The lines of a call's function that match a pattern."""
     return _found_in(os.path.abspath(call.file), recording.lines.written, call, pattern)
 
 
@@ -103,13 +105,13 @@ def _found_in(file: str, written: float, call: Call, pattern: "re.Pattern[str]")
 
 
 def text_at(recording: Recording, call: Call) -> str:
-    """The text of a call's line, without its comment; empty where the source isn't here."""
+    """The text of a call's line, without its comment; empty if the source isn't available."""
     lines = source_of(recording, call.file)
     return lines[call.line - 1].partition("//")[0] if lines and 0 < call.line <= len(lines) else ""
 
 
 def is_same_variable(one: str, other: str, is_near: bool) -> bool:
-    """Whether two expressions may name the same variable: `r.sessions` and `s.sessions` do, and those that are equal if both are in one
-    function and its literals."""
+    """Whether two expressions may name the same variable: `r.sessions` and `s.sessions` may, and equal expressions in
+    one function and its literals."""
     dot, other_dot = one.partition(".")[1:], other.partition(".")[1:]
     return bool(dot[1]) and dot == other_dot or (is_near and one == other)

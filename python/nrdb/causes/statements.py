@@ -1,4 +1,4 @@
-"""A function of gofmt's form as a tree of statements: which of them are blocks, and where each block ends."""
+"""A function in gofmt's form as a tree of statements: which of them are blocks, and the end of each block."""
 
 import re
 from typing import Iterator, NamedTuple
@@ -11,8 +11,8 @@ LABEL = re.compile(r"\w+:$")
 
 
 class Statement(NamedTuple):
-    """A statement: the line at which it begins, its text (with all its lines, if it is no block), its kind (`if`, `for`, `switch`, `select`, or
-    empty), its branches, and whether one of these is always run."""
+    """A statement: its first line, its text (all its lines, if it isn't a block), its kind (`if`, `for`, `switch`,
+    `select`, or empty), its branches, and whether one of these always runs."""
 
     number: int
     text: str
@@ -35,7 +35,7 @@ def code_at(lines: Lines, number: int) -> str:
 
 
 def statements_of(lines: Lines, within: range) -> list[Statement]:
-    """The statements between the first and the last of these lines, which are a block's head and end."""
+    """The statements between the first and the last of these lines, which are the head and the end of a block."""
     return list(read(lines, range(within.start + 1, within.stop - 1)))
 
 
@@ -76,7 +76,7 @@ def end_of(lines: Lines, number: int, stop: int) -> int:
 
 
 def block(lines: Lines, kind: str, within: range) -> Statement:
-    """The block whose head is the first of these lines, and whose end is the last."""
+    """The block that has the first of these lines as its head, and the last as its end."""
     number, margin = within.start, indent_of(lines[within.start - 1])
     heads = [at for at in within[:-1] if indent_of(lines[at - 1]) == margin and code_at(lines, at)]
     if kind in ("switch", "select"):

@@ -1,4 +1,5 @@
-"""Timers and tickers from which nothing comes any more: one that was stopped and not set anew, and a timer whose one value was taken."""
+"""Timers and tickers from which nothing comes any more: one that was stopped and not reset, and a timer whose one value
+was taken."""
 
 import re
 from typing import NamedTuple, Optional
@@ -16,12 +17,12 @@ from .words import place_in
 CASE = re.compile(r"(?:case )?(?:\w+ :?= )?<-([\w.]+)\.C:?$")
 ONCE = ("time.NewTimer", "time.After", "time.(*Timer).Reset")
 
-LATE = 20_000_000  # ns, by which a timer may go off late
+LATE = 20_000_000  # nanoseconds by which a timer may go off late
 
 
 class Silent(NamedTuple):
-    """A timer from which nothing comes any more: what it is, the making, and the stopping; None if it has gone off. `was_due` says whether it
-    was due before the stopping, which stopped nothing then."""
+    """A timer from which nothing comes any more: what it is, its making, and its stop; None if it has gone off.
+    `was_due` says whether it was due before the stop, which then stopped nothing."""
 
     name: str
     made: Timer
@@ -34,8 +35,8 @@ def is_by(stack: Stack, functions: tuple[str, ...]) -> bool:
 
 
 def silent_at(recording: Recording, number: int, begin: int = 0) -> Optional[Silent]:
-    """The timer of a channel, if nothing comes from it any more; None if something may, or that isn't known. Who waits there since `begin`, a time
-    when it had gone off, found nothing in it: so its value had been taken."""
+    """The timer of a channel, if nothing comes from it any more; None if something may, or if unknown. A goroutine that
+    waits there since `begin`, a time when the timer had gone off, found it empty, so its value had been taken."""
     lines = recording.lines
     timers = lines.timers.get(number, [])
     if not timers:
@@ -53,7 +54,7 @@ def silent_at(recording: Recording, number: int, begin: int = 0) -> Optional[Sil
 
 
 def silent_says(recording: Recording, silent: Silent) -> str:
-    """It in a sentence."""
+    """The sentence."""
     lines, name = recording.lines, silent.name
 
     def at(timer: Timer) -> str:
@@ -69,7 +70,7 @@ def silent_says(recording: Recording, silent: Silent) -> str:
 
 
 def of_timers(recording: Recording, wait: Waiting) -> Optional[Need]:
-    """The need of a goroutine that waits for a timer alone from which nothing comes any more."""
+    """The need of a goroutine that waits only for a timer from which nothing comes any more."""
     own = wait.stack.own()
     silent = silent_at(recording, wait.objects[0].object, wait.begin) if len(wait.objects) == 1 else None
     if not silent or not own or own[0].of != OF_THE_PROGRAM:
@@ -78,7 +79,7 @@ def of_timers(recording: Recording, wait: Waiting) -> Optional[Need]:
 
 
 def timers_of_select(recording: Recording, wait: Waiting) -> list[str]:
-    """Of a select the timers among its cases from which nothing comes any more."""
+    """The timers among the cases of a select from which nothing comes any more."""
     some = (silent_at(recording, at.object, wait.begin) for at in wait.objects) if len(wait.objects) > 1 else ()
     silent = next((one for one in some if one), None)
     if silent is None:
@@ -88,8 +89,8 @@ def timers_of_select(recording: Recording, wait: Waiting) -> list[str]:
 
 
 def ways_past_reset(recording: Recording, wait: Waiting) -> str:
-    """Of a timer that has gone off, by the program's source if that is here: ` Perhaps on this way: after main.go:65, main.go:67 goes on without
-    main.go:75, which sets it anew.`; empty if no way is found."""
+    """Says, for a timer that has gone off, from the program's source: ` Perhaps on this way: after main.go:65,
+    main.go:67 goes on without main.go:75, which sets it anew.`; empty if there is no such path."""
     own = wait.stack.own()
     lines = source_of(recording, own[0].file) if own and own[0].of == OF_THE_PROGRAM else None
     within = range_of(lines, own[0]) if lines and own else None

@@ -20,8 +20,9 @@ from .words import is_by_go, place_in
 
 
 def errors_table(recording: Recording, position: int, most: Optional[int]) -> Table:
-    """The calls of the whole recording that ended with a timeout, a close, a broken pipe or an event error; those that end after the position
-    are marked. Of more than `most` the last ones up to the position, and as many of those after it as fit in."""
+    """The calls of the whole recording that ended with a timeout, a close, a broken pipe or an event error; those that
+    end after the position are marked. Of more than `most`, the last ones up to the position, and as many later ones as
+    fit."""
     failed = [call for call in book_of(recording).calls if call.last and call.outcome.is_error]
     found = [call for call in failed if not is_by_go(recording, call)]
     past = [call for call in found if call.last <= position]
@@ -49,15 +50,15 @@ def later_row(recording: Recording, call: Call) -> Row:
 
 
 def error_rows(recording: Recording, call: Call, row: Row) -> list[Row]:
-    """The row of a call that failed, and behind it the sentences that say why."""
+    """The row of a call that failed, followed by the sentences that say why."""
     cause = cause_of(index_of(recording), call)
     values = row.values | {"says": cause.says, "cause": call.cause or None, "looks": cause.looks}
     return [Row(values, row.text), *(Row({}, f"     {says}") for says in cause.says[1:])]
 
 
 def hangs_table(recording: Recording, position: int) -> Table:
-    """The roots of the waits at a position that don't end in the recording, each with why it doesn't, who waits for it, and what to type
-    next. At the start, where a session opens, they are those at the end."""
+    """The roots of the waits at a position that don't end in the recording, each with the reason, the goroutines that
+    wait for it, and the line to type next. At the start, where a session opens, they are those at the end."""
     graph = graph_at(recording, position or recording.length)
     at = f"at position {position}" if position else "at the end"
     rest = [] if graph.shown else [f"no call hangs {at}, but for those that wait for connections"]
@@ -69,7 +70,7 @@ def hangs_table(recording: Recording, position: int) -> Table:
 
 
 def rows_of(graph: WaitGraph, hang: Hang) -> list[Row]:
-    """A hang's rows: its sentences, who waits for it, and what to type next."""
+    """The rows of a hang: its sentences, the goroutines that wait for it, and the line to type next."""
     root, (first, *rest), tree, looks = hang.root, hang_says(graph, hang), tree_lines(graph, hang), hang_looks(hang)
     values = {
         **root.name.values,
@@ -86,8 +87,8 @@ def rows_of(graph: WaitGraph, hang: Hang) -> list[Row]:
 
 
 def requests_table(recording: Recording) -> Table:
-    """The requests of net/http's client whose connection is certain, those of one line, goroutine and connection together; behind them those
-    that ended because their context did."""
+    """The requests of net/http's client whose connection is certain, grouped by line, goroutine and connection;
+    followed by those that ended because their context did."""
     index = index_of(recording)
     alike: dict[tuple[Name, int, str], list[Request]] = defaultdict(list)
     for request in requests_of(index):
@@ -105,7 +106,7 @@ def requests_table(recording: Recording) -> Table:
 
 
 def request_rows(recording: Recording, some: list[Request], ended: list[CancelledRequest]) -> list[Row]:
-    """The row of some requests that are alike, and behind it what ended them."""
+    """The row of requests that are alike, followed by what ended them."""
     last, many = some[-1], sum(request.often for request in some)
     place = place_in(last.stack).strip()
     steps = f"after step {last.last}" if many == 1 else f"the last after step {last.last}"

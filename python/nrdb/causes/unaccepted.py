@@ -1,4 +1,5 @@
-"""A Read or a Write at a connection that nobody has accepted: the goroutine that accepts at the listener is in another call, or has ended."""
+"""A Read or a Write at a connection that wasn't accepted: the goroutine that accepts at the listener is in another
+call, or has ended."""
 
 from typing import Iterator, NamedTuple, Optional
 
@@ -15,7 +16,7 @@ DATAGRAMS = ("dialUDP", "listenUDP", "DialUDP", "ListenUDP")
 
 
 class Listener(NamedTuple):
-    """A listener that is open, the last Accept there, and whether that was sure to be for the connection."""
+    """A listener that is open, the last Accept there, and whether that was certainly for the connection."""
 
     socket: int
     accept: Optional[Call]
@@ -23,8 +24,8 @@ class Listener(NamedTuple):
 
 
 def unaccepted(index: Index, call: Call, position: int) -> Optional[Need]:
-    """The need of a call at a connection whose other end isn't known: what the goroutine does that should accept it. None if it may have been
-    accepted."""
+    """The need of a call at a connection whose other end isn't known: what the goroutine does that should accept it.
+    None if it may have been accepted."""
     if not is_dialed(index, call.socket):
         return None
     listener = listener_of(index, call.socket, position)
@@ -51,7 +52,7 @@ def unaccepted(index: Index, call: Call, position: int) -> Optional[Need]:
 
 
 def is_dialed(index: Index, socket: int) -> bool:
-    """Whether a socket was opened to connect it, as a stream."""
+    """Whether a socket was opened to connect it, for a stream."""
     return has_opened(index, socket, CONNECTS) and not is_datagram(index, socket)
 
 
@@ -60,13 +61,13 @@ def is_datagram(index: Index, socket: int) -> bool:
 
 
 def has_opened(index: Index, socket: int, part: str) -> bool:
-    """Whether a function of that name opened a socket, or one with that part in its name."""
+    """Whether a function of that name, or with that part in its name, opened a socket."""
     opened = next((one for one in index.by_socket.get(socket, ()) if one.name == OPEN), None)
     return opened is not None and any(part in one.function for one in index.recording.lines.of(opened.first).calls)
 
 
 def listener_of(index: Index, socket: int, position: int) -> Optional[Listener]:
-    """The listener that a socket was connected to: the one whose name the other end has, else the only one there is."""
+    """The listener that a socket was connected to: the one with the name of the other end, else the only one."""
     found = {listener: calls for listener in index.by_socket if (calls := accepts_at(index, listener))}
     ends = index.recording.lines.ends
     if socket in ends:
@@ -88,7 +89,7 @@ def accepts_at(index: Index, socket: int) -> list[Call]:
 
 
 def accepted_at(index: Index, accepts: list[Call]) -> Iterator[int]:
-    """The sockets that came of Accepts."""
+    """The sockets that Accepts returned."""
     for accept in accepts:
         opened = (
             one for one in index.by_goroutine[accept.goroutine]

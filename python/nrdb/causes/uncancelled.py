@@ -1,5 +1,5 @@
-"""Contexts that nobody has cancelled: of a goroutine that waits for a context's Done, which goroutine cancels that later, by the program's source if
-that is here."""
+"""Contexts that weren't cancelled: for a goroutine that waits for a context's Done, the goroutine that cancels it
+later, from the program's source."""
 
 import re
 from typing import Iterable, NamedTuple, Optional
@@ -26,7 +26,7 @@ MAKES = re.compile(r"([\w.]+), ([\w.]+) :?= context\.With(?:Cancel|Timeout|Deadl
 
 
 class Cancelling(NamedTuple):
-    """A line that cancels a context, whether it runs as its function ends, and the lines of that."""
+    """A line that cancels a context, whether it runs when its function ends, and the function's lines."""
 
     number: int
     is_deferred: bool
@@ -34,7 +34,8 @@ class Cancelling(NamedTuple):
 
 
 def uncancelled(recording: Recording, wait: Waiting, stacks: Iterable[tuple[Name, Stack]]) -> Optional[Need]:
-    """The need of a goroutine that waits for a context alone; None if it doesn't, or the source has no context of that sort."""
+    """The need of a goroutine that waits only for a context; None if it doesn't, or if the source has no such
+    context."""
     own, lines = wait.stack.own(), recording.lines
     done = DONE.search(text_at(recording, own[0])) if own and own[0].of == OF_THE_PROGRAM else None
     if not own or not done or len(wait.objects) != 1:
@@ -56,7 +57,8 @@ def uncancelled(recording: Recording, wait: Waiting, stacks: Iterable[tuple[Name
 
 
 def cancels_of(source: Lines, call: Call, context: str) -> list[Cancelling]:
-    """The lines that cancel a context which the file makes; of a variable of the function that a call is in those of that function alone."""
+    """The lines that cancel a context that the file makes; for a variable of a call's function, only the lines of that
+    function."""
     whole = range_of(source, call._replace(function=LITERAL.sub("", call.function).partition(".func")[0])) or range(0)
     head = source[whole.start - 1] if whole else ""
     is_local = "." not in context and re.search(rf"\b{re.escape(context)}\b", head) is None
@@ -81,7 +83,7 @@ def cancels_of(source: Lines, call: Call, context: str) -> list[Cancelling]:
 
 
 def cancel_in(source: Lines, stack: Stack, file: str, cancels: list[Cancelling]) -> Optional[Cancelling]:
-    """The line at which a goroutine cancels later: behind one where it is, or as a function ends that it is in."""
+    """The line at which a goroutine cancels later: after its own line, or when a function ends that it is in."""
     for call in stack.calls:
         for cancel in cancels if call.file == file else ():
             is_there = call.line in cancel.within and is_inside(source, call, cancel.within)

@@ -1,4 +1,4 @@
-"""What may have to close a channel, by the program's source if that is here: of a goroutine that waits until a channel is closed."""
+"""What should close a channel, from the program's source, for a goroutine that waits until the channel is closed."""
 
 import re
 from typing import Iterable, NamedTuple, Optional
@@ -12,7 +12,7 @@ from .locks import owner
 from .need import Certainty, Need
 from .skipped_ways import Way, has, skipped_ways, ways_words
 from .source_functions import WRAPPED, Lines, is_inside, is_same_variable, range_of, source_of, text_at
-from .words import short
+from .words import short, since_begin
 
 RANGE = re.compile(r"\brange ([\w.]+) \{")
 RECEIVE = re.compile(r"<-\s*([\w.]+)(?![\w.(])")
@@ -20,7 +20,7 @@ CLOSE = re.compile(r"(defer )?\bclose\(([\w.]+)\)")
 
 
 class Closing(NamedTuple):
-    """A line that closes a channel, and the lines of the function that it is in."""
+    """A line that closes a channel, and the lines of its function."""
 
     number: int
     is_deferred: bool
@@ -28,8 +28,8 @@ class Closing(NamedTuple):
 
 
 def unclosed(recording: Recording, wait: Waiting, stacks: Iterable[tuple[Name, Stack]]) -> Optional[Need]:
-    """Of a goroutine that waits for a value where nobody ever put one, or over all values until there are no more: what should close the
-    channel. None where the source isn't here."""
+    """What should close the channel, for a goroutine that waits for a value at a channel into which none was ever put,
+    or that ranges over all values. None if the source isn't available."""
     own, lines = wait.stack.own(), recording.lines
     if not own or own[0].of != OF_THE_PROGRAM or len(wait.objects) != 1 or wait.objects[0].use != FOR_VALUE:
         return None
@@ -43,7 +43,7 @@ def unclosed(recording: Recording, wait: Waiting, stacks: Iterable[tuple[Name, S
     loop = (
         f"The loop at {own[0].place()} ends when {name[1]} is closed"
         if ranges
-        else f"Nobody has put a value into {name[1]}, or closed it"
+        else f"Nobody has put a value into {name[1]}, or closed it{since_begin(recording)}"
     )
     if not closings:
         return Need([], more=[f"{loop}: no line of {own[0].file} closes one of that name."]) if ranges else None
@@ -66,7 +66,7 @@ def unclosed(recording: Recording, wait: Waiting, stacks: Iterable[tuple[Name, S
 
 
 def ways_without(source: Lines, closing: Closing, name: str) -> list[Way]:
-    """The ways of a function that makes a channel, and closes it at a line, on which it isn't closed."""
+    """The paths of a function that makes a channel, and closes it at a line, on which it isn't closed."""
     field = re.escape(name.rpartition(".")[2])
     makes, closes = rf"\b{field}\b(?::| :?=) *make\(chan\b", rf"\bclose\((?:[\w.]+\.)?{field}\)"
     if not any(re.search(makes, source[number - 1]) for number in closing.within if number < closing.number):
@@ -75,7 +75,7 @@ def ways_without(source: Lines, closing: Closing, name: str) -> list[Way]:
 
 
 def closings_of(source: Lines, call: Call, name: str) -> list[Closing]:
-    """The lines that close a channel which may be the one of this name."""
+    """The lines that close a channel that may be the one of this name."""
     found = []
     for number, text in enumerate(source, 1):
         closes = CLOSE.search(text.partition("//")[0])
@@ -86,7 +86,8 @@ def closings_of(source: Lines, call: Call, name: str) -> list[Closing]:
 
 
 def inside(source: Lines, stack: Stack, file: str, closings: list[Closing]) -> Optional[Closing]:
-    """The line at which a goroutine closes a channel later, if it is in that function before the line, or the closing is deferred."""
+    """The line at which a goroutine closes a channel later, if it is in that function before the line, or if the close
+    is deferred."""
     for call in stack.calls:
         for closing in closings:
             if (
@@ -100,7 +101,8 @@ def inside(source: Lines, stack: Stack, file: str, closings: list[Closing]) -> O
 
 
 def closes_in_its_loop(source: Lines, stack: Stack, file: str, closings: list[Closing]) -> Optional[Closing]:
-    """The line at which a goroutine closes a channel later, if that is in a loop of a function which it is in, after the line."""
+    """The line at which a goroutine closes a channel later, if that line is before the goroutine's own in a loop of a
+    function that it is in."""
     for call in stack.calls:
         for closing in closings:
             if call.file == file and call.line in closing.within and is_inside(source, call, closing.within):
@@ -110,7 +112,7 @@ def closes_in_its_loop(source: Lines, stack: Stack, file: str, closings: list[Cl
 
 
 def ended_in(recording: Recording, file: str, closing: Closing) -> str:
-    """Which goroutine that was started in that function has ended, and where it was last."""
+    """The goroutine that was started in that function and has ended, and its last place."""
     passed = {
         call
         for stack in recording.lines.stacks.values()

@@ -1,5 +1,5 @@
-"""Replies of which perhaps a part is missing: of a Read that got something of an answer and waits for more, while the goroutine that wrote that reads
-on. By the program's source, if that is here: the loop that writes the reply, and the ways of it that write nothing."""
+"""Replies of which perhaps a part is missing: a Read got something of an answer and waits for more, while the goroutine
+that wrote it reads on. From the program's source: the loop that writes the reply, and its paths that write nothing."""
 
 import re
 from typing import Iterator, NamedTuple
@@ -19,7 +19,7 @@ LOOP = re.compile(r"for .*\{$")
 
 
 class Part(NamedTuple):
-    """A loop that writes: its line, the line that does, the ways that don't, and whether a call is inside of it."""
+    """A loop that writes: its line, the line that writes, the paths that don't, and whether a call is inside it."""
 
     file: str
     loop: int
@@ -29,7 +29,7 @@ class Part(NamedTuple):
 
 
 def unfinished_reply(index: Index, call: Call, other: int, position: int) -> list[str]:
-    """What is said of a Read that waits; nothing if that isn't known to be so."""
+    """Sentences about a Read that waits; none if unknown."""
     wrote, asked = (index.last_use(socket, position, ("Write",)) for socket in (other, call.socket))
     if (
         not wrote
@@ -55,7 +55,7 @@ def unfinished_reply(index: Index, call: Call, other: int, position: int) -> lis
 
 
 def has_part(index: Index, call: Call, wrote: Call) -> bool:
-    """Whether a goroutine that waits to read got something of what another wrote last, in the same function."""
+    """Whether a goroutine that waits to read got part of what another wrote last, in the same function."""
     reads = [one for one in index.by_socket[call.socket] if one.name == "Read" and one.moved and one.last]
     last = reads[-1] if reads else None
     if last is None or last.goroutine != call.goroutine or not wrote.first < last.last < call.first:
@@ -64,7 +64,7 @@ def has_part(index: Index, call: Call, wrote: Call) -> bool:
 
 
 def parts_of(index: Index, wrote: Call, now: Call) -> Iterator[Part]:
-    """The loops of the functions in which a Write was made, but for those that are still running."""
+    """The loops of the functions that made a Write, without those that still run."""
     lines = index.recording.lines
     running = {call.function for call in lines.of(now.first).calls}
     for call in lines.of(wrote.first).calls:
@@ -74,7 +74,8 @@ def parts_of(index: Index, wrote: Call, now: Call) -> Iterator[Part]:
 
 
 def loops_of(lines: Lines, call: LineCall) -> Iterator[Part]:
-    """The loops of a function up to a line that write on some of their ways alone, and after which nothing is written: that would end the reply."""
+    """The loops of a function, up to a line, that write only on some of their paths, and after which nothing is
+    written, which would end the reply."""
     within = range_of(lines, call) or range(0)
     for head in (number for number in within if number < call.line and LOOP.match(code(lines, number))):
         body = list(body_of(lines, head))

@@ -1,4 +1,5 @@
-"""Datagrams that a connected socket never gets, since they were sent to it from another address than the one to which it is connected."""
+"""Datagrams that a connected socket never gets, because they came from another address than the one to which it is
+connected."""
 
 from typing import Iterator, NamedTuple, Optional
 
@@ -11,7 +12,7 @@ UNSPECIFIED = ("0.0.0.0:", "[::]:")
 
 
 class Sent(NamedTuple):
-    """A datagram: the Write, from which address it came, and to which one it went."""
+    """A datagram: the Write, and the addresses from which and to which it went."""
 
     wrote: Call
     source: str
@@ -19,7 +20,7 @@ class Sent(NamedTuple):
 
 
 def unheard(index: Index, call: Call, position: int) -> Optional[Need]:
-    """The need of a Read at a connected socket to which something was sent from elsewhere; None if nothing was."""
+    """The need of a Read at a connected socket to which a datagram came from elsewhere; None if none did."""
     own, peer = index.recording.lines.addresses.get(call.socket, ("", ""))
     if not own or not peer:
         return None
@@ -48,21 +49,21 @@ def unheard(index: Index, call: Call, position: int) -> Optional[Need]:
 
 
 def opened_at(index: Index, socket: int) -> str:
-    """Where a socket was opened: `, which was opened at a.go:41 in answer`; empty if that isn't known."""
+    """The line that opened a socket: `, which was opened at a.go:41 in answer`; empty if unknown."""
     opened = next((one for one in index.by_socket.get(socket, ()) if one.name == OPEN), None)
     stack = index.recording.lines.of(opened.first) if opened else None
     return f", which was opened{place_in(stack)}" if stack and stack.own() else ""
 
 
 def is_same(one: str, other: str) -> bool:
-    """Whether two addresses may be the same: of one that isn't specified only the port is known."""
+    """Whether two addresses may be the same: of an unspecified one only the port is known."""
     if one.startswith(UNSPECIFIED) or other.startswith(UNSPECIFIED):
         return one.rpartition(":")[2] == other.rpartition(":")[2]
     return one == other
 
 
 def sent_at(index: Index) -> Iterator[Sent]:
-    """The datagrams that went to a known address from a known one: by sockets that are connected, or by Writes that name it."""
+    """The datagrams that went to a known address from a known one: by connected sockets, or by Writes that name it."""
     lines = index.recording.lines
     for socket, (own, peer) in lines.addresses.items():
         for call in index.by_socket.get(socket, ()) if peer else ():

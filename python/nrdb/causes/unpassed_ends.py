@@ -1,5 +1,6 @@
-"""An end of a stream that a relay didn't pass on: a goroutine that only read at one socket and only wrote to another met the end, had written
-all, and never closed the other one for writing; and the reader at its other end hangs."""
+"""An end of a stream that a relay didn't pass on: a goroutine that only read at one socket and only wrote to another
+met the end, had written everything, and never closed the other one for writing; and the reader at its other end
+hangs."""
 
 from typing import Iterator, NamedTuple, Optional
 
@@ -11,7 +12,7 @@ from .index import MOVING, Index
 from .waiters import is_waiting
 from .words import is_of_go, told
 
-SETTLED = 16  # steps behind the end of the stream, in which a relay would have closed
+SETTLED = 16  # steps after the end of the stream in which a relay would have closed
 
 
 class UnpassedEnd(NamedTuple):
@@ -22,7 +23,7 @@ class UnpassedEnd(NamedTuple):
     waits: Call
 
     def says(self, recording: Recording) -> list[str]:
-        """It in sentences."""
+        """The sentences."""
         socket, reader = self.wrote.socket, told(recording, self.waits)
         ended = " The goroutine has ended." if has_ended(recording, Name(self.met.goroutine)) else ""
         return [
@@ -45,8 +46,8 @@ def unpassed_ends(index: Index) -> Iterator[UnpassedEnd]:
 
 
 def last_write_of_relay(index: Index, met: Call) -> Optional[Call]:
-    """The last Write of a goroutine whose last call is this Read, whose Reads are all at one socket, and whose Writes are all at another,
-    behind the last Read that got something; None if it is no such goroutine."""
+    """The last Write of a goroutine whose last call is this Read, whose Reads are all at one socket and whose Writes
+    are all at another, after the last Read that got something; None if it isn't such a goroutine."""
     calls = [one for one in index.by_goroutine[met.goroutine] if one.name in MOVING]
     reads, writes = ([one for one in calls if one.name == name] for name in MOVING)
     if not writes or calls[-1] is not met or len({one.socket for one in reads}) > 1 or not is_over(index, met):
@@ -58,12 +59,12 @@ def last_write_of_relay(index: Index, met: Call) -> Optional[Call]:
 
 
 def is_over(index: Index, met: Call) -> bool:
-    """Whether a goroutine would have closed the other socket by now: it has ended, or there are enough steps behind."""
+    """Whether a goroutine would have closed the other socket by now: it has ended, or enough steps came since."""
     return index.recording.length - met.last >= SETTLED or has_ended(index.recording, Name(met.goroutine))
 
 
 def reader_of(index: Index, socket: int) -> Optional[Call]:
-    """The Read at a socket's other end that waits in the end."""
+    """The Read at a socket's other end that waits at the end."""
     other = index.other_end(socket)
     calls = () if other is None else index.by_socket.get(other, ())
     return next((one for one in calls if one.name == "Read" and not one.last and is_waiting(index, one)), None)

@@ -1,4 +1,4 @@
-"""Bytes that were written and that nobody reads: those of sockets whose other end is open, with no Read under way there."""
+"""Bytes that were written and that no goroutine reads: at sockets whose other end is open, with no Read in progress."""
 
 from typing import Iterable, Iterator, NamedTuple
 
@@ -13,7 +13,7 @@ from .words import is_of_go, told
 
 
 class Unread(NamedTuple):
-    """The last Write of bytes that nobody reads, how many there are, and the socket where they wait."""
+    """The last Write of bytes that no goroutine reads, their number, and the socket that has them."""
 
     wrote: Call
     bytes: int
@@ -21,7 +21,7 @@ class Unread(NamedTuple):
 
 
 def unread(index: Index, position: int) -> Iterator[Unread]:
-    """The bytes that nobody reads at a position. Where reads or writes count fewer bytes than they moved it isn't known."""
+    """The unread bytes at a position. If reads or writes count fewer bytes than they moved, it isn't known."""
     for socket, other in sorted(index.recording.lines.peers.items()):
         count = moved_at(index, socket, "Write", position) - moved_at(index, other, "Read", position)
         wrote = index.last_use(socket, position, ("Write",))
@@ -39,7 +39,7 @@ def unread(index: Index, position: int) -> Iterator[Unread]:
 
 
 def unread_says(index: Index, names: Iterable[Name], position: int) -> list[str]:
-    """What is said of the first such bytes that one of these goroutines wrote."""
+    """Sentences about the first such bytes that one of these goroutines wrote."""
     every = set(names)
     for found in unread(index, position):
         if Name(found.wrote.goroutine) in every:
@@ -51,7 +51,7 @@ def unread_says(index: Index, names: Iterable[Name], position: int) -> list[str]
 
 
 def unread_answers(index: Index, call: Call, other: int, position: int) -> list[str]:
-    """Of a Write that waits for room: that its own goroutine hasn't read what was written at the other end."""
+    """Says, for a Write that waits for room, that its own goroutine hasn't read what was written at the other end."""
     count = moved_at(index, other, "Write", position) - moved_at(index, call.socket, "Read", position)
     wrote, calls = index.last_use(other, position, ("Write",)), index.by_socket.get(call.socket, ())
     readers = {one.goroutine for one in calls if one.name == "Read"}

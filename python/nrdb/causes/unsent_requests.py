@@ -1,5 +1,5 @@
-"""Requests of net/http's client that were never written: its connection was closed before that by the goroutine which writes, as it does if a body
-gives an error, or ends before its ContentLength. So does one that an earlier request has read."""
+"""Requests of net/http's client that were never written: the goroutine that writes closed its connection first, as it
+does if a body gives an error, ends before its ContentLength, or was read by an earlier request."""
 
 import re
 from typing import Iterator, NamedTuple, Optional
@@ -24,8 +24,8 @@ READS = re.compile(
 
 
 class Unsent(NamedTuple):
-    """A request that wasn't written: by whom, from which stack, and behind which step it was handed over; the Close; and behind which step the
-    same goroutine handed one over from the same line before (0: it didn't)."""
+    """A request that wasn't written: its goroutine, its stack, and the step after which it was handed over; the Close;
+    and the step after which the same goroutine handed one over from the same line before (0: none)."""
 
     use: Use
     name: Name
@@ -33,7 +33,7 @@ class Unsent(NamedTuple):
     before: int
 
     def says(self, recording: Recording) -> list[str]:
-        """It in sentences."""
+        """The sentences."""
         stack = recording.lines.stacks[self.use.stack]
         says = [
             f"The request{place_in(stack)} ({self.name}, step {self.use.last}) was never written: net/http closed its connection, socket "
@@ -71,8 +71,8 @@ def unsent_requests(index: Index) -> Iterator[Unsent]:
 
 
 def request_of(index: Index, closed: Call) -> Optional[Use]:
-    """The request that the goroutine which closed a connection took last: the putting of it."""
-    lines, goid = index.recording.lines, index.recording.lines.goid_of(closed.goroutine)
+    """The last request that the goroutine took that closed a connection."""
+    lines, goid = index.recording.lines, index.recording.lines.goid_of(closed.goroutine, closed.first)
     found = list[Use]()
     for uses in lines.uses.values():
         if any(use.goid == goid and use.what == TOOK and has(lines.stacks[use.stack], WRITE_LOOP) for use in uses):
@@ -92,7 +92,7 @@ def is_of_program(recording: Recording, use: Use) -> bool:
 
 
 def step_before(recording: Recording, last: Use) -> int:
-    """Behind which step the same goroutine handed a request over from the same line before; 0 if it didn't."""
+    """The step after which the same goroutine handed a request over from the same line before; 0 if it didn't."""
     lines, own = recording.lines, recording.lines.stacks[last.stack].own()
     steps = [
         step
@@ -107,7 +107,7 @@ def step_before(recording: Recording, last: Use) -> int:
 
 
 def causes_of_unsent(index: Index) -> list[Cause]:
-    """They as causes."""
+    """The causes."""
     return [
         Cause(
             one.closed,

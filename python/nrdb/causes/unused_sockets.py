@@ -1,5 +1,5 @@
-"""Connections that nobody uses: sockets that were dialed and then neither written to, read nor closed, and those of goroutines whose result nobody took from
-a channel."""
+"""Connections that no goroutine uses: sockets that were dialed and then neither written, read nor closed, and those of
+goroutines whose result was never taken from a channel."""
 
 from collections import defaultdict
 from typing import Iterator
@@ -18,7 +18,8 @@ from .words import place_in, short
 
 
 def unused_since(index: Index, call: Call, step: int) -> list[str]:
-    """Of a call that failed at a connection whose other end was closed: that its goroutine has dialed since, and uses none of those connections."""
+    """Says, for a call that failed at a connection whose other end was closed, that its goroutine has dialed since, and
+    uses none of those connections."""
     opened: dict[str, list[int]] = defaultdict(list)
     for one in index.by_goroutine[call.goroutine]:
         if one.name == OPEN and one.first > step and is_dialed(index, one.socket) and not is_used(index, one.socket):
@@ -31,12 +32,13 @@ def unused_since(index: Index, call: Call, step: int) -> list[str]:
 
 
 def is_used(index: Index, socket: int) -> bool:
-    """Whether somebody has read, written or closed at a socket."""
+    """Whether a goroutine has read, written or closed at a socket."""
     return any(one.name in MOVING or one.name == CLOSE for one in index.by_socket[socket])
 
 
 def untaken_results(index: Index) -> Iterator[Cause]:
-    """Channels in which values are left by goroutines that opened sockets which are open yet, while the function that made the channel has returned."""
+    """Channels with values left by goroutines that opened sockets that are still open, while the function that made the
+    channel has returned."""
     lines, found = index.recording.lines, dict[LineCall, list[Call]]()
     for number, made in lines.made.items():
         own = lines.stacks[made.stack].own()
@@ -60,8 +62,6 @@ def untaken_results(index: Index) -> Iterator[Cause]:
 
 
 def opened_by(index: Index, goid: int) -> list[Call]:
-    """The Opens of a goroutine whose sockets nobody has closed."""
-    known = index.recording.lines.goroutines.get(goid)
-    calls = index.by_goroutine.get(known.number, []) if known and known.number >= 0 else []
-    opened = [one for one in calls if one.name == OPEN and is_dialed(index, one.socket)]
+    """The Opens of a goroutine whose sockets weren't closed."""
+    opened = [one for one in index.by_goid(goid) if one.name == OPEN and is_dialed(index, one.socket)]
     return [one for one in opened if not any(other.name == CLOSE for other in index.by_socket[one.socket])]

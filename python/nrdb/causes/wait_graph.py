@@ -1,5 +1,5 @@
-"""The wait-for graph at a recording's end, and its roots: each goroutine that waits, the one that it waits for, and what all of them wait
-for at last. Of several goroutines that could give what one needs, it has one."""
+"""The wait-for graph at a recording's end, and its roots: each goroutine that waits, the one that it waits for, and
+what all of them finally wait for. If several goroutines could give what one needs, it has one of them."""
 
 from collections import defaultdict
 from functools import lru_cache
@@ -16,7 +16,7 @@ from .needs import Needs
 from .waiters import Waiter, waiters_at
 from .words import name_of, place_in
 
-# What a goroutine waits for that has nothing to do.
+# What a goroutine waits for that may have nothing to do.
 QUIET = ("a select", "a value from a channel", "a condition", "a select without cases")
 
 
@@ -25,7 +25,7 @@ MAIN = 1  # Go's own number of the main goroutine
 
 
 class Edge(NamedTuple):
-    """That a goroutine waits for another."""
+    """A goroutine waits for another."""
 
     waiter: Name
     on: Name
@@ -33,7 +33,8 @@ class Edge(NamedTuple):
 
 
 class Branch(NamedTuple):
-    """Goroutines that wait alike for others: these, what the first one needs, for which ones, and the branches that wait for them."""
+    """Goroutines that wait alike for others: these, the need of the first one, the goroutines that they wait for, and
+    the branches that wait for them."""
 
     waiters: list[Waiter]
     need: Need
@@ -42,11 +43,10 @@ class Branch(NamedTuple):
 
 
 class Hang(NamedTuple):
-    """A root: the goroutine that others wait for, or those that wait for one another; what each of them needs, which branches wait for
-    them, and how many goroutines that is, of which so many only perhaps. `alike` are roots like it, and `beside` others that wait for
-    the same goroutine, which has ended. `is_loose`: it isn't known which of the roots wait for which. `until`: a call of the roots that has a
-    deadline yet, so that they don't wait without end.
-    """
+    """A root: the goroutine that others wait for, or goroutines that wait for one another; what each of them needs, the
+    branches that wait for them, and the number of those goroutines, and how many of these only perhaps. `alike` are
+    similar roots, and `beside` others that wait for the same ended goroutine. `is_loose`: it isn't known which root
+    waits for which. `until`: a call of the roots with a deadline to come, so that they don't wait for ever."""
 
     roots: list[Waiter]
     needs: list[Need]
@@ -66,7 +66,7 @@ class Hang(NamedTuple):
 
     @property
     def every_root(self) -> list[Waiter]:
-        """All roots: these, those that are alike, and those beside."""
+        """All roots: these, the similar ones, and those beside."""
         return [*self.roots, *self.alike, *self.beside]
 
     @property
@@ -81,8 +81,9 @@ class Hang(NamedTuple):
 
     @property
     def has_reason(self) -> bool:
-        """Whether more is said of it than what its roots wait for: that its roots hold mutexes, or why what they wait for doesn't come. That nobody
-        closes a channel is no reason: a goroutine that takes values may have nothing to do."""
+        """Whether it says more than what its roots wait for: that its roots hold mutexes, or why what they wait for
+        doesn't come. A channel that isn't closed isn't a reason, because a goroutine that takes values may have nothing
+        to do."""
         need, wait = self.needs[0], self.root.wait
         if self.is_deadlock:
             return self.is_of_mutexes or any(one.more and not one.is_plain for one in self.needs)
@@ -91,12 +92,12 @@ class Hang(NamedTuple):
 
     @property
     def is_of_go(self) -> bool:
-        """Whether Go's own code waits there alone, as idle connections of net/http do."""
+        """Whether only Go's own code waits there, as in idle connections of net/http."""
         return all(waiter.is_of_go for waiter in waiters_of(self))
 
     @property
     def is_quiet(self) -> bool:
-        """Whether nobody waits for it and it may have nothing to do: a read, a select, a value from a channel."""
+        """Whether no goroutine waits for it and it may have nothing to do: a read, a select, a value from a channel."""
         call, wait = self.root.call, self.root.wait
         reads = call is not None and call.name in READING and not call.is_asking
         idles = wait is not None and wait.kind in QUIET
@@ -105,7 +106,8 @@ class Hang(NamedTuple):
 
 
 class WaitGraph:
-    """The graph at a position: the waiters, their needs, the edges, and the hangs, the one that most wait for first."""
+    """The graph at a position: the waiters, their needs, the edges, and the hangs, the one with the most waiters
+    first."""
 
     def __init__(self, recording: Recording, position: int) -> None:
         index = index_of(recording)
@@ -126,12 +128,12 @@ class WaitGraph:
 
     @property
     def shown(self) -> list[Hang]:
-        """The hangs but for those of Go's own code alone."""
+        """The hangs, without those of Go's own code alone."""
         return [hang for hang in self.hangs if not hang.is_of_go]
 
     @property
     def count(self) -> int:
-        """How many goroutines hang, but for those that may have nothing to do."""
+        """The number of goroutines that hang, without those that may have nothing to do."""
         return sum(len(hang.every_root) + hang.waiting for hang in self.shown if not hang.is_quiet)
 
     @property
@@ -141,14 +143,15 @@ class WaitGraph:
 
     @property
     def has_ended(self) -> bool:
-        """Whether the program ended by itself, as far as that is known: its main goroutine was neither in a call nor in a wait at the end."""
+        """Whether the program ended by itself, as far as known: its main goroutine was neither in a call nor in a wait
+        at the end."""
         if self.main is None or self.position < self.recording.length:
             return False
         return self.main not in self.waiters and waits_of(self.recording).at(self.main, self.position) is None
 
     def _is_idle(self, name: Name, by: Name) -> bool:
-        """Whether a goroutine that has answered the last request reads at a connection whose other end is perhaps nobody's any more: the one that
-        wrote there last waits for one, since calls that are over have kept theirs."""
+        """Whether a goroutine that has answered the last request reads at a connection that the other end perhaps no
+        longer uses: the one that wrote there last waits for a connection, because finished calls have kept theirs."""
         call = self.waiters[name].call
         if call is None or call.name not in READING or not self.needs[by].is_kept:
             return False
@@ -169,14 +172,16 @@ class WaitGraph:
         return sorted(found, key=order)
 
     def _cause_of_root(self, waiter: Waiter) -> Hashable:
-        """Roots that have the same are one hang: the goroutine that has ended for which they wait, else what they wait for and where."""
+        """The key by which roots are one hang: the ended goroutine for which they wait, else what they wait for and the
+        line."""
         need = self.needs[waiter.name]
         if need.gone:
             return need.gone
         return (kind_of(self.recording, waiter), need.how) if waiter.stack.calls else waiter.name
 
     def _ring(self, ring: list[Name]) -> Hang:
-        """Goroutines that wait for one another; with those that may hold one of their mutexes in place of another, and wait for one of them."""
+        """Goroutines that wait for one another, including those that may hold one of their mutexes instead of another,
+        and wait for one of them."""
         every = list(ring) if all(is_at_mutex(self.waiters[name]) for name in ring) else []
         for name in every:
             others = [other for other in self.needs[name].others if other not in every and other in self.edges]
@@ -217,8 +222,8 @@ class WaitGraph:
         return Hang(roots, needs, branches, count, count - sure, certainty, alike, beside)
 
     def _branches(self, names: list[Name], seen: set[Name], depth: int = 0) -> list[Branch]:
-        """The branches that wait for these, those that are alike together, those of which most is known first. Below some depth all that
-        are left are one level."""
+        """The branches that wait for these, equal ones together, those with the most known first. Below some depth all
+        that are left are one level."""
         alike: dict[Hashable, list[Name]] = defaultdict(list)
         upcoming = list(names)
         while upcoming:
@@ -241,7 +246,7 @@ class WaitGraph:
 
 
 def kind_of(recording: Recording, waiter: Waiter) -> tuple[str, str, int]:
-    """Where a waiter waits and what for: those that have the same are alike."""
+    """The line at which a waiter waits, and what for: waiters with the same are alike."""
     what = name_of(recording, waiter.call) if waiter.call else ""
     return place_in(waiter.stack), waiter.wait.kind if waiter.wait else what, mutex_of(waiter)
 
@@ -252,13 +257,13 @@ def is_at_mutex(waiter: Waiter) -> bool:
 
 
 def mutex_of(waiter: Waiter) -> int:
-    """The number of the mutex that a goroutine waits for; 0 where it waits for something else, or it isn't known."""
+    """The number of the mutex that a goroutine waits for; 0 if it waits for something else, or if unknown."""
     wait = waiter.wait
     return wait.objects[0].object if wait and wait.objects and wait.kind in MUTEXES else 0
 
 
 def count_of(branches: Iterable[Branch], is_meant: Callable[[Branch], bool]) -> int:
-    """How many goroutines wait in branches that are meant, down to those that aren't."""
+    """The number of goroutines that wait in certain branches, down to uncertain ones."""
     return sum(len(one.waiters) + count_of(one.branches, is_meant) for one in branches if is_meant(one))
 
 
@@ -273,8 +278,8 @@ def waiters_of(hang: Hang) -> Iterator[Waiter]:
 
 
 def order(hang: Hang) -> tuple[bool, bool, int, int, int]:
-    """Deadlocks that are certain come first, then what others wait for and of which it is known why, then what most wait for; last what may
-    have nothing to do. Reads that wait for one another are a deadlock of which it isn't known why."""
+    """Certain deadlocks come first, then what others wait for with a known reason, then what most wait for; last what
+    may have nothing to do. Reads that wait for one another are a deadlock without a known reason."""
     is_certain = hang.is_deadlock and hang.certainty > Certainty.PERHAPS and not hang.until
     are_reads = all(root.call and root.call.name in READING for root in hang.roots)
     has_reason = hang.has_reason and (hang.is_deadlock or hang.waiting > 0 or hang.needs[0].is_odd)

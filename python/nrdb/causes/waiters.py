@@ -1,4 +1,4 @@
-"""The goroutines that wait at a recording's end and don't go on: each in a call of a socket, or outside of the poller."""
+"""The goroutines that wait at a recording's end and don't go on: each in a call of a socket, or outside the poller."""
 
 from functools import lru_cache
 from typing import NamedTuple, Optional
@@ -14,7 +14,8 @@ TICKERS = ("time.NewTicker", "time.Tick", "time.(*Ticker).Reset")
 
 
 class Waiter(NamedTuple):
-    """A goroutine that waits and doesn't go on: since which step, its stack, and its call of a socket or its wait for something else."""
+    """A goroutine that waits and doesn't go on: the step since which it waits, its stack, and its call of a socket or
+    its other wait."""
 
     name: Name
     since: int
@@ -24,19 +25,19 @@ class Waiter(NamedTuple):
 
     @property
     def is_of_go(self) -> bool:
-        """Whether Go's own code waits there alone, as net/http does between two requests."""
+        """Whether only Go's own code waits there, as net/http does between two requests."""
         return bool(self.stack.calls) and not any(call.of == OF_THE_PROGRAM for call in self.stack.calls)
 
 
 def is_waiting(index: Index, call: Call) -> bool:
-    """Whether a call sleeps at the recording's end, for the other end or for a lock, and is no listener's."""
+    """Whether a call that isn't a listener's sleeps at the recording's end, for the other end or for a lock."""
     is_asleep = call.name in READING + WRITING and index.book.sleeps_at_the_end(call)
     return is_asleep and not index.is_listening(call)
 
 
 def waiters_at(index: Index, position: int) -> dict[Name, Waiter]:
-    """The goroutines that wait at a position and don't go on in the recording. Listeners and sleepers aren't among them, and
-    outside of the poller no goroutine that runs Go's own code alone."""
+    """The goroutines that wait at a position and don't go on in the recording, without listeners, sleepers, and
+    goroutines outside the poller that run only Go's own code."""
     recording, found = index.recording, dict[Name, Waiter]()
     for wait in waits_of(recording).left(position):
         if (
@@ -54,8 +55,8 @@ def waiters_at(index: Index, position: int) -> dict[Name, Waiter]:
 
 
 def waiters_during(index: Index, position: int) -> dict[Name, Waiter]:
-    """The goroutines that wait at a position, whether or not they go on later, but for listeners, sleepers, and those of Go's own code alone outside
-    of the poller."""
+    """The goroutines that wait at a position, whether or not they go on later, without listeners, sleepers, and
+    goroutines outside the poller that run only Go's own code."""
     recording, found = index.recording, dict[Name, Waiter]()
     for wait in waits_of(recording).all_at(position):
         if is_of_the_program(wait.stack) and not is_of_a_lock(wait.stack) and not wait.is_asleep:
@@ -68,9 +69,10 @@ def waiters_during(index: Index, position: int) -> dict[Name, Waiter]:
 
 
 def is_timed(recording: Recording, wait: Waiting) -> bool:
-    """Whether a wait ends by itself: at a ticker's channel, or at a timer's that is to go off after all that the recording has."""
+    """Whether a wait ends by itself: at a ticker's channel, or at that of a timer that goes off after the end of the
+    recording."""
     lines = recording.lines
-    if wait.kind == ALL_REQUESTS:  # (which looks again and again)
+    if wait.kind == ALL_REQUESTS:  # (which tests repeatedly)
         return False
     return any(
         timer.due > last_time_of(recording) or any(call.function in TICKERS for call in lines.stacks[timer.stack].calls)
@@ -81,7 +83,7 @@ def is_timed(recording: Recording, wait: Waiting) -> bool:
 
 @lru_cache(maxsize=2)
 def last_time_of(recording: Recording) -> int:
-    """The last time that the lines of a recording have."""
+    """The last time in the lines of a recording."""
     lines = recording.lines
     of_uses = max((use.end for uses in lines.uses.values() for use in uses), default=0)
     of_parks = max((max(park.begin, park.end) for parks in lines.parks.values() for park in parks), default=0)

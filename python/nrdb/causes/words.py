@@ -1,9 +1,10 @@
-"""Calls and places in words, as they are said in a cause."""
+"""Calls and places as text for a cause."""
 
 from typing import Optional
 
 from netrev_words.plurals import counted
 
+from ..beginnings import begins_at
 from ..one_call import Call, Outcome
 from ..recording import Recording
 from ..where import OF_GO, OF_THE_PROGRAM
@@ -20,7 +21,7 @@ ENDED = {
     Outcome.EOF: "met the end of the stream",
 }
 POLL = "internal/poll.(*FD)."
-# What Go's own functions are called by programs, where it isn't the function of internal/poll.
+# The names by which programs call Go's own functions, if they differ from those of internal/poll.
 NAMES = {
     "Accept": "Accept",
     "ReadFrom": "Read",
@@ -31,16 +32,16 @@ NAMES = {
 }
 OF_TESTS = "_testmain.go"
 OF_A_FINALIZER = ("runtime.call", "runtime.runFinalizers", "runtime.runCleanups")
-BELOW = ("internal/poll.", "net.", "os.", "syscall.", "crypto/tls.", "bufio.", "io.")  # packages that hand a call on
+BELOW = ("internal/poll.", "net.", "os.", "syscall.", "crypto/tls.", "bufio.", "io.")  # packages that pass a call on
 
 
 def capital(words: str) -> str:
-    """Words as the begin of a sentence."""
+    """A text with a capital first letter."""
     return words[0].upper() + words[1:]
 
 
 def name_of(recording: Recording, call: Call) -> str:
-    """A call by the name that the program has for it."""
+    """The program's name for a call."""
     if call.name in ("WaitWrite", "WaitRead"):
         return "a connect" if call.name == "WaitWrite" and is_connecting(recording.lines.of(call.first)) else call.name
     for one in recording.lines.of(call.first).calls:
@@ -59,12 +60,12 @@ def short(function: str) -> str:
 
 
 def place_of(recording: Recording, step: int) -> str:
-    """Where the program stood at a step: ` at pool.go:31 in query`; of Go's own code the function; empty where none is known."""
+    """The program's place at a step: ` at pool.go:31 in query`; in Go's own code the function; empty if unknown."""
     return place_in(recording.lines.of(step))
 
 
 def place_in(stack: Stack) -> str:
-    """Where the program stands in a stack, as `place_of` has it."""
+    """The program's place in a stack, in the form of `place_of`."""
     if found := stack.own():
         return f" at {found[0].place()} in {short(found[0].function)}{caller_of(stack, found[0])}"
     outer = next((call for call in stack.calls if not call.function.startswith(BELOW)), None)
@@ -74,7 +75,8 @@ def place_in(stack: Stack) -> str:
 
 
 def caller_of(stack: Stack, own: LineCall) -> str:
-    """Where the program called the function that it stands in, if that is a function of its own which is called by another."""
+    """The line at which the program called the function that it is in, if that is the program's own function and
+    another calls it."""
     own_calls = [call for call in stack.calls if call.of == OF_THE_PROGRAM and call.file != OF_TESTS]
     behind = own_calls[own_calls.index(own) + 1 :] if own in own_calls else []
     is_main = bool(behind) and behind[0].function == "main.main"
@@ -82,29 +84,30 @@ def caller_of(stack: Stack, own: LineCall) -> str:
 
 
 def is_of_a_lock(stack: Stack) -> bool:
-    """Whether a wait is for the lock of a descriptor, which the recording's steps have."""
+    """Whether a wait is for the lock of a descriptor, which has steps of its own."""
     return any(call.function == "internal/poll.(*fdMutex).rwlock" for call in stack.calls)
 
 
 def waits_words(wait: Waiting) -> str:
-    """What a goroutine does that waits outside of the poller: `waits at main.go:44 in take for a value from a channel`."""
+    """What a goroutine does that waits outside the poller: `waits at main.go:44 in take for a value from a channel`."""
     does, what = wait.does.partition(" for ")[::2]
     return f"{does}{place_in(wait.stack)}" + (f" for {what}" if what else "")
 
 
 def is_of_the_program(stack: Stack) -> bool:
-    """Whether a line of the program is in a stack, but for the main function that Go makes for tests."""
+    """Whether a line of the program is in a stack, without the main function that Go makes for tests."""
     return any(call.of == OF_THE_PROGRAM and call.file != OF_TESTS for call in stack.calls)
 
 
 def is_of_go(recording: Recording, call: Call) -> bool:
-    """Whether a call is known to be of Go's own code alone, as those of net/http between two requests."""
+    """Whether a call is certainly of Go's own code alone, as those of net/http between two requests."""
     stack = recording.lines.of(call.first)
     return bool(stack.calls) and all(one.of == OF_GO for one in stack.calls)
 
 
 def is_by_go(recording: Recording, call: Call) -> bool:
-    """Whether Go's own code ended a wait of its own by a deadline in the past, as net/http ends its read between two requests."""
+    """Whether Go's own code ended its own wait by a deadline in the past, as net/http ends its read between two
+    requests."""
     if call.outcome is not Outcome.TIMED_OUT or not call.cause or not is_of_go(recording, call):
         return False
     return bool(recording.step(call.cause).argument("time") < 0)
@@ -116,13 +119,21 @@ def told(recording: Recording, call: Call) -> str:
 
 
 def place_of_step(recording: Recording, step: int, goroutine: Optional[int] = None) -> str:
-    """The place of a step, its goroutine where one is named, and its number: ` at pool.go:20 in ping (goroutine 0, step 8)`."""
+    """The place of a step, its goroutine if given, and its number: ` at pool.go:20 in ping (goroutine 0, step 8)`. A step
+    that leads to where the recording begins has neither: its number is no goroutine's."""
+    if 0 < step <= begins_at(recording):
+        return " before the recording begins"
     whose = "" if goroutine is None else f"goroutine {goroutine}, "
     return f"{place_of(recording, step)} ({whose}step {step})"
 
 
+def since_begin(recording: Recording, opened: int = 0) -> str:
+    """What is added to words about all that was done to something that was there after a step: ` since the recording begins`, if it was there before."""
+    return " since the recording begins" if opened <= begins_at(recording) > 0 else ""
+
+
 def came_of(recording: Recording, call: Call) -> str:
-    """What came of a call, in words: where reads and writes count at most so many bytes, `put at least 64 bytes`."""
+    """The result of a call; if reads and writes count at most some bytes, `put at least 64 bytes`."""
     most, words = recording.lines.bytes, call.came()
     is_cut = bool(most and call.moved and call.moved >= most)
     return (

@@ -5,6 +5,8 @@ from typing import Callable, NamedTuple, Optional, Sequence
 
 from netrev_words.plain import plain
 
+from ..beginnings import begin_words, begins_at
+from ..messages import editors as texts
 from ..errors import unexpected
 from ..interrupts import GivenUp, Interrupted, Interrupts
 from ..line_hints import hint
@@ -33,7 +35,8 @@ def shown(text: str) -> str:
 
 
 class Outcome(NamedTuple):
-    """What comes of a request: the body of its response, and then that the session has stopped, an event, or its end."""
+    """The result of a request: the body of its response, and then that the session has stopped, an event, or its
+    end."""
 
     body: Body = {}
     stop: Optional[Stop] = None
@@ -89,7 +92,7 @@ class Adapter:
             self._console(f"| {plain(unexpected(error))}\n")
 
     def _answer(self, request: Request) -> None:
-        """Answers a request, and tells what comes of it."""
+        """Answers a request, and sends its result."""
         work = Work(self._wire, request, self._shows_progress)
         try:
             outcome = self._worked(request, work)
@@ -118,7 +121,7 @@ class Adapter:
                 self._close()
 
     def _worked(self, request: Request, work: Work) -> Outcome:
-        """What comes of a request, while the editor is heard."""
+        """The result of a request, while the editor is heard."""
         if self._source.ends(request):
             raise Interrupted
         if request.command in ("launch", "attach"):
@@ -130,33 +133,34 @@ class Adapter:
             return self._outcome(request)
 
     def _look_for_others(self, request: Request) -> None:
-        """Tells where somebody else has moved a session that is shared."""
+        """Reports a move of a shared session by another front."""
         with self._source.work(request, self._interrupts):
             moved = self._target.debuggee.others_moved()
         if moved is not None:
-            self._stopped(Stop("goto", f"somebody has moved: at {moved}"))
+            self._stopped(Stop("goto", texts.SOMEONE_MOVED.format(position=moved)))
 
     def _refused(self, work: Work, why: str) -> None:
-        """Says that a request wasn't done. A move that was answered before stands where it stood."""
+        """Reports that a request failed. After a move that was answered early, the session stays at its position."""
         if work.refuses(why):
             self._stopped(Stop("pause", why))
 
     def _outcome(self, request: Request) -> Outcome:
-        """What comes of a request; Unanswerable where it can't be done."""
+        """The outcome of a request; Unanswerable if it fails."""
         answer = self._answers.get(request.command)
         if answer is None:
-            raise Unanswerable(f"{request.command} isn't known here")
+            raise Unanswerable(texts.UNKNOWN_REQUEST.format(command=request.command))
         try:
             return answer(request)
         except Refused as refused:
-            raise Unanswerable(f"netrev answered: {refused}; {hint([request.command], str(refused))}") from None
+            said = hint([request.command], str(refused))
+            raise Unanswerable(texts.NETREV_ANSWERED.format(fault=refused, hint=said)) from None
         except (Misused, NoRecording) as wrong:
             raise Unanswerable(str(wrong)) from None
 
     @property
     def _target(self) -> Target:
         if self._target_or_none is None:
-            raise Unanswerable("no recording is open: launch comes first")
+            raise Unanswerable(texts.LAUNCH_FIRST)
         return self._target_or_none
 
     def _of_target(self, answer: Callable[[Target, Numbering, Request], Body]) -> Callable[[Request], Outcome]:
@@ -164,7 +168,7 @@ class Adapter:
         return lambda request: Outcome(answer(self._target, self._numbering, request))
 
     def _stopped(self, stop: Stop) -> None:
-        """Tells that the session stands somewhere else, and what is said of it."""
+        """Reports a new position, with the reason."""
         target = self._target
         target.stop = stop
         target.looks.handles.forget()
@@ -211,6 +215,8 @@ class Adapter:
         debugged.say_nothing_yet()
         if debugged.recording.lines.fault:
             self._console(f"| {plain(debugged.recording.lines.why_unused(launch.recording))}\n")
+        if words := begin_words(debugged.recording):
+            self._console(f"| {words}\n")
         self._target_or_none = Target(debugged, launch, self._interrupts)
         self._target.stop = self._target.moves.goto(launch.position(debugged), "entry")
         return Outcome(event="initialized")
@@ -222,7 +228,7 @@ class Adapter:
         return Outcome(stop=self._target.stop)
 
     def _restart(self, request: Request) -> Outcome:
-        return Outcome(stop=self._target.moves.goto(0, "entry"))
+        return Outcome(stop=self._target.moves.goto(begins_at(self._target.debuggee.recording), "entry"))
 
     def _terminate(self, request: Request) -> Outcome:
         return Outcome(event="terminated", ends=True)
@@ -250,7 +256,7 @@ class Adapter:
     def _step_out(self, request: Request) -> Outcome:
         goroutine = maker_of(request.whole_number("threadId"))
         if goroutine is None:
-            raise Unanswerable("the network and the clock make no calls")
+            raise Unanswerable(texts.NO_CALLS)
         return Outcome(stop=self._target.moves.out_of(goroutine))
 
     def _pause(self, request: Request) -> Outcome:
@@ -262,7 +268,7 @@ class Adapter:
             return Outcome({"targets": breakpoints.targets(self._target, self._numbering, request)})
         step = self._target.debuggee.step_at(line)
         if step is None:
-            raise Unanswerable("no step stands in that line, or behind it")
+            raise Unanswerable(texts.NO_STEP)
         position = step.number - 1
         named = {
             "id": position,
@@ -274,7 +280,7 @@ class Adapter:
     def _goto(self, request: Request) -> Outcome:
         position = request.whole_number("targetId")
         if not 0 <= position <= self._target.debuggee.length:
-            raise Unanswerable(f"the recording has {self._target.debuggee.length} steps")
+            raise Unanswerable(texts.HAS_STEPS.format(steps=self._target.debuggee.length))
         return Outcome(stop=self._target.moves.goto(position))
 
     def _evaluate(self, request: Request) -> Outcome:

@@ -1,9 +1,10 @@
-"""Who is answered. Over the standard streams that is the editor that began nrdb. A port is open to all that runs on the machine, web
-pages in a browser among it: there an editor has to name the token that nrdb printed, in its launch."""
+"""Decides which editor is served. Over the standard streams it is the editor that started nrdb. A port is open to everything on the
+machine, including web pages in a browser, so there a launch needs the token that nrdb printed."""
 
 import hmac
 import os
 import secrets
+from ..messages import editors as texts
 from .messages import Request, Unanswerable
 
 TOKEN = "token"  # the argument of a launch
@@ -14,7 +15,7 @@ OPENING = ("launch", "attach")  # that have the token
 
 
 class Stranger(Unanswerable):
-    """A launch without the token: nothing more is read from whoever sent it."""
+    """A launch without the token: nothing more is read from its sender."""
 
 
 class NoToken(Exception):
@@ -27,7 +28,7 @@ def token_for_a_port() -> str:
     if own is None:
         return secrets.token_urlsafe(32)
     if len(own) < LEAST or not own.isascii() or not own.isprintable():
-        raise NoToken(f"{NAMED_BY} has to have at least {LEAST} printable characters of ASCII")
+        raise NoToken(texts.SHORT_TOKEN.format(variable=NAMED_BY, least=LEAST))
     return own
 
 
@@ -37,10 +38,10 @@ def is_let_in(request: Request, token: str) -> bool:
     if request.command in BEFORE:
         return False
     if request.command not in OPENING:
-        raise Unanswerable("launch comes first, with the token that nrdb printed")
+        raise Unanswerable(texts.TOKEN_FIRST)
     given = request.arguments.get(TOKEN)
     if not isinstance(given, str) or not hmac.compare_digest(_bytes(given), _bytes(token)):
-        raise Stranger("a launch at a port has the token that nrdb printed")
+        raise Stranger(texts.TOKEN_IS_WRONG)
     return True
 
 

@@ -3,6 +3,7 @@
 from netrev_words.plain import plain
 from netrev_words.vocabulary import KINDS
 
+from ..messages import editors as texts
 from .go_lines import FUNCTIONS
 from .marks import Sort
 from .messages import Body, Request, Unanswerable
@@ -26,7 +27,7 @@ def set_lines(target: Target, numbering: Numbering, request: Request) -> Body:
 
 
 def of_steps(target: Target, path: str, wishes: list[Wish | Unset]) -> list[Body]:
-    """Sets breakpoints before steps in place of those that were; what the protocol says of each. Those with a message take no marks."""
+    """Replaces the breakpoints before steps; the protocol's answer for each. Log messages use no marks."""
     session = target.debuggee.session
     target.logpoints.clear(path)
     told = [
@@ -42,10 +43,7 @@ def of_steps(target: Target, path: str, wishes: list[Wish | Unset]) -> list[Body
 def in_the_program(target: Target, numbering: Numbering, path: str, asked: list[Body]) -> list[Body]:
     """Breakpoints in a file of the program's."""
     if not target.debuggee.recording.lines:
-        said = (
-            "breakpoints are set in the recording's text: no line of the program is known, since NAME.where isn't there"
-        )
-        return [{"verified": False, "message": said} for _ in asked]
+        return [{"verified": False, "message": texts.NO_LINES} for _ in asked]
     target.go_lines.clear(path)
     lines = [numbering.of(one) for one in asked]
     made = [target.go_lines.set_line(path, line, wish_of("", one)) for line, one in zip(lines, asked)]
@@ -53,7 +51,7 @@ def in_the_program(target: Target, numbering: Numbering, path: str, asked: list[
 
 
 def path_of(request: Request) -> str:
-    """The path of the source that a request names; empty where it names none."""
+    """The path of the source that a request names; empty if it names none."""
     source = request.arguments.get("source")
     path = source.get("path") if isinstance(source, dict) else None
     return path if isinstance(path, str) else ""
@@ -86,7 +84,7 @@ def data_info(target: Target, _: Numbering, request: Request) -> Body:
     """Whether a name is a cell that can be watched."""
     name = request.text("name")
     if target.looks.value(name) is None:
-        return {"dataId": None, "description": f"{plain(name)} is no cell"}
+        return {"dataId": None, "description": texts.NOT_A_CELL.format(name=plain(name))}
     return {"dataId": name, "description": name, "accessTypes": ["write"], "canPersist": True}
 
 
@@ -111,7 +109,7 @@ def set_filters(target: Target, _: Numbering, request: Request) -> Body:
     """What has gone wrong before which the session stops."""
     names = request.arguments.get("filters") or []
     if not isinstance(names, list) or not all(isinstance(name, str) for name in names):
-        raise Unanswerable("filters has to be a list of texts")
+        raise Unanswerable(texts.FILTERS)
     return {"breakpoints": target.filters.replace(names)}
 
 
@@ -119,7 +117,7 @@ def exception_info(target: Target, _: Numbering, __: Request) -> Body:
     """What has gone wrong here."""
     wrong = target.filters.at(target.debuggee.position)
     if not wrong:
-        raise Unanswerable("nothing of the filters that are set is here")
+        raise Unanswerable(texts.NO_EXCEPTION)
     says = "; ".join(plain(one.says) for one in wrong)
     return {"exceptionId": wrong[0].sort, "description": says, "breakMode": "always"}
 

@@ -1,4 +1,4 @@
-"""What an editor is told that it may ask for."""
+"""The capabilities that the adapter reports to an editor."""
 
 from .filters import offered
 from .messages import Body

@@ -6,6 +6,7 @@ from typing import Iterator, Optional
 
 from netrev_words.vocabulary import Of
 
+from ..messages import session as messages
 from ..arriving_changes import ArrivingChanges
 from ..prompt.answers import ANSWERS
 from ..backwards import last_steps
@@ -34,7 +35,7 @@ class Debuggee:
 
     @property
     def position(self) -> int:
-        """Where the session stands."""
+        """The session's position."""
         return self.session.stood
 
     @property
@@ -47,7 +48,7 @@ class Debuggee:
         return self.recording.step_or_none(number)
 
     def step_at(self, line: int) -> Optional[Step]:
-        """The step in a line, or the first one behind it."""
+        """The step in a line, or the first step after it."""
         low, high = 1, self.length + 1
         while low < high:
             middle = (low + high) // 2
@@ -55,16 +56,16 @@ class Debuggee:
         return self.step(low)
 
     def maker(self, number: int) -> Maker:
-        """Who makes the step of that number."""
+        """The goroutine that makes this step."""
         step = self.step(number)
         return step.argument("g") if step else None
 
     def maker_here(self) -> Maker:
-        """Who makes the next step; at the end, who made the last."""
+        """The goroutine that makes the next step; at the end, that of the last step."""
         return self.maker(min(self.position + 1, self.length))
 
     def last_step_of(self, maker: Maker) -> int:
-        """The last step up to the position that was made by this one; 0 where there is none, or it is far."""
+        """The last step of this goroutine up to the position; 0 if there is none, or it is far away."""
         if maker is not None:
             return last_steps(self.recording, self.position, [maker])[maker]
         numbers = range(self.position, max(self.position - FAR, 0), -1)
@@ -90,7 +91,7 @@ class Debuggee:
         self.printer.take()
 
     def others_moved(self) -> Optional[int]:
-        """Where somebody else has moved a session that is shared, since this one was looked at; None where nobody has."""
+        """The new position if another user has moved a shared session; None otherwise."""
         if not isinstance(self.session.netrev, Joined):
             return None
         now = self.session.stands().position
@@ -104,13 +105,13 @@ class Debuggee:
 def debuggee(
     program: str, path: str, interrupts: Interrupts, address: Optional[tuple[str, int]] = None
 ) -> Iterator[Debuggee]:
-    """The session of a recording, while it is debugged: one of its own, or the one that is shared at an address. Unanswerable where
-    netrev or nrdb can't take the recording."""
+    """The session of a recording, while it is debugged: one of its own, or the shared one at an address. Raises
+    Unanswerable if netrev or nrdb can't take the recording."""
     printer = Collecting()
     try:
         recording = Recording.read(path)
         if address and (fault := fault_of(program, path)):
-            raise NoRecording(f"{path} isn't a recording: {fault}")
+            raise NoRecording(messages.NOT_A_RECORDING.format(path=path, fault=fault))
         netrev: Netrev = Joined(address, interrupts, lambda: None) if address else Own(program, path, interrupts)
     except OSError as error:
         named = error.filename or (":".join(map(str, address)) if address else path)

@@ -5,6 +5,7 @@ from enum import Enum
 from functools import cached_property
 from typing import Iterable, NamedTuple, Optional
 
+from ..messages import editors as texts
 from ..calls import book_of
 from ..one_call import Outcome
 from ..recording import Recording
@@ -23,8 +24,8 @@ class Filter(Enum):
 LABELS = {Filter.SUSPECTS: "Suspects", Filter.TIMEOUTS: "Timeouts", Filter.ERRORS: "Other errors"}
 SAYS = {
     Filter.SUSPECTS: "before a step that `info suspects` names",
-    Filter.TIMEOUTS: "before the step by which a call ends with a timeout",
-    Filter.ERRORS: "before the step by which a call ends since its socket was closed, or with another error",
+    Filter.TIMEOUTS: "before the step with which a call ends with a timeout",
+    Filter.ERRORS: "before the step with which a call ends because its socket was closed, or with another error",
 }
 
 
@@ -43,7 +44,7 @@ def offered() -> list[Body]:
 
 
 class Failure(NamedTuple):
-    """Something that went wrong: the step, what sort of thing it is, and what is said of it."""
+    """A step at which something failed: its number, the kind of failure, and the message."""
 
     step: int
     sort: str
@@ -58,12 +59,14 @@ class Filters:
         self._set: frozenset[Filter] = frozenset()
 
     def replace(self, names: Iterable[object]) -> list[Body]:
-        """Sets these filters in place of those before; what the protocol says of each."""
+        """Replaces the filters; the protocol's answer for each."""
         known = {one.value: one for one in Filter}
         asked = list(names)
         self._set = frozenset(known[name] for name in asked if isinstance(name, str) and name in known)
         return [
-            {"verified": True} if name in known else {"verified": False, "message": f"{name} is no filter"}
+            {"verified": True}
+            if name in known
+            else {"verified": False, "message": texts.NOT_A_FILTER.format(name=name)}
             for name in asked
         ]
 

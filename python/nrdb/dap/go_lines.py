@@ -1,5 +1,5 @@
-"""Breakpoints in the program's own source: before the steps at which a goroutine comes to a line or a function, as NAME.where has them.
-They are nrdb's, as the filters are, and take no marks of netrev's."""
+"""Breakpoints in the program's own source: before the steps at which a goroutine comes to a line or a function, as NAME.where has
+them. Like the filters, they belong to nrdb and use no marks of netrev."""
 
 from bisect import bisect_left, bisect_right
 from functools import cached_property
@@ -17,7 +17,7 @@ from .roots import Roots
 from .wishes import Unset, Wish, is_in, refused
 
 FIRST = 1_000_000  # the numbers of such breakpoints, above those of all marks
-FUNCTIONS = "functions"  # in place of a file
+FUNCTIONS = "functions"  # instead of a file
 
 
 class Hits:
@@ -63,14 +63,14 @@ class GoLines:
         return lines[line]
 
     def set_line(self, path: str, line: int, wish: "Wish | Unset") -> Body:
-        """Sets one at a line that steps come from; what the protocol says of it."""
+        """Sets a breakpoint at a line that steps come from; returns the protocol's object for it."""
         try:
             return self._set(path, self.positions(path, line), wish)
         except Unanswerable as why:
             return refused(str(why))
 
     def set_function(self, name: str, wish: "Wish | Unset") -> Optional[Body]:
-        """Sets one at a function; None where no step comes from one of that name."""
+        """Sets one at a function; None if no step comes from a function of that name."""
         place = places_of(self._debuggee.recording).place(name)
         return self._set(FUNCTIONS, place.positions, wish) if place else None
 

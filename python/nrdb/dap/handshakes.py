@@ -1,5 +1,5 @@
-"""The beginnings of connections at a port: several at once, each in its thread, until a launch names the token. So nobody without the token
-holds up an editor."""
+"""The beginnings of connections at a port: several at once, each in its thread, until a launch names the token. So a
+connection without the token doesn't hold up an editor."""
 
 import socket
 from contextlib import ExitStack, suppress
@@ -25,7 +25,7 @@ class Connection:
         connected.setsockopt(socket.IPPROTO_TCP, socket.TCP_NODELAY, 1)
         reader = self._opened.enter_context(connected.makefile("rb"))
         writer = self._opened.enter_context(connected.makefile("wb"))
-        self._opened.callback(self.hang_up)  # so that nobody reads any more when the streams are closed
+        self._opened.callback(self.hang_up)  # so that no thread reads any more when the streams are closed
         self.wire = Wire(reader, writer, MOST_BYTES)
         self.initialize: Optional[Request] = None
         self.launch: Optional[Request] = None
@@ -50,7 +50,7 @@ class Connection:
         return False
 
     def hang_up(self) -> None:
-        """Ends the connection, whoever reads from it."""
+        """Ends the connection, even while it is being read."""
         with suppress(OSError):
             self._connected.shutdown(socket.SHUT_RDWR)
 

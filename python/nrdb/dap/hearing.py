@@ -1,5 +1,5 @@
-"""Hears an editor while a request is worked on. A thread reads what comes, so `pause`, `cancel` and an end are heard at once: they stop the
-work, which goes on in the main thread, by a signal to it."""
+"""Hears an editor while a request is worked on. A thread reads the messages, so `pause`, `cancel` and an end are heard
+at once: they stop the work, which goes on in the main thread, by a signal to it."""
 
 import signal
 import threading
@@ -17,14 +17,14 @@ CANCEL, PAUSE = "cancel", "pause"
 MOVES = ("continue", "reverseContinue", "next", "stepIn", "stepBack", "stepOut", "goto", "restart", "configurationDone")
 PAUSED = (*MOVES, "evaluate")
 SIGNAL = signal.SIGUSR1
-MOST_HELD = 2**22  # bytes of requests that wait for their turn: whoever sends more is read on when there are fewer
+MOST_HELD = 2**22  # bytes of requests that wait for their turn: a sender of more is read on when there are fewer
 
 
 class Source(Protocol):
     """Where requests come from."""
 
     def request(self) -> Optional[Request]:
-        """The next request; None where the editor has gone."""
+        """The next request; None if the editor has gone."""
 
     @contextmanager
     def work(self, request: Request, interrupts: Interrupts) -> Iterator[None]:
@@ -102,7 +102,7 @@ class Hearing:
             self._room.notify()
 
     def _look(self) -> None:
-        """Stops what is worked on where something was heard that does. It is called by the signal too, wherever the work is."""
+        """Stops the work if a message was heard that does so. The signal calls it too, at any point of the work."""
         request = self._at_work
         if request is None or request.command in ENDING:
             return
@@ -130,7 +130,8 @@ class Hearing:
                 return
 
     def _hand_on(self, came: Request | Exception | None, size: int) -> None:
-        """Hands on what came, which has so many bytes, when there is room for it; and tells the main thread what is urgent at once."""
+        """Passes on a message of this many bytes when there is room for it; and tells the main thread at once if it is
+        urgent."""
         is_urgent = isinstance(came, Request) and came.command in (*ENDING, CANCEL, PAUSE)
         if isinstance(came, Request) and is_urgent:
             self._urgent.append(came)

@@ -1,5 +1,5 @@
-"""Breakpoints that tell a message where a move comes by, and stop nothing. They are nrdb's, and take no marks of netrev's: what stands in
-braces in a message is the cell's value there, as `netrev changes` has it."""
+"""Breakpoints that print a message when a move passes, without stopping. They belong to nrdb and use no marks of netrev: a cell in
+braces is replaced by its value there, from `netrev changes`."""
 
 from typing import Iterator, NamedTuple, Sequence
 
@@ -19,7 +19,7 @@ class LogPoint(NamedTuple):
 
 
 class LogPoints:
-    """The breakpoints that tell which are set, by the file that they stand in."""
+    """The log messages that are set, by file."""
 
     def __init__(self, session: Session):
         self._session = session
@@ -31,13 +31,13 @@ class LogPoints:
         self._of[path] = []
 
     def set(self, path: str, positions: Sequence[int], wish: Wish) -> Body:
-        """Sets one that is reached at these positions; what the protocol says of it."""
+        """Sets one that is reached at these positions; returns the protocol's object for it."""
         self._given += 1
         self._of.setdefault(path, []).append(LogPoint(wish.message, wish.stops(self._session, positions)))
         return {"id": self._given, "verified": True}
 
     def told(self, begun: int, ended: int) -> Iterator[str]:
-        """What a move tells that led from one position to another, in its order."""
+        """The messages of a move that led from one position to another, in its order."""
         low, high = (begun + 1, ended) if ended > begun else (ended, begun - 1)
         every = (one for many in self._of.values() for one in many)
         hits = [(position, one.message) for one in every for position in one.positions if low <= position <= high]

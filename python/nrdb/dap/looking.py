@@ -7,6 +7,7 @@ from typing import Optional, Sequence
 from netrev_words.plain import plain
 from netrev_words.vocabulary import CELLS, KINDS, Of, cell_of
 
+from ..messages import editors as texts
 from ..backwards import last_steps
 from ..calls import book_of
 from ..following import calls_at
@@ -31,13 +32,13 @@ def thread_of(maker: Maker) -> int:
 
 
 def maker_of(thread: int) -> Maker:
-    """Whose thread has that number; Unanswerable where none has."""
+    """The goroutine of a thread's number; Unanswerable if there is none."""
     if thread == NETWORK:
         return None
     if thread > GOIDS:
-        raise Unanswerable(f"goid {thread - GOIDS} makes no step in the recording")
+        raise Unanswerable(texts.GOID_IS_IDLE.format(goid=thread - GOIDS))
     if not 0 < thread < NETWORK:
-        raise Unanswerable("there is no such goroutine")
+        raise Unanswerable(texts.NO_GOROUTINE)
     return thread - 1
 
 
@@ -80,7 +81,7 @@ Thing = Frame | Cells | Every
 
 
 def place_words(stack: Optional[Stack]) -> str:
-    """Where the program is in a stack, in words."""
+    """The program's place in a stack, as text."""
     own = stack.own() if stack else None
     return f" in {plain(own[0].function)} at {plain(own[0].place())}" if own else ""
 
@@ -98,9 +99,9 @@ class Handles:
         return self._given
 
     def take(self, number: int) -> Thing:
-        """What has the number; Unanswerable where that was before a move."""
+        """The thing with this number; Unanswerable if the number is from before a move."""
         if number not in self._things:
-            raise Unanswerable("that was of another position")
+            raise Unanswerable(texts.OTHER_POSITION)
         return self._things[number]
 
     def forget(self) -> None:
@@ -108,8 +109,8 @@ class Handles:
 
 
 class Looks:
-    """Looks at the position at which the session stands. `goes_first` is whether the program's own line is shown first where
-    it is known, else the recording's."""
+    """Reads values at the session's position. `goes_first` says whether the program's own line, if known, is shown before the
+    recording's."""
 
     def __init__(self, debuggee: Debuggee, goes_first: bool, roots: Roots):
         self._debuggee, self._goes_first, self._roots = debuggee, goes_first, roots
@@ -131,10 +132,12 @@ class Looks:
         for one in there:
             wait = waits.get(Name(one)) if statuses[one][0] == "idle" else None
             does, stack = (wait.does, wait.stack) if wait else (statuses[one][0], stacks.get(one))
-            threads.append({"id": thread_of(one), "name": f"goroutine {one}: {does}{place_words(stack)}"})
-        for name, wait in sorted(waits.items()):
-            if name.is_goid:
-                threads.append({"id": GOIDS + name.number, "name": f"{name}: {wait.does}{place_words(wait.stack)}"})
+            goid = recording.lines.reused_goid(one, self._debuggee.position)
+            name = f"goroutine {one}{f' (goid {goid})' if goid else ''}"
+            threads.append({"id": thread_of(one), "name": f"{name}: {does}{place_words(stack)}"})
+        for other, wait in sorted(waits.items()):
+            if other.is_goid:
+                threads.append({"id": GOIDS + other.number, "name": f"{other}: {wait.does}{place_words(wait.stack)}"})
         return [*threads, {"id": NETWORK, "name": "network and clock"}]
 
     def _stacks(self, goroutines: Sequence[int]) -> dict[int, Stack]:
@@ -149,14 +152,14 @@ class Looks:
             return self.frames(maker_of(thread))
         found = stack_of(self._debuggee.recording, Name(thread - GOIDS, True), self._debuggee.position)
         if found is None:
-            raise Unanswerable("there is no such goroutine")
+            raise Unanswerable(texts.NO_GOROUTINE)
         frame = Frame(None, found.since)
         calls = [self._call_frame(frame, call) for call in found.stack.calls]
         return self._ordered(found.stack, calls, [self._label(frame, found.does)])
 
     def frames(self, maker: Maker) -> list[Body]:
-        """A stack: the step that is about to be made, or was made last; the call that it is of, as `calls` has it; and the
-        program's own calls at that step, where they are known, else what the goroutine does, in words."""
+        """A stack: the next or last step, its call as in `calls`, and the program's own calls at that step; if they are unknown,
+        what the goroutine does, in words."""
         here = self._debuggee.position
         is_next = here < self._debuggee.length and self._debuggee.maker(here + 1) == maker
         frame = Frame(maker, here + 1 if is_next else self._debuggee.last_step_of(maker))
@@ -175,8 +178,8 @@ class Looks:
         return self._ordered(stack, [self._call_frame(frame, call) for call in stack.calls], [first, *labels])
 
     def _ordered(self, stack: Stack, calls: list[Body], others: list[Body]) -> list[Body]:
-        """The frames in the order of calls, behind the others. Where the program's own line comes first, its callers follow it, then the others,
-        and last the calls inside Go."""
+        """The frames in the order of calls, after the others. If the program's own line comes first, its callers follow, then the
+        others, and last the calls inside Go."""
         own = next((at for at, call in enumerate(stack.calls) if call.of == OF_THE_PROGRAM), None)
         if not self._goes_first or own is None:
             return [*others, *calls]
@@ -211,7 +214,7 @@ class Looks:
         """What a frame has to do with, the machine, and all there is."""
         thing = self.handles.take(frame)
         if not isinstance(thing, Frame):
-            raise Unanswerable("that is no frame")
+            raise Unanswerable(texts.NOT_A_FRAME)
         own = [] if thing.maker is None else [Cells(Of.GOROUTINE, thing.maker)]
         near = [*own, *self._about(thing)]
         scopes = [(cells.title, self.handles.give(cells), False) for cells in (*near, Cells(Of.ALL))]
@@ -247,10 +250,10 @@ class Looks:
             return self.cells(thing.names())
         if isinstance(thing, Every):
             return self._every(thing.of)
-        raise Unanswerable(f"no scope or variable has the reference {reference} at this stop")
+        raise Unanswerable(texts.NO_VARIABLE.format(reference=reference))
 
     def _every(self, of: Of) -> list[Body]:
-        """All things of a sort, each with its cells below it, but for goroutines, which have one cell."""
+        """All things of a sort, each with its cells below it; goroutines have one cell."""
         world = self._world
         if of is Of.GOROUTINE:
             return self.cells([f"gor {number}" for number in range(world.made(of))])
@@ -282,7 +285,7 @@ class Looks:
         return f"{value}   ({words})" if words else value
 
     def value(self, text: str) -> Optional[str]:
-        """The value of the cell that a text spells; None where it spells none."""
+        """The value of the cell that a text names; None if it names none."""
         cell = cell_of(text.split())
         return None if cell is None else str(self.cells([cell])[0]["value"])
 

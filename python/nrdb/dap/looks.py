@@ -1,12 +1,11 @@
-"""What is answered of the position at which the session stands: goroutines, stacks, variables, values, memory and completions."""
+"""Requests about the session's position: goroutines, stacks, variables, values, memory and completions."""
 
+from ..messages import editors as texts
 from ..prompt.completion import candidates
 from . import memory
 from .messages import Body, Request, Unanswerable
 from .numbering import Numbering
 from .target import Target
-
-FIXED = "a recording is what happened: no value in it can be changed"
 
 
 def threads(target: Target, _: Numbering, __: Request) -> Body:
@@ -34,10 +33,10 @@ def variables(target: Target, _: Numbering, request: Request) -> Body:
 
 
 def page(request: Request, rows: list[Body], first: str, count: str) -> list[Body]:
-    """The rows that are asked for: all where no number is given."""
+    """The requested rows; all if no number is given."""
     begin, most = (request.arguments.get(name) or 0 for name in (first, count))
     if not isinstance(begin, int) or not isinstance(most, int) or begin < 0 or most < 0:
-        raise Unanswerable(f"{first} and {count} are whole numbers")
+        raise Unanswerable(texts.RANGE.format(first=first, count=count))
     return rows[begin : begin + most if most else None]
 
 
@@ -45,7 +44,7 @@ def value(target: Target, text: str, context: object) -> Body:
     """The value of a cell; under the pointer the meaning of a kind of step too."""
     shown = (target.looks.meaning if context == "hover" else target.looks.value)(text)
     if shown is None:
-        raise Unanswerable(f"{text} is no cell: one is spelled as in print, rg 0 or gor 3")
+        raise Unanswerable(texts.NOT_A_VALUE.format(text=text))
     named = memory.reference_of(text) if text.split() else None
     return {"result": shown, "variablesReference": 0} | ({"memoryReference": named} if named else {})
 
@@ -68,4 +67,4 @@ def completions(target: Target, numbering: Numbering, request: Request) -> Body:
 
 def refuse_change(_: Target, __: Numbering, ___: Request) -> Body:
     """No value is set."""
-    raise Unanswerable(FIXED)
+    raise Unanswerable(texts.READ_ONLY)

@@ -19,7 +19,7 @@ class Sort(Enum):
 
 
 class Marks:
-    """The marks that stand for the editor's breakpoints. Those that were typed in the console are left alone."""
+    """The marks of the editor's breakpoints. Marks that were typed in the console aren't changed."""
 
     def __init__(self, session: Session):
         self._session = session
@@ -28,7 +28,7 @@ class Marks:
         self._counted: dict[Wish, list[int]] = {}  # where those stop whose times are counted
 
     def replace(self, sort: Sort, wishes: Sequence["Wish | Unset"]) -> list[Body]:
-        """Sets these breakpoints in place of those of the same sort; what the protocol says of each, in their order."""
+        """Replaces the breakpoints of a kind; the protocol's answer for each, in their order."""
         standing = {mark.number for mark in self._session.netrev.marks()}  # some may have been deleted in the console
         self._numbers = {mark: number for mark, number in self._numbers.items() if number in standing}
         wanted = {wish.what for wish in wishes if isinstance(wish, Wish)}
@@ -39,7 +39,7 @@ class Marks:
         return [self._set(sort, wish) for wish in wishes]
 
     def _set(self, sort: Sort, wish: "Wish | Unset") -> Body:
-        """Sets one; what the protocol says of it."""
+        """Sets one; returns the protocol's object for it."""
         try:
             if isinstance(wish, Unset):
                 raise wish
@@ -50,7 +50,7 @@ class Marks:
         return {"id": int(number), "verified": True}
 
     def _number(self, sort: Sort, wish: Wish) -> str:
-        """The number of the mark, which is made if it doesn't stand."""
+        """The number of the mark, which is made if it doesn't exist."""
         if (sort, wish.what) not in self._numbers:
             line = f"{'watch' if sort is Sort.DATA else 'break'} {wish.what}"
             reply = self._session.ask(line)

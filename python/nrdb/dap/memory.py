@@ -5,6 +5,7 @@ from typing import Optional
 
 from netrev_words.vocabulary import number_of
 
+from ..messages import editors as texts
 from ..netrev import Netrev
 from .messages import Body, Request, Unanswerable
 
@@ -12,24 +13,24 @@ BUFFERS = ("in", "out")
 
 
 def reference_of(cell: str) -> Optional[str]:
-    """The buffer that a cell counts the bytes of; None where it counts none."""
+    """The buffer whose bytes a cell counts; None if it counts none."""
     name, *number = cell.split()
     return cell if name in BUFFERS and number else None
 
 
 def read(netrev: Netrev, request: Request) -> Body:
-    """The bytes that are asked for, of those in the buffer where the session stands. What isn't there can't be read."""
+    """The requested bytes of a buffer at the session's position. Missing bytes can't be read."""
     named = request.text("memoryReference")
     begin, count = _offset(request), request.whole_number("count")
     words = named.split()
     number = number_of(words[1]) if len(words) == 2 else None
     if number is None or words[0] not in BUFFERS:
-        raise Unanswerable(f"{named} is no buffer: one is named as in 0 or out 0")
+        raise Unanswerable(texts.NOT_A_BUFFER.format(name=named))
     if count < 0:
-        raise Unanswerable("count is a whole number from 0")
+        raise Unanswerable(texts.COUNT)
     (shown,) = netrev.looks([f"dump {words[0]} {number}"])
     if shown == "absent":
-        raise Unanswerable(f"{named} isn't there")
+        raise Unanswerable(texts.NO_BUFFER.format(name=named))
     held = b"" if shown == "-" else bytes.fromhex(shown)
     there = held[max(begin, 0) : max(begin + count, 0)] if begin >= 0 else b""
     missing = count - len(there)

@@ -1,9 +1,11 @@
-"""Messages of the protocol: JSON behind a header that tells its length, as both ends send them."""
+"""Messages of the protocol: JSON after a header with its length, as both ends send them."""
 
 import json
 from dataclasses import dataclass, field
 from threading import Lock
 from typing import Any, BinaryIO, Optional
+
+from ..messages import editors as texts
 
 LONGEST = 16 * 2**20  # bytes of a message
 LONGEST_HEADER = 1_024
@@ -13,7 +15,7 @@ Body = dict[str, Any]
 
 
 class Malformed(Exception):
-    """What came is no message: what is wrong with it. Where it ends isn't known, so nothing behind it can be read."""
+    """The input isn't a message; the text says why. Its end is unknown, so nothing after it can be read."""
 
 
 class EditorGone(OSError):
@@ -36,21 +38,21 @@ class Request:
         """The argument of that name, which has to be a text."""
         value = self.arguments.get(name)
         if not isinstance(value, str):
-            raise Unanswerable(f"{self.command}: {name} has to be a text")
+            raise Unanswerable(texts.STRING.format(command=self.command, name=name))
         return value
 
     def whole_number(self, name: str) -> int:
         """The argument of that name, which has to be a whole number."""
         value = self.arguments.get(name)
         if not isinstance(value, int) or isinstance(value, bool):
-            raise Unanswerable(f"{self.command}: {name} has to be a whole number")
+            raise Unanswerable(texts.INTEGER.format(command=self.command, name=name))
         return value
 
     def objects(self, name: str) -> list[Body]:
-        """The argument of that name, which has to be a list of objects, and is an empty one where it isn't there."""
+        """The argument of that name, which must be a list of objects; an empty list if it is missing."""
         value = self.arguments.get(name) or []
         if not isinstance(value, list) or not all(isinstance(one, dict) for one in value):
-            raise Unanswerable(f"{self.command}: {name} has to be a list of objects")
+            raise Unanswerable(texts.OBJECTS.format(command=self.command, name=name))
         return value
 
 
@@ -65,7 +67,7 @@ class Wire:
         self.received = 0  # bytes of all messages that came
 
     def request(self) -> Optional[Request]:
-        """The next request; None where the editor has gone. Messages of other types are passed over."""
+        """The next request; None if the editor has gone. Messages of other types are skipped."""
         while True:
             length = self._length()
             if length is None:
@@ -79,8 +81,8 @@ class Wire:
                 return _request(message)
 
     def _length(self) -> Optional[int]:
-        """What the header says of the length; None where nothing more comes. Another line than the protocol's ends it: a browser
-        that posts a message for a web page begins with one."""
+        """The length in the header; None at the end of the input. Any other line than the protocol's ends it, because a browser
+        that posts for a web page begins with one."""
         found: dict[bytes, bytes] = {}
         while (line := self._reader.readline(LONGEST_HEADER)) not in (b"\r\n", b"\n"):
             if not line:
@@ -89,14 +91,14 @@ class Wire:
             name, _, value = line.partition(b":")
             name = name.strip().lower()
             if name not in HEADERS or name in found:
-                raise Malformed("a message has a header of Content-Length, and nothing else before it")
+                raise Malformed(texts.ONE_HEADER)
             found[name] = value.strip()
         length = found.get(HEADERS[0], b"")
         if not length.isdigit() or int(length) > LONGEST:
-            raise Malformed("a message has to begin with its Content-Length, of at most 16 MiB")
+            raise Malformed(texts.CONTENT_LENGTH)
         self._came += int(length)
         if self.most is not None and self._came > self.most:
-            raise Malformed(f"more than {self.most} bytes came before the launch")
+            raise Malformed(texts.TOO_MUCH.format(most=self.most))
         return int(length)
 
     def respond(self, request: Request, body: Body) -> None:
@@ -129,9 +131,9 @@ def _object(data: bytes) -> Body:
     try:
         message = json.loads(data)
     except (ValueError, RecursionError):
-        raise Malformed("a message isn't JSON") from None
+        raise Malformed(texts.NOT_JSON) from None
     if not isinstance(message, dict):
-        raise Malformed("a message is no object")
+        raise Malformed(texts.NOT_AN_OBJECT)
     return message
 
 
@@ -139,5 +141,5 @@ def _request(message: Body) -> Request:
     """The request that an object is."""
     number, command, arguments = message.get("seq"), message.get("command"), message.get("arguments")
     if not isinstance(number, int) or not isinstance(command, str):
-        raise Malformed("a request has a number and a command")
+        raise Malformed(texts.NO_COMMAND)
     return Request(number, command, arguments if isinstance(arguments, dict) else {})

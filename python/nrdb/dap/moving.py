@@ -1,4 +1,4 @@
-"""The editor's moves, each a line of netrev's or several: where they lead, and why they stop there."""
+"""The editor's moves, each made of one or several lines to netrev, with their destinations and the reasons for stopping there."""
 
 from typing import Callable, NamedTuple, Optional, Sequence
 
@@ -17,11 +17,11 @@ from .messages import Unanswerable
 
 PIECE = 100_000  # steps that netrev goes through at a stretch: between two it is looked whether a pause came
 AT_THE_END = "the recording's end"
-MOST_STEPS = 20_000  # of a recording of which an editor is told the root
+MOST_STEPS = 20_000  # of a recording of which an editor gets the root
 
 
 class Stop(NamedTuple):
-    """Why the session stands where it does: the protocol's word, one in words for people, and the marks that hit."""
+    """The reason for a stop: the protocol's name, a sentence for the user, and the marks that hit."""
 
     reason: str
     says: str
@@ -29,16 +29,16 @@ class Stop(NamedTuple):
 
 
 def text_of(stop: Stop, recording: Recording) -> str:
-    """What an editor shows of a stop besides: of an exception what it is; at the end what failed first, or what all wait for. Empty of a long
-    recording, since an editor waits for the answer."""
+    """The text of a stop: of an exception its description; at the end the first failure, or what all goroutines wait
+    for. Empty for a long recording, because an editor waits for the answer."""
     if stop.reason == "exception":
         return stop.says
     return root_sentence(recording) if stop.says == AT_THE_END and recording.length <= MOST_STEPS else ""
 
 
 class Moves:
-    """Moves of a session. All go on past marks whose conditions don't hold. A pause stops each: it then stands where netrev has come
-    to. `tells` is told how far a long one is."""
+    """Moves of a session. They pass marks whose conditions don't hold. A pause stops a move where netrev is. `tells` gets the
+    progress of a long move."""
 
     def __init__(
         self,
@@ -82,7 +82,8 @@ class Moves:
         return self.run(True, self._debuggee.length if found is None else found - 1)
 
     def out_of(self, goroutine: int) -> Stop:
-        """Behind the step that ends a goroutine's call, or out of the program's function between calls; Unanswerable if neither ends."""
+        """After the step that ends a goroutine's call, or out of the program's function between calls; raises
+        Unanswerable if neither ends."""
         try:
             with self._interrupts.at_once():
                 goal = finish_goal(self._debuggee.recording, goroutine, self._debuggee.position)
@@ -119,8 +120,8 @@ class Moves:
                 return self._arrived(line, reply, move._replace(marks=tuple(hit)), stood, why)
 
     def _searched(self, line: str, forwards: bool, bound: Optional[int]) -> tuple[str, Move]:
-        """netrev's reply to a search, and the move that it was. It is made in pieces, each to a mark of its own, which no move names;
-        Interrupted between two where a pause came."""
+        """netrev's reply to a search, and the move. The search is made in pieces, each to a mark of its own, which no
+        move names; raises Interrupted if a pause comes between two."""
         here = self._session.stands().position
         while True:
             self._interrupts.check()
@@ -162,7 +163,7 @@ class Moves:
         return Stop("pause", f"at {position}")
 
     def _bound(self, forwards: bool, target: Optional[int]) -> Optional[int]:
-        """The position behind which a move doesn't go, whatever hits there."""
+        """The position that a move doesn't pass, whatever hits there."""
         position = self._debuggee.position
         filtered = self._filters.nearest(position, forwards)
         places = self._go_lines.nearest(position, forwards), self._session.breaks.nearest(position, forwards)
@@ -176,7 +177,7 @@ class Moves:
         return self._arrived(f"goto {bound}", reply, move, [], self._why([], move, target))
 
     def _why(self, hit: Sequence[str], move: Move, target: Optional[int]) -> Stop:
-        """Why a move stops where it does."""
+        """The reason for a move's stop."""
         if hit:
             return Stop(self._marks.reason(hit[0]), f"mark {', '.join(hit)}", tuple(map(int, hit)))
         numbers = self._go_lines.at(move.position)
@@ -200,12 +201,12 @@ class Moves:
             self._session.ask("set exec-direction forward")
 
     def _arrived(self, line: str, reply: str, move: Move, stood: Sequence[Listed], why: Stop) -> Stop:
-        """Says where the session stands now."""
+        """Reports the new position."""
         self._session.printer.reply(line, Reply(reply), "")
         self._session.arrive(move.position, move.marks, stood)
         return why
 
 
 def told(wrong: Sequence[Failure]) -> str:
-    """What went wrong, each in its sentence."""
+    """The errors, each as a sentence."""
     return "; ".join(f"{one.sort}: {one.says}" for one in wrong)

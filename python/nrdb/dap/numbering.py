@@ -1,7 +1,8 @@
-"""Lines of a recording as the editor counts them: from 1, or from 0 where it says so."""
+"""Lines of a recording as the editor counts them: from 1, or from 0 if it says so."""
 
 from typing import NamedTuple
 
+from ..messages import editors as texts
 from .messages import Body, Request, Unanswerable
 
 
@@ -22,5 +23,5 @@ class Numbering(NamedTuple):
         """The line of a breakpoint."""
         line = breakpoint_.get("line")
         if not isinstance(line, int):
-            raise Unanswerable("a breakpoint needs a line, which is a whole number")
+            raise Unanswerable(texts.LINE)
         return line + 1 - self.first

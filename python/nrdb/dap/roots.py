@@ -1,4 +1,4 @@
-"""Where the files are that NAME.where names: below the folder of the program's source, and Go's own below that of Go."""
+"""Finds the files that NAME.where names: in the folder of the program's source, and Go's own in that of Go."""
 
 import os
 from pathlib import Path
@@ -8,13 +8,13 @@ SOURCES_OF_GO = "src"  # in the folder of a release of Go
 
 
 class Roots(NamedTuple):
-    """The folder that the program's files are named from, and where Go is, if that is known."""
+    """The folder that the program's files are named from, and that of Go, if known."""
 
     program: Path
     go: Optional[Path] = None
 
     def path_of(self, file: str) -> Optional[Path]:
-        """Where a file is, as the recorder names it; None where it isn't here."""
+        """The path of a file that the recorder named; None if it isn't here."""
         return next((path for path in self._places(file) if os.path.isfile(path)), None)
 
     def is_at(self, file: str, wanted: Path) -> bool:
@@ -24,12 +24,12 @@ class Roots(NamedTuple):
         return self.go is None and str(wanted).endswith(f"/{SOURCES_OF_GO}/{file}")
 
     def _places(self, file: str) -> list[Path]:
-        """Where a file may be."""
+        """The possible paths of a file."""
         return [self.program / file, *([self.go / SOURCES_OF_GO / file] if self.go else [])]
 
 
 def whole(path: Path) -> Optional[Path]:
-    """A path without links; None where it is none, or leads in a circle."""
+    """A path without links; None if it doesn't exist or its links form a circle."""
     try:
         return path.resolve()
     except (OSError, RuntimeError, ValueError):

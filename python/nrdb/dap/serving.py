@@ -21,7 +21,7 @@ DONE, USAGE, FAILED = 0, 2, 3
 
 
 def serve(wire: Wire, program: str, begun: Sequence[Request] = ()) -> int:
-    """Serves one editor, of which these requests came already; the exit status."""
+    """Serves one editor, whose first requests have been read; the exit status."""
     try:
         Adapter(wire, source_of(wire), program).serve(begun)
     except Malformed as wrong:
@@ -33,7 +33,7 @@ def serve(wire: Wire, program: str, begun: Sequence[Request] = ()) -> int:
 
 
 def source_of(wire: Wire) -> Source:
-    """Where the requests come from: a thread, which the main one can be stopped by, and no other."""
+    """The source of the requests: a thread, the only one that may stop the main thread."""
     if current_thread() is main_thread():
         return Hearing(wire)
     return Reading(wire)

@@ -4,6 +4,8 @@ from dataclasses import dataclass
 from pathlib import Path
 from typing import Any, Optional
 
+from ..beginnings import begins_at
+from ..messages import editors as texts
 from ..interrupts import Interrupts
 from .admission import TOKEN
 from .debuggee import Debuggee
@@ -18,7 +20,6 @@ from .roots import Roots
 
 SOURCES = ("recording", "go")
 AT_END, AT_START = "end", "start"
-NOT_NAMED = "netrev's program is named where nrdb is called, by NETREV or --netrev, and not by a launch"
 PROPERTIES = ("program", "stopAt", "source", "sourceRoot", "goRoot", TOKEN)  # that a launch has
 OF_ATTACH = ("program", "address", "source", "sourceRoot", "goRoot", TOKEN)
 
@@ -38,19 +39,19 @@ class Launch:
 
     @classmethod
     def of(cls, request: Request) -> "Launch":
-        """What the arguments of a launch say; Unanswerable where one can't be."""
+        """The arguments of a launch; Unanswerable if one is invalid."""
         given = request.arguments
         stop_at = given.get("stopAt", AT_END)
         if stop_at not in (AT_END, AT_START) and not (isinstance(stop_at, int) and stop_at >= 0):
-            raise Unanswerable('stopAt is "end", "start" or a position')
+            raise Unanswerable(texts.STOP_AT)
         return cls(request.text("program"), stop_at, *cls._shown(given))
 
     @classmethod
     def of_attach(cls, request: Request) -> "Launch":
-        """What the arguments of an attach say; Unanswerable where one can't be."""
+        """The arguments of an attach; Unanswerable if one is invalid."""
         host, _, port = request.text("address").rpartition(":")
         if not (port.isascii() and port.isdigit() and len(port) < 6 and int(port) < 2**16):
-            raise Unanswerable("address is the HOST:PORT of a front of `netrev serve`")
+            raise Unanswerable(texts.ADDRESS)
         address = host.strip("[]") or "127.0.0.1", int(port)
         return cls(request.text("program"), None, *cls._shown(request.arguments), address)
 
@@ -59,24 +60,24 @@ class Launch:
         """What launches and attaches both say: whether the program's lines come first, and the two folders."""
         source = given.get("source", SOURCES[0])
         if source not in SOURCES:
-            raise Unanswerable('source is "recording" or "go"')
+            raise Unanswerable(texts.SOURCE)
         if "netrev" in given:
-            raise Unanswerable(NOT_NAMED)
+            raise Unanswerable(texts.OWN_PROGRAM)
         return source == "go", _text(given, "sourceRoot"), _text(given, "goRoot")
 
     def position(self, debuggee: Debuggee) -> int:
-        """The position at which to stop first: of a session that is shared, where that stands."""
+        """The position of the first stop; in a shared session, its current position."""
         if self.stop_at is None:
             return debuggee.position
         if isinstance(self.stop_at, int):
             return min(self.stop_at, debuggee.length)
-        return debuggee.length if self.stop_at == AT_END else 0
+        return debuggee.length if self.stop_at == AT_END else begins_at(debuggee.recording)
 
 
 def _text(given: dict[str, Any], name: str) -> Optional[str]:
     value = given.get(name)
     if value is not None and not isinstance(value, str):
-        raise Unanswerable(f"{name} has to be a text")
+        raise Unanswerable(texts.OPTION_STRING.format(name=name))
     return value
 
 

@@ -1,5 +1,5 @@
-"""What an editor wants of a breakpoint: what is marked, a condition, how often it has to be reached, and a message in place of a stop.
-All of it goes by the position, so it is the same whichever way a move goes."""
+"""Breakpoints as an editor requests them: the mark, a condition, a hit count, and a message instead of a stop. All depend only on
+the position, so they are the same in both directions."""
 
 import re
 from bisect import bisect_left
@@ -8,6 +8,7 @@ from typing import NamedTuple, Optional, Sequence
 
 from netrev_words.vocabulary import KINDS, cell_of, number_of
 
+from ..messages import editors as texts
 from ..conditions import Condition
 from ..session import Session
 from .messages import Body
@@ -25,7 +26,7 @@ def condition_of(text: str) -> Condition:
     """The condition that a text spells; Unset if it spells none."""
     condition = Condition.of(text.split())
     if condition is None:
-        raise Unset(f"{text} is no condition: it is a cell with a value, as gor 3 parked* or rg 0 = ready")
+        raise Unset(texts.NOT_A_CONDITION.format(text=text))
     return condition
 
 
@@ -41,7 +42,7 @@ class HitCount(NamedTuple):
         found = HIT_COUNT.fullmatch(text.strip())
         number = number_of(found[2]) if found else None
         if found is None or number is None or (found[1] == "%" and not number):
-            raise Unset(f"{text} is no number of times: it is as 3, >= 3, < 3, or % 3 for each third")
+            raise Unset(texts.NOT_A_COUNT.format(text=text))
         return cls((found[1] or "=").replace("==", "="), number)
 
     def holds(self, count: int) -> bool:
@@ -55,8 +56,8 @@ class HitCount(NamedTuple):
 
 @dataclass(frozen=True)
 class Wish:
-    """A breakpoint that is wanted: what is marked, as netrev's commands spell it or empty where the program's source says it, its
-    condition, the times that it stops, and the message that it tells in place of stopping."""
+    """A requested breakpoint: the mark in netrev's spelling (empty for a line of the program), its condition, its hit count, and
+    its message instead of a stop."""
 
     what: str
     condition: Optional[Condition] = None
@@ -91,7 +92,7 @@ def wish_of(what: str, asked: Body) -> "Wish | Unset":
     try:
         for named in IN_BRACES.findall(message):
             if named.strip() != HERE and cell_of(named.split()) is None:
-                raise Unset(f"{{{named}}} is no cell: a message has cells in braces, as {{rg 0}}, or {{{HERE}}}")
+                raise Unset(texts.NOT_IN_BRACES.format(name=named, here=HERE))
         return Wish(
             what, condition_of(condition) if condition else None, HitCount.of(times) if times else None, message
         )
@@ -100,7 +101,7 @@ def wish_of(what: str, asked: Body) -> "Wish | Unset":
 
 
 def _text_of(asked: Body, name: str) -> str:
-    """What an editor names by that name; empty where that is nothing, or no text."""
+    """A string argument of the request; empty if it is missing or isn't a string."""
     value = asked.get(name)
     return value if isinstance(value, str) and value.strip() else ""
 
@@ -110,16 +111,16 @@ def kind_wish(asked: Body) -> "Wish | Unset":
     name = asked.get("name")
     if isinstance(name, str) and name in KINDS:
         return wish_of(name, asked)
-    return Unset(f"{name} is no kind of step, and no function that steps come from; the kinds are {' '.join(KINDS)}")
+    return Unset(texts.NOT_A_KIND.format(name=name, kinds=" ".join(KINDS)))
 
 
 def cell_wish(asked: Body) -> "Wish | Unset":
     """The wish for a breakpoint at each change of a cell."""
     identity = asked.get("dataId")
     cell = cell_of(str(identity).split())
-    return wish_of(cell, asked) if cell else Unset(f"{identity} is no cell")
+    return wish_of(cell, asked) if cell else Unset(texts.NOT_A_CELL.format(name=identity))
 
 
 def refused(why: str) -> Body:
-    """What the protocol says of a breakpoint that can't be set."""
+    """The protocol's object for a breakpoint that can't be set."""
     return {"verified": False, "message": why}

@@ -1,27 +1,27 @@
-"""A request that is worked on. Where that takes long the editor is told: a move is answered before it is done, since an editor offers to
-pause only what runs, and one that shows progress is shown it."""
+"""The work on a request. A long request is reported to the editor: a move is answered before it is done, because editors offer a
+pause only while the program runs, and an editor that shows progress gets it."""
 
 from contextlib import suppress
 from threading import Event, Lock, Thread
 
+from ..messages import editors as texts
 from .hearing import MOVES, progress_of
 from .messages import Body, Request, Wire
 
-LATE = 0.3  # seconds, behind which a request takes long
+LATE = 0.3  # seconds after which a request takes long
 AGAIN = 0.5  # seconds between two words of how far it is
-TITLES = {"launch": "netrev reads the recording", "attach": "netrev's session is joined", "evaluate": "nrdb answers"}
-TITLE = "netrev goes through the steps"
+TITLES = {"launch": texts.READING, "attach": texts.JOINING, "evaluate": "nrdb answers"}
 
 
 class Work:
-    """The work on one request. A thread tells the editor of it where it takes long, so the main thread writes nothing before it is
+    """The work on one request. A thread reports it to the editor if it takes long, so the main thread writes nothing before it is
     done."""
 
     def __init__(self, wire: Wire, request: Request, shows_progress: bool):
         self._wire, self._request, self._shows_progress = wire, request, shows_progress
         self._lock, self._done = Lock(), Event()
         self._is_answered = self._is_shown = False
-        self._position, self._length = 0, 0  # how far it is, where that is known
+        self._position, self._length = 0, 0  # the progress, if known
         Thread(target=self._tell, daemon=True).start()
 
     def tells(self, position: int, length: int) -> None:
@@ -34,14 +34,14 @@ class Work:
             self._wire.respond(self._request, body)
 
     def refuses(self, why: str) -> bool:
-        """The request wasn't done. Whether it was answered before, so that this is still to be told."""
+        """The request failed. Returns whether it was answered before, so that the failure must still be reported."""
         if self._ends():
             return True
         self._wire.refuse(self._request, why)
         return False
 
     def _ends(self) -> bool:
-        """Nothing more is told of the work; whether it was answered already."""
+        """Ends the reports on the work; returns whether it was answered already."""
         with self._lock:
             self._done.set()
             if self._is_shown:
@@ -52,7 +52,7 @@ class Work:
         """Tells the editor, in the thread, that the work takes long, and how far it is."""
         if self._done.wait(LATE):
             return
-        with self._lock, suppress(OSError, ValueError):  # (the editor has gone: who reads finds that out)
+        with self._lock, suppress(OSError, ValueError):  # (the editor has gone; the reading thread finds that out)
             self._is_late()
         told = 0
         while self._is_shown and not self._done.wait(AGAIN):
@@ -67,7 +67,7 @@ class Work:
             return
         if self._shows_progress:
             self._is_shown = True
-            title = TITLES.get(self._request.command, TITLE)
+            title = TITLES.get(self._request.command, texts.SEARCHING)
             self._event("progressStart", title=title, requestId=self._request.number, cancellable=True)
         if self._request.command in MOVES:
             self._is_answered = True

@@ -1,5 +1,5 @@
-"""When bytes came and went. A recorder of Go doesn't see that, and writes it just before the read or the write that shows it; but
-the event that told of it came before. So for other schedules such bytes come with that event."""
+"""The times at which bytes came and went. A recorder of Go doesn't see them, and writes them just before the read or write that
+shows them, although the event that reported them came earlier. So in other schedules such bytes come with that event."""
 
 from dataclasses import replace
 from typing import NamedTuple, Optional
@@ -22,7 +22,7 @@ class Tries(NamedTuple):
 
 
 def with_events(script: Script) -> Script:
-    """The script, in which what came without an event behind it comes with the event before it."""
+    """The script, in which bytes that no later event reports come with the event before them."""
     tries = _tries(script)
     network = {}
     for s, row in script.network.items():

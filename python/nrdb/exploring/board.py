@@ -12,7 +12,7 @@ from .runs import Made
 Looked = tuple[Any, ...]  # a step, and all that it looks at
 MOST_KEPT = 20_000
 
-# where a step of a kind names a goroutine, a socket or a descriptor; OWN: the goroutine's status does
+# the place at which a kind of step names a goroutine, a socket or a descriptor; OWN: the goroutine's status does
 OWN, NONE = 0, -1
 SOCKETS = ("sysread", "syswrite", "closewrite", "incref", "increfclose", "decref", "rwlock", "rwunlock")
 DESCRIPTORS = ("pollreset", "waitbegin", "setdeadline", "evict")
@@ -27,7 +27,7 @@ LOOKS: dict[str, tuple[int, int, int]] = {
     **{kind: (NONE, 1, NONE) for kind in ("arrive", "peerclose", "drain")},
     "pollevent": (NONE, NONE, 1),
 }
-ALONE = ("pollreset", "waitbegin")  # which may find nobody inside the wait
+ALONE = ("pollreset", "waitbegin")  # which may find no goroutine inside the wait
 TIMED = ("setdeadline", "evict")  # which look at the clock and at timers
 OF_TIMERS = {"next_number", "timers"}  # what those may make anew
 
@@ -87,7 +87,7 @@ class Board(Machine):
         return made
 
     def _looked(self, step: Step) -> Optional[Looked]:
-        """All that a step looks at; None where that is more than is kept here."""
+        """Everything that a step reads; None if it reads more than is kept here."""
         looks = LOOKS.get(step[0])
         if looks is None:
             return None
@@ -106,7 +106,7 @@ class Board(Machine):
         return step, status, self.descs[d]
 
     def _effect(self, looked: Looked, made: Made, waiters: int) -> Optional[Effect]:
-        """What the last step looked at and made; None where it made what nobody keeps, or of what it didn't look at."""
+        """What the last step read and changed; None if it changed something that isn't kept, or that it didn't read."""
         changed = {(of, place): old for of, place, old in reversed(self.changes)}
         wholes = {of for of, place in changed if place == WHOLE} - {"waiters"}
         if None in changed.values() or not wholes <= (OF_TIMERS if made.step[0] in TIMED else set()):
@@ -115,7 +115,7 @@ class Board(Machine):
         return Effect(looked, made, puts, tuple((of, getattr(self, of)) for of in wholes), self.waiters - waiters)
 
     def _has(self, effect: Effect) -> None:
-        """It is as it was there behind that step."""
+        """Sets the values as they were after that step."""
         for of, place, now in effect.puts:
             self.put(of, place, now)
         for of, now in effect.wholes:

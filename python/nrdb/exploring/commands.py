@@ -7,6 +7,7 @@ from typing import Callable, NamedTuple
 
 from netrev_words.vocabulary import number_of
 
+from ..messages import searches as messages
 from ..calls import book_of
 from ..interrupts import Interrupted
 from ..recording import Recording
@@ -22,7 +23,6 @@ from .runs import Impossible
 from .telling import Telling, summary
 from .workers import Share, play_all, processors
 
-USAGE = "explore [failures] [N]: N is how many schedules are played, from 1 to 1000000"
 FAILURES = "failures"
 MOST, GREATEST = 3_000, 1_000_000
 MOST_STEPS = 100_000
@@ -34,12 +34,12 @@ def answer_explore(session: Session, words: list[str]) -> None:
     rest = words[is_of_failures:]
     number = number_of(rest[0]) if len(rest) == 1 else MOST if not rest else None
     if number is None or not 0 < number <= GREATEST:
-        raise Misused(USAGE)
+        raise Misused(messages.EXPLORE.format(most=GREATEST))
     session.printer.note(explored(session, number, is_of_failures).text)
 
 
 class Explored(NamedTuple):
-    """What is said of the schedules, and how many findings there are."""
+    """The report on the schedules, and the number of findings."""
 
     text: str
     found: int
@@ -50,7 +50,7 @@ def explored(session: Session, most: int = MOST, is_of_failures: bool = False) -
     well."""
     recording = session.text()
     if recording.length > MOST_STEPS:
-        raise Misused(f"explore takes at most {MOST_STEPS} steps: reduce the recording, or record less")
+        raise Misused(messages.TOO_LONG.format(most=MOST_STEPS))
     answered = answered_recording(session.program, recording, recording.length)
     answered.lines = recording.lines
     begun = time.monotonic()
@@ -60,7 +60,7 @@ def explored(session: Session, most: int = MOST, is_of_failures: bool = False) -
             script.watched = watched(script)
         exploring = Exploring(script, recording.lines.words)
     except Impossible as why:
-        raise Misused(f"explore plays calls of Go's, and this run isn't made of such: {why}") from None
+        raise Misused(messages.NOT_CALLS.format(why=why)) from None
     progress = Progress(exploring, most, session.interrupts.check)
     is_stopped = False
     try:
@@ -84,11 +84,11 @@ class Progress:
         self._width = 0
 
     def tell(self) -> None:
-        """Behind each schedule."""
+        """Called after each schedule."""
         if time.monotonic() >= self._next:
             self._next = time.monotonic() + SECONDS
             found = len(self.exploring.found)
-            self._show(f"{self.exploring.played} of {self.most} schedules, {found} found; Ctrl-C ends it")
+            self._show(messages.PROGRESS.format(played=self.exploring.played, most=self.most, found=found))
         self.check()
 
     def _show(self, text: str) -> None:
@@ -109,14 +109,14 @@ class Keeping:
         self.session, self.telling = session, telling
 
     def kept(self, at: int, finding: Finding, times: int) -> list[str]:
-        """Writes a finding's recording, and the reduced one; what to say of it."""
+        """Writes a finding's recording, and the reduced one; returns the lines about it."""
         recording, played = self.telling.recording, finding.played
         file = f"{Path(self.session.path).stem}-other-{at}.jsonl"
         data = text_of(played.world, played.world.limits.buf, played.pairs(), recording.has_answers)
         status, said = answered_by(self.session.program, "check", data)
         if status:
             fault = said.decode("utf-8", "replace").strip()
-            return [f"{at}. netrev doesn't take a schedule: {fault}. That is an error of nrdb's; it isn't kept"]
+            return [messages.SCHEDULE_REFUSED.format(finding=at, fault=fault)]
         write_recording(file, self.session.path, data, recording.lines, [made.number for made in played.steps])
         accepted = said.decode("utf-8", "replace").strip()
         *lines, unless = self.telling.finding(at, finding, times, file)
@@ -125,7 +125,7 @@ class Keeping:
         return [*lines, unless]
 
     def _shortened(self, file: str, finding: Finding) -> str:
-        """Reduces what was kept; what to say of that."""
+        """Reduces a finding's recording; returns the line about it."""
         whole = Recording.read(file)
         short = f"{Path(file).stem}-short.jsonl"
         reducing = Reducing(whole, self.session.path, self.session.program, self.session.interrupts.check)
@@ -135,7 +135,8 @@ class Keeping:
             return str(wrong)
 
     def _wanted(self, whole: Recording, finding: Finding) -> Wanted:
-        """What has to show in the short one: its suspect; who hangs, behind both deadlines; or the call that fails, and by what."""
+        """The target of the short recording: its suspect; the goroutine that hangs, after both deadlines; or the call that fails,
+        with its cause."""
         if finding.suspect:
             shown = [one for one in suspects_of(whole).suspects if one.is_shown]
             subjects = [one.subject for one in shown]

@@ -1,5 +1,5 @@
-"""Whether a schedule has come back to where the recorded run was, so that both go on alike: the same but for the numbers of
-sockets and descriptors, and what nobody can look at any more."""
+"""Whether a schedule has returned to the recorded run, so that both continue in the same way: the same except for the numbers of
+sockets and descriptors, and for values that nothing can read any more."""
 
 from typing import NamedTuple
 
@@ -21,7 +21,7 @@ class Numbered(NamedTuple):
         return mine.sockets == its.sockets and mine.descriptors == its.descriptors
 
     def status(self, status: Status) -> Status:
-        """A status with a socket of the recording, or a use of a descriptor, in place of its number."""
+        """A status with a socket of the recording, or a use of a descriptor, instead of its number."""
         if len(status) < 2:
             return status
         of_socket, of_descriptor = self.numbers.named()
@@ -36,7 +36,7 @@ class Numbered(NamedTuple):
 
 
 def are_alike(one: Numbered, other: Numbered) -> bool:
-    """Whether two states go on alike."""
+    """Whether two states continue in the same way."""
     board, its = one.board, other.board
     if board.clock != its.clock or len(board.goroutines) != len(its.goroutines):
         return False
@@ -58,7 +58,7 @@ def _have_alike_statuses(one: Numbered, other: Numbered, are_same: bool) -> bool
 
 
 def _have_alike_sockets(one: Numbered, other: Numbered) -> bool:
-    """Whether all sockets are alike, but for those that are dead in both."""
+    """Whether all sockets are the same, except for those that are dead in both."""
     sockets, its_sockets = one.board.sockets, other.board.sockets
     for which, number in one.numbers.sockets.items():
         socket, its = sockets[number], its_sockets[other.numbers.sockets[which]]
@@ -68,7 +68,7 @@ def _have_alike_sockets(one: Numbered, other: Numbered) -> bool:
 
 
 def _is_dead(socket: Socket) -> bool:
-    """Whether nobody can do anything with it any more."""
+    """Whether no goroutine can do anything with it any more."""
     return socket.lock.closed and not socket.lock.references and not any(socket.queues)
 
 

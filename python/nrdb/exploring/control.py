@@ -1,5 +1,5 @@
-"""The control flow of a goroutine's calls: which step it makes next, by its operation and its status, and where it goes on by the
-machine's answer."""
+"""The control flow of a goroutine's calls: the step that it makes next, by its operation and its status, and the place
+at which it goes on, by the machine's answer."""
 
 from bisect import bisect_right
 from typing import NamedTuple, Optional
@@ -12,14 +12,14 @@ from .board import Board
 from .scripts import Operation
 
 NEVER = float("inf")
-GOROUTINE, CLOCK, MADE, NETWORK = range(4)  # who acts
+GOROUTINE, CLOCK, MADE, NETWORK = range(4)  # the actor
 
 About = tuple[bool, int]  # whether it is a socket, and which; else which use of a descriptor
 
 
 class Place(NamedTuple):
-    """Where a goroutine is: its operation, how many of that one's recorded steps it has made, how far it is in what that one tries,
-    and whether it waits, or has to destroy."""
+    """The place of a goroutine: its operation, the number of that one's recorded steps that it has made, how far it is
+    in what the operation tries, and whether it waits, or has to destroy."""
 
     operation: int = 0
     made: int = 0
@@ -72,7 +72,7 @@ class NotMade(Exception):
 
 
 class Numbers:
-    """The numbers that sockets and uses of descriptors have in a schedule, where they are there; and of each use its `fdseq`."""
+    """The numbers of the sockets and uses of descriptors in a schedule, and the `fdseq` of each use."""
 
     def __init__(self) -> None:
         self.sockets: dict[int, int] = {}
@@ -123,14 +123,14 @@ class Numbers:
         )
 
     def of(self, about: Optional[About]) -> int:
-        """The number of a socket or of a use's descriptor; -1 where there is none."""
+        """The number of a socket or of a use's descriptor; -1 if there is none."""
         if about is None:
             return -1
         is_socket, which = about
         return (self.sockets if is_socket else self.descriptors).get(which, -1)
 
     def needed(self, about: Optional[About]) -> int:
-        """The number of what is needed for a step; NotMade where there is none."""
+        """The number of an object that a step needs; NotMade if it doesn't exist."""
         number = self.of(about)
         if number < 0 and about is not None:
             raise NotMade
@@ -140,7 +140,7 @@ class Numbers:
 def next_step(
     board: Board, numbers: Numbers, g: int, place: Place, operation: Operation, stream: Optional[Stream]
 ) -> Step:
-    """The step that a goroutine makes next; NotMade where it waits for another to make what it is about."""
+    """The next step of a goroutine; NotMade if another goroutine must first make the object of the step."""
     if step := step_by_status(g, board.goroutines[g]):
         return step
     if place.destroys >= 0:
@@ -163,7 +163,7 @@ def _about(sort: Sort, operation: Operation) -> Optional[About]:
 
 
 def is_about(status: Status, place: Place, operation: Operation) -> Optional[About]:
-    """What the next step names of which it needs the number; None where its goroutine's status has that, or nothing is named."""
+    """The object whose number the next step needs; None if the goroutine's status has the number, or the step has no object."""
     if status[0] in BY_STATUS:
         return None
     return _about(Sort.WAIT if place.is_waiting else operation.sort, operation)
@@ -172,7 +172,7 @@ def is_about(status: Status, place: Place, operation: Operation) -> Optional[Abo
 def behind(
     place: Place, operation: Operation, kind: str, answer: Answer, status: str, stream: Optional[Stream]
 ) -> Place:
-    """Where a goroutine is behind a step of this kind."""
+    """The goroutine's place after a step of this kind."""
     match came(kind, answer):
         case Came.STAYS:
             return place
@@ -193,7 +193,7 @@ def behind(
 
 
 def _following(place: Place, status: str) -> Place:
-    """The next operation, where this one is over."""
+    """The next operation, after the end of this one."""
     return place if status == "owing" or place.destroys >= 0 else Place(place.operation + 1)
 
 

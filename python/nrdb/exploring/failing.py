@@ -22,7 +22,7 @@ class Why(Enum):
 
 
 CHECKED: dict[tuple[Any, ...], Why] = {("code", 1): Why.CLOSED, ("code", 2): Why.TIMED_OUT}
-# what the answers say of a step of each kind
+# the meanings of the answers of each kind of step
 FAULTS: dict[str, dict[tuple[Any, ...], Why]] = {
     "rwlock": {("no",): Why.CLOSED},
     "syswrite": {("pipe",): Why.BROKEN},
@@ -34,8 +34,8 @@ Watched = dict[tuple[int, int], int]  # of a goroutine and an operation of its, 
 
 
 class Failed(NamedTuple):
-    """The first call that failed in a schedule: whose, where it begins in the goroutine's operations, by which of the schedule's steps,
-    and why."""
+    """The first call that failed in a schedule: its goroutine, its first operation, the step of the schedule at which it failed,
+    and the reason."""
 
     goroutine: int
     begins: int
@@ -128,8 +128,8 @@ def ends_of(script: Script) -> dict[tuple[int, str], set[int]]:
 
 
 def reason_of(script: Script, failed: Failed, steps: list[Made]) -> Optional[Reason]:
-    """What a call failed by, in a schedule. None where that is nothing to tell: a deadline to come that was set for it alone, since the
-    recorded order has that too, where what it waits for comes late."""
+    """The reason for which a call failed in a schedule. None if it isn't worth reporting: a future deadline that was set for this
+    call alone, because the recorded order has that too if the bytes come late."""
     if failed.why is Why.BROKEN:
         return Reason(failed.step, 0)
     call = script.goroutines[failed.goroutine][failed.begins]
@@ -163,7 +163,7 @@ def _numbers(script: Script, sort: Sort, call: Operation) -> set[int]:
 
 
 def faults_of(script: Script) -> Iterator[tuple[int, int, Why]]:
-    """The calls that have a fault in the recording: whose, where each begins, and why."""
+    """The calls that failed in the recording: the goroutine, the first operation, and the reason."""
     for g, operations in enumerate(script.goroutines):
         for begins, operation in enumerate(operations):
             if operation.sort is Sort.LOCK and operation.steps:

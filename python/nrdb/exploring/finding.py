@@ -10,7 +10,7 @@ from netrev_words.recording import Answer, Limits, Step
 
 from ..modelled_changes import PlayedSteps
 from ..suspects.found import Suspect
-from ..suspects.loading import LEFT_BEHIND, LOST_WAKE_UP, TAKEN_BACK, WRITE_BEHIND_SHUT
+from ..suspects.loading import LEFT_BEHIND, LOST_WAKE_UP, TAKEN_BACK, WRITE_AFTER_SHUT
 from ..suspects.ranking import suspects_of
 from .arrivals import with_events
 from .control import Place
@@ -25,13 +25,13 @@ COPIES, MOST_COPIES = 200, 2_000  # of the recorded run, from which schedules go
 APART = 5  # steps between two copies, as long as there aren't more of them
 LONGER = 4  # how much longer than the recording a schedule may be
 HANG = "a call that hangs"
-ORDERED = (LOST_WAKE_UP, TAKEN_BACK, LEFT_BEHIND, WRITE_BEHIND_SHUT)  # what an order decides
+ORDERED = (LOST_WAKE_UP, TAKEN_BACK, LEFT_BEHIND, WRITE_AFTER_SHUT)  # what an order decides
 
 Key = tuple[Any, ...]
 
 
 class Played(NamedTuple):
-    """A schedule that was played: its steps, and who has which numbers."""
+    """A schedule that was run: its steps, and the numbers of its objects."""
 
     steps: list[Made]
     world: World
@@ -95,7 +95,7 @@ class Exploring:
         return Played(steps, world, player.places, sockets, player.has_news, player.failed)
 
     def run(self, most: int, tell: Callable[[], None]) -> None:
-        """Plays so many schedules; `tell` is called behind each."""
+        """Runs this many schedules; `tell` is called after each."""
         for schedule in schedules(self.delays, most):
             self.play(schedule)
             tell()
@@ -141,7 +141,7 @@ class Exploring:
         return list(self._findings(schedule, played)) if played else []
 
     def ends_of(self, delays: tuple[Delay, ...]) -> Optional[Played]:
-        """Plays a schedule from the last copy before its first delay; None where it comes back to the recorded run."""
+        """Runs a schedule from the last copy before its first delay; None if it returns to the recorded run."""
         first, last = min(delay.before for delay in delays), max(delay.until for delay in delays)
         player = self._copies[max(bisect_left(self._times, first) - 1, 0)].copy(delays)
         for at in range(bisect_right(self._times, last), len(self._times)):
@@ -158,7 +158,7 @@ class Exploring:
         return self._all_of(player)
 
     def _with_the_rest(self, player: Player, copy: Player) -> Played:
-        """What comes of a schedule that is where the recorded run was, to the last number: the rest is the recorded one."""
+        """The result of a schedule that has returned to the recorded run, with the same numbers: the rest is the recorded one."""
         steps = self._steps[: player.before] + player.steps + self._steps[copy.before :]
         recorded = self.recorded
         return Played(steps, recorded.world, recorded.places, recorded.sockets, player.has_news)
@@ -193,12 +193,12 @@ class Exploring:
             yield Finding(key, None, -1, schedule, played, reason)
 
     def _place(self, g: int, begins: int) -> Any:
-        """Where a call begins: the program's line if that is known, else whose it is and of which socket."""
+        """The place where a call begins: the program's line if known, otherwise the goroutine and the socket."""
         operation = self.script.goroutines[g][begins]
         return self.line_of(operation.steps[0]) or (g, operation.socket)
 
     def _counts(self, suspect: Suspect, played: Played) -> bool:
-        """Whether it is one that an order decides, and who was woken wrongly doesn't go on by itself."""
+        """Whether the finding depends on the order, and a goroutine that was woken wrongly doesn't continue by itself."""
         if not suspect.is_shown or suspect.rule not in ORDERED:
             return False
         if suspect.rule not in (LOST_WAKE_UP, TAKEN_BACK) or suspect.goroutine is None:
@@ -211,12 +211,12 @@ class Exploring:
 
     @staticmethod
     def _has_come(status: Status, world: World) -> bool:
-        """Whether what who is parked waits for is there."""
+        """Whether the event or the bytes that a parked goroutine waits for have come."""
         socket = world.sockets[world.descs[status[1]].socket]
         return status[2] == "r" and (bool(socket.buffers[0]) or socket.peer_closed)
 
     def _key(self, suspect: Suspect, played: Played) -> Key:
-        """The rule and the place: the program's line at fault if that is known, else whom it is about."""
+        """The rule and the place: the program's line at fault if known, otherwise the rule's object."""
         if line := self.line_of(played.steps[suspect.step - 1].number):
             return suspect.rule, line
         back = {number: socket for socket, number in played.sockets.items()}

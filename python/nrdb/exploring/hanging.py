@@ -1,5 +1,5 @@
-"""Calls that hang: a goroutine is parked without a deadline in a call which a deadline ended in the recording. That deadline was set
-in this schedule too; where it wasn't, since who sets it hangs itself or waits, the call hangs for another one."""
+"""Calls that hang: a goroutine is parked without a deadline in a call that a deadline ended in the recording. That deadline was set
+in this schedule too; if it wasn't, because the goroutine that sets it hangs or waits, the call hangs for another reason."""
 
 from typing import Optional
 
@@ -14,12 +14,12 @@ TIMED_OUT = ("code", 2)
 
 
 def waits_for_ever(status: Status, world: World) -> bool:
-    """Whether who is parked has no deadline."""
+    """Whether a parked goroutine has no deadline."""
     return not world.descs[status[1]].deadlines[SIDES.index(status[2])]
 
 
 def hangs(script: Script, g: int, place: Place, world: World, steps: list[Made]) -> bool:
-    """Whether a goroutine hangs at its place behind these steps."""
+    """Whether a goroutine hangs at its place after these steps."""
     status = world.goroutines[g]
     if status[0] != "parked" or not waits_for_ever(status, world):
         return False
@@ -28,7 +28,7 @@ def hangs(script: Script, g: int, place: Place, world: World, steps: list[Made])
 
 
 def ended_by(script: Script, g: int, place: Place) -> Optional[int]:
-    """The step that set the deadline which ended a goroutine's call in the recording; None where it ended otherwise."""
+    """The step that set the deadline which ended a goroutine's call in the recording; None if the call ended otherwise."""
     operations = script.goroutines[g]
     operation = operations[place.operation]
     last = next((one.steps[-1] for one in reversed(operations[: place.operation + 1]) if one.steps), 0)

@@ -45,7 +45,7 @@ def script_of(recording: Recording) -> Script:
 
 
 def _mark_raw(goroutines: list[list[Operation]], lines: Lines) -> None:
-    """Marks the waits of RawConn, where the program's lines are known."""
+    """Marks the waits of RawConn, if the program's lines are known."""
     for operation in (operation for operations in goroutines for operation in operations):
         if operation.sort is Sort.WAIT and operation.steps:
             calls = lines.of(operation.steps[0]).calls
@@ -53,7 +53,7 @@ def _mark_raw(goroutines: list[list[Operation]], lines: Lines) -> None:
 
 
 def _others(events: Events, openers: set[int]) -> tuple[dict[int, list[Item]], list[Item], list[Item]]:
-    """What no goroutine did: the network's, the clock's, and what was made by nobody that is known."""
+    """The steps that no goroutine made: those of the network and the clock, and those of unknown goroutines."""
     network: dict[int, list[Item]] = {}
     clock: list[Item] = []
     made: list[Item] = []

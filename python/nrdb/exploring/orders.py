@@ -1,5 +1,5 @@
-"""What comes first in each schedule: what a goroutine's steps come behind, as the recorder saw the program order them, and what the
-network may answer. Both are kept by operations: one begins where another's is over."""
+"""What comes first in every schedule: the steps that must precede a goroutine's steps, as the recorder saw the program order them,
+and the steps that the network may react to. Both are stored for operations: one begins after another one has ended."""
 
 from typing import NamedTuple, Optional, Sequence
 
@@ -28,7 +28,7 @@ def places_of(goroutines: list[list[Operation]]) -> dict[int, Where]:
 
 
 def orders_of(goroutines: list[list[Operation]], pairs: Optional[Pairs]) -> Optional[list[list[Order]]]:
-    """Of each goroutine what its operations come behind, in their order; None where nothing is known of that."""
+    """For each goroutine, the operations that must precede its operations, in order; None if nothing is known."""
     if pairs is None:
         return None
     where = places_of(goroutines)
@@ -41,14 +41,14 @@ def orders_of(goroutines: list[list[Operation]], pairs: Optional[Pairs]) -> Opti
 
 
 class Waiting:
-    """Who waits for a goroutine. When that goes on, each looks again: goroutines at once, and the network for its sockets when it
-    is due. Where all would wait again, none does so: they are only put in the order that comes of it."""
+    """The goroutines and sockets that wait for a goroutine. When it continues, each checks again: goroutines at once, and the
+    network for its sockets when it is due. If all would wait again, none checks: only their order is updated."""
 
     def __init__(self) -> None:
         self.first: list[int] = []  # goroutines
-        self.network: list[int] = []  # sockets, behind those
-        self.later: list[tuple[int, int]] = []  # behind both, by actor and number
-        self.until = NEVER  # the first of its operations behind which one of the goroutines goes on
+        self.network: list[int] = []  # sockets, after those
+        self.later: list[tuple[int, int]] = []  # after both, by actor and number
+        self.until = NEVER  # the first of its operations after which one of the goroutines goes on
         self.again: Optional[Key] = None  # when the network would look again
 
     def copy(self) -> "Waiting":
@@ -98,11 +98,11 @@ class Waiting:
 
 
 class Passing:
-    """How far a player is in what comes first, and who waits for it."""
+    """The player's progress in the order, and what waits for each goroutine."""
 
     def __init__(self, orders: Optional[list[list[Order]]], causes: list[Cause], places: list[Place]) -> None:
         self.orders, self.causes, self.places = orders, causes, places
-        self.passed = [0] * len(places)  # of each goroutine how many of its orders it has behind it
+        self.passed = [0] * len(places)  # for each goroutine the number of its orders that are met
         self.caused = 0  # how many causes are over
         self.waiting: dict[int, Waiting] = {}
 
@@ -118,7 +118,7 @@ class Passing:
         return rows == its_rows
 
     def has_still_to_go_on(self, g: int) -> Optional[int]:
-        """Who has to go on before a goroutine makes its next step, by what the program orders; None where nobody has."""
+        """The goroutine that must continue before another one makes its next step, by the program's order; None if there is none."""
         if self.orders is None:
             return None
         row, at, operation = self.orders[g], self.passed[g], self.places[g].operation
@@ -131,7 +131,7 @@ class Passing:
         return None
 
     def has_still_to_cause(self, number: int) -> Optional[int]:
-        """Who has still to make a step that what the network does then may come of; None where nobody has."""
+        """The goroutine that must still make a step that the network's next action may react to; None if there is none."""
         while self.caused < len(self.causes):
             cause = self.causes[self.caused]
             place = self.places[cause.goroutine]
@@ -151,7 +151,7 @@ class Passing:
             waiting.until = min(waiting.until, self.waits_until(which))
 
     def is_still_awaited(self, g: int, waiting: Waiting) -> bool:
-        """Whether all who wait for a goroutine have still to, though it has gone on."""
+        """Whether everything that waits for a goroutine must still wait, although it has continued."""
         place = self.places[g]
         if place.operation > waiting.until:
             return False
@@ -167,7 +167,7 @@ class Passing:
         return cause.goroutine == g and (place.operation, place.made) <= (cause.operation, cause.at)
 
     def waits_until(self, g: int) -> int:
-        """The operation, of the goroutine that it waits for, behind which one goes on."""
+        """The operation of the other goroutine after which one continues."""
         assert self.orders is not None
         return self.orders[g][self.passed[g]].until
 
@@ -178,7 +178,7 @@ class Passing:
 
 
 def causes_of(goroutines: list[list[Operation]], kinds: Sequence[str]) -> list[Cause]:
-    """The steps that somebody else may answer, in their order."""
+    """The steps that another actor may answer, in their order."""
     return sorted(
         Cause(number, g, at, place)
         for g, operations in enumerate(goroutines)

@@ -1,4 +1,4 @@
-"""What the network does to each socket, timers and the clock, and what is made by nobody that is known: each in its own recorded
+"""The steps of the network at each socket, of timers and the clock, and of unknown goroutines: each in its own recorded
 order."""
 
 from collections import defaultdict
@@ -20,10 +20,8 @@ class Others:
         self.script = script
         self.places: dict[tuple[int, int], int] = defaultdict(int)
         self.told: set[int] = set()  # the events that came, by their numbers in the recording
-        self.fresh: dict[
-            tuple[int, str], bool
-        ] = {}  # of a socket's number and side: something came that no event told of
-        self.closed: set[int] = set()  # sockets, by their numbers, in which nobody begins to wait any more
+        self.fresh: dict[tuple[int, str], bool] = {}  # of a socket's number and side: something came without an event
+        self.closed: set[int] = set()  # sockets, by number, in which no goroutine begins to wait any more
         self.tries: dict[int, int] = {}
 
     def copy(self) -> "Others":
@@ -67,7 +65,7 @@ class Others:
         self.places[actor, which] += 1
 
     def see(self, step: Step, board: Board) -> None:
-        """Behind each step: what came that no event has told of yet."""
+        """After each step: the bytes that came and that no event has reported yet."""
         kind = step[0]
         if kind in ("arrive", "peerclose"):
             self.fresh[step[1], "r"] = True
@@ -84,8 +82,8 @@ class Others:
     # ---- steps
 
     def steps_of(self, item: Item, board: Board, numbers: Numbers) -> Optional[list[Step]]:
-        """The steps of what is due: none where it has no place in this schedule; None where it has to wait, and NotMade where what
-        it is about isn't made yet."""
+        """The steps of an action that is due: none if it has no place in this schedule; None if it must wait, and NotMade if its
+        object doesn't exist yet."""
         kind, arguments = item.event.kind, item.event.arguments
         if kind in ("spawn", "sockopen"):
             return [(kind, *arguments)]
@@ -135,14 +133,14 @@ class Others:
         return [(kind, s, *value)]
 
     def _again(self, item: Item) -> Optional[list[Step]]:
-        """There is no room, or there are too few bytes: it waits, and is left out where that doesn't change."""
+        """There is no room, or there are too few bytes: the action waits, and is left out if that doesn't change."""
         number = item.event.number
         self.tries[number] = self.tries.get(number, 0) + 1
         return None if self.tries[number] < MOST_TRIES else []
 
     @staticmethod
     def passed(board: Board, step: Step) -> list[Step]:
-        """What comes before the deadline of a step's descriptor has passed: the clock goes on, and timers go off."""
+        """The steps before the deadline of a step's descriptor passes: the clock goes on, and timers go off."""
         if step[0] != "pollreset":
             return []
         own = (timer.when for timer in board.timers if timer.desc == step[2] and step[3] in timer.covers)
@@ -151,7 +149,7 @@ class Others:
         return [("tick", max(due, board.clock)), *[("pop",)] * going, *[("fire", 0)] * going] if going else []
 
     def left(self, board: Board, numbers: Numbers) -> Iterator[Step]:
-        """What is left to them where nobody else goes on: timers that are due, and events of what came."""
+        """The steps that remain if no goroutine goes on: due timers, and events for what came."""
         if board.firings:
             yield "fire", 0
         if board.timers and board.timers[0].when <= board.clock:

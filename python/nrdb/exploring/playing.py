@@ -1,6 +1,6 @@
-"""Plays a script under a schedule. Time is counted in steps of the recording: each step of it is due when it was made, and what it
-doesn't have at once; who is held is due later. What isn't due waits, and what can't be yet: who sleeps, and who needs what another
-has still to make."""
+"""Runs a script under a schedule. Time is counted in steps of the recording: each recorded step is due when it was made, and any
+other step at once; a delayed goroutine is due later. An action that isn't due waits, and so do a goroutine that sleeps and a step
+whose object doesn't exist yet."""
 
 from heapq import heappop, heappush
 from typing import Optional
@@ -33,7 +33,7 @@ class Player(Standing):
             self._push(due, actor, which)
 
     def run(self, until: float, most: int) -> None:
-        """Plays all that is due before a time, and stops behind so many steps."""
+        """Runs everything that is due before a time, and stops after this many steps."""
         heap = self._heap
         most -= self.before
         self._in_order = None
@@ -74,7 +74,7 @@ class Player(Standing):
         return True
 
     def _push_goroutine(self, g: int) -> None:
-        """Puts a goroutine's next step where it is due."""
+        """Schedules a goroutine's next step at its time."""
         if (other := self.passing.has_still_to_go_on(g)) is not None:
             self.passing.wait(other, GOROUTINE, g, (self.now, self._at))
             return
@@ -125,7 +125,7 @@ class Player(Standing):
             self._follows(g, turn)
 
     def _takes_turn(self, g: int, step: Step, answer: Answer) -> None:
-        """A goroutine has made its step: where it is behind it, and what it makes next."""
+        """A goroutine has made its step: updates its place, and schedules its next step."""
         place, number = self.places[g], self.coming[g]
         operation = self.script.goroutines[g][place.operation]
         if number:
@@ -162,7 +162,7 @@ class Player(Standing):
         self.turns[number] = turn
 
     def _follows(self, g: int, turn: Turn) -> None:
-        """Puts a goroutine's next step where it is due: as in the recorded run, if it names the same there."""
+        """Schedules a goroutine's next step as in the recorded run, if it has the same object there."""
         following, number = turn.following, turn.coming
         if following is None or self.numbers.of(turn.about) != turn.named:
             return self._push_goroutine(g)
@@ -180,7 +180,7 @@ class Player(Standing):
             self._apply(step, 0)
 
     def _passes(self, g: int) -> None:
-        """A goroutine has gone on: who waited for that may go on too."""
+        """A goroutine has continued, so goroutines that waited for it may continue too."""
         waiting = self.passing.waiting.get(g)
         if waiting is None:
             return
@@ -201,7 +201,7 @@ class Player(Standing):
             del self.passing.waiting[g]
 
     def _looks(self, g: int, which: int, rest: Waiting) -> None:
-        """One who waits for a goroutine looks whether that has gone on far enough."""
+        """A goroutine that waits for another one checks whether that has continued far enough."""
         until = self.passing.waits_until(which)
         if self.places[g].operation > until:
             self._push_goroutine(which)
@@ -223,7 +223,7 @@ class Player(Standing):
                 self._push(self.now, NETWORK, s)
 
     def _look_again(self) -> None:
-        """Something was made: who lacked it may go on."""
+        """An object was made, so steps that lacked it may be made."""
         lacking, self.lacking = self.lacking, []
         for actor, which in lacking:
             if actor == GOROUTINE:
@@ -234,7 +234,7 @@ class Player(Standing):
     # ---- steps
 
     def _apply(self, step: Step, number: int) -> Answer:
-        """Makes a step, and wakes who is woken by it."""
+        """Makes a step, and wakes the goroutines that it wakes."""
         try:
             made = self.board.make(step, number)
         except Refused as refused:
@@ -253,7 +253,7 @@ class Player(Standing):
         return answer
 
     def _other(self, actor: int, which: int) -> None:
-        """Lets the network, the clock or nobody known do what is due."""
+        """Lets the network, the clock or unknown goroutines do what is due."""
         item = self.others.next(actor, which)
         if item is None:
             return
@@ -281,8 +281,8 @@ class Player(Standing):
             self._push(following.due, actor, which)
 
     def _is_held_back(self, actor: int, which: int, event: Event) -> bool:
-        """Whether what is due has to wait: the network for the steps that it may come of, and who is made, where it isn't known by
-        whom, for those who pause."""
+        """Whether a due action must wait: the network for the steps that it may react to, and a new goroutine whose parent is
+        unknown for the goroutines that pause."""
         if actor == NETWORK:
             if (cause := self.passing.has_still_to_cause(event.number)) is not None:
                 self.passing.wait(cause, actor, which, (self.now, self._at))

@@ -6,14 +6,14 @@ from netrev_words.recording import Answer, Step
 
 
 class Delay(NamedTuple):
-    """A goroutine pauses before its step of this number, until behind the recorded time of that one."""
+    """A goroutine pauses before its step of this number, until after the recorded time of another step."""
 
     before: int
     until: int
 
 
 class Made(NamedTuple):
-    """A step that was made, its answer, and its number in the recording; 0 where it isn't one of it."""
+    """A step that was made, its answer, and its number in the recording; 0 if it isn't a recorded one."""
 
     step: Step
     answer: Answer

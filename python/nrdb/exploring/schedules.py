@@ -1,5 +1,5 @@
-"""Which schedules are tried: the recorded one but for a few delays. Who pauses does so until somebody else has made a step
-about the same thing of the same socket; all such delays alone, and then two and three of them, drawn by a seed."""
+"""The schedules that are tried: the recorded one with a few delays. A goroutine pauses until another one has made a step about the
+same part of the same socket; first each delay alone, then two and three of them, drawn by a seed."""
 
 import random
 from bisect import bisect_left, bisect_right
@@ -13,7 +13,7 @@ from .scripts import Operation, Script
 
 NEAR = 4  # steps of others about the same thing, until which one pauses
 AROUND = 40  # steps, within which several delays are drawn
-IN_VAIN = 2_000  # seeds that draw nothing new, behind which no more are drawn
+IN_VAIN = 2_000  # seeds without a new schedule after which the search ends
 LOCK, WAIT, BYTES = "lock", "wait", "bytes"  # the things of a socket that a step is about
 OF_THING = {
     LOCK: ("rwlock", "rwunlock", "increfclose", "acquire", "release"),
@@ -25,14 +25,14 @@ OF_THING = {
 }
 THING_OF = {kind: thing for thing, kinds in OF_THING.items() for kind in kinds}
 SIDE_OF = {"arrive": "r", "peerclose": "r", "sysread": "r", "drain": "w", "syswrite": "w", "closewrite": "w"}
-# of two steps about a wait one has to be such: who waits lets nobody else in
+# of two steps about a wait one must be such: a waiting goroutine lets no other in
 TO_OTHERS = frozenset(("setdeadline", "evict", "pollevent", "fire"))
 
 Thing = tuple[int, str, str]  # a socket, which thing of it, and the side
 
 
 class Schedule(NamedTuple):
-    """The delays, and the seed that drew them; 0 where there is but one."""
+    """The delays, and the seed that drew them; 0 for a single delay."""
 
     delays: tuple[Delay, ...]
     seed: int
@@ -47,7 +47,7 @@ class Schedule(NamedTuple):
 
 
 class Touched(NamedTuple):
-    """A recorded step about a thing, and who made it, -1 the network or a timer."""
+    """A recorded step about a part of a socket, and its goroutine, -1 for the network or a timer."""
 
     number: int
     who: int
@@ -113,7 +113,7 @@ def _of_sort(script: Script, sort: Sort) -> Iterator[tuple[int, Operation]]:
 
 
 def schedules(delays: list[Delay], most: int) -> Iterator[Schedule]:
-    """So many different schedules at most, of delays of which the nearest come first; fewer where seeds draw no more new ones."""
+    """At most this many different schedules, those with the nearest delays first; fewer if seeds give no new ones."""
     for delay in delays[:most]:
         yield Schedule((delay,), 0)
     in_order = sorted(delays)

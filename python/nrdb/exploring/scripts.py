@@ -1,6 +1,6 @@
-"""What each goroutine, the network and the clock did in a recording, without the order in which they did it: a script. A
-goroutine's is a row of operations, which its calls are made of; it goes on to another than the next where the machine answers
-otherwise than it did."""
+"""What each goroutine, the network and the clock did in a recording, without the order: a script. A goroutine's script is a row of
+operations, which make up its calls; the goroutine continues with another operation than the next one if the machine answers
+differently."""
 
 from dataclasses import dataclass, field
 from typing import Any, NamedTuple, Optional
@@ -13,25 +13,26 @@ from ..reducing.events import Event, Timer
 
 @dataclass
 class Operation:
-    """A part of a call: what it is about, its recorded steps, and where its goroutine goes on where it fails."""
+    """A part of a call: what it is about, its recorded steps, and the place at which its goroutine goes on if it
+    fails."""
 
     sort: Sort
     socket: int
     use: int = -1  # of a descriptor
     side: str = ""
-    values: tuple[Any, ...] = ()  # the arguments behind those
+    values: tuple[Any, ...] = ()  # the arguments after those
     steps: list[int] = field(default_factory=list)
     kinds: list[str] = field(default_factory=list)
     moved: list[int] = field(default_factory=list)  # bytes, by each try of a write
     on_failure: int = 0
-    cause: Optional[int] = None  # the step of the event that ended a wait behind which nothing was read or written
+    cause: Optional[int] = None  # the step of the event that ended a wait after which nothing was read or written
     is_brief: bool = False  # such a wait that took a readiness which was there
     is_raw: bool = False  # whether it waits is for a function of the program's to say, which RawConn was given
-    ends_unread: bool = False  # behind its last wait nothing was tried that is a step
+    ends_unread: bool = False  # after its last wait nothing was tried that is a step
 
 
 class Item(NamedTuple):
-    """What the network, the clock or nobody known did: a recorded step, and when it is due."""
+    """A recorded step of the network, the clock or an unknown goroutine, and its due time."""
 
     due: float
     event: Event
@@ -47,7 +48,8 @@ class Order(NamedTuple):
 
 
 class Cause(NamedTuple):
-    """A recorded step that somebody else may answer: its number, whose it is, in which operation, and where in that."""
+    """A recorded step that another actor may answer: its number, its goroutine, its operation, and the index in
+    that."""
 
     number: int
     goroutine: int
@@ -71,5 +73,5 @@ class Script:
     causes: list[Cause]
     answers: list[tuple[Any, ...]]
     orders: Optional[list[list[Order]]] = None  # of each goroutine, if the recorder saw what the program orders
-    # where calls that fail are looked for: the operations of those that went well, by goroutine, and where the call of each begins
+    # the places at which calls may fail: the operations of those that succeeded, by goroutine, and the place where each call begins
     watched: dict[tuple[int, int], int] = field(default_factory=dict)

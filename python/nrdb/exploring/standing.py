@@ -1,5 +1,5 @@
-"""Where a script that is played stands: the machine's state, where each goroutine is in its calls, and what is due when. It can be
-copied, and compared with where another stands."""
+"""The state of a script that runs: the machine's state, the place of each goroutine in its calls, and what is due when. It can be
+copied, and compared with another one."""
 
 from heapq import heapify, heappush
 from typing import NamedTuple, Optional, TypeVar
@@ -17,14 +17,13 @@ from .others import Others
 from .runs import Delay, Made
 from .scripts import Script
 
-Due = tuple[float, int, int, int]  # when, which of those at that time, who acts, and its number
+Due = tuple[float, int, int, int]  # the time, the order among those at that time, the actor, and its number
 Itself = TypeVar("Itself", bound="Standing")
 
 
 class Turn(NamedTuple):
-    """A goroutine's turn in the recorded run: where it was, what it was answered, and its status and place behind it. Behind
-    those its next step, if that was put where it is due at once; with the number that this names, and of what that is.
-    """
+    """A goroutine's turn in the recorded run: its place before, its answer, and its status and place afterwards; its next step, if
+    that was scheduled at its time at once, with the number of the step's object, and the object."""
 
     place: Place
     answer: Answer
@@ -38,7 +37,7 @@ class Turn(NamedTuple):
 
 
 class Standing:
-    """Where a script stands that is played under delays."""
+    """The state of a script that runs under delays."""
 
     def __init__(self, script: Script, delays: tuple[Delay, ...] = ()) -> None:
         self.script = script
@@ -47,18 +46,18 @@ class Standing:
         self.turns: dict[int, Turn] = {}  # of the recorded run, by the numbers of their steps
         self.numbers = Numbers()
         self.before = 0  # steps of the player that it is a copy of
-        self.steps: list[Made] = []  # those behind them
+        self.steps: list[Made] = []  # those after them
         self.places = [Place() for _ in script.goroutines]
         self.passing = Passing(script.orders, script.causes, self.places)
-        self.following: dict[int, Step] = {}  # of a goroutine that is put where it is due, its step
+        self.following: dict[int, Step] = {}  # for a goroutine that is put where it is due, its step
         self.coming = [0] * len(script.goroutines)  # the number of that in the recording, or 0
-        self.off: set[int] = set()  # who has made steps that the recording doesn't have
-        self.has_news = False  # where there was none in the recording
+        self.off: set[int] = set()  # the actors that have made steps that the recording doesn't have
+        self.has_news = False  # the recording had none
         self.failed: Optional[Failed] = None  # the first of the calls that are watched
         self.is_over = False  # that call has ended
-        self.held: dict[int, float] = {}  # who pauses, until when
+        self.held: dict[int, float] = {}  # the actors that pause, and until when
         self.asleep: set[int] = set()
-        self.lacking: list[tuple[int, int]] = []  # who waits for what isn't made
+        self.lacking: list[tuple[int, int]] = []  # the actors that wait for a step that isn't made
         self.others = Others(script)
         self.now = 0.0
         self._heap: list[Due] = []
@@ -81,7 +80,7 @@ class Standing:
         return made
 
     def _hold(self) -> None:
-        """Who pauses before what it is due to do is due later."""
+        """A goroutine that pauses before its next step is due later."""
         for at, (due, count, actor, g) in enumerate(self._heap):
             if actor == GOROUTINE and (until := self.until.get(self.coming[g])):
                 self.held[g] = max(due, until)
@@ -89,7 +88,7 @@ class Standing:
         heapify(self._heap)
 
     def is_as(self, other: "Standing") -> bool:
-        """Whether it is where the other is, so that both go on alike."""
+        """Whether it equals the other one, so that both continue in the same way."""
         return (
             self.places == other.places
             and self.off == other.off
@@ -146,7 +145,7 @@ class Standing:
         return self._streams[g, at]
 
     def _next(self, g: int) -> Optional[Step]:
-        """The step that a goroutine makes next; None where it has no more, sleeps or isn't there."""
+        """The next step of a goroutine; None if it has no more, sleeps or doesn't exist."""
         board = self.board
         if g >= len(board.goroutines) or g in self.asleep:
             return None

@@ -21,7 +21,7 @@ class TakenApart:
         self.answer: tuple[Any, ...] = ()  # of its last step
 
     def see(self, event: Event) -> None:
-        """Behind each of its steps."""
+        """Called after each of its steps."""
         handler = getattr(self, f"_{event.kind}", self._begins if event.kind in SORTS else self._goes_on)
         handler(event)
         self.answer = event.answer
@@ -150,7 +150,7 @@ class TakenApart:
         self._tries(Sort.WRITE, "w", event)
 
     def _tries(self, sort: Sort, side: str, event: Event) -> None:
-        """A read or a write: the first of a call, one behind a wait, or the next where there is more than one step moves."""
+        """A read or a write: the first of a call, one after a wait, or the next one if the call moves bytes in several steps."""
         last, (_, s, value) = self.last, event.arguments
         is_over = self.answer[:1] in (("eof",), ("pipe",))
         goes_on = last is not None and last.sort is sort and last.socket == s and last.steps and not is_over
@@ -224,7 +224,7 @@ def _finish(operations: list[Operation], is_at_rest: bool) -> None:
 
 
 def _end(operations: list[Operation], open_ones: list[int], at: int) -> None:
-    """What an operation ends leads behind it where it fails, and what is between leads to it."""
+    """The operations after which the call ends if they fail, and those in between."""
     ending = operations[at]
     for begun in reversed(open_ones):
         one = operations[begun]

@@ -1,5 +1,5 @@
-"""Plays schedules on all processors. Each of several processes plays its share of the same ones and tells what it found; what comes
-of them is what one process finds."""
+"""Plays schedules on all processors. Each of several processes plays its share and reports its findings; the result is
+that of one process."""
 
 import os
 import pickle
@@ -16,7 +16,7 @@ from .finding import Exploring, Key
 from .schedules import Schedule, schedules
 from .scripts import Script
 
-WORTH_IT = 100_000  # steps of all schedules, where they were as long as the recording
+WORTH_IT = 100_000  # steps of all schedules, if they are as long as the recording
 SECONDS = 0.2  # between two messages
 LENGTH = 8  # bytes of a message's length
 CODE = f"import sys; sys.path[:0] = {sys.path!r}; from nrdb.exploring.workers import work; work()"
@@ -35,7 +35,7 @@ class Best(NamedTuple):
 
 
 class Told(NamedTuple):
-    """What a process has found since it told last, and whether that is all."""
+    """The findings of a process since its last report, and whether these are all."""
 
     is_all: bool
     played: int
@@ -55,7 +55,7 @@ class Share(NamedTuple):
     of: int
 
     def play(self, exploring: Exploring, best: dict[Key, Best], behind: int = 0) -> Iterator[None]:
-        """Plays them, but for so many that were played before, and keeps the simplest of each finding; goes on behind each."""
+        """Runs them, except for those that ran before, and keeps the simplest schedule of each finding; yields after each."""
         mine = islice(enumerate(schedules(exploring.delays, self.most)), self.which + behind * self.of, None, self.of)
         for at, schedule in mine:
             for key in exploring.play(schedule):
@@ -119,7 +119,7 @@ class Working:
             to.write(pickle.dumps(share))
 
     def hear(self, exploring: Exploring, best: dict[Key, Best]) -> bool:
-        """Takes what it tells; False where it has ended, also in the middle of telling."""
+        """Reads a report; False if the process has ended, even within a report."""
         head = self.told.read(LENGTH)
         size = int.from_bytes(head, "big")
         data = self.told.read(size) if len(head) == LENGTH else b""
@@ -150,7 +150,7 @@ class Working:
 
 
 def work() -> None:
-    """Plays the share that comes by the input, and tells by the output. Where nobody listens any more, it just ends."""
+    """Runs the share that arrives on the input, and reports on the output. If nothing reads the output any more, it ends."""
     try:
         share: Share = pickle.load(sys.stdin.buffer)
         tell_of(share, sys.stdout.buffer)

@@ -15,7 +15,7 @@ NUMBER = re.compile(rf"{LETTER}\d+")
 
 @dataclass
 class Break:
-    """A break: its number, its place, and whether it is gone behind the first stop."""
+    """A break: its number, its place, and whether its first stop deletes it."""
 
     number: str
     place: Place
@@ -29,7 +29,7 @@ class Break:
 
 @dataclass
 class Breaks:
-    """The breaks at places of the program that stand."""
+    """The current breaks at places of the program."""
 
     standing: dict[str, Break] = field(default_factory=dict)
     given: int = 0
@@ -61,7 +61,7 @@ class Breaks:
         return [one for one in here if self.is_met(one.number, position)]
 
     def hit(self, position: int) -> list[Break]:
-        """The breaks that stop at a position, of which the temporary ones are gone then."""
+        """The breaks that stop at a position; the temporary ones among them are deleted."""
         found = self.at(position)
         for one in found:
             if one.is_temporary:

@@ -1,4 +1,4 @@
-"""At which positions goroutines come to a line of the program or to a function of it, by the stacks of NAME.where."""
+"""The positions at which goroutines come to a line or a function of the program, by the stacks of NAME.where."""
 
 import re
 from functools import lru_cache
@@ -6,6 +6,7 @@ from typing import Callable, Hashable, Iterable, NamedTuple, Optional, Sequence,
 
 from netrev_words.vocabulary import KINDS, cell_of
 
+from ..messages import session as messages
 from ..calls import book_of
 from ..recording import Recording
 from ..where import Call, Stack
@@ -33,7 +34,7 @@ class Places:
         self._begins = {call.first for call in book.calls}
 
     def place(self, spelled: str) -> Optional[Place]:
-        """The place that a word spells; None where no step of the recording comes from there."""
+        """The place that a word names; None if no recorded step comes from there."""
         found = OF_A_LINE.fullmatch(spelled)
         positions = self._of_line(found[1], int(found[2])) if found else self._of_function(spelled)
         return Place(spelled, positions) if positions else None
@@ -58,8 +59,8 @@ class Places:
         return found.get(name, [])
 
     def _positions(self, keys: Callable[[Stack], set[Key]]) -> dict[Key, list[int]]:
-        """Of each key the positions before the steps at which a goroutine comes to a stack that has it. One that was there at its
-        step before has come there anew where a call of its own begins."""
+        """For each key the positions before the steps at which a goroutine comes to a stack that has it. A goroutine
+        that was there at its previous step comes there anew if a call of its own begins."""
         of_stack = {number: keys(stack) for number, stack in self._lines.stacks.items()}
         found: dict[Key, list[int]] = {}
         before: dict[int, set[Key]] = {}
@@ -80,13 +81,15 @@ def near_lines(file: str, wanted: int, lines: Iterable[int]) -> list[str]:
 
 
 def no_step_from(spelled: str, near: Sequence[str]) -> str:
-    """What is said of a line or function that no step comes from, with the lines near it that steps come from."""
-    return f"no step of the recording comes from {spelled}" + (f"; from {', '.join(near)}" if near else "")
+    """The message about a line or function that no step comes from, with the nearest lines that steps come from."""
+    if near:
+        return messages.NO_STEP_FROM_BUT.format(place=spelled, near=", ".join(near))
+    return messages.NO_STEP_FROM.format(place=spelled)
 
 
 def is_place(recording: Optional[Recording], words: list[str]) -> bool:
-    """Whether these words, behind a command, are a place of the program and nothing else: FILE:LINE, a function with its package or
-    receiver, or any other that the recording comes from."""
+    """Whether the words after a command are a place of the program and nothing else: FILE:LINE, a function with its package or
+    receiver, or any other function of the recording."""
     if len(words) != 1 or words[0] in KINDS or words[0].isdecimal() or words[0].startswith("@") or cell_of(words):
         return False
     if OF_A_LINE.fullmatch(words[0]):
@@ -95,7 +98,7 @@ def is_place(recording: Optional[Recording], words: list[str]) -> bool:
 
 
 def is_file(known: str, spelled: str) -> bool:
-    """Whether a file of NAME.where is the one that is spelled: the whole name, or the end of it."""
+    """Whether a file of NAME.where has this name, or a name that ends with it."""
     return known == spelled or known.endswith(f"/{spelled.removeprefix('./')}")
 
 

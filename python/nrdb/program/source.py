@@ -1,8 +1,9 @@
-"""The program's source round a line, where the file is there."""
+"""The program's source around a line, if the file is available."""
 
 import os
 from pathlib import Path
 
+from ..messages import session as messages
 from ..recording import Recording
 from ..text_files import lines_of
 
@@ -10,7 +11,7 @@ ROUND = 5
 
 
 def source_of(file: str, beside: str) -> Path:
-    """Where a file of NAME.where may be: from the folder that nrdb is called in, else from the recording's."""
+    """The path of a file of NAME.where, in the folder in which nrdb was started, or in the recording's."""
     return Path(file) if os.path.isfile(file) or os.path.isabs(file) else Path(beside).parent / file
 
 
@@ -24,4 +25,4 @@ def text_round(recording: Recording, path: Path, line: int) -> list[str]:
         for number in range(max(1, line - ROUND), min(len(lines), line + ROUND) + 1)
     ]
     changed = os.stat(path).st_mtime > recording.lines.written
-    return [*told, f"({path.name} has changed since it was recorded)"] if changed and told else told
+    return [*told, messages.SOURCE_CHANGED.format(file=path.name)] if changed and told else told

@@ -1,5 +1,5 @@
-"""What nrdb answers itself, a function for each of its commands. Each has the session and the words behind the command;
-Misused says what is wrong with them. What most sessions do without is imported where it is called, so that the prompt is there sooner."""
+"""nrdb's own commands, a function for each. Each gets the session and the words after the command, and raises Misused if they are
+wrong. Modules that most sessions don't need are imported when they are used, so that the prompt appears sooner."""
 
 import re
 from fnmatch import fnmatchcase
@@ -7,6 +7,7 @@ from typing import Iterator
 
 from netrev_words.vocabulary import CELLS, KINDS, REASONS, Of, cell_of, number_of
 
+from ..messages import session as messages
 from .answers_of_calls import OF_CALLS, answer_errors, arrive, taken_most, usage
 from .answers_of_files import answer_explore, answer_reduce, answer_report, answer_timeline, answer_trace
 from ..changes import history_table
@@ -31,20 +32,20 @@ def taken_number(name: str, words: list[str]) -> int:
     """The one number that a command takes."""
     number = number_of(words[0]) if len(words) == 1 else None
     if number is None:
-        raise Misused(f"{usage(name)}; N is a number")
+        raise Misused(messages.NUMBER.format(usage=usage(name)))
     return number
 
 
 def taken_cell(name: str, words: list[str]) -> tuple[str, list[str]]:
-    """The cell that the words begin with, and the words behind it."""
+    """The cell at the beginning of the words, and the words after it."""
     for length in (2, 1):
         if len(words) >= length and (cell := cell_of(words[:length])):
             return cell, words[length:]
     if not words:
-        raise Misused(f"{usage(name)}; the cells are {' '.join(CELLS)}")
+        raise Misused(messages.USAGE_AND_CELLS.format(usage=usage(name), cells=" ".join(CELLS)))
     if words[0] in CELLS:
-        raise Misused(f"{words[0]} wants the number of a {CELLS[words[0]].of.value}: {name} {words[0]} 0")
-    raise Misused(f"{words[0]} is no cell; the cells are {' '.join(CELLS)}")
+        raise Misused(messages.NUMBER_OF.format(cell=words[0], of=CELLS[words[0]].of.value, name=name))
+    raise Misused(messages.NOT_A_CELL.format(word=words[0], cells=" ".join(CELLS)))
 
 
 def answer_help(session: Session, words: list[str]) -> None:
@@ -52,12 +53,12 @@ def answer_help(session: Session, words: list[str]) -> None:
         return session.printer.note("\n".join(all_help()))
     told = list(help_of(words))
     if not told:
-        raise Misused(f"{' '.join(words)} is no command, kind or cell; help alone lists them")
+        raise Misused(messages.NO_HELP.format(words=" ".join(words)))
     session.printer.note("\n".join(told))
 
 
 def help_of(words: list[str]) -> Iterator[str]:
-    """What a word means: as a command, as a kind of step, as a cell, as a reason's number; nothing where it means nothing."""
+    """The meaning of a word: as a command, as a kind of step, as a cell, as a reason's number; empty if it has none."""
     word, name = " ".join(words), whole_command(words[0])
     reason = number_of(word)
     is_other = word in KINDS or word in CELLS
@@ -98,7 +99,7 @@ def answer_apropos(session: Session, words: list[str]) -> None:
         raise Misused(usage("apropos"))
     wanted = " ".join(words).lower()
     lines = [line for line in described() if wanted in line.lower()]
-    session.printer.note("\n".join(lines) or f"nothing has {wanted} in its description; help lists all")
+    session.printer.note("\n".join(lines) or messages.NOT_DESCRIBED.format(words=wanted))
 
 
 def described() -> Iterator[str]:
@@ -135,12 +136,12 @@ def answer_list(session: Session, words: list[str]) -> None:
 def answer_goto(session: Session, words: list[str]) -> None:
     number = taken_position(session, words)
     if number > session.length:
-        raise Misused(f"the recording has {session.length} steps")
+        raise Misused(messages.HAS_STEPS.format(steps=session.length))
     arrive(session, f"goto {number}", session.go(number))
 
 
 def taken_position(session: Session, words: list[str]) -> int:
-    """The position that `goto` names: a number, the start, the end, or the last one at which the clock isn't behind a time."""
+    """The position that `goto` names: a number, the start, the end, or the last one at which the clock isn't after a time."""
     word = words[0] if len(words) == 1 else ""
     if word in ("start", "end"):
         return session.length if word == "end" else 0
@@ -161,13 +162,13 @@ def taken_conditions(name: str, words: list[str]) -> dict[str, str]:
     end = next(ends, len(rest))
     value = " ".join(word for word in rest[:end] if word not in ("=", "=="))
     if not value:
-        raise Misused(f"{usage(name)}; which value of {cell}?")
+        raise Misused(messages.WHICH_VALUE.format(usage=usage(name), cell=cell))
     return {cell: value} | (taken_conditions(name, rest[end + 1 :]) if end < len(rest) else {})
 
 
 def answer_until(session: Session, words: list[str], name: str = "until") -> None:
     if len(words) == 1 and number_of(words[0]) is not None:
-        raise Misused(f"{usage(name)}; goto {words[0]} goes to position {words[0]}")
+        raise Misused(messages.GOTO_INSTEAD.format(usage=usage(name), number=words[0]))
     wanted = taken_conditions(name, words)
     is_back = name == "reverse-until"
 
@@ -180,8 +181,8 @@ def answer_until(session: Session, words: list[str], name: str = "until") -> Non
 
     found = session.changes().nearest(list(wanted), are_wanted, session.stands().position, is_back)
     if found is None:
-        said = " and ".join(f"{cell} the value {value}" for cell, value in wanted.items())
-        session.printer.note(f"no {'earlier' if is_back else 'later'} step gives {said}")
+        values = " and ".join(messages.VALUE_OF_CELL.format(cell=cell, value=value) for cell, value in wanted.items())
+        session.printer.note(messages.NO_STEP_GIVES.format(way="earlier" if is_back else "later", values=values))
         return
     arrive(session, f"{name} {' and '.join(' '.join(one) for one in wanted.items())}", session.go(found))
     for cell in wanted:
@@ -196,7 +197,7 @@ def answer_display(session: Session, words: list[str]) -> None:
     if words:
         cell, rest = taken_cell("display", words)
         if rest:
-            raise Misused(f"display takes a cell alone: display {cell}")
+            raise Misused(messages.ONLY_A_CELL.format(cell=cell))
         if cell not in session.displays:
             session.displays.append(cell)
     session.show_displays()
@@ -208,7 +209,7 @@ def answer_undisplay(session: Session, words: list[str]) -> None:
         return
     cell, _ = taken_cell("undisplay", words)
     if cell not in session.displays:
-        raise Misused(f"{cell} isn't displayed")
+        raise Misused(messages.NOT_DISPLAYED.format(cell=cell))
     session.displays.remove(cell)
 
 
@@ -236,7 +237,7 @@ def answer_pagination(session: Session, words: list[str]) -> None:
 
 def answer_info(session: Session, words: list[str]) -> None:
     if not words:
-        raise Misused(f"info what? {ALL_TOPICS}")
+        raise Misused(messages.WHICH_TOPIC.format(topics=ALL_TOPICS))
     topic, rest = words[0], words[1:]
     if topic == "timers" and not rest:
         return session.printer.table(timers_table(session.world()))
@@ -259,7 +260,7 @@ def answer_info(session: Session, words: list[str]) -> None:
         return session.printer.table(holders_table(session.world(), session.changes(), number))
     is_all = rest == ["all"]
     if topic not in TABLES or (rest and not is_all and number is None):
-        raise Misused(f"info {TOPICS[topic].usage}: {TOPICS[topic].says}")
+        raise Misused(messages.TOPIC.format(usage=TOPICS[topic].usage, says=TOPICS[topic].says))
     session.printer.table(TABLES[topic](session.world(), None if number is None else [number], is_all))
 
 

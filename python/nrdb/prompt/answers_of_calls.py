@@ -4,6 +4,7 @@ from typing import Optional
 
 from netrev_words.vocabulary import number_of
 
+from ..messages import session as messages
 from ..commands import COMMANDS, TOPICS
 from ..conditions import Condition
 from ..following import (
@@ -31,13 +32,14 @@ def taken_most(name: str, words: list[str]) -> Optional[int]:
     """How many rows at most: those that are shown by itself, a number from 1, or all, which is None."""
     most = None if words == ["all"] else number_of(words[0]) if len(words) == 1 else MOST
     if len(words) > 1 or most == 0 or (most is None and words != ["all"]):
-        told = usage(name) if name in COMMANDS else f"info {TOPICS[name].usage}: {TOPICS[name].says}"
-        raise Misused(f"{told}; N is a number from 1")
+        is_topic = name not in COMMANDS
+        told = messages.TOPIC.format(usage=TOPICS[name].usage, says=TOPICS[name].says) if is_topic else usage(name)
+        raise Misused(messages.NUMBER_FROM_ONE.format(usage=told))
     return most
 
 
 def arrive(session: Session, line: str, reply: str) -> None:
-    """Shows netrev's reply to a move, and where the session stands then."""
+    """Prints netrev's reply to a move, and the new position."""
     session.printer.reply(line, Reply(reply), "")
     if MOVED.fullmatch(reply):
         session.arrive(move_of(line, reply).position)
@@ -72,7 +74,7 @@ def moved_by_call(name: str) -> Answering:
     def answer(session: Session, words: list[str]) -> None:
         number = number_of(words[0]) if len(words) == 1 else None
         if words and number is None:
-            raise Misused(f"{usage(name)}; G is a goroutine's number")
+            raise Misused(messages.GOROUTINE_NUMBER.format(usage=usage(name)))
         text, position = session.text(), session.stands().position
         try:
             goroutine = goroutine_at(text, position) if number is None else number
@@ -90,9 +92,9 @@ def answer_commands(session: Session, words: list[str]) -> None:
     marks = [mark.number for mark in session.netrev.marks()]
     number = words[0] if words else marks[-1] if marks else ""
     if len(words) > 1 or number not in marks:
-        raise Misused(f"{usage('commands')}; the marks are {', '.join(marks) or 'none'}")
+        raise Misused(messages.MARKS.format(usage=usage("commands"), marks=", ".join(marks) or "none"))
     session.attached.begin(number)
-    session.printer.note(f"the lines that come run when mark {number} hits; the last one is `end`")
+    session.printer.note(messages.LINES_OF_MARK.format(number=number))
 
 
 def answer_condition(session: Session, words: list[str]) -> None:
@@ -102,15 +104,15 @@ def answer_condition(session: Session, words: list[str]) -> None:
     is_named = bool(words) and words[0] in standing
     number, rest = (words[0], words[1:]) if is_named else (session.latest, words)
     if number not in standing or not words or (not is_named and Condition.of(words) is None):
-        raise Misused(f"{usage('condition')}; the marks are {', '.join(standing) or 'none'}")
+        raise Misused(messages.MARKS.format(usage=usage("condition"), marks=", ".join(standing) or "none"))
     if marks.get(number) == "tbreak":
-        raise Misused(f"mark {number} is a tbreak, which is gone after its first stop: a break takes a condition")
+        raise Misused(messages.TBREAK_IS_DELETED.format(number=number))
     if not rest:
         session.conditions.pop(number, None)
-        return session.printer.note(f"mark {number} stops always")
+        return session.printer.note(messages.STOPS_ALWAYS.format(number=number))
     condition = Condition.of(rest)
     if condition is None:
-        raise Misused(f"{usage('condition')}: condition {number} gor 3 parked*")
+        raise Misused(messages.CONDITION.format(usage=usage("condition"), number=number))
     session.conditions[number] = condition
     session.printer.note(condition.says(number))
 

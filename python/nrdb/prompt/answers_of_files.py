@@ -1,4 +1,5 @@
-"""What nrdb answers itself that writes files or plays other schedules. Most sessions do without, so all of it is imported where it is called."""
+"""Commands of nrdb that write files or explore other schedules. Most sessions don't need them, so their modules are imported when
+they are used."""
 
 from netrev_words.vocabulary import number_of
 

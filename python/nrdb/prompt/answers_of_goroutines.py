@@ -1,10 +1,11 @@
-"""What nrdb answers about where the session and one goroutine are: `goroutine N` shows its stack and the source, and `where`, `frame`, `up` and
-`down` go by it then."""
+"""Commands about the session's position and one goroutine: `goroutine N` shows its stack and the source, which `where`, `frame`,
+`up` and `down` use then."""
 
 from typing import Optional
 
 from netrev_words.vocabulary import number_of
 
+from ..messages import session as messages
 from ..goroutine_stacks import GoroutineStack, stack_of
 from ..session import Answering, Misused, Session
 from ..waits import Name
@@ -30,10 +31,10 @@ def answer_goroutine(session: Session, words: list[str]) -> None:
     recording, position = session.text(), session.stands().position
     name = named(words) if words else session.goroutine or of_step(session, position)
     if name is None:
-        raise Misused(f"{usage('goroutine')}; N is a number")
+        raise Misused(messages.NUMBER.format(usage=usage("goroutine")))
     found = stack_of(recording, name, position)
     if found is None:
-        raise Misused(f"{name} has neither a step nor a wait up to position {position}: info goroutines all")
+        raise Misused(messages.NO_STEP_OR_WAIT.format(goroutine=name, position=position))
     session.goroutine, session.frame, session.is_before = name, None, False
     show(session, found)
     if found.stack.calls:

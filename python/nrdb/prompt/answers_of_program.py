@@ -1,7 +1,8 @@
-"""What nrdb answers where a line or a function of the program is named, and about frames."""
+"""Commands with a line or a function of the program, and commands about frames."""
 
 from typing import Optional
 
+from ..messages import session as messages
 from .answers_of_calls import arrive
 from ..goroutine_stacks import stack_of
 from ..output import Row, Table
@@ -11,15 +12,14 @@ from ..where import OF_THE_PROGRAM, Call, Stack
 from ..program.index import OF_A_LINE, Place, is_file, is_function, is_place, no_step_from, places_of
 from ..program.source import source_of, text_round
 
-NO_LINES = "the lines of the program aren't known: NAME.where isn't beside the recording"
 MOST = 40
 
 
 def place_of(session: Session, spelled: str) -> Place:
-    """The place that a word spells; Misused where no step comes from there."""
+    """The place that a word names; Misused if no step comes from there."""
     recording = session.text()
     if not recording.lines:
-        raise Misused(NO_LINES)
+        raise Misused(messages.NO_LINES)
     places = places_of(recording)
     if place := places.place(spelled):
         return place
@@ -50,7 +50,7 @@ def answer_delete(session: Session, words: list[str]) -> None:
     if not words:
         return delete_all(session)
     if session.breaks.standing.pop(words[0], None) is None:
-        raise Misused(f"no break has the number {words[0]}: info breakpoints")
+        raise Misused(messages.NO_BREAK.format(number=words[0]))
 
 
 def delete_all(session: Session) -> None:
@@ -63,7 +63,7 @@ def delete_all(session: Session) -> None:
     gone += [f"{one.number} (break {one.place.spelled})" for one in session.breaks.standing.values()]
     session.breaks.standing.clear()
     session.conditions.clear()
-    session.printer.note(f"deleted: {', '.join(gone)}" if gone else "no mark stands")
+    session.printer.note(messages.DELETED.format(marks=", ".join(gone)) if gone else messages.NO_MARKS)
 
 
 def go_to_place(name: str, forwards: bool) -> Answering:
@@ -73,7 +73,7 @@ def go_to_place(name: str, forwards: bool) -> Answering:
         place, position = place_of(session, words[0]), session.stands().position
         ahead = [one for one in place.positions if (one > position if forwards else one < position)]
         if not ahead:
-            raise Misused(f"no goroutine comes to {words[0]} {'later' if forwards else 'earlier'}")
+            raise Misused(messages.NOT_REACHED.format(place=words[0], way="later" if forwards else "earlier"))
         arrive(session, f"{name} {words[0]}", session.go(ahead[0] if forwards else ahead[-1]))
         session.is_before = True
 
@@ -97,7 +97,7 @@ def row_of(recording: Recording, position: int) -> Row:
 
 
 def answer_list(session: Session, words: list[str]) -> None:
-    """The source round a line, or round the first line of a function that the recording has."""
+    """The source around a line, or around the first line of a function that the recording has."""
     if found := OF_A_LINE.fullmatch(words[0]):
         return show_source(session, found[1], int(found[2]))
     calls = [call for call in calls_of(session.text()) if is_function(call, words[0])]
@@ -109,10 +109,10 @@ def show_source(session: Session, file: str, line: int) -> None:
     recording = session.text()
     known = next((call.file for call in calls_of(recording) if is_file(call.file, file)), None)
     if known is None:
-        raise Misused(f"no call of the recording is in a file {file}")
+        raise Misused(messages.NO_CALL_IN.format(file=file))
     path = source_of(known, session.path)
     lines = text_round(recording, path, line)
-    session.printer.note("\n".join(lines) if lines else f"{known}:{line}: the source isn't here")
+    session.printer.note("\n".join(lines) if lines else messages.NO_SOURCE.format(place=f"{known}:{line}"))
 
 
 def calls_of(recording: Recording) -> list[Call]:
@@ -133,14 +133,14 @@ def frame_by(move: int) -> Answering:
     def answer(session: Session, words: list[str]) -> None:
         stack = stack_at(session)
         if not stack.calls:
-            raise Misused("no call of the program is known here: where, goroutine N")
+            raise Misused(messages.NO_STACK)
         wanted: Optional[int] = own_frame(stack) if session.frame is None else session.frame
         if not move and words:
             wanted = int(words[0]) if words[0].isdecimal() and len(words[0]) < 6 else None
         elif wanted is not None:
             wanted += move
         if wanted is None or not 0 <= wanted < len(stack.calls):
-            raise Misused(f"the stack has frames from 0, the innermost, to {len(stack.calls) - 1}")
+            raise Misused(messages.FRAMES.format(last=len(stack.calls) - 1))
         show_frame(session, stack, wanted)
 
     return answer

@@ -23,7 +23,7 @@ VALUES = {"gor": STATUSES, "rg": ["nil", "ready", "wait"], "wg": ["nil", "ready"
 
 
 def completions(line: str, session: Session) -> list[str]:
-    """What the last word of a line can become, of which others may stand before it with `;` between. With netrev in the middle of an answer
+    """The completions of the last word of a line, which may have other commands before it, separated by `;`. While netrev answers,
     it can't be asked."""
     words = line.rpartition(";")[2].split(" ")
     *before, last = words
@@ -50,7 +50,7 @@ def places_in(recording: Optional[Recording]) -> list[str]:
 def candidates(
     before: list[str], numbers: Callable[[Of], list[str]], places: Callable[[], list[str]] = list
 ) -> list[str]:
-    """What can stand behind these words; `numbers` gives those that are in use, and `places` the functions and lines of the program."""
+    """The words that can follow these; `numbers` gives the numbers in use, `places` the functions and lines of the program."""
     if not before:
         return list(COMMANDS)
     try:
@@ -91,7 +91,7 @@ def candidates(
 
 
 def of_cell(rest: list[str], numbers: Callable[[Of], list[str]]) -> list[str]:
-    """What can stand behind these words of a cell."""
+    """The words that can follow these words of a cell."""
     if not rest:
         return list(CELLS)
     cell = CELLS.get(rest[0])

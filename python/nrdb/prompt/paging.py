@@ -1,4 +1,4 @@
-"""The pager: where an answer is longer than the screen it waits, as in GDB, for a word whether to go on. `pagination off` ends that."""
+"""The pager: if the output is longer than the screen, it waits for a key, as GDB does. `pagination off` turns it off."""
 
 import io
 import os
@@ -10,8 +10,8 @@ LEAST = 4  # lines of a screen that is worth stopping at
 
 
 class Paged(io.TextIOBase):
-    """Writes to a terminal, a screen at a time. What is left out of an answer is left out up to the next one: nothing that is under way is
-    stopped by it."""
+    """Writes to a terminal, a screen at a time. Text that is skipped is skipped up to the next answer: nothing that is
+    in progress is stopped by it."""
 
     def __init__(self, out: TextIO, answer: Callable[[], str], is_on: Callable[[], bool]):
         self._out, self._answer, self._is_on = out, answer, is_on
@@ -28,7 +28,7 @@ class Paged(io.TextIOBase):
         return len(text)
 
     def _write(self, line: str) -> None:
-        """Writes a line, or the end of one; where the screen is full asks before it."""
+        """Writes a line, or the rest of one; asks first if the screen is full."""
         rows, columns = self._screen()
         if rows >= LEAST and self._lines >= rows - 1 and not self._goes_on and self._is_on():
             self._ask()
@@ -55,7 +55,7 @@ class Paged(io.TextIOBase):
         self._is_left_out, self._goes_on = word.startswith("q"), word.startswith("c")
 
     def _screen(self) -> tuple[int, int]:
-        """How many lines and columns the terminal shows; no lines where that isn't known."""
+        """The number of lines and columns of the terminal; no lines if that is unknown."""
         try:
             size = os.get_terminal_size(self._out.fileno())
         except (OSError, ValueError):

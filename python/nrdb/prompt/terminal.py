@@ -26,12 +26,12 @@ except ImportError:  # a Python without it has no line editing
 
 PROMPT, TAKING = "(netrev) ", "> "  # the second for the lines of `commands`
 FIRST = "what went wrong: info suspects; what hangs: info hangs; what failed: info errors; all commands: help"
-MOST_STEPS = 200_000  # of a recording, of which the causes are there within seconds
+MOST_STEPS = 200_000  # of a recording whose causes are found within seconds
 KEPT = 1000
 
 
 def history_file() -> Path:
-    """Where the lines that were typed are kept: NETREV_HISTORY, or .netrev_history in the home folder."""
+    """The file of the typed lines: NETREV_HISTORY, or .netrev_history in the home folder."""
     return Path(os.environ.get("NETREV_HISTORY") or Path.home() / ".netrev_history")
 
 
@@ -57,7 +57,7 @@ class Terminal:
             self._save()
 
     def _open(self) -> None:
-        """Says what failed or hangs in the whole recording, wherever the session stands."""
+        """Prints what failed or hangs in the whole recording, at whatever position."""
         recording = self.session.recording
         if recording is None or recording.length > MOST_STEPS:
             return
@@ -72,14 +72,14 @@ class Terminal:
             self.session.printer.note("\n".join(lines))
 
     def _page(self) -> None:
-        """Answers stop from now on where the screen is full, if the output is a terminal's that can stop."""
+        """From now on output pauses when the screen is full, if the output is a terminal that can pause."""
         printer = self.session.printer
         if isinstance(printer, TextPrinter) and printer.out.isatty() and os.environ.get("TERM") != "dumb":
             self._pager = Paged(printer.out, sys.stdin.readline, lambda: printer.is_paged)
             printer.out = cast(TextIO, self._pager)
 
     def _turn(self) -> bool:
-        """Reads and answers one line. False where the session has ended."""
+        """Reads and answers one line. False if the session has ended."""
         if self._pager is not None:
             self._pager.begins()
         try:
@@ -118,7 +118,7 @@ class Terminal:
             pass
 
     def _complete(self, text: str, at: int) -> Optional[str]:
-        """The candidate at this place, or None behind the last: readline's own rule."""
+        """The candidate of this number, or None after the last one, as readline expects."""
         if at == 0:
             before = readline.get_line_buffer()[: readline.get_begidx()].split()
             with self.session.interrupts.held():
@@ -135,7 +135,7 @@ class Terminal:
 
 
 def repeats(line: str) -> bool:
-    """Whether an empty line behind this one repeats it: where it steps."""
+    """Whether an empty line after this one repeats it, because it steps."""
     try:
         first = whole_words(line.split())[0]
     except Ambiguous:

@@ -2,6 +2,7 @@
 
 from pathlib import Path
 
+from ..messages import searches as messages
 from ..files import written
 from ..recording import Recording
 from ..session import Misused, Session
@@ -14,9 +15,9 @@ USAGE = "reduce OUT.jsonl [N | CELL VALUE]"
 
 
 def reduced_file(session: Session, words: list[str]) -> str:
-    """Reduces the recording to the file that is named first; what to say of that."""
+    """Reduces the recording to the file that is named first; returns the lines about it."""
     if not words or not words[0].endswith(".jsonl"):
-        raise Misused(f"{USAGE}: the file's name ends with .jsonl")
+        raise Misused(messages.REDUCE.format(usage=USAGE))
     made = reduced(session, words[0], wanted_by(session, words[1:]))
     said = made.words(session.text().length)
     found = [suspect for suspect in suspects_of(Recording.read(made.path)).suspects if suspect.is_shown]
@@ -29,7 +30,7 @@ def answer_reduce(session: Session, words: list[str]) -> None:
 
 def answer_report(session: Session, words: list[str]) -> None:
     if not words or not words[0].endswith(".md"):
-        raise Misused("report OUT.md [N | CELL VALUE]: the file's name ends with .md")
+        raise Misused(messages.REPORT)
     story = None if words[1:] or has_suspects(session) else story_of(session)
     if story:
         return report_hang(session, words[0], story)

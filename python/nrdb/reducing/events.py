@@ -1,5 +1,5 @@
 """A recording's steps with what they name: a goroutine and a socket by its number, a descriptor by its use, since its number is
-used again, and a timer by the use and the side that it is for. So a step keeps its meaning where others are left out."""
+used again, and a timer by the use and the side that it is for. So a step keeps its meaning if others are left out."""
 
 from functools import partial
 from typing import Any, NamedTuple, Optional
@@ -16,8 +16,8 @@ NUMBERED = ("spawn", "sockopen", "pollopen")  # whose answer is the number of wh
 
 
 class Event(NamedTuple):
-    """A step: its number, its kind, its arguments with uses in place of descriptors, its answer, the timer of a `pop` or a
-    `fire`, and how far the tag of an event is from the descriptor's own."""
+    """A step: its number, its kind, its arguments with uses instead of descriptors, its answer, the timer of a `pop` or a `fire`,
+    and the difference between an event's tag and the descriptor's own."""
 
     number: int
     kind: str
@@ -33,7 +33,7 @@ class Event(NamedTuple):
 
 
 class Rest(NamedTuple):
-    """Behind a step, of the goroutine that made it: whether it is idle or gone, and how many references it holds."""
+    """For the goroutine of a step, after it: whether it is idle or gone, and how many references it holds."""
 
     is_at_rest: bool
     holds: int
@@ -78,7 +78,7 @@ class Events:
         return None if use is None else self.uses[use].socket
 
     def _rests(self, kind: str, notes: Notes, *arguments: Any) -> Look:
-        """What keeps what is kept of who has made a step."""
+        """The function that stores what is needed about the goroutine of a step."""
         if kind not in OF_A_GOROUTINE:
             return lambda step: self.rests.append(Rest(True, 0))
         goroutine = notes.goroutine(arguments[0])

@@ -8,6 +8,7 @@ from urllib.parse import quote
 from netrev_words.command_lines import file_word
 from netrev_words.plain import plain
 
+from ..beginnings import begin_words
 from ..causes.first import failures_of
 from ..causes.hang_words import hang_looks, hang_says, tree_lines
 from ..causes.wait_graph import graph_at
@@ -66,6 +67,7 @@ def hang_report(session: Session, story: Story, picture: Path) -> tuple[str, str
     _, checked = answered_by(session.program, "check", recording.data)
     drawn = drawing(recording, next(causes_data(recording), None)) if recording.length <= MOST_DRAWN else ""
     parts = [f"# {story.title}", *(shown(line) for line in story.says)]
+    parts += [f"{words[0].upper()}{words[1:]}."] if (words := begin_words(recording)) else []
     parts += [block(story.tree)] if story.tree else []
     parts += [f"![The calls of {shown(file)}]({quote(picture.name)})"] if drawn else []
     for name in story.names:
@@ -80,7 +82,7 @@ def hang_report(session: Session, story: Story, picture: Path) -> tuple[str, str
 
 
 def of_goroutine(session: Session, name: Name) -> list[str]:
-    """A goroutine's stack at the end, the source round its line, and its last calls."""
+    """A goroutine's stack at the end, the source around its line, and its last calls."""
     recording = session.text()
     found = stack_of(recording, name, recording.length)
     if found is None:

@@ -1,5 +1,5 @@
-"""Plays some of a recording's units with the machine's model: each step under the numbers that it has then. A unit of which a
-step doesn't apply, or answers otherwise than it did, is left out too."""
+"""Replays some of a recording's units with the machine's model, each step with new numbers. A unit with a step that
+doesn't apply, or answers differently, is omitted too."""
 
 from bisect import bisect_left
 from typing import Any, Callable, Iterable, Optional
@@ -20,7 +20,7 @@ Step = tuple[Any, ...]
 
 
 class Player:
-    """The machine's model behind some of the events. What was played last is kept, and what begins alike goes on from there."""
+    """The machine's model after some of the events. The last replay is kept, and one with the same beginning continues from there."""
 
     def __init__(self, events: Events, units: list[Unit], limits: Limits, check: Callable[[], None]) -> None:
         self.events, self.units, self.limits, self.check = events, units, limits, check
@@ -80,7 +80,7 @@ class Player:
         return at
 
     def _rewind(self, to: int) -> None:
-        """Goes back behind the first so many events."""
+        """Goes back to the state after the first events."""
         if to >= len(self.chosen):
             return
         again = to - to % self._every
@@ -96,7 +96,7 @@ class Player:
             self._step(place)
 
     def _step(self, place: int) -> bool:
-        """Plays an event; False where it doesn't apply, or answers otherwise."""
+        """Replays an event; False if it doesn't apply, or answers differently."""
         event = self.events.all[place]
         step = self._renumbered(event)
         if step is None:
@@ -125,7 +125,7 @@ class Player:
         return True
 
     def _renumbered(self, event: Event) -> Optional[Step]:
-        """The step of an event under the numbers of what is there; None where something isn't."""
+        """The step of an event with the new numbers of its objects; None if one doesn't exist."""
         if event.kind == "pop":
             return ("pop",) if self._is_next(event) else None
         if event.kind == "fire":
@@ -148,7 +148,7 @@ class Player:
         return first is not None and (self.numbers["d"].get(event.timer[0]), event.timer[1]) == (first.desc, first.side)
 
     def _tag(self, event: Event, descriptor: int) -> int:
-        """The tag of an event: as far from the descriptor's own as it was, where there is such a one."""
+        """The tag of an event: as far from the descriptor's own as in the recording, if there is a descriptor."""
         own = self.world.descs[descriptor].fdseq
         tag = own - event.behind
         return tag if tag >= 0 else event.arguments[1] if event.arguments[1] != own else own + 1

@@ -7,6 +7,7 @@ from typing import Callable, NamedTuple, Optional
 from netrev_words.recording import Limits
 from netrev_words.vocabulary import cell_of, number_of
 
+from ..messages import searches as messages
 from ..files import spare
 from ..recording import Recording
 from ..session import Misused, Session
@@ -20,8 +21,8 @@ from .writing import answered_by, taken, write_recording
 
 
 class Wanted(NamedTuple):
-    """What has to show: the suspect of this number, or a cell with a value; and the steps up to which it is looked for. Or a
-    goroutine that hangs, behind steps that have to stay; or these steps alone."""
+    """The target: the suspect of this number, or a cell with a value, up to a step; or a hanging goroutine after steps that must
+    stay; or only these steps."""
 
     suspect: int
     cell: str
@@ -58,13 +59,13 @@ class Reducing(NamedTuple):
 
 
 def reduced(session: Session, path: str, wanted: Wanted) -> Reduced:
-    """Writes the reduced recording to the path, with its NAME.where; Misused where the target doesn't show."""
+    """Writes the reduced recording to the path, with its NAME.where; Misused if the target doesn't show."""
     spare(path, session.path)
     return reduced_of(Reducing(session.text(), session.path, session.program, session.interrupts.check), path, wanted)
 
 
 def reduced_of(reducing: Reducing, path: str, wanted: Wanted) -> Reduced:
-    """Writes what is left of any recording to the path, as `reduced` does."""
+    """Writes what remains of any recording to the path, as `reduced` does."""
     recording, of, program, check = reducing
     answered = answered_recording(program, recording, wanted.until)
     events = Events(answered)
@@ -75,7 +76,7 @@ def reduced_of(reducing: Reducing, path: str, wanted: Wanted) -> Reduced:
     try:
         kept = shrinking.run()
     except NotReproduced:
-        raise Misused("it doesn't show where the steps are played again; that is an error of nrdb's") from None
+        raise Misused(messages.NOT_SHOWN) from None
     data = taken(program, player, recording.has_answers)
     numbers = [events.all[place].number for place in player.chosen]
     write_recording(path, of, data, recording.lines, numbers)
@@ -84,10 +85,10 @@ def reduced_of(reducing: Reducing, path: str, wanted: Wanted) -> Reduced:
 
 
 def answered_recording(program: str, recording: Recording, until: int) -> Recording:
-    """The first so many steps of the recording with netrev's answers."""
+    """The first steps of the recording with netrev's answers."""
     status, text = answered_by(program, "upgrade", recording.data)
     if status:
-        raise Misused(f"netrev doesn't take the recording: {text.decode('utf-8', 'replace').strip()}")
+        raise Misused(messages.REFUSED.format(fault=text.decode("utf-8", "replace").strip()))
     return Recording(b"".join(text.splitlines(keepends=True)[: until + 1]))
 
 
@@ -100,16 +101,14 @@ def _target(events: Events, recording: Recording, wanted: Wanted) -> Target:
         return CellTarget(events, wanted.cell, wanted.value, wanted.until)
     found = [suspect for suspect in suspects_of(recording).suspects if suspect.is_shown]
     if not found:
-        raise Misused(
-            "no suspect is here; a cell with a value can be named in its place: reduce OUT.jsonl gor 3 parked*"
-        )
+        raise Misused(messages.NO_SUSPECTS)
     if not 0 < wanted.suspect <= len(found):
-        raise Misused(f"the suspects here have the numbers 1 to {len(found)}")
+        raise Misused(messages.SUSPECT_NUMBERS.format(count=len(found)))
     return SuspectTarget(events, found[wanted.suspect - 1], wanted.suspect)
 
 
 def wanted_by(session: Session, words: list[str]) -> Wanted:
-    """What the words behind the file ask for."""
+    """The target that the words after the file name."""
     length = session.text().length
     if not words:
         return Wanted(1, "", "", length)
@@ -118,7 +117,7 @@ def wanted_by(session: Session, words: list[str]) -> Wanted:
     cell = cell_of(words[:2]) or cell_of(words[:1])
     value = " ".join(words[2 if cell_of(words[:2]) else 1 :])
     if cell is None or not value:
-        raise Misused("behind the file stands the number of a suspect, or a cell with a value: gor 3 parked*")
+        raise Misused(messages.AFTER_FILE)
     return Wanted(0, cell, value, _last_with(session, cell, value))
 
 
@@ -135,5 +134,5 @@ def _last_with(session: Session, cell: str, value: str) -> int:
             return position
     found: Optional[int] = changes.nearest([cell], lambda values: is_wanted(values[0]), length, True)
     if found is None:
-        raise Misused(f"no step gives {cell} the value {value}")
+        raise Misused(messages.NO_STEP_GIVES.format(cell=cell, value=value))
     return found

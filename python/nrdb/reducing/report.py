@@ -73,7 +73,7 @@ def report_of(session: Session, wanted: Wanted, reduced: Reduced) -> tuple[str, 
 
 
 def _diagram(recording: Recording, story: Optional[Data]) -> list[str]:
-    """The steps as a diagram, where they aren't too many."""
+    """The steps as a diagram, unless there are too many."""
     told = sequence(recording, story)
     return [f"```mermaid\n{told}\n```"] if told else []
 
@@ -118,7 +118,7 @@ def _steps(recording: Recording, reduced: Reduced) -> list[str]:
 
 
 def _told(step: Step, is_wide: bool) -> str:
-    """A step, without its goroutine where that has a column, and its answer."""
+    """A step with its answer, and without its goroutine if that has a column."""
     words = str(step).split()
     if is_wide and step.kind in OF_A_GOROUTINE:
         del words[1]

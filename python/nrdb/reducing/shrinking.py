@@ -13,7 +13,7 @@ MOST_PLAYED = 600_000  # steps, after which what is found counts
 
 
 class NotReproduced(Exception):
-    """The target doesn't show where all of the recording is played."""
+    """The target doesn't show although the whole recording is played."""
 
 
 class Shrinking:
@@ -30,7 +30,7 @@ class Shrinking:
         return self.player.played >= self._budget
 
     def run(self) -> set[int]:
-        """The units that are left, none of which can be left out; or those that are left when the budget is spent."""
+        """The units that remain: none of them can be left out, or the budget is used up."""
         for candidate in self._beginnings():
             if (settled := self._showing(candidate)) is not None:
                 self.kept = settled
@@ -47,7 +47,7 @@ class Shrinking:
         return self.kept
 
     def _showing(self, candidate: Iterable[int]) -> Optional[set[int]]:
-        """What is left of these units where they are played, if the target shows then."""
+        """What remains of these units after a replay, if the target still shows."""
         settled = self.player.settle(candidate)
         return settled if self.target.shows(self.player) else None
 
@@ -67,7 +67,7 @@ class Shrinking:
         return has_changed
 
     def _idle_ticks(self) -> list[int]:
-        """The ticks behind which another one comes before any timer starts or any deadline is set."""
+        """The ticks that another tick follows before any timer starts or any deadline is set."""
         found, is_needed = [], False
         for unit in sorted(self.kept, key=lambda unit: self.units[unit].events[0], reverse=True):
             kinds = {self.events.all[place].kind for place in self.units[unit].events}

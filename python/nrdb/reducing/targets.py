@@ -29,7 +29,7 @@ class Target(ABC):
 
     @abstractmethod
     def shows(self, player: Player) -> bool:
-        """Whether it shows where the player is."""
+        """Whether the target shows in the player's state."""
 
 
 class SuspectTarget(Target):
@@ -55,7 +55,7 @@ class SuspectTarget(Target):
 
 
 class CellTarget(Target):
-    """A cell that has a value behind a step, the last one that is kept. Numbers in the value are those of the recording."""
+    """A cell that has a value after a step, the last one that is kept. Numbers in the value are those of the recording."""
 
     def __init__(self, events: Events, cell: str, wanted: str, position: int) -> None:
         name, *number = cell.split()
@@ -97,7 +97,7 @@ class CellTarget(Target):
 
 
 class HangTarget(CellTarget):
-    """A goroutine that is parked at the end without a deadline, behind some steps that have to stay."""
+    """A goroutine that is parked at the end without a deadline, after some steps that must stay."""
 
     def __init__(self, events: Events, g: int, steps: Sequence[int], position: int) -> None:
         super().__init__(events, f"gor {g}", "parked *", position)

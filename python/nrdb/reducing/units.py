@@ -37,8 +37,8 @@ def units_of(events: Events) -> list[Unit]:
 
 
 def _calls(events: Events) -> list[Unit]:
-    """Each goroutine's calls. One has ended where the goroutine is at rest and holds no reference but those that are never
-    given up; the freeing of a descriptor belongs to the call that gave up the last reference."""
+    """Each goroutine's calls. A call has ended if the goroutine is at rest and holds no reference, except those that are never
+    given back; freeing the descriptor belongs to the call that gave back the last reference."""
     calls: dict[int, list[Unit]] = {}
     kept: dict[int, int] = {}
     has_ended: dict[int, bool] = {}

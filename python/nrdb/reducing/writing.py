@@ -1,4 +1,4 @@
-"""Writes a reduced recording, which netrev takes, and NAME.where beside it, if the recording has one."""
+"""Writes a reduced recording, which netrev accepts, and NAME.where beside it if the recording has one."""
 
 import json
 import os
@@ -12,6 +12,7 @@ from netrev_words.files import forget_where
 from netrev_words.recording import Answer, Limits, Step
 from netrev_words.writing import line_of
 
+from ..messages import searches as messages
 from ..files import spare, written
 from ..session import Misused
 from ..where import Call, Lines, Stack
@@ -31,12 +32,12 @@ def answered_by(program: str, command: str, data: bytes) -> tuple[int, bytes]:
 
 
 def taken(program: str, player: Player, has_answers: bool) -> bytes:
-    """The text of what the player has played, as netrev takes it; with netrev's own answers where the recording had such."""
+    """The text of the replayed steps, as netrev accepts it, with netrev's own answers if the recording has answers."""
     text = text_of(player.world, player.limits.buf, player.steps, has_answers)
     status, said = answered_by(program, "upgrade" if has_answers else "check", text)
     if status:
         fault = said.decode("utf-8", "replace").strip()
-        raise Misused(f"netrev doesn't take what is left: {fault}. That is an error of nrdb's; nothing was written")
+        raise Misused(messages.REDUCED_REFUSED.format(fault=fault))
     return said if has_answers else text
 
 
@@ -51,12 +52,12 @@ def text_of(world: World, buf: int, steps: Sequence[tuple[Step, Answer]], has_an
 
 
 def _needs_answers(steps: Sequence[tuple[Step, Answer]]) -> bool:
-    """Whether a step is there that only recordings of version 2 have."""
+    """Whether a step exists that only recordings of version 2 have."""
     return any(step[0] == "closewrite" for step, _ in steps)
 
 
 def where_text(lines: Lines, numbers: Sequence[int]) -> str:
-    """NAME.where for the steps of these numbers, which are 1, 2 and so on then."""
+    """NAME.where for these steps, which are renumbered from 1."""
     calls: dict[Call, int] = {}
     stacks: dict[Stack, int] = {}
     told: list[dict[str, Any]] = [{"where": 1, "steps": len(numbers)}]
@@ -83,8 +84,8 @@ def where_text(lines: Lines, numbers: Sequence[int]) -> str:
 
 
 def write_recording(path: str, of: str, data: bytes, lines: Lines, numbers: Sequence[int]) -> None:
-    """Writes a recording of these steps of another one, whose file is `of`, with NAME.where beside it. One that is there already
-    is of another recording, and goes."""
+    """Writes a recording of these steps of the recording `of`, with NAME.where beside it. An existing NAME.where is removed,
+    because it belongs to another recording."""
     beside = Path(path).with_suffix(".where")
     spare(str(beside), of)
     written(path, of, data)

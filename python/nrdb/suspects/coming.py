@@ -1,4 +1,5 @@
-"""Who waits in the end for what has come: goroutines that are parked for reading, though bytes are unread or the peer has closed."""
+"""Goroutines that wait at the end for something that has come: they are parked for reading, although bytes are unread or the peer
+has closed."""
 
 from typing import Iterator, NamedTuple
 
@@ -23,7 +24,7 @@ class Waiting(NamedTuple):
 
     @property
     def has_event(self) -> bool:
-        """Whether an event told of it."""
+        """Whether an event reported it."""
         return self.use.last_event("r") >= self.came
 
     def has_stale_event(self, run: Run) -> bool:
@@ -31,7 +32,7 @@ class Waiting(NamedTuple):
         return not self.has_event and run.notes.stale.get(self.use.descriptor, (0, 0))[0] > self.came
 
     def suspect(self, run: Run, step: int, weight: int, says: list[str]) -> Suspect:
-        """A suspect for whom it hangs."""
+        """A suspect about the goroutine that hangs."""
         shown = Evidence(run.end, f"gor {self.goroutine}", run.notes.now[f"gor {self.goroutine}"])
         d, s = self.use.descriptor, self.use.socket
         suspect = Suspect(step, weight, says, goroutine=self.goroutine, descriptor=d, socket=s, evidence=[shown])

@@ -1,4 +1,4 @@
-"""What a rule finds: a suspect, with the step at fault, what is said of it, what speaks for it, and what netrev is asked."""
+"""A rule's finding: a suspect, with the step at fault, its sentence, its weights, and the questions for netrev."""
 
 from dataclasses import dataclass, field
 from enum import IntEnum
@@ -16,12 +16,12 @@ class Weight(IntEnum):
     DOUBTFUL = 10
 
 
-# what is added where a suspect's goroutine hangs there, is still there, or went on; and where a call timed out by it
+# the weight that is added if a suspect's goroutine hangs there, is still there, or went on; and if a call timed out by it
 HANGS, STILL_THERE, WENT_ON, TIMED_OUT = 50, 40, -30, 20
 
 
 class Evidence(NamedTuple):
-    """What netrev is asked at a position, and the answer that the rule reckons with; None where any will do."""
+    """A question to netrev at a position, and the answer that the rule expects; None if any answer will do."""
 
     position: int
     cell: str
@@ -30,7 +30,7 @@ class Evidence(NamedTuple):
 
 @dataclass
 class Suspect:
-    """A suspicious thing. What it says is in clauses, the first of which tells the whole."""
+    """A suspected bug. Its sentence consists of clauses, the first of which is complete."""
 
     step: int
     weight: int
@@ -51,13 +51,13 @@ class Suspect:
 
     @property
     def subject(self) -> tuple[object, ...]:
-        """The rule and whom it is about: of several suspects with the same subject one is shown."""
+        """The rule and its object: of several suspects with the same subject, one is shown."""
         return self.rule, self.goroutine, self.descriptor, self.socket
 
     def has_line(self, line: str) -> None:
-        """A line of netrev's says so; empty where netrev printed none."""
+        """netrev's own line about it; empty if netrev printed none."""
         self.listed += [line] if line else []
 
     def sentence(self) -> str:
-        """All that is said of it."""
+        """The whole sentence."""
         return "; ".join(self.says)

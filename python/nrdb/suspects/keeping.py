@@ -28,7 +28,7 @@ class Kept(NamedTuple):
         return not self.is_gone and is_of_close and bool(self.pause or self.age)
 
     def suspect(self, run: Run, how: str, open_and_closed: tuple[Weight, Weight]) -> Suspect:
-        """The suspect: how it is held, and its weights where the socket is open and where it is closed."""
+        """The suspect: how the reference is held, and its weights for an open and for a closed socket."""
         (g, step, kind, side), s, notes = self.hold, self.socket, run.notes
         lock = f" {NAMES[side]}" if side else ""
         says = [f"goroutine {g} holds a reference of socket {s} since step {step} ({kind}{lock}) {how}"]
@@ -50,7 +50,7 @@ class Kept(NamedTuple):
 
 
 def kept(run: Run) -> Iterator[Kept]:
-    """All of them. (Who sleeps for a lock tells of it.)"""
+    """All of them. A goroutine that sleeps for a lock is reported by another rule."""
     asleep = {(int(s), side) for _, (s, side) in run.statuses("queued")}
     for s in sorted(run.notes.holds):
         for hold in run.notes.holds[s]:

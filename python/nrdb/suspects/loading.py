@@ -37,4 +37,4 @@ def _rule_of(module: ModuleType) -> Rule:
 
 RULES, RULES_OF_CALLS = rules_of(rules), rules_of(rules_of_calls)
 LOST_WAKE_UP, TAKEN_BACK, LEFT_BEHIND = "lost wake-up", "deadline taken back too soon", "deadline left behind"
-WRITE_BEHIND_SHUT = "write behind CloseWrite"
+WRITE_AFTER_SHUT = "write after CloseWrite"

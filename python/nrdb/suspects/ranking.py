@@ -1,4 +1,4 @@
-"""The suspects of a recording by all rules, the worst first, with one of several that are alike."""
+"""The suspects of a recording by all rules, the worst first, one of several with the same subject."""
 
 from typing import Iterable, NamedTuple
 
@@ -33,7 +33,7 @@ def all_suspects_of(recording: Recording) -> Ranked:
 
 
 def prepare(recording: Recording) -> None:
-    """Has netrev begin its own list, where it is asked for one."""
+    """Starts netrev's own list, if netrev is asked for one."""
     if recording.suspects:
         recording.suspects.prepare()
 

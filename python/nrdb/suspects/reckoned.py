@@ -39,6 +39,6 @@ def passed_deadlines(notes: Notes) -> Iterator[OfDeadline]:
 
 
 def of_deadline(step: int, g: Optional[int], d: int, side: str, due: Due) -> OfDeadline:
-    """What came of a deadline at a step."""
+    """The effect of a deadline at a step."""
     setting, moved = due.setting, due.moved and By(due.moved.step, due.moved.goroutine)
     return OfDeadline("", step, g, d, side, By(setting.step, setting.goroutine), setting.mode, moved)

@@ -30,12 +30,12 @@ class Run:
 
     @cached_property
     def facts(self) -> Listed:
-        """What `netrev suspects` lists, or the same by the notes: if no netrev is asked, or an older one."""
+        """The list of `netrev suspects`, or the same from the notes, if there is no netrev or only an older one."""
         listed = self.recording.suspects.of(self.end) if self.recording.suspects else None
         return listed or by_the_notes(self.notes)
 
     def asleep(self, g: int, d: int, side: str) -> str:
-        """netrev's line that a goroutine sleeps at a side that has to be answered; empty where it printed none."""
+        """netrev's line about a goroutine that sleeps at a side that has to be answered; empty if netrev printed none."""
         return self.facts.asleep.get((g, d, side), "")
 
     @cached_property
@@ -61,20 +61,20 @@ class Run:
         return int(self.changes.value(cell, position))
 
     def status(self, g: int, position: int) -> list[str]:
-        """Where a goroutine is, its words apart."""
+        """The words of a goroutine's status."""
         return self.changes.value(f"gor {g}", position).split()
 
     def statuses(self, place: str) -> list[tuple[int, list[str]]]:
-        """The goroutines that are at a place in the end, each with what stands behind that."""
+        """The goroutines that have a status at the end, each with the rest of its words."""
         found = ((g, one.status.split()) for g, one in self.notes.goroutines.items())
         return [(g, words) for g, (at, *words) in found if at == place]
 
     def since(self, g: int) -> int:
-        """Since which step a goroutine is where it is in the end."""
+        """The step since which a goroutine has had its last status."""
         return self.notes.goroutines[g].since
 
     def inside(self, use: Use, side: str, position: int) -> Optional[int]:
-        """Who is inside the wait of a side."""
+        """The goroutine that is inside the wait of a side."""
         wait = next((one for one in reversed(use.waits[AT[side]]) if one.step <= position), None)
         if wait is None:
             return None
@@ -82,13 +82,13 @@ class Run:
         return wait.goroutine if place in INSIDE and at == [str(use.descriptor), side] else None
 
     def unread(self, s: int) -> str:
-        """What lies in a socket for who reads it in the end, in words; empty where nothing does."""
+        """What is unread in a socket at the end, in words; empty if nothing is."""
         if number := int(self.notes.now[f"in {s}"]):
             return f"{counted(number, 'byte')} unread"
         return f"the peer closed at step {self.notes.peer[s]}" if s in self.notes.peer else ""
 
     def stalled(self, g: int) -> str:
-        """How long a goroutine has paused that could go on, where that is longer than any pause of its place that ended; else
+        """How long a goroutine that could continue has paused, if that is longer than any pause in its status that ended; otherwise
         empty."""
         known = self.notes.pauses.get(self.notes.status(g))
         longest = known.longest if known and known.count >= MANY else None

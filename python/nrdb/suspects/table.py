@@ -16,8 +16,7 @@ MOST = 12  # suspects that are shown
 
 
 def suspects_table(scout: Scout, recording: Recording, ranked: Optional[Ranked] = None) -> Table:
-    """The suspects, the worst first, each with netrev's answers at the positions in question. Who has had the rules run says what they
-    found."""
+    """The suspects, the worst first, each with netrev's answers at the positions in question."""
     ranked = ranked or all_suspects_of(recording)
     shown = shown_of(ranked)
     rows = [row for at, suspect in enumerate(shown, 1) for row in _rows(scout, recording, at, suspect)]
@@ -71,7 +70,7 @@ def _evidence(scout: Scout, suspect: Suspect) -> tuple[list[str], list[str]]:
 
 
 def _lines(recording: Recording, suspect: Suspect) -> list[str]:
-    """The lines of the program at the steps that it tells of, where they are known."""
+    """The program's lines at the suspect's steps, if they are known."""
     told = []
     for number in dict.fromkeys(suspect.steps):
         if words := recording.lines.words(number):

@@ -1,4 +1,5 @@
-"""What a suspect weighs by what became of whom it is about: whether it hangs for it, a call ended by it, or it is in a call of Go's own."""
+"""The weight of a suspect by what became of its goroutine: whether it hangs because of it, a call ended because of it, or it is in
+a call of Go's own."""
 
 from netrev_machine.machine import INSIDE
 
@@ -22,7 +23,7 @@ UNSHOWN = OF_THE_PROGRAM | {ACCEPT}  # those whose tries aren't in a recording, 
 
 
 def of_a_holder(run: Run, suspect: Suspect) -> Suspect:
-    """Of who holds a lock or a reference: doubtful where Go's own call gives it up behind its system call."""
+    """The weight by the holder of a lock or a reference: doubtful if Go's own call gives it back after its system call."""
     if is_in_a_system_call(run, suspect):
         suspect.weight = Weight.DOUBTFUL
     return suspect
@@ -50,7 +51,7 @@ def is_about_to_try(run: Run, took: int, g: int) -> bool:
 
 
 def is_accepting(recording: Recording, suspect: Suspect) -> bool:
-    """Whether a listener waits in Go's own Accept, which tries again behind each pollreset: no wake-up is lost in it."""
+    """Whether a listener waits in Go's own Accept, which tries again after each pollreset: no wake-up is lost in it."""
     return call_of_poll(recording, suspect.steps[-1]) == ACCEPT
 
 
@@ -60,7 +61,7 @@ def is_without_tries(recording: Recording, suspect: Suspect) -> bool:
 
 
 def call_of_poll(recording: Recording, step: int) -> str:
-    """Which of these calls a step is in, the innermost; nothing where it is in none, or that isn't known."""
+    """The innermost of these calls that a step is in; None if it is in none, or that is unknown."""
     known = OF_GO | CONTROLS | OF_THE_PROGRAM
     return next((call.function for call in recording.lines.of(step).calls if call.function in known), "")
 
@@ -83,7 +84,7 @@ def of_a_goroutine(run: Run, suspect: Suspect) -> Suspect:
 
 
 def hangs(run: Run, g: int, d: int) -> str:
-    """How a goroutine hangs in the wait of a descriptor, in words; empty where it doesn't."""
+    """How a goroutine hangs in the wait of a descriptor, in words; empty if it doesn't hang."""
     place, *at = run.notes.now[f"gor {g}"].split()
     if place != "parked" or at[0] != str(d):
         return ""

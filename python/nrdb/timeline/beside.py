@@ -1,10 +1,11 @@
-"""What a trace has beside statuses and steps: Go's calls, the deadlines, the clock, and what went wrong."""
+"""What a trace has beside statuses and steps: Go's calls, the deadlines, the clock, and what went wrong, from where the recording begins."""
 
 from itertools import chain
 from typing import Iterator
 
 from netrev_words.plain import plain
 
+from ..beginnings import begins_at
 from ..causes.words import name_of
 from ..one_call import Call
 from ..recorded_changes import RecordedChanges
@@ -17,27 +18,35 @@ from .searched import DEADLINES_AND_CLOCK, by_cell, searched
 from .stories import stories_data
 
 SIDES = {"rd": "read", "wd": "write"}
-Changed = list[tuple[int, str]]  # the steps that change a cell, with its value behind each
+Changed = list[tuple[int, str]]  # the steps that change a cell, with its value after each
 
 
 def beside(recording: Recording, changes: RecordedChanges, scout: Scout) -> Iterator[str]:
     """All of it, each event as JSON."""
     suspects, causes = stories_data(scout, recording)
-    cells = by_cell(searched(changes, DEADLINES_AND_CLOCK))
+    begins = begins_at(recording)
+    changed = by_cell(searched(changes, DEADLINES_AND_CLOCK))
+    cells = {cell: since(told, begins) for cell, told in changed.items()}
     clock = cells.pop("clock", [])
-    stories = chain.from_iterable(story_events(story) for story in (*suspects, *causes))
+    stories = chain.from_iterable(story_events(story, begins) for story in (*suspects, *causes))
     return chain(
         call_events(recording), deadline_events(cells, recording.length), clock_events(clock), map(of_json, stories)
     )
 
 
+def since(told: Changed, begins: int) -> Changed:
+    """The changes of a cell from a position on, with its value there."""
+    before = [value for step, value in told if step <= begins]
+    return [(begins, before[-1]), *(one for one in told if one[0] > begins)] if begins and before else told
+
+
 def call_events(recording: Recording) -> Iterator[str]:
-    """A slice for each call that takes more than a step, round its goroutine's statuses and steps."""
-    telling = Telling(recording)
-    for call in shown_calls(recording, Window(0, recording.length)):
+    """A slice for each call that takes more than a step, around its goroutine's statuses and steps."""
+    telling, begins = Telling(recording), begins_at(recording)
+    for call in shown_calls(recording, Window(begins + 1 if begins else 0, recording.length)):
         if call.last == call.first:
             continue
-        begin, until = call.first - 1, call.last or recording.length + 1
+        begin, until = max(call.first - 1, begins), call.last or recording.length + 1
         name, line = telling.of(call)
         # (put together as text, as there may be some hundred thousand)
         yield (
@@ -47,16 +56,16 @@ def call_events(recording: Recording) -> Iterator[str]:
 
 
 class Telling:
-    """What is told of calls in words, as JSON: what many have alike is put together once."""
+    """Calls in words, as JSON; equal texts are stored once."""
 
     def __init__(self, recording: Recording) -> None:
         self._recording = recording
         self._names: dict[tuple[str, int], str] = {}  # of calls, by their stacks
         self._lines: dict[int, str] = {}  # of stacks
-        self._texts: dict[str, str] = {}  # of what a call is called with what came of it
+        self._texts: dict[str, str] = {}  # the name of a call with its result
 
     def of(self, call: Call) -> tuple[str, str]:
-        """The name of a call, with what came of it, and its line."""
+        """The name of a call, with its result, and its line."""
         stack = self._stack(call.first)
         named = call.name, stack
         if named not in self._names:
@@ -70,7 +79,7 @@ class Telling:
         return self._texts[name], self._lines[stack]
 
     def _stack(self, step: int) -> int:
-        """The number of a step's stack; 0 where none is known."""
+        """The number of a step's stack; 0 if unknown."""
         steps = self._recording.lines.steps
         return steps[step - 1] if 0 < step <= len(steps) else 0
 
@@ -100,9 +109,9 @@ def clock_events(ticks: Changed) -> Iterator[str]:
         yield f'{{"ph":"C","pid":{NETWORK},"tid":0,"ts":{step},"name":"clock","args":{{"ns":{int(time)}}}}}'
 
 
-def story_events(story: Data) -> Iterator[Event]:
-    """A mark through all rows at each step of a story, numbered."""
+def story_events(story: Data, begins: int = 0) -> Iterator[Event]:
+    """A mark through all rows at each step of a story, numbered. One before the recording's begin is at that."""
     says = {"says": plain(story["says"]), "lines": [plain(line) for line in story["lines"]]}
     for number, step in enumerate(story["steps"], 1):
-        name = f"{number}. {story['rule']}"
+        step, name = max(step, begins), f"{number}. {story['rule']}"
         yield event_of("i", GOROUTINES, story["g"] or 0, step, s="g", name=name, cat="story", args=says)

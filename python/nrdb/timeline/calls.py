@@ -1,5 +1,5 @@
-"""Go's calls as the page draws them, in columns: whose, on which socket, from which step to which, what came of them and at which line
-of the program. They are nrdb's reckoning, by the recording's steps and the file beside it."""
+"""Go's calls as the page draws them, in columns: goroutine, socket, first and last step, result, and line of the
+program. nrdb computes them from the recording's steps and the file beside it."""
 
 import re
 import sys
@@ -55,8 +55,8 @@ COLUMNS = ("g", "s", "first", "long", "name", "came", "line", "state", "stack", 
 
 
 def calls_data(recording: Recording, window: Window) -> Data:
-    """The calls of the window, in packed columns. `first` counts from the call before; `long` is a call's steps, 0 where it hasn't ended;
-    `name`, `came`, `line` and `stack` are places in `texts`."""
+    """The calls of the window, in packed columns. `first` counts from the call before; `long` is a call's steps, 0 if
+    it hasn't ended; `name`, `came`, `line` and `stack` are indices into `texts`."""
     telling, calls = Telling(recording), shown_calls(recording, window)
     firsts = [call.first for call in calls]
     columns = [
@@ -89,7 +89,7 @@ def packed(column: list[int]) -> Any:
 
 
 class Telling:
-    """What is told of calls beside their numbers: name, what came of them, line and stack, each as its place in `texts`; and the state."""
+    """The texts of calls beside their numbers: name, result, line and stack, each as an index of `texts`; and the state."""
 
     def __init__(self, recording: Recording) -> None:
         self.texts = Texts({"": 0})
@@ -99,7 +99,7 @@ class Telling:
         self._known: dict[tuple[str, Optional[int], int], tuple[int, ...]] = {}
 
     def of(self, call: Call) -> tuple[int, ...]:
-        """The name, what came, the line, the state and the stack. Of calls that went well, which most did, many are alike."""
+        """The name, the result, the line, the state and the stack. Many calls that succeeded have the same ones."""
         stack = self._stack(call.first)
         if not call.last or call.outcome is not Outcome.DONE:
             return self._told(call, stack)
@@ -114,18 +114,18 @@ class Telling:
         return self.texts[name], came, self._line(stack), state, self._calls_of(stack)
 
     def _came(self, call: Call) -> str:
-        """What came of a call, in words: of one that takes a connection that is no byte."""
+        """The result of a call, as text; a call that accepts a connection has no bytes."""
         if not call.last or (call.name == "Read" and not call.outcome.is_error and self._index.is_listening(call)):
             return ""
         return call.came()
 
     def _stack(self, step: int) -> int:
-        """The number of a step's stack; 0 where none is known."""
+        """The number of a step's stack; 0 if unknown."""
         steps = self._recording.lines.steps
         return steps[step - 1] if 0 < step <= len(steps) else 0
 
     def _line(self, stack: int) -> int:
-        """The place of the text of a stack's line, of which no stack has an empty one."""
+        """The index of the text of a stack's line; no stack has an empty one."""
         if stack not in self._lines:
             self._lines[stack] = self.texts[self._recording.lines.stacks[stack].words()]
         return self._lines[stack]
@@ -143,8 +143,8 @@ def program_calls(stack: Stack) -> str:
 
 
 def names_data(recording: Recording, window: Window) -> dict[int, str]:
-    """What each goroutine of the window runs: the outermost function of the program that any of its calls is in, else of whoever's it
-    is."""
+    """What each goroutine of the window runs: the outermost function of the program in any of its calls, otherwise the outermost
+    function."""
     names: dict[int, str] = {}
     own: set[int] = set()
     for call in shown_calls(recording, window) if recording.lines else ():
@@ -158,6 +158,7 @@ def names_data(recording: Recording, window: Window) -> dict[int, str]:
 
 
 def runs_in(stack: Stack, of: Optional[str] = None) -> Optional[str]:
-    """The outermost function in a stack, or the outermost that is of the program, but for what the compiler wraps a `go` or a `defer` in."""
+    """The outermost function in a stack, or the outermost of the program, without what the compiler wraps a `go` or a
+    `defer` in."""
     functions = (call.function for call in reversed(stack.calls) if of in (None, call.of))
     return next((one for one in functions if not WRAPPER.search(one)), None)

@@ -119,7 +119,7 @@ class Drawing:
                 self._deadlines(*use)
 
     def _call(self, call: Call) -> None:
-        """A call's bar, the darker ones below where its goroutine sleeps, and its words."""
+        """A call's bar, darker below while its goroutine sleeps, and its text."""
         end, state = call.last or self._recording.length + 1, state_of(self._index, call)
         self._bar(call.first - 1, end, self._y + 2.5, HIGH - 5, CLASS[state])
         for begin, until in self._sleeps(call, end):
@@ -141,7 +141,7 @@ class Drawing:
                 yield begin, min(until, end)
 
     def _deadlines(self, d: int, _socket: int, begins: int, ends: Optional[int]) -> None:
-        """The deadlines of a use of a descriptor, each side's in a row, where there are any."""
+        """The deadlines of a use of a descriptor, a row for each side that has any."""
         last = ends or self._recording.length + 1
         for side, name in (("rd", "read"), ("wd", "write")):
             changes = [one for one in self._changes.changes_of(f"{side} {d}") if begins <= one[0] < last]
@@ -173,6 +173,6 @@ class Drawing:
 
 
 def fitted(text: str, wide: float) -> str:
-    """As much of a text as fits, nothing where that is too little."""
+    """The beginning of a text that fits; empty if that is too short."""
     letters = int(wide / LETTER)
     return text if len(text) <= letters else f"{text[: letters - 1]}…" if letters > 3 else ""

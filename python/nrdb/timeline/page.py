@@ -7,6 +7,7 @@ from typing import Any, Optional
 
 from netrev_words.plain import plain
 
+from ..messages import searches as messages
 from ..files import writing
 from ..long_passes import take_all_as_kept, without_collections
 from ..session import Misused, Session
@@ -37,15 +38,15 @@ SCRIPTS = (
 
 
 def write_timeline(session: Session, path: str, first: Optional[int] = None, last: Optional[int] = None) -> str:
-    """Writes the page; what to say of it."""
+    """Writes the page; returns the line about it."""
     recording = session.text()
     window = None
     if first is not None and last is not None:
         window = Window(first, last)
         if not 0 <= first <= last <= recording.length:
-            raise Misused(f"the recording's positions are 0 to {recording.length}")
+            raise Misused(messages.POSITIONS.format(last=recording.length))
         if last - first > MOST:
-            raise Misused(f"a page has room for the values of {MOST} steps: timeline {path} FROM TO")
+            raise Misused(messages.PAGE_IS_FULL.format(most=MOST, path=path))
     with without_collections():
         data = collected(Shown.by(session, told_at_the_terminal), window)
         told_at_the_terminal("")
@@ -71,14 +72,14 @@ def page(data: Data) -> str:
 
 
 def read_part(name: str) -> str:
-    """The text of a file of which pages are made."""
+    """The text of a file from which pages are made."""
     return (PAGE / name).read_text(encoding="utf-8")
 
 
 def plain_json(value: Any) -> str:
     """The value in JSON, each text in it fit to be shown."""
     told = of_json(value)
-    return of_json(plainly(value)) if "\\" in told else told  # (JSON has an escape where a text isn't plain)
+    return of_json(plainly(value)) if "\\" in told else told  # (JSON has an escape for a text that isn't plain)
 
 
 def plainly(value: Any) -> Any:

@@ -5,6 +5,7 @@ from typing import Any, Callable, NamedTuple, Optional
 
 from netrev_words.vocabulary import CELLS
 
+from ..beginnings import begins_at
 from ..recorded_changes import RecordedChanges
 from ..recording import Recording, shortened
 from ..scout import Scout
@@ -19,7 +20,7 @@ from .story import MOST_TIMES, Connections, lines_data, marks_of, ticks_of, time
 from .waits import requests_data, waits_data
 
 MOST = 20_000  # steps of a part
-AT_ONCE = 8_000  # of which a longer recording's part has these, where nobody names another
+AT_ONCE = 8_000  # steps of a longer recording's part, unless a part is named
 STAGES = (
     "netrev tells what each step changed",
     "the rules look for suspects, and who waits for whom",
@@ -29,8 +30,8 @@ STAGES = (
 
 
 class Shown(NamedTuple):
-    """What a page is made of: a recording and its file, who looks at positions, what each step changed, where the session stands, its
-    marks, and whom it is told how far this is."""
+    """The data for a page: a recording and its file, a netrev for other positions, the changes of each step, the session's
+    position, its marks, and a function that gets the progress."""
 
     recording: Recording
     path: str
@@ -52,20 +53,22 @@ class Shown(NamedTuple):
 
 
 def collected(shown: Shown, window: Optional[Window] = None) -> Data:
-    """What the page shows: of the whole run calls and stories, and of a part each cell's values. Where nobody names the part it is all, or
-    of a long recording what is round its first story."""
+    """The contents of the page: calls and stories of the whole run, and each cell's values for a part. If no part is named, it is
+    everything, or in a long recording the part around the first story."""
     whole = whole_of(shown)
-    round_it = window or part_round(whole["suspects"] + whole["causes"], shown.recording.length, shown.position)
+    recording = shown.recording
+    stories = whole["suspects"] + whole["causes"]
+    round_it = window or part_round(stories, recording.length, shown.position, begins_at(recording))
     return {**whole, **part_of(shown, round_it), "isPart": window is not None}
 
 
-def part_round(stories: list[Data], length: int, position: int = 0) -> Window:
-    """The positions of which values are shown: all, or of a long recording those round the end of its first story; round the session's
-    position if that is elsewhere, and not the start."""
+def part_round(stories: list[Data], length: int, position: int = 0, begins: int = 0) -> Window:
+    """The positions whose values are shown: all from the recording's beginning, or in a long recording those around the end of its first
+    story, or around the session's position if that is elsewhere and not the start."""
     if length <= MOST:
-        return Window(0, length)
+        return Window(begins, length)
     part = part_about(stories[0]["steps"][-1] if stories else length, length)
-    is_shown = position == 0 or part.first <= position <= part.last
+    is_shown = position <= begins or part.first <= position <= part.last
     return part if is_shown else part_about(position, length)
 
 
@@ -100,7 +103,7 @@ def whole_of(shown: Shown) -> Data:
 
 
 def part_of(shown: Shown, window: Window) -> Data:
-    """What is shown of a part of the run: netrev's values, and what is reckoned by them."""
+    """The data of a part of the run: netrev's values, and what is computed from them."""
     shown.begins(3)
     recording = shown.recording
     runs, compared = runs_of(shown.scout, shown.changes, window)
@@ -123,7 +126,7 @@ def part_of(shown: Shown, window: Window) -> Data:
 
 
 def steps_of(recording: Recording, window: Window) -> list[str]:
-    """The steps that lead to each position, and the one behind the last; empty where there is none."""
+    """The steps that lead to each position, and the one after the last; empty if there is none."""
     behind = -1 if recording.has_answers else None
 
     def text_of(values: list[Any]) -> str:

@@ -1,11 +1,12 @@
-"""What each cell shows over the positions, by what netrev says of each step's changes; and the queues, which are no cells, by the
-statuses of the goroutines in them."""
+"""The values of each cell over the positions, from netrev's changes of each step; and the queues, which aren't cells,
+from the statuses of the goroutines in them."""
 
 from dataclasses import dataclass
 from typing import Iterable, Iterator
 
 from netrev_words.vocabulary import CELLS, Of
 
+from ..messages import searches as messages
 from ..netrev import Netrev
 from ..recorded_changes import RecordedChanges
 from ..scout import Scout
@@ -48,7 +49,7 @@ def runs_of(scout: Scout, changes: RecordedChanges, window: Window) -> tuple[Run
 
 
 def cells_made(netrev: Netrev) -> list[str]:
-    """All cells of what is made where netrev stands, and the queues."""
+    """All cells of the objects that exist at netrev's position, and the queues."""
     made = {of: made_at(netrev, of) for of in COUNTED_BY}
     numbered = (f"{name} {number}" for of, count in made.items() for number in range(count) for name in NAMES[of])
     return [*NAMES[Of.ALL], *numbered]
@@ -61,7 +62,7 @@ def shown_of(scout: Scout, cells: Iterable[str], position: int) -> list[str]:
 
 
 class Queues:
-    """The queues, by the statuses of the goroutines in them: whoever comes stands last. They begin as netrev shows them."""
+    """The queues, by the statuses of the goroutines in them: a new goroutine is last. They begin as netrev shows them."""
 
     def __init__(self, start: dict[str, str]) -> None:
         self._statuses = {cell: value for cell, value in start.items() if cell.startswith("gor ")}
@@ -74,7 +75,7 @@ class Queues:
         return "absent" if standing is None else " ".join(standing) or "-"
 
     def follow(self, changed: list[tuple[str, str]]) -> Iterator[tuple[str, str]]:
-        """The queues that a step changes which changes these cells, with what they show behind it."""
+        """The queues that change with a step that changes these cells, with their new values."""
         touched: dict[str, None] = {}
         for cell, value in changed:
             if cell.startswith("lock ") and f"rq {cell[5:]}" not in self._standing:
@@ -97,18 +98,17 @@ class Queues:
 
 
 def _queue(status: str) -> str:
-    """The queue in which a goroutine of this status stands."""
+    """The queue of a goroutine with this status."""
     _, socket, side = status.split()
     return f"{side}q {socket}"
 
 
 def _compare(scout: Scout, runs: Runs, position: int) -> None:
-    """Holds all cells and queues against what netrev shows at the position; Misused where something else is there."""
+    """Compares all cells and queues with netrev's at the position; raises Misused if one differs."""
     for (cell, run), shown in zip(runs.items(), shown_of(scout, runs, position)):
         if shown != (told := value_at(run, position)):
-            raise Misused(
-                f"netrev shows {cell} = {shown} at {position}, and nrdb reckons with {told}: an error of nrdb's"
-            )
+            words = {"cell": cell, "answer": shown, "position": position, "value": told}
+            raise Misused(messages.VALUE_DIFFERS.format(**words))
 
 
 def value_at(run: list[tuple[int, str]], position: int) -> str:

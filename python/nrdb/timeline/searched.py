@@ -1,4 +1,5 @@
-"""Changes of a few sorts of cells, for who needs no others: netrev's lines are searched for them, and no other line is taken apart."""
+"""Changes of a few kinds of cells, for callers that need no others: netrev's lines are searched for them, and no other line is
+parsed."""
 
 import re
 from typing import Iterator
@@ -9,7 +10,7 @@ Lines = Iterator[tuple[str, str, str]]
 
 
 def spelled(cells: str) -> re.Pattern[str]:
-    """A line that says what a cell of this spelling shows behind a step: a number or words, which need no escape wherever they are written."""
+    """A line with the value of such a cell after a step: a number or words without escapes."""
     # (what begins with a letter of its own, the line feed before, is searched nearly twice as fast as what begins with a line)
     return re.compile(rf"\n(\d+) ({cells}) = ([\w -]+)$", re.MULTILINE | re.ASCII)
 
@@ -24,7 +25,7 @@ def searched(changes: RecordedChanges, lines: re.Pattern[str]) -> Lines:
 
 
 def by_cell(lines: Lines) -> dict[str, list[tuple[int, str]]]:
-    """Of each cell that these lines change the steps, with its value behind each."""
+    """For each cell that these lines change, the steps and the new values."""
     cells: dict[str, list[tuple[int, str]]] = {}
     for step, cell, value in lines:
         cells.setdefault(cell, []).append((int(step), value))

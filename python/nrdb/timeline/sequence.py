@@ -10,13 +10,13 @@ from ..recording import Recording, Step
 from .calls import Data, names_data
 from .runs import Window
 
-MOST = 200  # steps, above which nobody reads it
+MOST = 200  # steps, above which it is unreadable
 NETWORK = "net"
 PLAIN = frozenset(" .,-_/*()'+=")  # beside letters and digits; Mermaid reads no other as it stands
 
 
 def sequence(recording: Recording, story: Optional[Data]) -> str:
-    """The diagram, with the steps of a story noted; empty where there are too many steps."""
+    """The diagram, with notes at a story's steps; empty if there are too many steps."""
     if recording.length > MOST:
         return ""
     return "\n".join(["sequenceDiagram", *(f"    {line}" for line in _lines(recording, story))])
@@ -47,6 +47,6 @@ def _lines(recording: Recording, story: Optional[Data]) -> Iterator[str]:
 
 
 def _told(step: Step, recording: Recording) -> str:
-    """A step in words, with its line where that is known."""
+    """A step in words, with its line if that is known."""
     place = recording.lines.of(step.number).own()
     return str(step) + (f" ({place[0].place()})" if place else "")

@@ -1,4 +1,4 @@
-"""The colours of the timeline. Those of one kind of row differ in brightness too, so that they are told apart without
+"""The colours of the timeline. Those of one kind of row also differ in brightness, so that they can be distinguished without
 colours."""
 
 from dataclasses import dataclass
@@ -69,7 +69,7 @@ SHADES = {
 
 
 def shade(name: str, value: str) -> str:
-    """The name of the shade of a value of a cell of this name; empty where there is nothing yet."""
+    """The name of the shade of a cell's value; empty if the object doesn't exist yet."""
     if value == "absent":
         return ""
     if name == "gor":

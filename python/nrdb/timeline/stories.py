@@ -1,5 +1,5 @@
-"""How it went wrong, as the page tells it: the suspects, each with the steps that it is made of; where there is none, the calls that hang or
-failed, with their causes. That is what rules and causes say; the values beside them are netrev's."""
+"""The stories of the page: the suspects with their steps; without suspects, the calls that hang or failed, with their causes. Rules
+and causes are nrdb's; the values beside them are netrev's."""
 
 from itertools import islice
 from typing import Iterator
@@ -21,13 +21,13 @@ HANGS, FAILED = "hangs", "failed"
 
 
 def stories_data(scout: Scout, recording: Recording) -> tuple[list[Data], list[Data]]:
-    """The suspects, and the stories of the calls that hang or failed, where there is no suspect."""
+    """The suspects, or, without suspects, the stories of the calls that hang or failed."""
     suspects = list(suspects_data(scout, recording))
     return suspects, [] if suspects else list(causes_data(recording))
 
 
 def suspects_data(scout: Scout, recording: Recording) -> Iterator[Data]:
-    """The suspects as `info suspects` tells them, and whom they are about."""
+    """The suspects as `info suspects` prints them, with their goroutines and objects."""
     ranked = all_suspects_of(recording)
     rows = [row.values for row in suspects_table(scout, recording, ranked).rows if row.values]
     for row, suspect in zip(rows, shown_of(ranked), strict=True):
@@ -36,8 +36,8 @@ def suspects_data(scout: Scout, recording: Recording) -> Iterator[Data]:
 
 
 def causes_data(recording: Recording) -> Iterator[Data]:
-    """What failed first, the roots of what hangs in the end, and the other calls of the program that failed, with what `info hangs` and
-    `info errors` say of them; in the order of what is printed first of a program that failed."""
+    """The first failures, the roots of what hangs at the end, and the other failed calls of the program, with the
+    sentences of `info hangs` and `info errors`; in the order of the first output."""
     graph = graph_at(recording, recording.length)
     hangs = graph.shown[:MOST_CAUSES]
     index = index_of(recording)
@@ -58,7 +58,7 @@ def causes_data(recording: Recording) -> Iterator[Data]:
 
 
 def hang_data(graph: WaitGraph, hang: Hang, of: set[int]) -> Data:
-    """What is said of a hang, with these steps."""
+    """The story of a hang, with these steps."""
     root = hang.root
     about = {
         "g": None if root.name.is_goid else root.name.number,
@@ -70,7 +70,7 @@ def hang_data(graph: WaitGraph, hang: Hang, of: set[int]) -> Data:
 
 
 def cause_data(recording: Recording, cause: Cause, of: set[int]) -> Data:
-    """What is said of a call that failed, with these steps."""
+    """The story of a failed call, with these steps."""
     call = cause.call
     about = {"g": call.goroutine, "s": call.socket, "d": call.descriptor}
     return story_data(recording, FAILED, call.last or call.first, cause.says, cause.looks, of) | about

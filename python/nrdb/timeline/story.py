@@ -1,5 +1,5 @@
-"""What the page tells beside the cells: whose the descriptors and goroutines are, who was woken by what, marks, and the lines of the
-program. That is nrdb's own, unproved."""
+"""The page's data beside the cells: the owners of descriptors and goroutines, wake-ups, marks, and the program's lines. They are
+nrdb's own, unproved."""
 
 from typing import Any
 
@@ -16,12 +16,15 @@ from .runs import Runs, Window
 
 MOST_TICKS = 2_000
 MOST_TIMES = 4_000
-WAKES = {"parked": ("swapping", "desc"), "queued": ("acquiring", "sock")}  # what whoever slept does then, and where
+WAKES = {
+    "parked": ("swapping", "desc"),
+    "queued": ("acquiring", "sock"),
+}  # what the woken goroutine does then, and its line
 
 
 class Connections:
-    """Whose each descriptor and each goroutine is, in a window: each use of a descriptor in it, with its number, its socket, and from which
-    position to which (None: the window's end, or behind it); and the socket that each goroutine has most to do with."""
+    """The socket of each descriptor and goroutine in a window: each use of a descriptor, with its number, its socket, and its first
+    and last position (None: at or after the window's end); and the socket that each goroutine uses most."""
 
     def __init__(self, recording: Recording, window: Window) -> None:
         self._window, notes = window, book_of(recording).notes
@@ -57,7 +60,8 @@ class Connections:
 
 
 def wakes_of(recording: Recording, runs: Runs) -> list[list[Any]]:
-    """Each wake-up: its step, who was woken, the goroutine that did it or None, where it slept, and the step's kind."""
+    """Each wake-up: its step, the goroutine that was woken, the goroutine that woke it or None, the place where it
+    slept, and the step's kind."""
     wakes: list[list[Any]] = []
     for cell, run in runs.items():
         if not cell.startswith("gor "):
@@ -97,7 +101,8 @@ def marks_of(listed: list[Listed], recording: Recording, window: Window, runs: R
 
 
 def ticks_of(changes: RecordedChanges) -> list[list[int]]:
-    """The steps at which the clock went on, each with its time; of more than so many some at like distances, with the last."""
+    """The steps at which the clock went on, each with its time; if there are too many, some at regular distances, with
+    the last."""
     ticks = changes.changes_of("clock")
     every = -(-len(ticks) // MOST_TICKS) or 1
     shown = [*ticks[::every], *(ticks[-1:] if (len(ticks) - 1) % every else [])]
@@ -105,8 +110,9 @@ def ticks_of(changes: RecordedChanges) -> list[list[int]]:
 
 
 def times_of(recording: Recording, window: Window, most: int) -> Data:
-    """The recorder's times behind the steps of a window: behind each, or of more than so many behind some at like distances. `every` is that
-    distance, from the first position on, `ns` each time less the one before. Empty where the recorder had none."""
+    """The recorder's times after the steps of a window: after each, or in a long window after some at equal distances. `every` is
+    that distance, from the first position, and `ns` the difference of each time to the one before. Empty if the recorder had no
+    times."""
     times = recording.lines.times
     if not times:
         return {}

@@ -1,5 +1,6 @@
 """The run as Chrome's trace events in JSON, for Perfetto: a thread for each goroutine, with slices for its calls, in them for its statuses and
 for its steps, and flows from what woke a goroutine to where it goes on; deadlines, the clock, and what went wrong. A step takes a microsecond.
+A recording that begins in the middle of a run is traced from there: the steps before lead to the state there, and weren't the program's.
 
 The statuses, deadlines and the clock are what netrev says that each step changed; it is asked for the statuses of all goroutines at some
 positions besides. Calls and suspects are nrdb's own."""
@@ -15,6 +16,8 @@ from typing import IO, Any, Callable, Iterator, Optional, cast
 from netrev_words.plain import plain
 from netrev_words.vocabulary import OF_A_GOROUTINE
 
+from ..beginnings import begin_words, begins_at
+from ..messages import searches as messages
 from ..files import writing
 from ..recorded_changes import RecordedChanges, value_at_start
 from ..recording import SHOWN, Recording, shortened
@@ -33,25 +36,27 @@ SOCKETS = 10  # the number of the first socket's thread
 BY_A_GOROUTINE = frozenset(OF_A_GOROUTINE)
 QUIET = frozenset(("idle", "gone"))
 AT_ONCE = 1_024  # events that are written together
-END = (str(2**64), "", "")  # what comes behind the last change
+END = (str(2**64), "", "")  # what comes after the last change
 
 Statuses = dict[int, str]  # of goroutines
 
 
 def write_trace(session: Session, path: str) -> str:
-    """Writes the trace; what to say of it."""
+    """Writes the trace; returns the line about it."""
     recording, scout = session.text(), session.looks()
     tracing = Tracing(recording, session.changes())
     compared = _compared(scout, recording, session.changes())
     with packed(path, session.path) as file:
-        steps = tracing.events_together(Path(session.path).name, session.interrupts.check)
-        write_events(file, chain(steps, together(beside(recording, session.changes(), scout))))
-    return f"{path}: {recording.length} steps, {tracing.slices} slices, {tracing.flows} wake-ups; statuses as netrev has them at {compared} positions"
+        events = tracing.events_together(Path(session.path).name, session.interrupts.check)
+        write_events(file, chain(events, together(beside(recording, session.changes(), scout))))
+    steps = recording.length - tracing.begins
+    words = f"; {words}" if (words := begin_words(recording)) else ""
+    return f"{path}: {steps} steps, {tracing.slices} slices, {tracing.flows} wake-ups; statuses as netrev has them at {compared} positions{words}"
 
 
 @contextmanager
 def packed(path: str, recording: str) -> Iterator[IO[str]]:
-    """A file to be written, packed by gzip where its name ends so."""
+    """A file to be written, compressed with gzip if its name says so."""
     if not path.endswith(".gz"):
         with writing(path, recording) as file:
             yield file
@@ -77,7 +82,7 @@ def write_events(file: IO[str], events: Iterator[list[str]]) -> None:
 
 
 def _compared(scout: Scout, recording: Recording, changes: RecordedChanges) -> int:
-    """At how many positions netrev shows the statuses that it said; Misused where it doesn't."""
+    """The number of positions at which netrev shows the same statuses as its changes; Misused if one differs."""
     every = max(changes.length // COMPARED, 1)
     compared = sorted({*range(every, changes.length + 1, every), changes.length} - {0})
     spawned = sum(1 for _ in recording.steps_of(("spawn",), changes.length))
@@ -91,7 +96,8 @@ def _compared(scout: Scout, recording: Recording, changes: RecordedChanges) -> i
             step, cell, value = next(changed, END)
         for cell_there, shown in zip(goroutines, scout.values(position, goroutines)):
             if shown != (said := statuses[cell_there]):
-                raise Misused(f"netrev answers {cell_there} = {shown} at {position}, and said {said}")
+                words = {"cell": cell_there, "answer": shown, "position": position, "value": said}
+                raise Misused(messages.STATUS_DIFFERS.format(**words))
     return len(compared)
 
 
@@ -100,6 +106,7 @@ class Tracing:
 
     def __init__(self, recording: Recording, changes: RecordedChanges) -> None:
         self.recording, self.changes = recording, changes
+        self.begins = begins_at(recording)
         self.slices = self.flows = 0
         self._has_answers = recording.has_answers
         self._statuses: Statuses = {}
@@ -112,11 +119,17 @@ class Tracing:
     def events_together(self, name: str, check: Callable[[], None]) -> Iterator[list[str]]:
         """All events, many at a time: names first, then slices and flows as steps come. Each time it calls `check`."""
         yield list(map(of_json, self._names(name)))
-        steps = zip(self.recording.rows(self._told), told_lines(self.recording.lines, self.recording.length))
+        rows = zip(self.recording.rows(self._told), told_lines(self.recording.lines, self.recording.length))
+        steps = islice(rows, self.begins, None)
         changed = self._changed()
         upcoming, statuses, ticked = next(changed)
-        before, clock = "0", ',"clock":0'
-        for first in range(1, self.recording.length + 1, AT_ONCE):
+        clock = ',"clock":0'
+        while 0 < upcoming <= self.begins:
+            self._is_led_to(statuses)
+            clock = f',"clock":{ticked}' if ticked else clock
+            upcoming, statuses, ticked = next(changed)
+        before = str(self.begins)
+        for first in range(self.begins + 1, self.recording.length + 1, AT_ONCE):
             check()
             events: list[str] = []
             for number, ((mine, where, begin, what), line) in enumerate(islice(steps, AT_ONCE), first):
@@ -131,12 +144,12 @@ class Tracing:
                     upcoming, statuses, ticked = next(changed)
                 before = step
             yield events
-        self.slices += self.recording.length
+        self.slices += self.recording.length - self.begins
         if self._since:
             yield [self._status(g, self._statuses[g], self.recording.length + 1) for g in sorted(self._since)]
 
     def _told(self, values: list[Any]) -> tuple[Optional[int], str, str, str]:
-        """Of a step's line the goroutine that makes it, where its slice lies, and how that is told: up to its time, and up to its number."""
+        """For a step's line, its goroutine, its slice, and the parts of its text: up to the time, and up to the number."""
         words = values[:-1] if self._has_answers else values
         kind = words[0]
         mine: Optional[int] = words[1] if kind in BY_A_GOROUTINE else None
@@ -149,7 +162,7 @@ class Tracing:
         return mine, where, f'{{"ph":"X",{where},"ts":', what
 
     def _changed(self) -> Iterator[tuple[int, Statuses, str]]:
-        """Each step that changed a status or the clock, with the statuses, and the clock where it did; in the end no step."""
+        """Each step that changed a status or the clock, with the statuses and the new time; finally no step."""
         last, clock = "", ""
         statuses: Statuses = {}
         for step, cell, value in searched(self.changes, STATUSES_AND_CLOCK):
@@ -165,6 +178,15 @@ class Tracing:
             yield int(last), statuses, clock
         yield 0, {}, ""
 
+    def _is_led_to(self, statuses: Statuses) -> None:
+        """Takes statuses of a step before the first that is traced: they begin there."""
+        self._statuses |= statuses
+        for g, status in statuses.items():
+            if status in QUIET:
+                self._since.pop(g, None)
+            else:
+                self._since[g] = self.begins
+
     def _statuses_change(
         self, number: int, mine: Optional[int], where: str, statuses: Statuses, events: list[str]
     ) -> None:
@@ -174,7 +196,7 @@ class Tracing:
             if g not in known:
                 known[g] = value_at_start(f"gor {g}")
         if len(order) > 1:
-            # (whoever sleeps is woken by another, of two at a descriptor the reader first)
+            # (a sleeping goroutine is woken by another, of two at a descriptor the reader first)
             order.sort(key=lambda g: (g == mine, known[g].split()[-1]))
         for g in order:
             before, now = known[g], statuses[g]
@@ -222,7 +244,7 @@ def _thread(kind: str, arguments: list[Any]) -> int:
 
 
 def told_lines(lines: Lines, length: int) -> Iterator[str]:
-    """Of each step how its slice ends, with the program's line where it is known: each stack's text is made once."""
+    """The text at the end of each step's slice, with the program's line if known; each stack's text is made once."""
     texts = {number: stack.words() for number, stack in lines.stacks.items()}
     told = {number: f',"line":{of_json(plain(text))}}}}}' if text else "}}" for number, text in texts.items()}
     return chain(map(told.__getitem__, lines.steps), repeat("}}", length - len(lines.steps)))

@@ -1,5 +1,5 @@
-"""Has the picture made in a process of its own, with a netrev of its own, so that lines are answered meanwhile: first the whole run with a
-part, and then whatever part somebody looks at."""
+"""Draws the picture in a process of its own, with a netrev of its own, so that lines are answered meanwhile: first the
+whole run with a part, and then whatever part a browser shows."""
 
 import json
 import subprocess
@@ -11,6 +11,7 @@ from queue import Full, Queue
 from threading import Thread
 from typing import Callable, Optional
 
+from ..messages import browsers as texts
 from ..arriving_changes import ArrivingChanges
 from ..interrupts import Interrupts
 from ..netrev import Own
@@ -33,7 +34,7 @@ Wanted = Optional[Window]  # None: the whole run, with the part that it begins w
 
 
 class Painter:
-    """Has pictures of a recording made. `tell` is told how far the first one is."""
+    """Makes pictures of a recording in another process. `tell` gets the progress of the first one."""
 
     def __init__(self, program: str, path: str, tell: Callable[[str], None]) -> None:
         self._words = [sys.executable, "-c", CODE, program, path]
@@ -44,12 +45,12 @@ class Painter:
         self._thread: Optional[Thread] = None
 
     def ask(self, window: Wanted) -> "Future[bytes]":
-        """The picture, as JSON; Unavailable where it can't be had."""
+        """The picture, as JSON; Unavailable if there is none."""
         wanted: "Future[bytes]" = Future()
         try:
             self._wanted.put_nowait((window, wanted))
         except Full:
-            raise Unavailable(f"{MOST_WAITING} pictures are waited for already") from None
+            raise Unavailable(texts.TOO_MANY_PICTURES.format(most=MOST_WAITING)) from None
         if self._thread is None:
             self._thread = Thread(target=self._run, daemon=True)
             self._thread.start()
@@ -64,7 +65,7 @@ class Painter:
     def _run(self) -> None:
         while True:
             window, wanted = self._wanted.get()
-            if not wanted.set_running_or_notify_cancel():  # (whoever asked has gone)
+            if not wanted.set_running_or_notify_cancel():  # (the browser that asked has gone)
                 continue
             try:
                 wanted.set_result(self._picture(window))
@@ -96,7 +97,7 @@ class Painter:
         while (line := process.stdout.readline()).startswith(TELLS):
             self._tell(json.loads(line[1:]))
         if not line:
-            raise Unavailable("the timeline can't be had: what makes it has ended")
+            raise Unavailable(texts.TIMELINE_ENDED)
         if line.startswith(FAILS):
             raise Unavailable(json.loads(line[1:]))
         return line
@@ -129,7 +130,7 @@ def paint(program: str, path: str) -> None:
 
 
 def answer(shown: Shown, line: str) -> None:
-    """Makes the picture that a line asks for, or says why there is none."""
+    """Makes the picture that a line asks for, or reports why it can't."""
     wanted = json.loads(line)
     try:
         data = collected(shown) if wanted is None else part_of(shown, Window(*wanted))

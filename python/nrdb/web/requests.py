@@ -1,11 +1,12 @@
-"""Who is let in, and to what: a request is one of six, comes from this machine's own page, and has the token; all others are
-refused."""
+"""Checks requests: a request is one of six, comes from this machine's own page, and has the token; all others are rejected."""
 
 import hmac
 import re
 from dataclasses import dataclass
 from http import HTTPStatus
 from typing import Mapping
+
+from ..messages import browsers as texts
 
 LONGEST_LINE = 256  # bytes of a line, as netrev takes it
 TOKEN, BROWSER, POSITIONS = "netrev-token", "netrev-browser", "netrev-positions"  # headers that the page's script sends
@@ -38,26 +39,26 @@ class Request:
 
     @classmethod
     def of(cls, head: bytes) -> "Request":
-        """What the bytes up to the empty line say; Rejected where they are no request. No header stands there twice, since two
-        readers could take different ones."""
+        """The request in the bytes up to the empty line; Rejected if there is none. A header must not occur twice, because two
+        parsers could choose different ones."""
         first, *lines = head.decode("latin-1").removesuffix("\r\n\r\n").split("\r\n")
         asked = FIRST_LINE.fullmatch(first)
         found = [HEADER.fullmatch(line) for line in lines]
         headers = {one[1].lower(): one[2].rstrip(" \t") for one in found if one}
         if asked is None or len(headers) < len(lines):
-            raise Rejected(HTTPStatus.BAD_REQUEST, "that is no request")
+            raise Rejected(HTTPStatus.BAD_REQUEST, texts.NOT_A_REQUEST)
         path, _, query = asked[2].partition("?")
         return cls(asked[1], path, query, headers)
 
     def length(self) -> int:
-        """How many bytes its body has; Rejected where that isn't said, or it is too long."""
+        """The length of its body; Rejected if it is missing or too large."""
         said = self.headers.get("content-length", "" if self.method == "POST" else "0")
         if "transfer-encoding" in self.headers or not said:
-            raise Rejected(HTTPStatus.LENGTH_REQUIRED, "a body has to say its length")
+            raise Rejected(HTTPStatus.LENGTH_REQUIRED, texts.NO_LENGTH)
         if not LENGTH.fullmatch(said):
-            raise Rejected(HTTPStatus.BAD_REQUEST, "that is no length")
+            raise Rejected(HTTPStatus.BAD_REQUEST, texts.BAD_LENGTH)
         if int(said) > (LONGEST_LINE if self.method == "POST" else 0):
-            raise Rejected(HTTPStatus.REQUEST_ENTITY_TOO_LARGE, f"a line has at most {LONGEST_LINE} bytes")
+            raise Rejected(HTTPStatus.REQUEST_ENTITY_TOO_LARGE, texts.LONG_LINE.format(most=LONGEST_LINE))
         return int(said)
 
 
@@ -69,20 +70,21 @@ class Gate:
         self._token = token.encode("ascii")
 
     def check(self, request: Request) -> None:
-        """Rejected where the request is none of those that are answered."""
+        """Rejected if the request isn't one of those that are answered."""
         if request.headers.get("host") not in self._hosts:
-            raise Rejected(HTTPStatus.FORBIDDEN, "this isn't the host that the page is of")
+            raise Rejected(HTTPStatus.FORBIDDEN, texts.OTHER_HOST)
         if request.headers.get("origin", f"http://{self._hosts[0]}") not in [f"http://{host}" for host in self._hosts]:
-            raise Rejected(HTTPStatus.FORBIDDEN, "another page's requests aren't answered")
+            raise Rejected(HTTPStatus.FORBIDDEN, texts.OTHER_ORIGIN)
         if request.path not in METHODS:
-            raise Rejected(HTTPStatus.NOT_FOUND, "there is no such thing here")
+            raise Rejected(HTTPStatus.NOT_FOUND, texts.NOT_FOUND)
         if request.method != METHODS[request.path]:
-            raise Rejected(HTTPStatus.METHOD_NOT_ALLOWED, f"{request.path} is asked for by {METHODS[request.path]}")
+            says = texts.OTHER_METHOD.format(path=request.path, method=METHODS[request.path])
+            raise Rejected(HTTPStatus.METHOD_NOT_ALLOWED, says)
         if not self._has_token(request):
-            raise Rejected(HTTPStatus.FORBIDDEN, "the token is missing: open the address that nrdb printed")
+            raise Rejected(HTTPStatus.FORBIDDEN, texts.NO_TOKEN)
 
     def _has_token(self, request: Request) -> bool:
-        """Whether the token is there, in the one place in which it may be."""
+        """Whether the token is in its only allowed place."""
         given = request.headers.get(TOKEN, "")
         if request.path in BY_ADDRESS:
             name, _, given = request.query.partition("=")
@@ -94,19 +96,19 @@ class Gate:
 
 
 def line_of(body: bytes) -> str:
-    """The line that a body is; Rejected where it is none, or more than one."""
+    """The line in a body; Rejected if it isn't exactly one line."""
     try:
         line = body.decode("utf-8")
     except UnicodeDecodeError:
         line = "\0"
     if not line.isprintable():
-        raise Rejected(HTTPStatus.BAD_REQUEST, "that is no line: it has controls, or bytes that are no UTF-8")
+        raise Rejected(HTTPStatus.BAD_REQUEST, texts.BAD_LINE)
     return line
 
 
 def positions_of(request: Request) -> tuple[int, int]:
-    """The first and the last position of the part that is asked for; Rejected where none is named."""
+    """The first and the last position of the requested part; Rejected if they aren't named."""
     named = FROM_TO.fullmatch(request.headers.get(POSITIONS, ""))
     if named is None:
-        raise Rejected(HTTPStatus.BAD_REQUEST, "a part is named by its first and its last position: 1000-9000")
+        raise Rejected(HTTPStatus.BAD_REQUEST, texts.BAD_PART)
     return int(named[1]), int(named[2])

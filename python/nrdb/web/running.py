@@ -1,5 +1,5 @@
-"""Runs the session of the page, in the thread that called: lines one after the other, looks at what others did, and what is said
-while netrev is gone, until it is there again."""
+"""Runs the page's session in the calling thread: answers lines one after the other, looks for moves of others, and reports while
+netrev is gone."""
 
 import json
 import queue
@@ -9,6 +9,7 @@ from concurrent.futures import Future
 from pathlib import Path
 from typing import Callable, Optional
 
+from ..messages import browsers as texts
 from ..errors import Mismatched, unexpected
 from ..interrupts import GivenUp, Interrupted
 from ..netrev import Ended, Netrev
@@ -30,7 +31,6 @@ DONE, FAILED = 0, 3
 MOST_WAITING = 32  # lines that wait for those before them
 EVERY = 1.0  # second, after which it is looked again what others did
 LATEST = 30.0  # seconds between two tries to find netrev again; the first are shorter
-UNNAMED = "the timeline needs the recording: name its file after --join HOST:PORT"
 GONE = "netrev has ended"
 Opening = Callable[[Printer], Netrev]
 
@@ -54,7 +54,7 @@ def serve_page(session: Session, port: int, opened: Opening) -> int:
     server = Server(at, Gate(number, token), document(), streams, running)
     server.start()
     try:
-        session.printer.note(f"the page, until Ctrl-C: http://{LOOPBACK}:{number}/?token={token}")
+        session.printer.note(texts.ADDRESS.format(address=f"http://{LOOPBACK}:{number}/?token={token}"))
         running.run()
     except KeyboardInterrupt:
         pass
@@ -79,7 +79,7 @@ class Running:
     # --- for the server's thread
 
     def post(self, who: str, line: str) -> None:
-        """Takes a line, which is answered by events; Unavailable where netrev is gone, or too many lines wait."""
+        """Takes a line, which is answered by events; Unavailable if netrev is gone, or too many lines wait."""
         if self._gone:
             raise Unavailable(self._gone)
         self._take(lambda: self._answer(who, line))
@@ -99,36 +99,36 @@ class Running:
         return wanted
 
     def timeline(self) -> "Future[bytes]":
-        """The timeline's data, as JSON; Unavailable where they can't be had."""
+        """The timeline's data, as JSON; Unavailable if there is none."""
         return self._picture(None)
 
     def part(self, first: int, last: int) -> "Future[bytes]":
-        """What is shown of these positions, as JSON; Unavailable where that can't be had."""
+        """The data of these positions, as JSON; Unavailable if there is none."""
         if not 0 <= first <= last <= min(self.session.length, first + MOST):
-            raise Unavailable(f"a part is of at most {MOST} steps, from 0 to {self.session.length}")
+            raise Unavailable(texts.PART_IS_LARGE.format(most=MOST, length=self.session.length))
         return self._picture(Window(first, last))
 
     def _picture(self, window: Wanted) -> "Future[bytes]":
         if self._painter is None:
-            raise Unavailable(UNNAMED)
+            raise Unavailable(texts.TIMELINE_NEEDS_RECORDING)
         return self._painter.ask(window)
 
     def _take(self, work: Callable[[], None]) -> None:
         try:
             self._work.put_nowait(work)
         except queue.Full:
-            raise Unavailable(f"{MOST_WAITING} lines wait for their replies already") from None
+            raise Unavailable(texts.TOO_MANY_LINES.format(most=MOST_WAITING)) from None
 
     # --- for the session's
 
     def run(self) -> None:
-        """Answers what comes, until Ctrl-C."""
+        """Answers requests, until Ctrl-C."""
         self._look()
         while True:
             self.turn()
 
     def turn(self) -> None:
-        """Answers what comes next. Where nothing does for a while, looks what others did, if somebody wants to know."""
+        """Answers the next line. If none comes for a while, looks for moves of others, if a browser wants to know."""
         try:
             work = self._work.get(timeout=EVERY)
         except queue.Empty:
@@ -148,7 +148,7 @@ class Running:
             self._streams.tell("answered", who=who, line=line)
 
     def _look(self) -> None:
-        """Looks what others did; where netrev is gone, whether it is there again."""
+        """Looks for moves of others; if netrev is gone, whether it is back."""
         if not self._gone:
             self._guarded(self.session.look_round)
         elif time.monotonic() >= self._next_try:
@@ -170,7 +170,7 @@ class Running:
     def _lose(self, why: str) -> None:
         """From now on netrev is gone."""
         self.session.netrev.drop()
-        self._gone = f"{why}: lines aren't answered until it is there again"
+        self._gone = texts.NETREV_IS_GONE.format(why=why)
         self._next_try = time.monotonic() + self._pause
         self._streams.tell("netrev", there=False, says=self._gone)
 
@@ -186,4 +186,4 @@ class Running:
             self._lose(GONE if isinstance(why, Ended) else str(why))
             return
         self._gone, self._pause = "", EVERY
-        self._streams.tell("netrev", there=True, says="netrev is there again, with the marks that it has now")
+        self._streams.tell("netrev", there=True, says=texts.NETREV_IS_BACK)

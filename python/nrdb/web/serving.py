@@ -9,6 +9,7 @@ from contextlib import suppress
 from http import HTTPStatus
 from typing import Protocol
 
+from ..messages import browsers as texts
 from .document import Document
 from .requests import BROWSER, COMPLETE, EVENTS, LINE, PAGE, PART, Gate, Request, Rejected, line_of, positions_of
 from .streams import Stream, Streams
@@ -27,23 +28,23 @@ class Unavailable(Exception):
 
 
 class Runner(Protocol):
-    """Who runs the session. Each call returns at once."""
+    """Runs the session. Each call returns at once."""
 
     def post(self, who: str, line: str) -> None:
-        """Takes a line, which is answered by events; Unavailable where it can't be."""
+        """Takes a line, which is answered by events; Unavailable if that isn't possible."""
 
     def complete(self, line: str) -> "Future[bytes]":
-        """What the last word of a line that is being typed can become, as JSON; Unavailable where that can't be had."""
+        """The completions of the last word of a line, as JSON; Unavailable if there are none."""
 
     def timeline(self) -> "Future[bytes]":
-        """The timeline's data, as JSON; Unavailable where it can't be had."""
+        """The timeline's data, as JSON; Unavailable if there is none."""
 
     def part(self, first: int, last: int) -> "Future[bytes]":
-        """What is shown of these positions, as JSON; Unavailable where it can't be had."""
+        """The data of these positions, as JSON; Unavailable if there is none."""
 
 
 def listening(port: int) -> socket.socket:
-    """A socket that listens at a port of the loopback, 0 for any that is free; an OSError where it can't."""
+    """A socket that listens on a port of 127.0.0.1, or on any free one for port 0; an OSError if that fails."""
     made = socket.socket()
     try:
         made.setsockopt(socket.SOL_SOCKET, socket.SO_REUSEADDR, 1)
@@ -76,7 +77,7 @@ class Server:
         self._ready.wait()
 
     def stop(self) -> None:
-        """Ends all connections, and serves no more. Whatever happens there, nobody waits long for it."""
+        """Ends all connections, and serves no more. Whatever happens to them, it doesn't take long."""
         self._loop.call_soon_threadsafe(self._ended.set)
         self._thread.join(ENDING)
 
@@ -96,12 +97,13 @@ class Server:
             await asyncio.sleep(0)
 
     def _accept(self, reader: asyncio.StreamReader, writer: asyncio.StreamWriter) -> None:
-        """Takes a connection. Where there are too many, one has to go: that was answered, or has taken longest to ask."""
+        """Accepts a connection. If there are too many, one is closed: an answered one, or the one that has taken longest to ask."""
         is_full = len(self._open) >= MOST_CONNECTIONS
         if is_full and (spared := self._closing or self._asking):
             longest = next(iter(spared))
             del spared[longest]
-            is_full = not longest.cancel()
+            longest.cancel()  # (if it has just ended, its place is free already)
+            is_full = False
         task = self._loop.create_task(self._connected(Wire(reader, writer, self._document.policy), is_full))
         self._open[task] = writer
         self._asking[task] = None
@@ -120,7 +122,7 @@ class Server:
         with suppress(ConnectionError, EOFError):
             try:
                 if is_full:
-                    raise Rejected(UNAVAILABLE, "too many ask at once")
+                    raise Rejected(UNAVAILABLE, texts.TOO_MANY_REQUESTS)
                 request = await wire.head()
                 self._gate.check(request)
                 body = await wire.body(request.length())
@@ -152,7 +154,7 @@ class Server:
             await wire.answer(HTTPStatus.OK, await asyncio.wrap_future(made), JSON)
 
     async def _tell(self, wire: Wire, stream: Stream) -> None:
-        """Tells a browser what happens until it goes, or is too far behind."""
+        """Sends events to a browser until it leaves or falls too far behind."""
         await wire.begin(HTTPStatus.OK, EVENT_STREAM)
         await wire.send(BEGINNING)
         gone = asyncio.create_task(wire.gone())

@@ -1,9 +1,10 @@
-"""The session that the page's browsers share: nrdb's own, which tells besides who moved, and to where. Of those at other fronts
-netrev says nothing but where they left the session: so their moves are seen when somebody looks."""
+"""The session that the page's browsers share: nrdb's own, which also reports which browser moved and to which position. netrev
+reports nothing about other fronts but the position, so their moves are noticed at the next look."""
 
 from dataclasses import dataclass, field, fields
 from typing import Any, Optional, Protocol, Sequence
 
+from ..messages import browsers as texts
 from ..prompt.answers import ANSWERS, answer_list
 from ..commands import whole_words
 from ..collecting import Collecting
@@ -14,14 +15,10 @@ from ..shapes import Listed, Position, Refused
 
 OTHERS = "another front"
 WITH_FILES = ("source", "save", "timeline", "trace", "reduce", "report", "explore", "frame", "up", "down")
-NO_FILES = "the page reads and writes no files: that is for nrdb's prompt"
-NO_LINES = "the page takes one line at a time: `commands` is for nrdb's prompt"
-NO_CONDITIONS = "`condition` is for nrdb's prompt, where Ctrl-C stops a move that goes on past many marks"
-NO_END = "the session goes on when you close the page; where nrdb runs, Ctrl-C ends it"
 
 
 class Telling(Protocol):
-    """Whom events are told."""
+    """Receives events."""
 
     def tell(self, event: str, **values: Any) -> None:
         """Tells an event of that name with these values."""
@@ -38,10 +35,10 @@ def refusing(why: str) -> Answering:
 
 OF_THE_PAGE = {
     **ANSWERS,
-    **{name: refusing(NO_FILES) for name in WITH_FILES},
+    **{name: refusing(texts.NO_FILES) for name in WITH_FILES},
     "list": answer_list,  # of steps alone
-    "commands": refusing(NO_LINES),
-    "condition": refusing(NO_CONDITIONS),
+    "commands": refusing(texts.NO_COMMANDS),
+    "condition": refusing(texts.NO_CONDITIONS),
 }
 
 
@@ -95,7 +92,7 @@ class Shared(Session):
         return made
 
     def run_for(self, who: str, line: str) -> None:
-        """Answers a line of somebody's, and then looks what it left."""
+        """Answers a line of a browser, and then checks the session's state."""
         self.who = who
         self.run(line)
         self.look_round()
@@ -106,7 +103,7 @@ class Shared(Session):
 
     def answer(self, line: str) -> bool:
         if whole_words(line.split())[0] == "quit":
-            raise Misused(NO_END)
+            raise Misused(texts.NO_QUIT)
         return super().answer(line)
 
     def arrive(self, position: int, numbers: Sequence[str] = (), stood: Sequence[Listed] = ()) -> None:
@@ -117,8 +114,8 @@ class Shared(Session):
         self.look_round()
 
     def look_round(self) -> None:
-        """Looks where the session stands, and which marks it has. Where it isn't where it was left, somebody else has moved it.
-        Where netrev has no memory for it, that is seen next time."""
+        """Reads the session's position and marks. If the position has changed, another user has moved the session. If netrev has no
+        memory for the query, the next look notices it."""
         try:
             now = self.stands()
             marks = self.netrev.marks()
@@ -135,7 +132,7 @@ class Shared(Session):
             self.streams.tell("marks", marks=listed)
 
     def begin_anew(self, netrev: Netrev) -> None:
-        """Goes on with another netrev, wherever that stands."""
+        """Continues with another netrev, at its position."""
         self.netrev, self.told, self.told_marks = netrev, None, None
         self.attached.pending.clear()
         self.begin(self.ask("info position"))

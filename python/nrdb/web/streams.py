@@ -1,5 +1,5 @@
-"""What happens in a session is told to all browsers that listen: events, as JSON. Whoever comes later is told what was said last.
-All but `tell` is called in the server's own thread."""
+"""Sends the events of a session, as JSON, to all browsers that listen. A new browser gets the latest ones first. All functions but
+`tell` are called in the server's own thread."""
 
 import asyncio
 from collections import deque
@@ -8,11 +8,12 @@ from http import HTTPStatus
 from itertools import count
 from typing import Any, Callable, Iterator
 
+from ..messages import browsers as texts
 from ..timeline.page import plain_json
 from .requests import Rejected
 
 MOST_STREAMS = 16
-MOST_KEPT, KEPT_BYTES = 400, 2**20  # events that whoever comes later is told, and all of their bytes
+MOST_KEPT, KEPT_BYTES = 400, 2**20  # events that a later browser is sent, and their bytes
 WAITING_BYTES = 8 * 2**20  # that may wait for a browser that is slow
 STATES = ("stands", "marks", "netrev", "picture")  # of which the last one says how things are
 
@@ -40,7 +41,7 @@ class Stream:
         return f"browser {self.number}"
 
     def put(self, data: bytes) -> None:
-        """Has the browser told this, unless too much waits for it already: then it is behind, and is to be ended."""
+        """Queues data for the browser, unless too much waits already: then the browser is too slow, and its stream ends."""
         if self._waiting and self._bytes + len(data) > WAITING_BYTES:
             self.is_behind = True
         else:
@@ -49,11 +50,11 @@ class Stream:
         self._came.set()
 
     async def come(self) -> None:
-        """Returns when there is something to be told."""
+        """Returns when there is data to send."""
         await self._came.wait()
 
     def take(self) -> bytes:
-        """What is to be told."""
+        """The data to send."""
         data = b"".join(self._waiting)
         self._waiting.clear()
         self._bytes = 0
@@ -62,7 +63,7 @@ class Stream:
 
 
 class Streams:
-    """All browsers that listen, and what was told last."""
+    """All browsers that listen, and the latest events."""
 
     def __init__(self, recording: str) -> None:
         self._recording = recording
@@ -74,7 +75,7 @@ class Streams:
         self._soon: Callable[[Event], object] = self._tell
 
     def begin(self, loop: asyncio.AbstractEventLoop) -> None:
-        """From now on events are told in this loop."""
+        """From now on events are sent in this loop."""
         self._soon = lambda event: loop.call_soon_threadsafe(self._tell, event)
 
     def tell(self, event: str, **values: Any) -> None:
@@ -86,15 +87,15 @@ class Streams:
         return len(self._streams)
 
     def name_of(self, number: str) -> str:
-        """Who it is that gives this number."""
+        """The name of the browser with this number."""
         stream = self._streams.get(int(number)) if number.isdecimal() and len(number) < 10 else None
         return stream.name if stream else "somebody"
 
     @contextmanager
     def joined(self) -> Iterator[Stream]:
-        """A browser's stream, for as long as it listens; Rejected where there are too many."""
+        """A browser's stream, for as long as it listens; Rejected if there are too many."""
         if len(self._streams) >= MOST_STREAMS:
-            raise Rejected(HTTPStatus.SERVICE_UNAVAILABLE, f"{MOST_STREAMS} browsers are here already")
+            raise Rejected(HTTPStatus.SERVICE_UNAVAILABLE, texts.TOO_MANY_BROWSERS.format(most=MOST_STREAMS))
         stream = Stream(next(self._numbers))
         you = {"event": "you", "who": stream.name, "number": stream.number, "recording": self._recording or None}
         stream.put(b"".join([message(you), *self._kept, *self._states.values()]))
@@ -121,7 +122,7 @@ class Streams:
             stream.put(data)
 
     def _keep(self, data: bytes) -> None:
-        """Keeps an event for those who come later, and forgets the first ones where there are too many."""
+        """Keeps an event for later browsers, and drops the oldest if there are too many."""
         self._kept.append(data)
         self._bytes += len(data)
         while len(self._kept) > MOST_KEPT or self._bytes > KEPT_BYTES:

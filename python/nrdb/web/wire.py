@@ -1,14 +1,15 @@
-"""Requests are read from a connection, and answered, one a connection. Whoever is slow, or says too much, is refused in time."""
+"""Reads a request from a connection and answers it, one for each connection. A slow or too long request is rejected in time."""
 
 import asyncio
 from contextlib import suppress
 from http import HTTPStatus
 
+from ..messages import browsers as texts
 from .requests import Request, Rejected
 
 LONGEST_HEAD = 8_192  # bytes up to a body
 IN_TIME = 5.0  # seconds that a request may take to come whole, and a part of an answer to be taken
-TAKEN_STILL, STILL = 65_536, 0.3  # bytes that are taken behind an answer, and seconds that all of them are waited for
+TAKEN_STILL, STILL = 65_536, 0.3  # bytes that are read after an answer, and seconds for all of them
 PLAIN, JSON, EVENT_STREAM = "text/plain; charset=utf-8", "application/json", "text/event-stream"
 ALWAYS = {
     "Cache-Control": "no-store",
@@ -29,25 +30,25 @@ class Wire:
         self._headers = ALWAYS | {"Content-Security-Policy": policy}
 
     async def head(self) -> Request:
-        """The request, up to its body. Rejected where none comes whole in time; EOFError where nothing came at all."""
+        """The request, up to its body. Rejected if it doesn't arrive completely in time; EOFError if nothing arrives."""
         try:
             head = await asyncio.wait_for(self._reader.readuntil(b"\r\n\r\n"), IN_TIME)
         except asyncio.LimitOverrunError:
-            raise Rejected(HTTPStatus.REQUEST_HEADER_FIELDS_TOO_LARGE, "the headers are too long") from None
+            raise Rejected(HTTPStatus.REQUEST_HEADER_FIELDS_TOO_LARGE, texts.LONG_HEADERS) from None
         except asyncio.TimeoutError:
-            raise Rejected(HTTPStatus.REQUEST_TIMEOUT, "the request didn't come whole in time") from None
+            raise Rejected(HTTPStatus.REQUEST_TIMEOUT, texts.SLOW_REQUEST) from None
         except asyncio.IncompleteReadError as ended:
             if ended.partial:
-                raise Rejected(HTTPStatus.BAD_REQUEST, "that is no request") from None
+                raise Rejected(HTTPStatus.BAD_REQUEST, texts.NOT_A_REQUEST) from None
             raise
         return Request.of(head)
 
     async def body(self, length: int) -> bytes:
-        """So many bytes; Rejected where they don't come in time."""
+        """This many bytes; raises Rejected if they don't come in time."""
         try:
             return await asyncio.wait_for(self._reader.readexactly(length), IN_TIME)
         except (asyncio.TimeoutError, asyncio.IncompleteReadError):
-            raise Rejected(HTTPStatus.REQUEST_TIMEOUT, "the line didn't come whole in time") from None
+            raise Rejected(HTTPStatus.REQUEST_TIMEOUT, texts.SLOW_LINE) from None
 
     async def answer(self, status: HTTPStatus, body: bytes, sort: str = PLAIN) -> None:
         """Answers the request."""
@@ -55,13 +56,13 @@ class Wire:
         await self.send(body)
 
     async def begin(self, status: HTTPStatus, sort: str, more: dict[str, str] = {}) -> None:
-        """Begins an answer, of which more is to come."""
+        """Begins an answer, to be continued."""
         lines = [f"HTTP/1.1 {status.value} {status.phrase}"]
         lines += [f"{name}: {value}" for name, value in ({"Content-Type": sort} | self._headers | more).items()]
         await self.send("\r\n".join([*lines, "", ""]).encode("ascii"))
 
     async def send(self, data: bytes) -> None:
-        """Sends these bytes; ConnectionError where they aren't taken in time."""
+        """Sends these bytes; ConnectionError if the other end doesn't take them in time."""
         self._writer.write(data)
         try:
             await asyncio.wait_for(self._writer.drain(), IN_TIME)
@@ -75,7 +76,7 @@ class Wire:
             await self._reader.read(1)
 
     async def close(self) -> None:
-        """Ends the connection. What still comes is taken for a moment, so that the answer isn't lost with it."""
+        """Ends the connection. It reads on for a moment, so that a reset doesn't destroy the answer."""
         with suppress(OSError, asyncio.TimeoutError):
             self._writer.write_eof()
             await asyncio.wait_for(self._take_rest(), STILL)

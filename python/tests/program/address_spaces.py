@@ -1,4 +1,4 @@
-"""A netrev that has little memory: what python/tests/program/system.py plays with address spaces of many sizes."""
+"""netrev with little memory: program/system.py runs it with address spaces of many sizes."""
 
 import errno
 import os
@@ -59,13 +59,13 @@ def ended(process, given=None):
 
 
 def limit_memory(size):
-    """For what is about to be started: so many bytes of address space, and no file of it where it ends by a signal."""
+    """For the next process: an address space of this many bytes, and no core file."""
     resource.setrlimit(resource.RLIMIT_CORE, (0, 0))
     resource.setrlimit(resource.RLIMIT_AS, (size, size))
 
 
 def loader_in(size):
-    """The status of the system's loader with so much address space: it maps the program, and doesn't start it."""
+    """The status of the system's loader with this address space: it maps the program and doesn't start it."""
     traced = {**os.environ, "LD_TRACE_LOADED_OBJECTS": "1"}
     null = subprocess.DEVNULL
     limit = lambda: limit_memory(size)  # noqa: E731
@@ -78,7 +78,7 @@ def loader_in(size):
 
 
 def refused_start(failed):
-    """A status for what the system refused to start, where it did so for memory."""
+    """A status for a program that the system refused to start, if it did so for memory."""
     if failed.errno in (errno.ENOMEM, errno.E2BIG):
         return 127
     raise failed
@@ -97,16 +97,15 @@ def loads_in():
 
 
 def expect_walk(recording, replies):
-    """Sees that each line has its reply, and each reply is the right one. Gives how many commands were placed, and what is shown of the
-    position then."""
+    """Checks that each line has the right reply. Returns how many commands were placed, and the position then."""
     expect("how many replies", WALK.count("\n"), len(replies))
     return expect_beginning(recording, replies)
 
 
 def expect_beginning(recording, replies):
-    """Sees that each reply is the right one, or that memory ran out for it as docs/reference/COMMANDS.md says: of a look, which
-    may be asked again, or of a search, whose reply is owed then and given once by `resume`. Gives how many commands were
-    placed, and what is shown of the position then."""
+    """Checks that each reply is right, or that memory ran out for it as docs/reference/COMMANDS.md says: for a query,
+    which may be repeated, or for a search, whose reply `resume` gives once. Returns how many
+    commands were placed, and the position then."""
     state, placed, owed = State(), 0, None
     for line, came in zip(WALK.splitlines(), replies):
         asked = read_line(line.encode())
@@ -128,13 +127,13 @@ def expect_beginning(recording, replies):
 
 
 def expect_begun(right, output):
-    """Sees that the first lines of the right text went out, all whole, and then that memory ran out."""
+    """Checks that the first lines of the right text were printed, all whole, and then that memory ran out."""
     lines = right.splitlines(keepends=True)[: output.count(b"\n") - 1]
     expect("output", b"".join(lines) + NO_MEMORY, output)
 
 
 def ended_in(size, words, text):
-    """Starts netrev with so much address space, and gives its status, output and errors."""
+    """Starts netrev with this address space, and returns its status, output and errors."""
     pipe = subprocess.PIPE
     limit = lambda: limit_memory(size)  # noqa: E731
     try:
@@ -145,8 +144,8 @@ def ended_in(size, words, text):
 
 
 def play_memory(word, recording, right=b""):
-    """A hundred sizes up to twice what the right replies take, and those about the least that the program loads in. With
-    `upgrade` and `suspects` the right text has to be named."""
+    """A hundred sizes up to twice what the right replies take, and those near the least in which the program loads. For
+    `upgrade` and `suspects` the right text must be given."""
 
     def play(size):
         try:
@@ -192,8 +191,8 @@ def play_memory(word, recording, right=b""):
 
 
 def kinds_met(play):
-    """What is met at a hundred sizes. Where a stack has to grow and the address space has no room for it, the system kills netrev: with more
-    room by a stack's growth it doesn't."""
+    """What is met at a hundred sizes. If a stack has to grow and the address space has no room for it, the system kills
+    netrev; with more room it doesn't."""
     met = set()
     for size in a_hundred_sizes(play):
         what = play(size)
@@ -206,7 +205,7 @@ def kinds_met(play):
 
 
 def a_hundred_sizes(play):
-    """Eighty up to what is ample, which is looked for, and those about the least that the program loads in."""
+    """Eighty sizes up to an ample one, which is searched for, and those near the least in which the program loads."""
     least = loads_in()
     ample = least
     while play(ample) != "whole":
@@ -234,7 +233,7 @@ def play_memory_of_serve(recording):
             return judge(size, replies, shown, *server.ended())
 
     def said(caller, lines):
-        """What a caller is told, or nothing where netrev ended before it served."""
+        """The replies to a caller, or nothing if netrev ended before it served."""
         try:
             return talk(caller, lines) if caller else []
         except ConnectionError:

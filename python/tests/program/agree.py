@@ -33,8 +33,8 @@ from .upgrades import RECORDINGS
 
 PLAIN = os.path.abspath(os.environ.get("NETREV_PLAIN", ROOT / "crates/netrev_plain/out/netrev_plain"))
 WAITS = 300  # seconds
-SHORT = 300  # steps, up to which each cell is looked at at each position
-MANY = 1_000  # random cases, among which is each kind of step and each cell
+SHORT = 300  # steps up to which each cell is printed at each position
+MANY = 1_000  # random cases, with each kind of step and each cell
 SHOWN = re.compile(rb"^(\w+)(?: \d+)? = ", re.MULTILINE)  # a cell with its value
 RUN_ALONE = ("full_journal", "many_steps")  # sorts of cases that take long, which `sizes` has
 
@@ -46,7 +46,7 @@ def ended(program: str, words: Sequence[object], script: bytes) -> tuple[int, by
 
 
 def agree(words: Sequence[object], script: bytes = b"") -> tuple[int, bytes]:
-    """Sees that both programs print the same, and end so; that is returned."""
+    """Checks that both programs print the same and end with the same status; returns both."""
     came = ended(NETREV, words, script)
     expect("what the world of lists shows", came, ended(PLAIN, words, script))
     return came
@@ -59,7 +59,7 @@ def walk(steps: Sequence[Step], seed: str) -> bytes:
 
 @pytest.fixture(autouse=True)
 def plain() -> None:
-    """Both are built, or the test says which one isn't."""
+    """Both are built, or the test fails with the name of the missing one."""
     assert is_program(PLAIN), f"{PLAIN} is no program: `make agree` builds it, and NETREV_PLAIN=FILE names another"
 
 
@@ -105,7 +105,7 @@ def sizes() -> list[str]:
 
 @pytest.mark.long
 def test_sizes(folder: Path) -> None:
-    """As much of everything as version 1 allows, and the greatest buffers, which version 2 has."""
+    """As much of everything as version 1 allows, and the largest buffers, which version 2 has."""
     path, last = folder / "greatest.jsonl", SOCKETS - 1
     path.write_text("\n".join((HEADER % (1, GOROUTINES, SOCKETS, DESCRIPTORS, PIECE), *sizes())) + "\n", "ascii")
     looks = f"print in {last}\nprint out {last}\nprint timers\nprint gor {GOROUTINES - 1}\n"
@@ -118,7 +118,7 @@ def test_sizes(folder: Path) -> None:
     assert agree(["run", path], lines or b"")[0] == 0
 
 
-# Whoever mixes up sides shows one of the two semaphores for the other; and a firing that was put back in front is taken for another.
+# A program that confuses sides shows one of the two semaphores for the other; and a firing that was put back at the front is taken for another.
 SIDES = """{"netrev":1,"gor":4,"sock":2,"desc":2,"buf":16}
 ["spawn"]
 ["sockopen",16,16]
@@ -147,12 +147,12 @@ def test_sides(folder: Path) -> None:
     recording = read_text(path.read_bytes())
     status, output = agree(["run", path], every_cell(recording.limits, len(recording.steps), True))
     assert status == 0 and b"wsem 0 = 1" in output and b"rsem 0 = 1" not in output
-    again = b"stepi 18\nprint clock\nreverse-stepi 2\nprint clock\nstepi\nprint rd 0\n"  # (a walk begins where somebody looks)
+    again = b"stepi 18\nprint clock\nreverse-stepi 2\nprint clock\nstepi\nprint rd 0\n"  # (a walk begins at a query)
     assert agree(["run", path], again) == (0, b"at 18\nclock = 10\nat 16\nclock = 10\nat 17\nrd 0 = 5\n")
 
 
 def case(seed: str) -> tuple[str, Made]:
-    """The sort of a random case, and what it is made of."""
+    """The sort of a random case, and its parts."""
     dice = random.Random(seed)
     sorts = {sort: weight for sort, weight in SORTS.items() if sort.__name__ not in RUN_ALONE}
     sort = dice.choices(list(sorts), list(sorts.values()))[0]
@@ -160,7 +160,7 @@ def case(seed: str) -> tuple[str, Made]:
 
 
 def test_random(folder: Path, request: pytest.FixtureRequest) -> None:
-    """Random cases. Where one differs its seed is told."""
+    """Random cases. The seed of a case that differs is printed."""
     first, count = request.config.getoption("--seed"), request.config.getoption("--random")
     path = folder / "random.jsonl"
     kinds: set[str] = set()

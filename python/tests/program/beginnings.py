@@ -24,19 +24,20 @@ BEGUN = tuple(
 # the steps whose recorded answers aren't the machine's
 DIFFERS = {f"examples/{name}.jsonl": step for name, step in REFUSED.items()}
 IN_A_ROW = 64
-# what netrev prints of each file, on both of its streams, and its status
+# netrev's output for each file, on both streams, and its status
 EACH = 'netrev=$1; shift; for file; do "$netrev" check "$file" 2>&1; echo "status $?"; done'
 
 Printed = tuple[int, str]  # the status, and what is printed
 
 
 def wanted_of(place: object, fault: object) -> Printed:
-    """What is printed of a fault, or of so many steps."""
+    """The output for a fault, or for this many steps."""
     return (0, f"ok {fault} steps\n") if isinstance(fault, int) else (1, f"{place}: fault {fault}\n")
 
 
 def beginning(text: bytes, differs: Optional[int]) -> Printed:
-    """What is said of a beginning: its last line is whole, or no JSON. Where all are whole, a step may answer otherwise."""
+    """The output for a beginning: its last line is whole, or malformed. If all are whole, a step may answer
+    otherwise."""
     lines = text.split(b"\n")
     if not lines[-1] and len(lines) > 1:
         steps = len(lines) - 2
@@ -47,7 +48,7 @@ def beginning(text: bytes, differs: Optional[int]) -> Printed:
 
 
 def every_beginning(folder: Path, whole: bytes, differs: Optional[int]) -> None:
-    """Cuts the text at each byte. Where all of a line but its line feed is there, it is read with it."""
+    """Cuts the text at each byte. A line that lacks only its line feed is read with the rest."""
 
     def cut(sizes: range) -> None:
         paths = [folder / f"beginning-{size}.jsonl" for size in sizes]
@@ -67,7 +68,7 @@ def every_beginning(folder: Path, whole: bytes, differs: Optional[int]) -> None:
 
 
 def expect_in_turn(sizes: Sequence[int], wanted: Sequence[str], came: str) -> None:
-    """Sees that what came of these beginnings is what was wanted of each."""
+    """Checks that the output for each beginning is the expected one."""
     for size, one in zip(sizes, wanted):
         expect(f"check of the first {size} bytes", one, came[: len(one)] if came.startswith(one) else came[:500])
         came = came[len(one) :]

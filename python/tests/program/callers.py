@@ -1,4 +1,4 @@
-"""The callers of system.py: who reset, say nothing, send a byte now and then, or are too many for the system."""
+"""The callers of system.py: they reset, are silent, send a byte from time to time, or are too many for the system."""
 
 import socket
 import time
@@ -20,19 +20,19 @@ def callers():
 
 
 def ask_much(caller):
-    """Asks for 12 MB of replies, of which it reads the first bytes: so netrev is in the middle of them."""
+    """Asks for 12 MB of replies, and reads the first bytes, so netrev is in the middle of them."""
     caller.sendall(b"dump in 0\n" * 100)
     expect("a reply's beginning", b"in 0 = ab", caller.recv(9))
 
 
 def end_and_reset(caller):
-    """Netrev has read the end of the lines when the reset comes: then its write fails as one to a closed pipe does."""
+    """netrev has read the end of the lines when the reset comes: then its write fails as one to a closed pipe does."""
     caller.shutdown(socket.SHUT_WR)
     reset(caller)
 
 
 def play_reset(folder):
-    """Front 1 is served all the while, and so is the next at front 0."""
+    """Front 1 is served meanwhile, and so is the next caller at front 0."""
     with Server(file_of("large", LARGE.encode())(folder).decode(), fronts=2, connections=3) as server:
         expect("the replies", [f"at {ARRIVED}", "bye"], talk(server.call(1), [f"stepi {ARRIVED}", "quit"]))
         other = server.call(1)
@@ -49,8 +49,8 @@ def play_reset(folder):
 
 
 def play_no_descriptor(_folder):
-    """Four fronts that wait for callers take seven of them, and each caller two. With room for nine some front finds none, and
-    ends as one that failed; the others are served."""
+    """Four fronts that wait for callers take seven descriptors, and each caller two. With room for nine some front
+    finds none, and ends as one that failed; the others are served."""
     through = ["sh", "-c", 'ulimit -n 9; exec "$@"', "sh"]
     with Server(FIRST, fronts=4, through=through) as server:
         served = [caller for front in range(4) if (caller := answered(server.port + front)) is not None]
@@ -61,7 +61,7 @@ def play_no_descriptor(_folder):
 
 
 def answered(port):
-    """A caller who has the reply to a step; None where the port isn't there, or not any more."""
+    """A caller that has the reply to a step; None if the port isn't open, or no longer."""
     for _ in range(50):
         try:
             caller = socket.create_connection((LOOPBACK, port), timeout=PATIENCE)
@@ -78,7 +78,8 @@ def answered(port):
 
 
 def play_ended_front(_folder):
-    """A front that has ended has no port any more: who comes then is refused, and doesn't wait for the other front's end."""
+    """A front that has ended has no port any more: a later caller is refused, and doesn't wait for the other front's
+    end."""
     with Server(FIRST, fronts=2) as server:
         with server.call(1) as other:
             expect("the replies", ["at 1", "bye"], talk(server.call(0), ["stepi", "quit"]))
@@ -88,7 +89,7 @@ def play_ended_front(_folder):
 
 
 def what_comes_of_calling(port):
-    """Whether callers are refused at last, where some may be let in before the port is closed."""
+    """Whether callers are finally refused; some may be accepted before the port is closed."""
     limit = time.monotonic() + PATIENCE
     while time.monotonic() < limit:
         with socket.socket() as caller:
@@ -172,7 +173,7 @@ def play_request_of_a_page(_folder):
 
 
 def play_crowd(folder):
-    """Of 64 fronts a third each: the slow are answered right, and so are the silent when they speak."""
+    """A third each of 64 fronts: slow callers get right replies, and so do silent ones when they speak."""
     with Server(file_of("large", LARGE.encode())(folder).decode(), fronts=64) as server:
         connected = [server.call(front, SO_RCVBUF=4096) for front in range(64)]
         silent, slow, leaves = (connected[first::3] for first in range(3))

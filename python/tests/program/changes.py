@@ -59,7 +59,7 @@ REFUSED = (
 
 
 def cells_of(recording: Recording) -> list[str]:
-    """The cells of all that there is at the end, in the order of docs/reference/COMMANDS.md."""
+    """The cells of all objects at the end, in the order of docs/reference/COMMANDS.md."""
     kinds = [step[0] for step in recording.steps]
     made = {of: kinds.count(kind) + (of is Of.GOROUTINE) for of, kind in MADE_BY.items()}
     return [
@@ -70,7 +70,7 @@ def cells_of(recording: Recording) -> list[str]:
 
 
 def changes_by_prints(path: Path, recording: Recording) -> bytes:
-    """The lines that what is printed at each position makes, and the last one."""
+    """The lines that follow from the values at each position, and the last one."""
     cells = cells_of(recording)
     prints = "".join(f"print {cell}\n" for cell in cells)
     script = prints + f"stepi\n{prints}" * len(recording.steps)
@@ -87,7 +87,7 @@ def changes_by_prints(path: Path, recording: Recording) -> bytes:
 
 
 def compare(path: Path) -> None:
-    """Sees that the lines of a recording are those of the model, and of a short one those of what is printed."""
+    """Checks that the lines of a recording are the model's, and for a short one those of the printed values."""
     text = path.read_bytes()
     right = printed("changes", text, b"", Observer())
     assert right is not None, "the model has an opinion on each recording that is here"

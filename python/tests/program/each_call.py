@@ -2,9 +2,7 @@
 
 The program is crates/nr_refused, or what NR_REFUSED names. It makes the call of that name, and then the same once more
 with memory; scripts/refused.c is put before the C library. Of the first call the first request is refused, then in a run
-of its own the second, and so on until none is left to refuse; and then each together with all behind it. The program
-compares what came of both calls with the right answer and, where the first one was refused, what that has to leave as it
-was. So a call that was refused has to say so, and either it is right then or the next time; and one that gets no memory at
+of its own the second, and so on until none is left to refuse; and then each together with all behind it. The program compares the results of both calls with the right answer and, if the first one was refused, what it must leave unchanged. So a call that was refused has to say so, and either it is right then or the next time; and one that gets no memory at
 all has to be refused, unless it takes none.
 
 Each test prints how many requests its call makes, and how often it could do without, which `pytest -rP` shows.
@@ -25,8 +23,8 @@ PATIENCE = 60  # seconds
 RIGHT, REFUSED = "right", "refused, then right"
 
 # calls that take no memory
-WITHOUT = {"journal-split"}
-# calls whose lines are sent once more within the first call, so that one of them alone can be refused
+WITHOUT = {"restored-in-place", "restored-in-place-plain", "goto-a-copy", "journal-split"}
+# calls whose lines are sent again within the first call, so that one of them alone can be refused
 LINES = {"six-lines"}
 # calls with threads, which don't always make as many requests
 WITH_THREADS = {"search-forward-by-three", "search-backward-by-three", "serve-bytes"}
@@ -39,7 +37,7 @@ if not is_program(PROGRAM):
 
 @dataclass
 class Tally:
-    """How many requests were refused, and after how many the call said so."""
+    """The number of refused requests, and of those after which the call reported it."""
 
     refused: int = 0
     told: int = 0
@@ -57,7 +55,7 @@ class Player:
         self.told = folder / "told"
 
     def play(self, call, number, behind):
-        """What came of a call, and whether one of its requests was refused."""
+        """The result of a call, and whether one of its requests was refused."""
         words = {"LD_PRELOAD": str(self.library), "MARKED": "1", "REFUSED": str(number), "BEHIND": str(int(behind))}
         through = ["sh", "-c", 'exec "$@" 9> "$TOLD"', "sh", PROGRAM, call]
         ran = subprocess.run(

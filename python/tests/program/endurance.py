@@ -22,7 +22,7 @@ INTERRUPTED = 150  # times, before each read and each write
 
 
 def replies(words: list[str], script: str, room: int = 0, through: Sequence[str] = ()) -> tuple[int, str, str]:
-    """netrev's status, its output and its errors, with so much address space. It is started by the words of `through`, if any."""
+    """netrev's status, output and errors, with this address space. The words of `through`, if any, start it."""
     ran = subprocess.run(
         [*through, NETREV, *words],
         input=script,
@@ -36,7 +36,7 @@ def replies(words: list[str], script: str, room: int = 0, through: Sequence[str]
 
 
 def same(script: str, right: str, came: tuple[int, str, str]) -> None:
-    """Sees that the replies are right; where they part is said."""
+    """Checks that the replies are right; prints the first difference."""
     status, output, errors = came
     lines = list(zip([*script.splitlines(), "the end"], [*right.splitlines(), ""], [*output.splitlines(), ""]))
     wrong = next(
@@ -53,7 +53,7 @@ def same(script: str, right: str, came: tuple[int, str, str]) -> None:
 
 
 def test_steps_to_and_fro_over_a_read_take_no_more_memory(folder: Path) -> None:
-    """20,000 steps over a read of 65,536 bytes: each way back has them, and they are let go of the next time."""
+    """20,000 steps over a read of 65,536 bytes: each delta has them, and the next one frees them."""
     path = folder / "read.jsonl"
     lines = [f'["sockopen",{PIECE},{PIECE}]', f'["arrive",0,"{"ab" * PIECE}"]', f'["sysread",0,0,{PIECE}]']
     path.write_text("\n".join(['{"netrev":1,"gor":1,"sock":1,"desc":1,"buf":65536}', *lines, ""]), encoding="ascii")
@@ -82,7 +82,7 @@ def test_copies_share_what_stays_as_it_is(folder: Path) -> None:
 def test_reads_and_writes_that_are_interrupted_go_on(folder: Path) -> None:
     """Each of them, however often it was interrupted."""
     library, told = library_of("interrupted", folder), folder / "told"
-    # (of each interruption the library tells at this descriptor)
+    # (the library reports each interruption at this descriptor)
     through = ["sh", "-c", 'told=$1; shift; exec env "$@" 9> "$told"', "sh", str(told)]
     through += [f"LD_PRELOAD={library}", f"INTERRUPTED={INTERRUPTED}"]
     script = "si 6\np lock 0\nwatch lock 0\nc\nrc\nquit\n"

@@ -1,4 +1,5 @@
-"""Fresh places in which netrev's commands are tried: a clone in which nothing is built, and a toolchain that compiles in no time."""
+"""Fresh places in which netrev's commands are tried: a clone without build results, and a toolchain that compiles in no
+time."""
 
 import os
 import shutil
@@ -22,7 +23,7 @@ SETTINGS = (
     "NO_COLOR",
 )
 
-# A toolchain that has compiled already. As the real one does, `rt try` runs the program in a temporary folder, as a child, and
+# A toolchain that has already compiled. Like the real one, `rt try` runs the program in a temporary folder, as a child, and
 # removes both when it is interrupted. It notes each of its calls.
 RT = """#!/bin/sh
 echo "$*" >> "{calls}"

@@ -17,7 +17,7 @@ from .sharing import ROOT
 
 
 def upgrade_of(text: bytes) -> bytes:
-    """The text that the model writes of a recording's, or its fault."""
+    """The model's upgrade of a recording's text, or its fault."""
     return output_of("upgrade", text)
 
 
@@ -40,7 +40,7 @@ ROOM = '{"netrev":1,"gor":4096,"sock":256,"desc":256,"buf":65536}\n'
 TICKS = ROOM + "".join(f'["tick",{time}]\n' for time in range(1, 50_001))
 LARGE = ROOM + '["spawn"]\n' * 5 + '["sockopen",65536,65536]\n' * 256
 LARGE += f'["arrive",0,"{"ab" * 60_000}"]\n["arrive",255,"6869"]\n' + '["tick",1]\n' * 40 + '["sysread",0,0,60000]\n'
-ARRIVED, LAST = 262, 304  # where LARGE has the bytes, and its last position
+ARRIVED, LAST = 262, 304  # the part of LARGE with the bytes, and its last position
 LOST_AFTER = """["pollopen",0,0]
 ["pollevent",0,1,"r",0]
 ["pollreset",0,0,"r"]
@@ -57,7 +57,7 @@ POSITION = b"at 0 of 10 forward\n"
 
 @dataclass
 class Function:
-    """A case that a function plays."""
+    """A case that is a function."""
 
     name: str
     play: Callable[[Path], None]
@@ -77,7 +77,7 @@ def file_of(name: Union[str, bytes], text: bytes) -> Callable[[Path], bytes]:
 
 
 def rest_of(caller: socket.socket) -> bytes:
-    """What a caller reads before netrev has gone, or resets."""
+    """What a caller reads before netrev has ended, or resets."""
     came = b""
     with caller:
         try:

@@ -35,12 +35,12 @@ Choice = tuple[int, State]  # a front, and the state behind its next line
 
 
 class Clue(NamedTuple):
-    """What a reply tells of its place in a history, whatever the lines before it are."""
+    """What a reply says about its place in a history, whatever the lines before it are."""
 
-    leads_to: Optional[int] = None  # the position behind it
-    stands_at: frozenset[int] = frozenset()  # the positions at which it may have been answered, where few are
+    leads_to: Optional[int] = None  # the position after it
+    stands_at: frozenset[int] = frozenset()  # the positions at which it may have been answered, if there are few
     moves: bool = False  # from there to another
-    shows: frozenset[Name] = frozenset()  # marks and checkpoints that stand
+    shows: frozenset[Name] = frozenset()  # marks and checkpoints that exist
     takes_away: Optional[Name] = None  # a mark or a checkpoint
 
     @staticmethod
@@ -80,7 +80,7 @@ def earliest(numbers: list[int]) -> list[int]:
 
 
 class GaveUp(Exception):
-    """The search tried too much."""
+    """The search tried too many orders."""
 
 
 class Search:
@@ -138,13 +138,14 @@ class Search:
         return self.clues[front][self.taken[front]]
 
     def open_fronts(self) -> list[int]:
-        """The fronts whose next line may come now: nobody had read a reply before it was sent whose line is to come."""
+        """The fronts whose next line may come now: no caller had read a reply before it was sent whose line is still to
+        come."""
         left = [front for front, at in enumerate(self.taken) if at < len(self.fronts[front])]
         first: int = min((self.known[front][self.taken[front]] for front in left), default=0)
         return [front for front in left if self.next_of(front).sent < first]
 
     def behind(self, front: int) -> Optional[State]:
-        """The state behind the front's next line where it fits now, else None."""
+        """The state after the front's next line if it fits now, else None."""
         self.left -= 1
         if self.left < 0:
             raise GaveUp
@@ -155,7 +156,7 @@ class Search:
         return state if reply == exchange.reply and self.may_leave(front, state) else None
 
     def may_leave(self, front: int, state: State) -> bool:
-        """Whether the other lines that are left may still be answered behind the front's next line."""
+        """Whether the other remaining lines may still be answered after the front's next line."""
         clue = self.clue_of(front)
         if clue.takes_away and self.shown[clue.takes_away]:
             return False
@@ -177,7 +178,7 @@ class Search:
         self.state = state
 
     def back_to(self, length: int, state: State) -> None:
-        """Goes back to where so many lines were taken."""
+        """Goes back to the state with this many lines."""
         while len(self.order) > length:
             front = self.order.pop()
             self.taken[front] -= 1
@@ -185,7 +186,7 @@ class Search:
         self.state = state
 
     def choices(self) -> list[Choice]:
-        """Takes all that fits and changes nothing, and gives what fits then, the best last."""
+        """Takes all lines that fit and change nothing, and returns those that fit then, the best last."""
         while True:
             fitting = [(front, state) for front in self.open_fronts() if (state := self.behind(front)) is not None]
             calm = [choice for choice in fitting if self.next_of(choice[0]).is_calm()]
@@ -196,17 +197,18 @@ class Search:
                 self.take(*choice)
 
     def may_go_now(self, front: int) -> bool:
-        """Whether the front's next line takes a mark or checkpoint away that no line which is left shows, and that none
-        needs for there to be no room: it may come as early as it fits."""
+        """Whether the front's next line deletes a mark or checkpoint that no remaining line shows or needs to be full:
+        it may come as early as it fits."""
         return bool(self.clue_of(front).takes_away) and not self.are_full
 
     def worth(self, choice: Choice) -> tuple[bool, int]:
-        """How good it is to try a line first: those that tell where they began, of these the one read first."""
+        """How good it is to try a line first: lines that show where they began come first, and of these the one read
+        first."""
         front, _ = choice
         return bool(self.clue_of(front).stands_at), -self.next_of(front).read
 
     def find(self) -> Optional[list[int]]:
-        """The fronts in the order of a history, or None where there is none."""
+        """The fronts in the order of a history, or None if there is none."""
         if not self.fits_in:
             return None
         seen = set()

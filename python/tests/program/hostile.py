@@ -47,7 +47,7 @@ REASONS = (
     (20, [OPEN, '["peerclose",0]', '["peerclose",0]']),
 )
 
-# line 2, and what is wrong with it; or how many steps are read
+# line 2, and its fault; or the number of steps that are read
 LINES = (
     ('["spawn",1]', "104 arguments"),
     ('["tick",-1]', "104 arguments"),
@@ -153,13 +153,13 @@ HEADERS = (
     (HEADER.replace("16", "65536"), 0),
 )
 
-# lines behind a header, and which of the recording's is faulty: blank ones count
+# lines after a header, and the faulty one among the recording's: blank ones count
 PLACES = (
     (["", " \t\r", '["jump"]'], 4, "103 unknown step"),
     (['["spawn"]', '["spawn"]]', "["], 3, "102 not JSON"),
 )
 
-# a recording's lines, and the place and the fault that are printed, or how many steps are read
+# a recording's lines, with the place and the fault that are printed, or the number of steps
 SECOND = HEADER.replace('"netrev":1', '"netrev":2')
 LARGE = SECOND.replace('"buf":16', '"buf":1048576')
 VERSIONS = (
@@ -258,14 +258,14 @@ COMMANDS = (
 
 
 def printed(words, text=b""):
-    """The status and the lines that netrev ends with."""
+    """netrev's status and its last lines."""
     ran = subprocess.run([NETREV, *words], input=text, stdout=subprocess.PIPE, stderr=subprocess.PIPE, timeout=PATIENCE)
     expect("errors", b"", ran.stderr)
     return ran.returncode, ran.stdout.decode()
 
 
 def check(folder, text):
-    """What `check` says of a text."""
+    """The output of `check` for a text."""
     path = folder / "recording.jsonl"
     path.write_bytes(text)
     return printed(["check", path])
@@ -301,7 +301,7 @@ def faulty_headers():
 
 
 def versions_and_answers():
-    """Rows of version 2, and of version 1 what only the other has."""
+    """Rows of version 2, and those of version 1 that only the other accepts."""
     rows = [(f"version: {name}", *row) for name, *row in VERSIONS]
     rows += [(f"answer {name}", [SECOND, *steps], *fault) for name, steps, *fault in ANSWERS]
     for text in NO_ANSWERS:

@@ -85,8 +85,8 @@ def lives(kept):
 
 
 class Lines:
-    """Random lines over a recording. Most commands are such that their replies tell where they began; else too many
-    orders would have to be tried."""
+    """Random lines over a recording. Most commands have replies that show where they began; otherwise too many orders
+    would have to be tried."""
 
     def __init__(self, dice, recording):
         self.dice = dice
@@ -94,7 +94,7 @@ class Lines:
         self.kinds = sorted(set(recording.kinds)) + list(KINDS)[:2]
 
     def number(self):
-        """That of a mark or checkpoint, which may stand or not."""
+        """The number of a mark or checkpoint, which may exist or not."""
         return self.dice.randint(0, self.dice.choice([12, 120]))
 
     def step(self):
@@ -155,17 +155,17 @@ class Lines:
         return "\n".join([*lines, "quit"]).encode().split(b"\n")
 
     def some(self, count):
-        """So many lines, and `quit`."""
+        """This many lines, and `quit`."""
         return [self.line() for _ in range(count)] + [b"quit"]
 
     def some_forwards(self, count):
-        """So many steps forwards and looks, and `quit`."""
+        """This many steps forwards and queries, and `quit`."""
         lines = [self.dice.choice(["stepi", "si 2", self.look(), "info position"]) for _ in range(count)]
         return [line.encode() for line in lines] + [b"quit"]
 
 
 def commands_in(lines):
-    """How many of the lines are commands."""
+    """The number of commands among the lines."""
     return sum(is_command(read_line(line)) for line in lines)
 
 
@@ -222,7 +222,7 @@ def test_table(parked):
 
 
 def test_turns(parked):
-    """Three callers a front, each of whom finds the session where the one before left it."""
+    """Three callers a front, each of which finds the session as the one before left it."""
     turns = (
         (0, ["stepi 3", "quit"], ["at 3", "bye"]),
         (0, ["info position", "break @5", "quit"], ["at 3 of 12 forward", "mark 1", "bye"]),
@@ -238,7 +238,7 @@ def test_turns(parked):
 
 
 def test_stopped(parked):
-    """A signal ends one that serves without end, while one is connected too, and leaves no port taken."""
+    """A signal ends a server that serves without end, also while a caller is connected, and leaves no port in use."""
     for stop in (signal.SIGTERM, signal.SIGKILL):
         with Server(parked.path, fronts=2, connections=None) as server:
             for _ in range(3):
@@ -255,7 +255,7 @@ def test_stopped(parked):
 
 
 def test_elsewhere(parked):
-    """Each port is one of 127.0.0.1 alone."""
+    """Each port is one of 127.0.0.1 only."""
     with Server(parked.path, fronts=2) as server:
         callers = [server.call(front) for front in range(2)]
         for front in range(2):
@@ -272,7 +272,7 @@ def test_elsewhere(parked):
 def other_addresses():
     """Addresses of this machine that aren't 127.0.0.1: each of 127.0.0.0/8 is, and those that it has besides."""
     found = [(socket.AF_INET, "127.0.0.2"), (socket.AF_INET, "127.255.255.254")]
-    # nothing is sent: these only ask from where it would be
+    # nothing is sent: these only ask which address it would come from
     for family, far in ((socket.AF_INET, "192.0.2.1"), (socket.AF_INET6, "2001:db8::1"), (socket.AF_INET6, "::1")):
         try:
             with socket.socket(family, socket.SOCK_DGRAM) as one:
@@ -284,7 +284,7 @@ def other_addresses():
 
 
 def test_crowded(lives):
-    """Callers who step forwards at the same time: each place up to the journal's room is one command's."""
+    """Callers that step forwards at the same time: each place up to the journal's room is one command's."""
     for fronts, each, journal in ((8, 1, 7), (2, 100, 4096)):
         exchanged = share_lines(lives, [[[b"stepi"] * each + [b"quit"]]] * fronts, journal, windows=(1000,))
         replies = [one.reply for front in exchanged for one in front if is_command(one.asked)]
@@ -294,7 +294,7 @@ def test_crowded(lives):
 
 
 def test_silent(parked, dice):
-    """Sixteen work to their end beside one who says nothing."""
+    """Sixteen work to their end beside a silent one."""
     for leave, status in ((socket.socket.close, 0), (reset, 3)):
         with Server(parked.path, fronts=17) as server:
             silent = server.call(0)
@@ -313,7 +313,7 @@ def reset(caller):
 
 
 def half_a_line(caller):
-    """The last line may lack its end: so this is a command, whose reply nobody takes."""
+    """The last line may lack its end, so this is a command, whose reply is not read."""
     caller.sendall(b"stepi 2\n")
     expect("a reply", b"at 2\n", caller.recv(100))
     caller.sendall(b"stepi")
@@ -321,7 +321,7 @@ def half_a_line(caller):
 
 
 def half_a_line_and_reset(caller):
-    """What isn't a whole line when the read fails isn't a line."""
+    """An unfinished line isn't a line if the read fails."""
     caller.sendall(b"stepi 3\n")
     expect("a reply", b"at 3\n", caller.recv(100))
     caller.sendall(b"stepi 3")
@@ -329,14 +329,14 @@ def half_a_line_and_reset(caller):
 
 
 def line_without_end(caller):
-    """Ten million bytes and no end of the line, which is one fault."""
+    """Ten million bytes without an end of the line, which is one fault."""
     caller.sendall(b"x" * 10_000_000)
     caller.shutdown(socket.SHUT_WR)
     expect("the reply", ["fault 203 line too long"], read_to_end(caller))
 
 
 def reads_nothing(caller):
-    """Sends until nothing goes any more, since it takes no replies, and resets."""
+    """Sends until nothing more can be sent, because it reads no replies, and resets."""
     caller.sendall(b"stepi 3\n")
     expect("a reply", b"at 3\n", caller.recv(100))
     caller.settimeout(0.5)
@@ -350,13 +350,13 @@ def reads_nothing(caller):
 
 
 def more_behind_quit(caller):
-    """What comes behind `quit` isn't answered, and doesn't cost the caller the last reply."""
+    """Lines after `quit` aren't answered, and the caller still gets the last reply."""
     caller.sendall(b"quit\n" + b"stepi\n" * 1000)
     expect("the replies", ["bye"], read_to_end(caller))
 
 
 def no_end_behind_quit(caller):
-    """Netrev takes some of it, and closes."""
+    """netrev takes some of it, and closes."""
     caller.sendall(b"quit\n")
     expect("the reply", b"bye\n", caller.recv(100))
     try:
@@ -368,7 +368,7 @@ def no_end_behind_quit(caller):
 
 
 def stays_behind_quit(caller):
-    """One who reads the end of the replies and neither closes nor says anything is left alone."""
+    """A caller that reads the end of the replies and neither closes nor sends is left alone."""
     caller.sendall(b"quit\n")
     expect("the reply", b"bye\n", caller.recv(100))
     expect("the end of the replies", b"", caller.recv(100))
@@ -376,7 +376,7 @@ def stays_behind_quit(caller):
 
 
 def test_hostile(parked):
-    """After each of these the next caller of the front is served where the front stands, and then it ends."""
+    """After each of these the next caller of the front is served at the front's position, and then it ends."""
     for leave, status, position, placed in (
         (half_a_line, 0, 3, 2),
         (half_a_line_and_reset, 3, 3, 1),
@@ -396,7 +396,7 @@ def test_hostile(parked):
 
 
 def play_taken_port(parked):
-    """The middle one of three ports is taken: the others are served."""
+    """The middle one of three ports is in use: the others are served."""
     taken = socket.socket()
 
     def take(first):
@@ -410,15 +410,15 @@ def play_taken_port(parked):
 
 
 def race_forwards(lives, dice, fronts, connections):
-    """What so many fronts exchange that go forwards at the same time, with looks."""
+    """The exchanges of this many fronts that go forwards at the same time, with queries."""
     lines = Lines(dice, lives)
     some = [[lines.some_forwards(10) for _ in range(connections)] for _ in range(fronts)]
     return share_lines(lives, some, windows=(1, 4, 1000))
 
 
 def play_mixed(lives, dice, windows, workers):
-    """Lines of all sorts at 64 fronts, whose `continue` has so many workers. Where the search for a history gives up it is
-    done again with other lines, twice at most."""
+    """Lines of all sorts at 64 fronts, whose `continue` has this many workers. If the search for a history gives up, it
+    is repeated with other lines, twice at most."""
     lines = Lines(dice, lives)
     for left in (2, 1, 0):
         mixed = [[lines.some(15) for _ in range(2)] for _ in range(64)]
@@ -442,7 +442,7 @@ def test_histories(parked, lives, dice):
 
 
 def other_reply(reply):
-    """A reply with its last number raised, or where it has none with one more word."""
+    """A reply with its last number raised, or, without a number, with one more word."""
     *front, last = reply
     words = last.split(" ")
     numbers = [at for at, word in enumerate(words) if word.isdigit()]
@@ -463,7 +463,7 @@ def test_altered(parked, lives, dice):
 
 
 def expect_no_other(recording, exchanged, has_one_place):
-    """Sees that there is a history, and none with the reply of any one line altered that has one place alone."""
+    """Checks that there is a history, and none if the reply of any line with only one possible place is altered."""
     history_of(recording, exchanged)
     for front, exchanges in enumerate(exchanged):
         for at, one in enumerate(exchanges):

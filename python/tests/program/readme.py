@@ -32,7 +32,7 @@ class Typed:
     shown: list[str] = field(default_factory=list)
 
     def compare(self, printed: str) -> None:
-        """Fails if something else came than README shows."""
+        """Fails if the output differs from README."""
         pattern = "".join(self.pattern(line) for line in self.shown)
         if self.shown and not re.fullmatch(pattern, f"{printed.rstrip()}\n"):
             shown = "\n".join(self.shown)
@@ -41,7 +41,7 @@ class Typed:
             )
 
     def pattern(self, shown: str) -> str:
-        """A pattern of what a line of README stands for."""
+        """A pattern for a line of README."""
         if shown == OMITTED:
             return r"(?:.*\n)*"
         parts = NUMBER.split(shown) if self.is_varying else [shown]
@@ -72,7 +72,7 @@ def sections(text: str) -> dict[str, list[Command]]:
 
 
 def read_block(block: str, first: int, is_varying: bool, commands: list[Command]) -> None:
-    """Adds what a block has, of which the first line has this number, to the commands before it."""
+    """Adds a block, whose first line has this number, to the earlier commands."""
     typed: list[Typed] = []
     for number, line in enumerate(block.splitlines(), first):
         shown = line[4:]
@@ -87,7 +87,7 @@ def read_block(block: str, first: int, is_varying: bool, commands: list[Command]
 
 
 def replies(printed: str, prompts: list[Typed]) -> Iterator[str]:
-    """What a session printed: before its first prompt, and after each line that was typed."""
+    """A session's output: before its first prompt, and after each line that was typed."""
     rest = printed
     for typed in prompts:
         before, echo, rest = rest.partition(f"{PROMPT}{typed.text}\n")

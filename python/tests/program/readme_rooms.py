@@ -37,17 +37,17 @@ class Room:
 
     folder: Path
     settings: dict[str, str]
-    through: Sequence[str] = ()  # what starts the shell, as chroot
+    through: Sequence[str] = ()  # the command that starts the shell, as chroot
     inside: str = ""  # the folder as the shell sees it, if that is another name
-    renamed: dict[str, str] = field(default_factory=dict)  # what a command has another name for here
-    netrev: str = NETREV  # the program by which netrev's own answers are checked; none: they aren't
+    renamed: dict[str, str] = field(default_factory=dict)  # names of commands that differ here
+    netrev: str = NETREV  # the program that checks netrev's own answers; none: they aren't checked
 
     def __post_init__(self) -> None:
         self.inside = self.inside or str(self.folder)
         self.current = self.inside
 
     def run(self, command: str, lines: str = "") -> tuple[int, str]:
-        """The status of a command, and what a terminal would show of it."""
+        """The status of a command, and its output on a terminal."""
         for name, other in self.renamed.items():
             command = command.replace(name, other)
         before = f"[ ! -e {self.inside}/.exported ] || . {self.inside}/.exported\ncd {quote(self.current)} || exit"
@@ -66,8 +66,8 @@ class Room:
         return ran.returncode, ran.stdout
 
     def play(self, command: Command) -> str:
-        """Runs a command of README, and compares what comes with what README shows; what comes. Each command that it says comes next
-        has to run, and whatever it gives as netrev's answer has to be that."""
+        """Runs a command of README, compares the output with README's, and returns it. Each command that it says to
+        type next must run, and whatever it gives as netrev's answer must be netrev's."""
         status, printed = self.run(command.text, "".join(f"{typed.text}\n" for typed in command.prompts))
         if status != command.fails():
             raise ReadmeError(f"README.md:{command.line}: {command.text}: status {status}\n{printed}")
@@ -94,19 +94,19 @@ class Room:
                 raise ReadmeError(f"`{command.text}` gives this as netrev's answer, and it isn't: {answer}")
 
     def is_of_netrev(self, recording: str, words: str) -> bool:
-        """Whether netrev says so of a recording: that a cell has a value, or a line of its suspects."""
+        """Whether netrev confirms it for a recording: a cell's value, or a line of its suspects."""
         value = VALUE.fullmatch(words)
         return self.is_answered(recording, *value.groups()) if value else self.is_listed(recording, words)
 
     def is_listed(self, recording: str, line: str) -> bool:
-        """Whether netrev lists this suspect, if a netrev is at hand."""
+        """Whether netrev lists this suspect, if a netrev is available."""
         if not self.netrev:
             return True
         command = [self.netrev, "suspects", str(Path(self.current) / recording)]
         return line in subprocess.run(command, capture_output=True, text=True, check=True).stdout.splitlines()[:-1]
 
     def is_answered(self, recording: str, position: str, cell: str, value: str) -> bool:
-        """Whether netrev says that a cell has this value at a position, if a netrev is at hand."""
+        """Whether netrev gives a cell this value at a position, if a netrev is available."""
         if not self.netrev:
             return True
         command = [self.netrev, "run", str(Path(self.current) / recording)]
@@ -140,7 +140,7 @@ def settings_of(home: Path, *folders: Path) -> dict[str, str]:
 
 
 def clone_room(folder: Path) -> tuple[Room, Toolchain]:
-    """A fresh clone, with a toolchain that has compiled already."""
+    """A fresh clone, with a toolchain that has already compiled."""
     toolchain = Toolchain(folder / "toolchain")
     return Room(fresh_clone(folder), settings_of(folder, toolchain.commands)), toolchain
 
@@ -152,7 +152,7 @@ def archive_room(folder: Path, archive: Path) -> Room:
 
 
 def deb_room(folder: Path, deb: Path) -> Room:
-    """A folder with the Debian package, which is unpacked below it in place of the system's root."""
+    """A folder with the Debian package, unpacked below it instead of the system's root."""
     shutil.copy(deb, folder)
     root = folder / "root"
     installed = {

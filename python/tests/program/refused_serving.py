@@ -28,8 +28,8 @@ from .sharing import Server, Wrong, expect, library_of
 
 
 class Played(NamedTuple):
-    """What came of a session: whether anything was refused, how often that was told, whether callers were served, and
-    whether how many commands they placed was told."""
+    """The result of a session: whether anything was refused, how often that was reported, whether callers were served,
+    and whether the number of their commands was reported."""
 
     refused: bool
     told: int
@@ -39,8 +39,8 @@ class Played(NamedTuple):
 
 @dataclass
 class Script:
-    """A recording, the workers of a search, the lines of two callers with the right replies, and whether the allocations
-    that load the recording are refused too."""
+    """A recording, the workers of a search, the lines of two callers with the right replies, and whether the
+    allocations that load the recording are refused too."""
 
     name: str
     text: str
@@ -104,7 +104,7 @@ AT_A_TIME = 16
 
 @dataclass
 class Session:
-    """The callers of a session, and what they were told of memory."""
+    """The callers of a session, and the replies about memory."""
 
     server: Server
     callers: tuple
@@ -112,7 +112,7 @@ class Session:
     told: int = 0
 
     def talk(self, front):
-        """Plays a caller's lines, and says whether it was served."""
+        """Sends a caller's lines, and returns whether it was served."""
         lines = self.callers[front]
         caller = self.server.call(front)
         if caller is None:
@@ -129,7 +129,7 @@ class Session:
 
     @staticmethod
     def ask(caller, replies, line):
-        """A line's reply, or None where the connection ended."""
+        """A line's reply, or None if the connection ended."""
         try:
             caller.sendall(f"{line}\n".encode())
             return replies.readline().removesuffix("\n") or None
@@ -137,7 +137,7 @@ class Session:
             return None
 
     def expect_reply(self, caller, replies, front, at, line, right, came):
-        """Sees that a line was answered right, at once or when it was asked again."""
+        """Checks that a line was answered right, at once or when it was repeated."""
         asked = read_line(line.encode())
         assert asked, line
         placed = f"fault 302 memory, placed {self.placed}"
@@ -152,7 +152,8 @@ class Session:
 
 
 def play(folder, script, words):
-    """A session of a netrev that is started by the command `env` with these words, its allocations told in a file."""
+    """A session of a netrev that is started by the command `env` with these words, with its allocations counted in a
+    file."""
     told = folder / "-".join([script.name, *words[1:]]).replace("=", "-")
     through = ["sh", "-c", 'told=$1; shift; exec env "$@" 9> "$told"', "sh", str(told), *words]
     recording = folder / f"{script.name}.jsonl"
@@ -176,7 +177,7 @@ def play(folder, script, words):
 
 
 def first_served(play_number):
-    """The number of the first allocation behind which callers are served: netrev loads before."""
+    """The number of the first allocation after which callers are served: netrev loads before."""
     most = 1
     while not play_number(most).served:
         most *= 2
@@ -203,7 +204,7 @@ def play_script(folder, preload, script):
     threadless = play(folder, script, [preload, "THREADS=0"])
     expect("with no thread: refused, told of memory, served, counted", Played(True, 0, True, True), threadless)
     if script.workers == 1:
-        # (several workers take memory now more, now less often, so of theirs the last allocation may be missed)
+        # (several workers need varying amounts of memory, so the last allocation of theirs may be missed)
         uncounted = any(one.served and not one.counted for one in played)
         expect(f"{script.name}: whether memory was refused for the history once", True, uncounted)
     return played

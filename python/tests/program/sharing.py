@@ -45,11 +45,11 @@ class Exchange:
 
 
 class Wrong(Exception):
-    """What came isn't what was expected."""
+    """The result isn't the expected one."""
 
 
 def expect(what, expected, came):
-    """Says what was expected and what came, where they differ."""
+    """Prints the expected and the actual result if they differ."""
     if expected != came:
         raise Wrong(f"{what}\n  expected: {expected!r}\n  came:     {came!r}")
 
@@ -80,7 +80,7 @@ class Ports:
         self.left = range(0)
 
     def take(self, wanted):
-        """The first of so many free ports in a row."""
+        """The first of this many free ports in a row."""
         while True:
             while len(self.left) >= wanted:
                 first, self.left = self.left[0], self.left[1:]
@@ -148,7 +148,7 @@ class Server:
         return self.process.poll() is not None
 
     def call(self, front, **options):
-        """A socket that is connected with the front, as soon as it listens; None where netrev ended before."""
+        """A socket that is connected with the front, as soon as it listens; None if netrev ended before."""
         limit = time.monotonic() + PATIENCE
         while time.monotonic() < limit:
             caller = socket.socket()
@@ -167,7 +167,7 @@ class Server:
         raise Wrong(f"front {front} didn't listen within {PATIENCE} s")
 
     def ended(self):
-        """Waits for its end, and gives its status, its output and its errors."""
+        """Waits for its end, and returns its status, output and errors."""
         try:
             output, _ = self.process.communicate(timeout=PATIENCE)
         except subprocess.TimeoutExpired:
@@ -176,18 +176,18 @@ class Server:
         return self.process.returncode, output.decode(), self.errors.read().decode()
 
     def expect_end(self, status, output):
-        """Sees that it ends by itself with this status and this output, and nothing on standard error."""
+        """Checks that it ends by itself with this status and this output, and nothing on standard error."""
         expect("the end of netrev serve: status, output and errors", (status, output, ""), self.ended())
 
 
 def talk(caller, lines):
-    """Sends the lines, reads to the end, and gives the lines that came."""
+    """Sends the lines, reads to the end, and returns the lines that came."""
     caller.sendall("".join(f"{line}\n" for line in lines).encode())
     return read_to_end(caller)
 
 
 def read_to_end(caller):
-    """Reads up to the end that netrev makes, and gives the lines that came."""
+    """Reads up to the end that netrev makes, and returns the lines that came."""
     with caller, caller.makefile("r", encoding="ascii", newline="\n") as replies:
         return replies.read().splitlines()
 
@@ -197,7 +197,7 @@ CLOCK = count(1)
 
 @dataclass
 class Talker:
-    """A caller that has at most so many lines unanswered at a time, and notes when each was sent and answered."""
+    """A caller that has at most this many unanswered lines at a time, and notes when each was sent and answered."""
 
     caller: socket.socket
     lines: list
@@ -212,7 +212,7 @@ class Talker:
     ended: bool = False
 
     def wants_to_send(self):
-        """Takes up lines to be sent, as far as the window goes, and says whether any are."""
+        """Prepares lines to be sent, as far as the window goes, and returns whether there are any."""
         while self.sent < len(self.lines) and len(self.exchanges) - self.answered < self.window:
             line = self.lines[self.sent]
             self.sent += 1
@@ -226,7 +226,7 @@ class Talker:
         self.unsent = self.unsent[self.caller.send(self.unsent) :]
 
     def receive(self):
-        """Takes what came; at the end of it this talker has ended."""
+        """Reads what came; at its end this talker has ended."""
         came = self.caller.recv(1 << 16)
         self.ended = not came
         *whole, self.unread = (self.unread + came).split(b"\n")
@@ -234,7 +234,7 @@ class Talker:
             self.take(line.decode("ascii"))
 
     def take(self, line):
-        """Takes a line of a reply; the two lists say how many more there are of it."""
+        """Reads a line of a reply; for the two lists, it gives the number of lines."""
         if self.answered == len(self.exchanges):
             raise Wrong(f"a reply to nothing: {line!r}")
         if not self.reply:
@@ -249,7 +249,7 @@ class Talker:
             self.reply = []
 
     def expect_whole(self):
-        """Sees that each line was answered and nothing came besides."""
+        """Checks that each line was answered and nothing else came."""
         expect("how many lines were answered", len(self.exchanges), self.answered)
         expect("lines sent", len(self.lines), self.sent)
         expect("what came behind the last reply", (b"", []), (self.unread, self.reply))
@@ -282,4 +282,4 @@ def converse(talkers):
 
 
 if __name__ == "__main__":
-    print(PORTS.take(int(sys.argv[1])))  # so many free ports in a row: the first
+    print(PORTS.take(int(sys.argv[1])))  # this many free ports in a row: the first

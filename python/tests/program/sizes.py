@@ -37,8 +37,8 @@ def written(path: Path, header: str, steps: Iterable[str]) -> Path:
 
 
 def ticking(folder: Path, more: Sequence[str] = ()) -> Path:
-    """As many steps as a recording may have, under the greatest limits of version 1: a file of 16 MB. The clock shows the
-    position."""
+    """As many steps as a recording may have, under the greatest limits of version 1: a file of 16 MB. The clock shows
+    the position."""
     path = folder / f"ticking{len(more)}.jsonl"
     if not path.exists():
         header = HEADER % (1, GOROUTINES, SOCKETS, DESCRIPTORS, PIECE)
@@ -55,14 +55,14 @@ def printed(words: Sequence[object], script: str = "") -> tuple[int, str, str]:
 
 
 def same(what: str, right: str, came: str) -> None:
-    """Sees that a text is right, which may be long: where they part is said."""
+    """Checks that a text, which may be long, is right; prints the first difference."""
     if right != came:
         at = next((at for at, (one, other) in enumerate(zip(right, came)) if one != other), min(len(right), len(came)))
         raise Wrong(f"{what}, from character {at}: expected {right[at : at + 60]!r}, came {came[at : at + 60]!r}")
 
 
 def play_replies(path: Path, exchange: Sequence[tuple[str, str]]) -> None:
-    """Plays lines with `run`, each with its reply."""
+    """Sends lines to `run`, each with its reply."""
     status, output, errors = printed(["run", path], "".join(f"{line}\n" for line, _ in exchange))
     same("replies", "".join(f"{reply}\n" for _, reply in exchange), output)
     expect("status and errors", (0, ""), (status, errors))
@@ -131,8 +131,8 @@ def play_buffer(folder: Path) -> None:
 
 
 def crowd() -> tuple[list[str], int]:
-    """All goroutines, sockets, descriptors with both timers armed, a waiter at each side of a descriptor, and the rest queued
-    for one lock; and who has that lock."""
+    """All goroutines, sockets, descriptors with both timers armed, a waiter at each side of a descriptor, and the rest
+    queued for one lock; and the goroutine that has that lock."""
     steps = ['["spawn"]'] * (GOROUTINES - 1) + ['["sockopen",16,16]'] * SOCKETS
     steps += [f'["pollopen",0,{number}]' for number in range(DESCRIPTORS)]
     for number in range(DESCRIPTORS):
@@ -183,7 +183,7 @@ def play_upgraded_crowd(folder: Path) -> None:
 
 
 def asked(caller: socket.socket, lines: str) -> str:
-    """All that is replied to these lines, which are sent while it is read."""
+    """All replies to these lines, which are sent while it is read."""
     caller.settimeout(WAITS)
 
     def send() -> None:
@@ -205,7 +205,7 @@ def play_workers(folder: Path) -> None:
 
 
 def seconds_of(process: int) -> dict[str, int]:
-    """Of each thread of a process how long it has run, in the system's ticks; the whole process by the key "all"."""
+    """How long each thread of a process has run, in the system's ticks; the whole process by the key "all"."""
     found = {"all": ticks_in(Path(f"/proc/{process}/stat"))}
     for thread in Path(f"/proc/{process}/task").iterdir():
         found[thread.name] = ticks_in(thread / "stat")
@@ -249,8 +249,8 @@ def play_commands(folder: Path) -> None:
 
 
 def greatest_memory(path: Path, steps: int) -> int:
-    """The most bytes that netrev has held when it has read a recording. (What `wait4` tells has the memory of this process in
-    it, from before the program was begun.)"""
+    """The most bytes that netrev has held when it has read a recording. (The figure of `wait4` includes the memory of
+    this process from before the program began.)"""
     with subprocess.Popen([NETREV, "run", str(path)], stdin=subprocess.PIPE, stdout=subprocess.PIPE, text=True) as ran:
         assert ran.stdin and ran.stdout
         ran.stdin.write("info position\n")

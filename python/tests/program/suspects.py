@@ -71,7 +71,7 @@ REFUSED = (
 
 
 def compare(path: Path) -> list[bytes]:
-    """Sees that what is printed of a recording is what the naive reading says; the lines of suspects."""
+    """Checks that the output for a recording is that of the naive reading; returns the lines of suspects."""
     right = printed("suspects", path.read_bytes(), b"", Observer())
     assert right is not None, "the model has an opinion on each recording that is here"
     played(["suspects", path], right.status, right.output)

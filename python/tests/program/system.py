@@ -73,14 +73,14 @@ def opened(path, flags):
 
 
 def gone(_folder):
-    """A pipe whose reader has gone."""
+    """A pipe whose reader has closed it."""
     reader, writer = os.pipe()
     os.close(reader)
     return writer
 
 
 def full_pipe_that_never_waits(_folder):
-    """A pipe that is full, and whose writes fail where others wait. Its reader stays."""
+    """A full pipe, whose writes fail where others wait. Its reader stays."""
     reader, writer = os.pipe()
     os.set_blocking(writer, False)
     KEPT.append(reader)
@@ -89,7 +89,7 @@ def full_pipe_that_never_waits(_folder):
 
 
 def empty_pipe_that_never_waits(_folder):
-    """A pipe in which nothing is yet, and whose reads fail where others wait. Its writer stays."""
+    """An empty pipe, whose reads fail where others wait. Its writer stays."""
     reader, writer = os.pipe()
     os.set_blocking(reader, False)
     KEPT.append(writer)
@@ -122,7 +122,7 @@ def unreadable(folder):
 
 
 def sparse(folder):
-    """A file of 64 GB, of which nothing is on the disk."""
+    """A file of 64 GB that takes no room on the disk."""
     path = file_of("sparse", b"")(folder)
     os.truncate(path, 64 << 30)
     return path
@@ -405,7 +405,7 @@ def lines():
 
 @contextmanager
 def started(words, **options):
-    """A process whose output and errors are read, and which doesn't stay."""
+    """A process whose output and errors are read, and which is stopped at the end."""
     process = subprocess.Popen(words, stdout=subprocess.PIPE, stderr=subprocess.PIPE, **options)
     try:
         yield process
@@ -482,14 +482,14 @@ def play_memory_of_upgrade(folder):
 
 
 def play_reader_goes_in_an_upgrade(folder):
-    """Reads the first lines of an upgrade that is longer than a pipe's room, and goes."""
+    """Reads the first lines of an upgrade that is longer than a pipe's room, and closes it."""
     file_of("ticks", TICKS.encode())(folder)
     file_of("positions", b"")(folder)
     leave_pipe(folder, UPGRADED_TICKS[:100], False, "ticks", "upgrade")
 
 
 def play_output_of_serve(into, _folder):
-    """Two are served, though nothing can be printed in the end."""
+    """Two callers are served, though nothing can be printed at the end."""
     redirected = {CLOSED: '"$@" >&-', FULL: '"$@" > /dev/full', gone: '"$@"'}[into]
     with Server(FIRST, fronts=2, through=["sh", "-c", f"exec {redirected}", "sh"]) as server:
         if into is gone:
@@ -500,7 +500,7 @@ def play_output_of_serve(into, _folder):
 
 
 def play_nothing_open(_folder):
-    """Its ports and callers have the numbers of the streams then, and none is written to for a stream."""
+    """Its ports and callers have the numbers of the streams then, and none is written to as a stream."""
     with Server(FIRST, fronts=2, through=["sh", "-c", 'exec "$@" <&- >&- 2>&-', "sh"]) as server:
         first, second = server.call(0), server.call(1)
         expect("the replies of front 0", ["at 3", "bye"], talk(first, ["stepi 3", "quit"]))
@@ -510,7 +510,7 @@ def play_nothing_open(_folder):
 
 @contextmanager
 def terminal():
-    """The two ends of a terminal, which are closed in the end: who types, and who reads what is typed."""
+    """The two ends of a terminal, which are closed at the end: the keyboard, and the reader."""
     ends = list(pty.openpty())
     try:
         yield ends
@@ -530,20 +530,20 @@ def play_terminal(_folder):
 
 
 def play_terminal_gone(_folder):
-    """Who typed has gone: that is a failed read."""
+    """The keyboard is gone: that is a failed read."""
     with terminal() as ends, started([NETREV, "run", FIRST], stdin=ends[1], bufsize=0) as process:
         os.write(ends[0], b"stepi\n")
         expect("the reply", b"at 1\n", process.stdout.readline())
         os.close(ends[0])
         ends[0] = None
         status, output, errors = ended(process)
-        # to who was reading already the system says that the read failed, to others that the input has ended
+        # to a reader that was waiting the system reports a failed read, to others the end of the input
         expect("the status is 0 or 3", True, status in (0, 3))
         expect("output and errors", (b"", b""), (output, errors))
 
 
 def play_output_terminal_gone(_folder):
-    """Who reads has gone: that is a failed write."""
+    """The screen is gone: that is a failed write."""
     with terminal() as ends:
         words = [NETREV, "run", FIRST]
         pipe = subprocess.PIPE
@@ -554,21 +554,21 @@ def play_output_terminal_gone(_folder):
 
 
 def play_reader_goes(folder):
-    """Reads the first of many replies, and goes."""
+    """Reads the first of many replies, and closes it."""
     file_of("positions", POSITIONS)(folder)
     for ignored in (False, True):
         leave_pipe(folder, POSITION, ignored)
 
 
 def play_reader_goes_in_a_reply(folder):
-    """Reads some of a reply that is longer than a pipe's room, and goes."""
+    """Reads some of a reply that is longer than a pipe's room, and closes it."""
     file_of("large", LARGE.encode())(folder)
     file_of("positions", f"stepi {ARRIVED}\ndump in 0\ninfo position\n".encode())(folder)
     leave_pipe(folder, f"at {ARRIVED}\nin 0 = abab".encode(), False, "large")
 
 
 def leave_pipe(folder, first, ignored, recording=FIRST, word="run"):
-    """Reads the first bytes that are printed, and no more; with SIGPIPE ignored by who starts it, or as a shell has it."""
+    """Reads the first bytes of the output, and no more; with SIGPIPE ignored by the parent, or as a shell has it."""
     words = [NETREV, word, folder / recording]
     with open(folder / "positions", "rb") as commands:
         with started(words, stdin=commands, bufsize=0, restore_signals=not ignored) as process:
@@ -582,7 +582,7 @@ def leave_pipe(folder, first, ignored, recording=FIRST, word="run"):
 
 
 def play_errors(folder):
-    """How netrev is called can't be printed: the status says it."""
+    """The usage text can't be printed: the status says it."""
     for into in (CLOSED, FULL, gone):
         stream = None if into is CLOSED else into(folder)
         close = (lambda: os.close(2)) if into is CLOSED else None
@@ -614,7 +614,7 @@ def answered_run():
 
 
 def play_stopped_run(stop, _folder):
-    """What was answered is out, and nothing is said of the signal."""
+    """The answers are out, and nothing is printed about the signal."""
     with answered_run() as process:
         process.stdin.write(b"info posi")
         process.send_signal(stop)
@@ -622,7 +622,8 @@ def play_stopped_run(stop, _folder):
 
 
 def play_stopped_serve(stop, _folder):
-    """One who has its reply, one who is silent and one who doesn't read are left; another serves at once at the ports."""
+    """Callers with a reply, silent callers and callers that don't read are left; another server serves at once at the
+    ports."""
     with Server(FIRST, fronts=3, connections=None) as server:
         answered, silent, busy = (server.call(front) for front in range(3))
         answered.sendall(b"stepi\n")
@@ -641,7 +642,7 @@ def play_stopped_serve(stop, _folder):
 
 
 def hold(process):
-    """Stops a process, as Ctrl-Z does, sees it stopped, and lets it go on."""
+    """Stops a process, as Ctrl-Z does, waits until it is stopped, and continues it."""
     process.send_signal(signal.SIGSTOP)
     os.waitid(os.P_PID, process.pid, os.WSTOPPED)
     process.send_signal(signal.SIGCONT)
@@ -696,7 +697,7 @@ def parameters():
 
 @pytest.fixture
 def patience():
-    """Stops one that takes too long."""
+    """Stops a process that takes too long."""
 
     def stop_waiting(*_):
         raise Wrong(f"it took more than {4 * PATIENCE} s")

@@ -1,4 +1,4 @@
-"""The fuzzer finds what differs, keeps it small, and finds nothing where nothing does."""
+"""The fuzzer finds differences, reduces them, and finds nothing if there are none."""
 
 import io
 import signal
@@ -127,7 +127,7 @@ class Companion(unittest.TestCase):
     """Sessions of nrdb, disturbed."""
 
     def played(self, count):
-        """What is wrong with so many sessions, and what they met."""
+        """The faults of this many sessions, and what they met."""
         met = Met()
         with tempfile.TemporaryDirectory() as folder:
             cases = map(visit, seeds("tested-nrdb", count))

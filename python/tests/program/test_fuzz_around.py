@@ -16,7 +16,7 @@ from nrdb.prompt.answers import ANSWERS
 
 from .sharing import NETREV, ROOT
 
-FEW = {"logs": 30, "views": 3, "editors": 12, "browsers": 20}
+FEW = {"logs": 30, "programs": 30, "views": 3, "editors": 12, "browsers": 20}
 SEED = "gate"
 IMPOSSIBLE = "gate-views-28"  # a case whose run isn't made of Go's calls
 LONG = "h65-views-11"  # a file of the program whose name is longer than a name can be
@@ -24,7 +24,7 @@ HALF = "5-editors-2098"  # an editor whose line has half a character
 
 
 def played(sort: str, cases: int, seed: str = SEED) -> tuple[int, str]:
-    """How many of so many cases are wrong, and what is said of them."""
+    """The number of faulty cases among this many, and their messages."""
     with redirect_stdout(io.StringIO()) as said, redirect_stderr(said):
         counts, found = around.play(str(NETREV), around.seeds(seed, [sort], cases, time.monotonic() + 600))
     assert counts[sort] == cases or found == around.MOST_FAULTS, counts
@@ -57,7 +57,7 @@ class Around(unittest.TestCase):
         with mock.patch("nrdb.where.MOST_BYTES", 10):
             for sort in ("views", "logs"):
                 found, said = played(sort, 20)
-                self.assertIn("it has more than 0 MB", said)
+                self.assertIn("it is larger than 0 MB", said)
 
     def test_a_log_that_ends_it_is_found(self) -> None:
         def failing(points: list[Point], all_bytes: bool) -> Any:

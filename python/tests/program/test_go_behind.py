@@ -1,5 +1,5 @@
-"""What `netrev-go test` makes of recordings behind a run: a page beside each, and other schedules of those that passed. A program of
-our own stands in for Go."""
+"""The outputs of `netrev-go test` from recordings after a run: a page beside each, and other schedules of those that
+passed. A script stands in for Go."""
 
 import json
 import pathlib
@@ -35,7 +35,7 @@ class Behind(test_go_tests.Tested):
             self.addCleanup(patched.stop)
 
     def lines(self) -> list[dict[str, Any]]:
-        """What --json told of the tests that have a recording."""
+        """The lines of --json for the tests that have a recording."""
         told = [json.loads(line) for line in (self.folder / "a.json").read_text().splitlines()]
         return [line for line in told if line["recording"]]
 
@@ -87,7 +87,7 @@ class Explored(Behind):
     """A green run of whose recording another schedule hangs."""
 
     def explored(self, *words: str, status: int = 0, recording: pathlib.Path = GOOD) -> tuple[int, str]:
-        """The status and what is said, where this becomes the recording of TestGreen."""
+        """The status and the output if this becomes the recording of TestGreen."""
         (self.folder / "lines").write_text(
             "1 1 5 package example.org/toy\n3 20 1 runs TestGreen\n14 20 3 ends TestGreen\n"
         )
@@ -128,10 +128,10 @@ class Explored(Behind):
         other.write_text("\n".join(['{"netrev":1,"gor":2,"sock":1,"desc":1,"buf":16}', *steps, ""]))
         status, said = self.explored("--fail-on", "possible", recording=other)
         self.assertEqual(status, 0)
-        self.assertIn("TestGreen.jsonl: what other schedules end with isn't known: explore plays calls of Go's", said)
+        self.assertIn("TestGreen.jsonl: other schedules weren't explored: explore replays calls of Go", said)
         with mock.patch.object(tested, "GRACE", 0):
             _, said = self.explored("--explore", "0")
-        self.assertRegex(said, r"TestGreen\.jsonl: what other schedules end with isn't known: nrdb ended with 13[07]")
+        self.assertRegex(said, r"TestGreen\.jsonl: other schedules weren't explored: nrdb ended with status 13[07]")
 
     def test_where_go_fails_no_schedule_is_played(self) -> None:
         with mock.patch.object(tested, "findings") as findings:

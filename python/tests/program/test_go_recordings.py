@@ -68,7 +68,7 @@ class Recorded(unittest.TestCase):
         self.assertEqual(check(str(NETREV), self.name), (False, f"step {wrong[-1]}: fault 109 answer"))
         taken, said = report(recording, self.name, {})
         self.assertFalse(taken)
-        self.assertIn("netrev refuses it", said[-1])
+        self.assertIn("netrev rejects this recording", said[-1])
 
     def test_ordinary_programs_are_taken(self) -> None:
         self.accepted(

@@ -1,4 +1,5 @@
-"""What README shows is what comes: in a fresh clone, with only the archive, and with only the Debian package."""
+"""README's commands print what README shows: in a fresh clone, with only the archive, and with only the Debian
+package."""
 
 import re
 import subprocess

@@ -21,7 +21,7 @@ SYSTEM_PATH = "/usr/bin:/bin"
 
 
 class Installation(NamedTuple):
-    """Where netrev-go and nrdb are, the Python packages beside them, and the PATH."""
+    """The paths of netrev-go and nrdb, the Python packages beside them, and the PATH."""
 
     netrev_go: Path
     packages: Path

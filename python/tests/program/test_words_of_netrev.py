@@ -67,6 +67,7 @@ def told_by_netrev_go(path: Path, is_failed: bool = True) -> list[str]:
         if (g := step.argument("g")) is not None:
             last[g] = step.number
     recorded = mock.Mock(
+        prelude=0,
         goroutines=recording.limits["gor"], sockets=recording.limits["sock"], notes=[], lines=steps, last_steps=last,
         stacks=[0] * len(steps),
     )  # fmt: skip

@@ -72,7 +72,7 @@ USAGE = b"""usage: netrev run FILE
        netrev suspects FILE
        netrev serve FILE --port P [--fronts N] [--workers W] [--journal H] [--connections C]
 """
-# the words, the status, what is printed, and what is said on standard error
+# the words, the status, the output, and the text on standard error
 REFUSED = (
     ("no file named", ["upgrade"], 2, b"", USAGE),
     ("two files", ["upgrade", ANSWERS, ANSWERS], 2, b"", USAGE),

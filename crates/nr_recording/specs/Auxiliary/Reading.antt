@@ -3,7 +3,6 @@ use Rattle.std.specs.Prelude.{◌≡◌, ℕ, ◌==◌, ◌≤◌, true, false, 
 use Rattle.std.specs.List.{list_any}
 use Rattle.serde_json.specs.Data.{Data}
 use Rattle.serde_json.specs.Read.{read}
-use Rattle.nr_recording.specs.declared.fault.Fault.{Fault}
 use Rattle.nr_recording.specs.declared.fault.LineError.{LineError}
 use Rattle.nr_recording.specs.declared.fault.LineError.TheVariants as line
 use Rattle.nr_recording.specs.declared.fault.ReadFault.{ReadFault}
@@ -40,6 +39,11 @@ value_takes_memory seen (Some header) d = not (length seen.steps == MOST_STEPS)
 -- a line takes memory to read, unless it is too long or blank
 abbrev pub line_takes_memory : List ℕ → Bool
 line_takes_memory line = not (nat_lt MOST_LINE_BYTES (length line)) && not (is_blank line)
+
+-- the lines of the text behind a line feed; none where there was no line feed
+abbrev pub lines_behind : Option (List ℕ) → List (List ℕ)
+lines_behind None = []
+lines_behind (Some text) = lines text
 
 -- the error that a function returned, where it read line n: out of memory has no line
 abbrev pub read_fault_at : ℕ → LineError → ReadFault

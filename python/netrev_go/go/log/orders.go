@@ -174,6 +174,7 @@ func netrevSelects(gp *g, what int64) (at unsafe.Pointer, bits, b, c int64) {
 // netrevGoesOn is a goroutine that was waiting.
 func netrevGoesOn() {
 	netrevOrder(netrevGoesOnKind, uint64(getg().goid), nil, 0, 0, 0)
+	netrevNotes()
 }
 
 // netrevEnds is a goroutine that ends. That of the program's end has none.

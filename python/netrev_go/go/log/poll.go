@@ -59,6 +59,15 @@ func runtime_netrevPoint(kind uint64, word *uint64, a, b, c int64)
 func runtime_netrevDelay(kind uint64)
 
 //go:noescape
+func runtime_netrevKnows(descriptor uintptr, word *uint64)
+
+func runtime_netrevForgets(descriptor uintptr)
+
+func runtime_netrevIsCalled(descriptor uintptr, a, b, c int64)
+
+func runtime_netrevIsShut(descriptor uintptr)
+
+//go:noescape
 func runtime_netrevAcquire(sema *uint32, read bool)
 
 //go:noescape
@@ -114,6 +123,14 @@ func netrevInit(fd *FD) *FD {
 	if netrevOn != 0 {
 		netrevIsNamed(fd.Sysfd, false)
 		runtime_netrevPoint(netrevInitKind, &fd.fdmu.state, int64(fd.Sysfd), 0, 0)
+	}
+	return fd
+}
+
+// netrevOpened is one that was opened there, or wasn't, with this error.
+func netrevOpened(fd *FD, err error) error {
+	if netrevOn != 0 && err == nil {
+		runtime_netrevKnows(fd.pd.runtimeCtx, &fd.fdmu.state)
 		if !netrevEnds(fd) { // it isn't connected yet
 			netrevIsNamed(fd.Sysfd, false)
 		}
@@ -121,7 +138,13 @@ func netrevInit(fd *FD) *FD {
 			netrevDatagrams(fd)
 		}
 	}
-	return fd
+	return err
+}
+
+// netrevIsCalled is a point of a socket's names, which are known from here on.
+func netrevIsCalled(fd *FD, a, b, c int64) {
+	runtime_netrevPoint(netrevNamedKind, &fd.fdmu.state, a, b, c)
+	runtime_netrevIsCalled(fd.pd.runtimeCtx, a, b, c)
 }
 
 // netrevDatagrams is a socket for datagrams, which has its address by now.
@@ -134,7 +157,7 @@ func netrevDatagrams(fd *FD) {
 	if other, err := syscall.Getpeername(fd.Sysfd); err == nil {
 		connected = netrevAddress(other)
 	}
-	runtime_netrevPoint(netrevNamedKind, &fd.fdmu.state, netrevAddress(own), connected, netrevOfDatagrams)
+	netrevIsCalled(fd, netrevAddress(own), connected, netrevOfDatagrams)
 }
 
 // netrevSends is a datagram that is about to be sent to an address.
@@ -214,9 +237,9 @@ func netrevEnds(fd *FD) bool {
 	}
 	own, err := syscall.Getsockname(fd.Sysfd)
 	if err == nil && netrevEnd(own) != 0 && netrevEnd(other) != 0 {
-		runtime_netrevPoint(netrevNamedKind, &fd.fdmu.state, netrevEnd(own), netrevEnd(other), 0)
+		netrevIsCalled(fd, netrevEnd(own), netrevEnd(other), 0)
 	} else if err == nil && netrevPath(own) != netrevPath(other) {
-		runtime_netrevPoint(netrevNamedKind, &fd.fdmu.state, netrevPath(own), netrevPath(other), netrevOfUnix)
+		netrevIsCalled(fd, netrevPath(own), netrevPath(other), netrevOfUnix)
 	}
 	return true
 }
@@ -286,6 +309,7 @@ func netrevBytes(kind uint64, fd *FD, asked, got int, err error) {
 func (fd *FD) netrevShutdown(sysfd, how int) error {
 	err := syscall.Shutdown(sysfd, how)
 	if netrevOn != 0 && err == nil && how != syscall.SHUT_RD {
+		runtime_netrevIsShut(fd.pd.runtimeCtx)
 		runtime_netrevPoint(netrevCloseWriteKind, &fd.fdmu.state, 0, 0, 0)
 	}
 	return err

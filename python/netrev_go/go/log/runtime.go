@@ -2,7 +2,8 @@
 //
 // With NETREV_LOG=PATH in its environment a program writes the file PATH.PID, which is mapped: whatever way the process ends, the
 // kernel keeps what was written, and it may be read while the process runs. Words are of 64 bits. A header comes first, then
-// the stacks, then the table of mutexes that are locked (holders.go), then a ring of points. Without it nothing is done but a look at netrevOn.
+// the stacks, then the table of mutexes that are locked (holders.go), those of descriptors and of who is queued for their locks (notes.go),
+// then a ring of points. Without it nothing is done but a look at netrevOn.
 //
 // The program runs as it would without the log: no descriptor is open while it runs, since it may close all that it doesn't know and
 // have their numbers again for files of its own, and nothing is printed.
@@ -24,7 +25,7 @@ const (
 	netrevStackWords  = 32
 	netrevFrames      = netrevStackWords - 4
 	netrevStacksBytes = netrevStacks * netrevStackWords * 8
-	netrevRingBegin   = netrevHeaderBytes + netrevStacksBytes + netrevHolders*netrevHolderWords*8
+	netrevRowsBegin   = netrevHeaderBytes + netrevStacksBytes + netrevHolders*netrevHolderWords*8
 	netrevPointWords  = 8
 	netrevChunk       = 1 << 14 // points that get their room at once
 	netrevMostPoints  = 1 << 20
@@ -47,6 +48,9 @@ const (
 	netrevHeadHolders      // how many rows the table of locked mutexes has
 	netrevHeadHoldersLost  // how many times a mutex found no row
 	netrevHeadHoldersKnown // 1 where the table is written
+	netrevHeadRows         // how many rows the table of descriptors has
+	netrevHeadQueue        // and that of who is queued for their locks
+	netrevHeadCopied       // 1 in a copy that was made while the program ran
 )
 
 // Kinds of points, numbered as the steps of a recording are; above 100 is what is no step. orders.go has the others.
@@ -244,6 +248,7 @@ func init() {
 		return
 	}
 	netrevKeepProgram(path)
+	netrevKeepRows()
 	netrevLines = gogetenv("NETREV_LINES") != "0"
 	netrevOrders = gogetenv("NETREV_ORDERS") != "0"
 	netrevSeed = netrevNumber(gogetenv("NETREV_DELAYS"))
@@ -258,18 +263,31 @@ func netrevUnrecorded(path string, process, why uint64) {
 	}
 }
 
+// netrevRingBegin is where the ring begins, of so many points.
+func netrevRingBegin(points uintptr) uintptr {
+	return netrevRowsBegin + netrevRowsFor(points)*netrevRowBytes + netrevQueueMost*netrevWaiterBytes
+}
+
 // netrevMap gives the log its size and its header; fewer points where a file of this process may not be so long.
 func netrevMap(file uintptr, process uint64) (errno uintptr) {
-	const ring, pointBytes = netrevRingBegin, netrevPointWords * 8
+	const pointBytes = netrevPointWords * 8
 	points := uintptr(netrevMostPoints)
 	if n := netrevNumber(gogetenv("NETREV_POINTS")); n >= netrevChunk {
 		points = uintptr(n)
 	}
+	ring := netrevRingBegin(points)
 	if largest := netrevLargest(); largest < ring+points*pointBytes {
-		if largest < ring+netrevChunk*pointBytes {
+		if ring = netrevRingBegin(netrevChunk); largest < ring+netrevChunk*pointBytes {
 			return netrevTooLarge
 		}
-		points = (largest - ring) / pointBytes / netrevChunk * netrevChunk
+		if points > largest/pointBytes {
+			points = largest / pointBytes
+		}
+		ring = netrevRingBegin(points)
+		if points = (largest - ring) / pointBytes / netrevChunk * netrevChunk; points < netrevChunk {
+			points = netrevChunk
+		}
+		ring = netrevRingBegin(points)
 	}
 	base, errno := netrevShared(file, ring+points*pointBytes)
 	if errno != 0 {
@@ -288,6 +306,7 @@ func netrevMap(file uintptr, process uint64) (errno uintptr) {
 	*netrevWord(netrevHeadProcess) = process
 	*netrevWord(netrevHeadText) = uint64(firstmoduledata.text)
 	*netrevWord(netrevHeadHolders) = netrevHolders
+	*netrevWord(netrevHeadRows), *netrevWord(netrevHeadQueue) = uint64(netrevRowsFor(points)), netrevQueueMost
 	atomic.Store64(netrevWord(netrevHeadMagic), netrevMagic)
 	return 0
 }
@@ -327,33 +346,46 @@ func netrevCopy(from, to uintptr) (copied uintptr) {
 }
 
 // netrevLog writes a point: what, by which goroutine, at which address, what was seen there, and the time: where Go read none for
-// what the point is of, that is now. Its number is taken here, inside the lock of what the point is of.
-func netrevLog(kind uint64, goid uint64, at uintptr, a, b, c, now int64) {
-	number := atomic.Xadd64(netrevWord(netrevHeadPassed), 1) - 1
+// what the point is of, that is now. Its number is taken here, inside the lock of what the point is of. The stack's number is returned.
+func netrevLog(kind uint64, goid uint64, at uintptr, a, b, c, now int64) (stack uint64) {
+	number := netrevNext()
 	if now == 0 {
 		now = nanotime()
 	}
-	if number%netrevChunk == 0 {
-		netrevRoom(uint64(number))
-	}
-	if ended := atomic.Load64(netrevWord(netrevHeadEnded)); ended != 0 && uint64(number) >= ended-1 {
-		return
-	}
-	place := netrevRing + uintptr(uint64(number)%netrevPoints)*netrevPointWords*8
-	if uint64(number) >= atomic.Load64(&netrevRoomed) && !netrevHasRoom(place, netrevPointWords*8) {
-		atomic.Cas64(netrevWord(netrevHeadEnded), 0, uint64(number)+1)
-		return
-	}
-	p := (*[netrevPointWords]uint64)(unsafe.Pointer(place))
-	var stack uint64
 	if gp := getg(); netrevLines && netrevHasStack(kind, goid, gp) && gp.m != nil && gp == gp.m.curg {
 		stack = netrevStack(gp, sys.GetCallerSP()-16)
 	}
-	atomic.Store64(&p[0], 0)
-	p[1], p[2], p[3], p[4], p[5], p[6] = goid, uint64(at), uint64(a), uint64(b), uint64(c), uint64(now)
-	sum := p[1] ^ p[2] ^ p[3] ^ p[4] ^ p[5] ^ p[6] ^ uint64(number)
-	p[7] = stack | (sum^sum>>32)<<32
-	atomic.Store64(&p[0], uint64(number+1)<<8|kind)
+	netrevWrite(number, kind, goid, at, a, b, c, now, stack)
+	return stack
+}
+
+// netrevNext is the number of the next point.
+func netrevNext() uint64 {
+	number := uint64(atomic.Xadd64(netrevWord(netrevHeadPassed), 1)) - 1
+	if number >= atomic.Load64(&netrevDue) && atomic.Load(&netrevIsDue) == 0 {
+		atomic.Store(&netrevIsDue, 1)
+	}
+	return number
+}
+
+// netrevWrite writes the point of a number, which has this stack. One that is half written is known by its sum, so that no store has to wait for the
+// one before, whose place is seldom in a cache.
+func netrevWrite(number, kind, goid uint64, at uintptr, a, b, c, now int64, stack uint64) {
+	if number%netrevChunk == 0 {
+		netrevRoom(number)
+	}
+	if ended := atomic.Load64(netrevWord(netrevHeadEnded)); ended != 0 && number >= ended-1 {
+		return
+	}
+	place := netrevRing + uintptr(number%netrevPoints)*netrevPointWords*8
+	if number >= atomic.Load64(&netrevRoomed) && !netrevHasRoom(place, netrevPointWords*8) {
+		atomic.Cas64(netrevWord(netrevHeadEnded), 0, number+1)
+		return
+	}
+	p := (*[netrevPointWords]uint64)(unsafe.Pointer(place))
+	sum := goid ^ uint64(at) ^ uint64(a) ^ uint64(b) ^ uint64(c) ^ uint64(now) ^ number
+	p[0], p[1], p[2], p[3] = (number+1)<<8|kind, goid, uint64(at), uint64(a)
+	p[4], p[5], p[6], p[7] = uint64(b), uint64(c), uint64(now), stack|(sum^sum>>32)<<32
 }
 
 // netrevHasStack says whether a point of this kind has a stack. At a channel a goroutine may pass the point of another, whose stack that
@@ -440,6 +472,13 @@ func netrevPoll(kind uint64, pd *pollDesc, a, b, c int64) {
 	}
 }
 
+// netrevStep is a point of a wait, after which the goroutine is at this place of it.
+func netrevStep(kind uint64, pd *pollDesc, mode int32, seen int64, place uint64) {
+	goid := netrevGoroutine()
+	stack := netrevLog(kind, goid, uintptr(unsafe.Pointer(pd)), int64(mode), seen, 0, 0)
+	netrevInside(pd, mode, place, goid, stack, kind == netrevWaitBegin)
+}
+
 // netrevPollAlone is a point at a descriptor whose lock isn't held.
 func netrevPollAlone(kind uint64, pd *pollDesc, a int64) {
 	if netrevOn != 0 {
@@ -474,7 +513,7 @@ func netrevCheck(kind uint64, pd *pollDesc, mode int32) int {
 	}
 	lock(&pd.lock)
 	code := netpollcheckerr(pd, mode)
-	netrevPoll(kind, pd, int64(mode), int64(code), 0)
+	netrevStep(kind, pd, mode, int64(code), netrevBehind(kind, code == pollNoError))
 	unlock(&pd.lock)
 	return code
 }
@@ -487,7 +526,7 @@ func netrevArmed(pd *pollDesc, word *atomic.Uintptr, mode int32, old, new uintpt
 	lock(&pd.lock)
 	done := word.CompareAndSwap(old, new)
 	if done {
-		netrevPoll(netrevArm, pd, int64(mode), netrevBit(old == pdReady), 0)
+		netrevStep(netrevArm, pd, mode, netrevBit(old == pdReady), netrevBehind(netrevArm, old != pdReady))
 	}
 	unlock(&pd.lock)
 	return done
@@ -500,7 +539,7 @@ func netrevTaken(pd *pollDesc, word *atomic.Uintptr, mode int32) uintptr {
 	}
 	lock(&pd.lock)
 	old := word.Swap(0)
-	netrevPoll(netrevSwap, pd, int64(mode), netrevBit(old == pdReady), 0)
+	netrevStep(netrevSwap, pd, mode, netrevBit(old == pdReady), netrevBehind(netrevSwap, old != pdReady))
 	unlock(&pd.lock)
 	return old
 }
@@ -530,6 +569,7 @@ func netrevCommitted(gp *g, pd *pollDesc, word *atomic.Uintptr, mode int64) bool
 	lock(&pd.lock)
 	parks := netpollblockcommit(gp, unsafe.Pointer(word))
 	netrevLog(netrevPark, uint64(gp.goid), uintptr(unsafe.Pointer(pd)), mode, netrevBit(parks), 0, 0)
+	netrevInside(pd, int32(mode), netrevBehind(netrevPark, parks), uint64(gp.goid), 0, false)
 	unlock(&pd.lock)
 	return parks
 }
@@ -593,15 +633,18 @@ func netrevEasy(addr *uint32, profile semaProfileFlags) bool {
 func netrevTake(addr *uint32, profile semaProfileFlags) bool {
 	took := cansemacquire(addr)
 	if profile&netrevSema != 0 {
-		netrevSemaphore(netrevAcquire, addr, profile&netrevSemaRead != 0, took)
+		stack := netrevSemaphore(netrevAcquire, addr, profile&netrevSemaRead != 0, took)
+		if !took {
+			netrevQueues(addr, netrevGoroutine(), stack)
+		}
 	}
 	return took
 }
 
 // netrevSemaphore is a point at a lock word, which stands 8 bytes before its semaphore of readers and 12 before that of writers.
-func netrevSemaphore(kind uint64, addr *uint32, read, took bool) {
+func netrevSemaphore(kind uint64, addr *uint32, read, took bool) (stack uint64) {
 	at := uintptr(unsafe.Pointer(addr)) - 12 + 4*uintptr(netrevBit(read))
-	netrevLog(kind, netrevGoroutine(), at, netrevBit(took), netrevBit(read), 0, 0)
+	return netrevLog(kind, netrevGoroutine(), at, netrevBit(took), netrevBit(read), 0, 0)
 }
 
 // netrevMarked parts the mark of a lock word's semaphore from the frames to skip.
@@ -614,6 +657,7 @@ func netrevRaise(addr *uint32, mark int) {
 	if mark != 0 {
 		atomic.Xadd(addr, 1)
 		netrevSemaphore(netrevRelease, addr, mark&netrevSemaRead != 0, false)
+		netrevLeaves(addr)
 	}
 }
 
@@ -725,6 +769,7 @@ func netrevMixed(x uint64) uint64 {
 //
 //go:linkname poll_runtime_netrevDelay internal/poll.runtime_netrevDelay
 func poll_runtime_netrevDelay(kind uint64) {
+	netrevNotes()
 	const places, shortest, lengths, often, seldom = 4, 500000, 5, 64, 16
 	if netrevSeed == 0 {
 		return

@@ -157,7 +157,7 @@ func (s *source) changes(f *ast.FuncDecl, edits []edit) ([]change, error) {
 		}
 		all := findAll(f, e.find)
 		if len(all) != e.times {
-			return nil, fmt.Errorf("%s stands there %d times, not %d", e.find, len(all), e.times)
+			return nil, fmt.Errorf("%s occurs there %d times, not %d", e.find, len(all), e.times)
 		}
 		for i, at := range all {
 			put := e.put[i%len(e.put)]
@@ -185,7 +185,7 @@ func (s *source) changeOf(f *ast.FuncDecl, e edit, at found, put string) (change
 		return change{s.offset(at.expression.Pos()), s.offset(at.expression.End()), text}, nil
 	}
 	if at.statement == nil {
-		return change{}, fmt.Errorf("%s is in no statement of a block", e.find)
+		return change{}, fmt.Errorf("%s isn't in a statement of a block", e.find)
 	}
 	if e.how == before {
 		from := s.offset(at.statement.Pos())

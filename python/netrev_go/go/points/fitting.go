@@ -19,7 +19,7 @@ type fitting struct {
 func (f *fitting) fit(s *source) {
 	function := s.function(f.rule.function)
 	if function == nil {
-		f.why = "there is no such function"
+		f.why = "no such function"
 		return
 	}
 	for i, v := range f.rule.variants {
@@ -84,8 +84,14 @@ func wanted() []fitting {
 	for _, r := range readers {
 		all = append(all, fitting{rule: r, without: ofHolders})
 	}
+	for _, r := range notes {
+		all = append(all, fitting{rule: r, without: ofNotes})
+	}
 	for _, r := range tests {
 		all = append(all, fitting{rule: r, without: ofTests})
+	}
+	for _, r := range signals {
+		all = append(all, fitting{rule: r, without: ofSignals})
 	}
 	return all
 }
@@ -102,7 +108,7 @@ func fitAll(folder string) (map[string]*source, []fitting) {
 			}
 		}
 		if sources[file] == nil {
-			fittings[i].why = "there is no such file"
+			fittings[i].why = "no such file"
 		} else {
 			fittings[i].fit(sources[file])
 		}
@@ -141,7 +147,7 @@ func contains(files []string, file string) bool {
 }
 
 // together are what is recorded wholly or not at all.
-var together = map[string]bool{ofOrders: true, ofObjects: true, ofDials: true, ofHolders: true, ofTests: true}
+var together = map[string]bool{ofOrders: true, ofObjects: true, ofDials: true, ofHolders: true, ofTests: true, ofNotes: true}
 
 // withOrders are what is recorded with the program's orders alone: a log with such points is taken for one that has the orders.
 var withOrders = map[string]bool{
@@ -156,7 +162,7 @@ func withoutElse(fittings []fitting) []fitting {
 		fits[f.without] = fits[f.without] || f.variant != nil
 		unfit[f.without] = unfit[f.without] || f.variant == nil
 	}
-	for _, what := range []string{"", ofOrders, ofObjects, ofEnds, ofDials, ofHolders, ofTests} {
+	for _, what := range []string{"", ofOrders, ofObjects, ofEnds, ofDials, ofHolders, ofTests, ofNotes} {
 		fits[what] = false
 	}
 	var kept []fitting

@@ -103,7 +103,7 @@ func (f function) strange(name, text string, guards []guard) []string {
 		fits := strings.HasPrefix(text, g.call) && strings.Contains(text, g.argument)
 		if fits && !strings.Contains(" "+g.functions+" ", " "+f.syntax.Name.Name+" ") {
 			told = append(told, fmt.Sprintf(
-				"%s/%s %s: %s..) stands there too, of which no rule knows", name, f.file, f.syntax.Name.Name, g.call))
+				"%s/%s %s: %s..) occurs there too, and no rule covers it", name, f.file, f.syntax.Name.Name, g.call))
 		}
 	}
 	return told

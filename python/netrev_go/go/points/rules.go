@@ -47,8 +47,8 @@ const (
 
 // Which file gets which functions of ours.
 var appended = map[string]string{
-	lockWords: "poll.go", polling: "runtime.go", channels: "orders.go", queueing: "holders.go", grouping: "groups.go", testing: "tests.go",
-	mutexes: "mutexes.go", mutexesSince124: "mutexes.go", readWriting: "readers.go", connecting: "dials.go",
+	lockWords: "poll.go", polling: "runtime.go", epolling: "notes.go", channels: "orders.go", queueing: "holders.go", grouping: "groups.go", testing: "tests.go",
+	mutexes: "mutexes.go", mutexesSince124: "mutexes.go", readWriting: "readers.go", connecting: "dials.go", signalling: "signals.go",
 }
 
 const swap = "atomic.CompareAndSwapUint64(&mu.state, old, new)"
@@ -87,7 +87,7 @@ var steps = []rule{
 		one(replace, swap, orLogged("netrevSwap(netrevRWUnlockKind, mu, old, new, $return, read)")),
 		one(replace, "runtime_Semrelease(...)", "netrevRelease($1, read)"))},
 	{sockets, "Init", all(
-		one(replace, "fd.pd.init(fd)", "fd.pd.init(netrevInit(fd))"))},
+		one(replace, "fd.pd.init(fd)", "netrevOpened(fd, fd.pd.init(netrevInit(fd)))"))},
 	{sockets, "Read", all(moved("ignoringEINTRIO(syscall.Read, fd.Sysfd, ...)", "netrevReadKind, fd, len($3), n, err")...)},
 	{sockets, "Write", all(moved("ignoringEINTRIO(syscall.Write, fd.Sysfd, ...)", "netrevWriteKind, fd, len($3), n, err")...)},
 	{shutting, "Shutdown", all(

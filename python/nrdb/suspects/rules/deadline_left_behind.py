@@ -1,9 +1,9 @@
-"""Deadline left behind: a deadline passes that was set for both sides, and only the other side's was moved since; or
-its setter went over to the other side. It weighs more if a call ended with that timeout."""
+"""Deadline left behind: a deadline passes that was set for both sides, or before the recording begins, and only the
+other side's was moved since; or its setter went over to the other side."""
 
 from typing import Iterator, Optional
 
-from ...noted import By
+from ...noted import By, Use
 from ...suspect_list import OfDeadline
 from ...words import SIDES as NAMES
 from ..found import Evidence, Suspect, Weight
@@ -30,6 +30,8 @@ def left_behind(run: Run, passed: OfDeadline, moved: By) -> Optional[Suspect]:
             f"{NAMES[other]} deadline alone"
         )
         return suspect_of(run, passed, use.socket, Weight.POSSIBLE, story, moved.step)
+    if set_at <= run.recording.lines.prelude:
+        return before_the_recording(run, passed, use)
     settings = [one for one in use.settings if one.goroutine == g and one.step < passed.step]
     count, own = sum(one.mode == side for one in settings), [one.step for one in settings if one.mode == other]
     if count >= HABIT and own and own[0] > set_at:
@@ -39,6 +41,19 @@ def left_behind(run: Run, passed: OfDeadline, moved: By) -> Optional[Suspect]:
         )
         return suspect_of(run, passed, use.socket, Weight.LIKELY, story, own[0])
     return None
+
+
+def before_the_recording(run: Run, passed: OfDeadline, use: Use) -> Optional[Suspect]:
+    """The suspect of a deadline that a recording has at its begin, if only the other side's was moved since, and more than once."""
+    prelude, other = run.recording.lines.prelude, "w" if passed.side == "r" else "r"
+    since = [one for one in use.settings if prelude < one.step < passed.step]
+    if len(since) < HABIT or any(one.mode != other for one in since):
+        return None
+    story = (
+        f"was set before the recording begins; from step {since[0].step} on the {NAMES[other]} deadline alone was set "
+        f"({len(since)} times)"
+    )
+    return suspect_of(run, passed, use.socket, Weight.POSSIBLE, story, since[0].step)
 
 
 def suspect_of(run: Run, passed: OfDeadline, socket: int, weight: int, story: str, moved_at: int) -> Suspect:

@@ -23,7 +23,7 @@ def rule(run: Run) -> Iterator[Suspect]:
 
 
 def not_looked(run: Run, use: Use, side: str, position: int) -> Optional[int]:
-    """Who was woken by a side's deadline, which has passed, and hasn't looked why."""
+    """The goroutines that a side's passed deadline woke and that haven't checked why."""
     who, word = run.inside(use, side, position), run.changes.value(f"{side}g {use.descriptor}", position)
     place = "" if who is None else run.status(who, position)[0]
     is_woken = place in ("swapping", "checking") or word == "nil"

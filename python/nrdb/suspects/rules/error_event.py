@@ -1,4 +1,5 @@
-"""Error event on a reused descriptor: an event with an error comes for a descriptor that was another socket's before."""
+"""Error event on a reused descriptor: an event with an error comes for a descriptor that was another socket's before,
+unless Go compared the event's tag, as it does from 1.21 on."""
 
 from typing import Iterator
 
@@ -7,6 +8,8 @@ from ..run import Run
 
 
 def rule(run: Run) -> Iterator[Suspect]:
+    if run.recording.lines.has_tags:
+        return
     for use, before in run.notes.socket_before.items():
         d = use.descriptor
         for step, mode in use.errors:

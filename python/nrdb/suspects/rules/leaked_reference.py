@@ -1,7 +1,6 @@
-"""Leaked reference: the goroutine that holds a reference is gone, has paused for more than twice the longest pause
-that ended in this recording, or has gone on and holds it for more than twice the longest such hold. A reference
-that Go's own calls hold over a system call isn't suspected (Shutdown, Fstat and options of sockets have such
-references)."""
+"""Leaked reference: the goroutine that holds a reference is gone, has paused for more than twice the longest pause that
+ended in this recording, or holds it for more than twice the longest such hold. References that Go's own calls hold
+over a system call are left out."""
 
 from typing import Iterator
 

@@ -1,7 +1,5 @@
 """Lock held: a goroutine sleeps for a lock whose holder is gone, or has paused for more than twice the longest pause
-that ended in this recording. A lock that Go's own Read, Write or SendFile holds over a system call isn't
-suspected, if `NAME.where` says that the recording ended in it. Without `NAME.where`, a lock whose holder's last
-step is `pollreset` isn't suspected, because Go tries the system call next."""
+that ended in this recording. Locks that Go's own Read, Write or SendFile holds over a system call are left out."""
 
 from typing import Iterator
 
@@ -33,7 +31,7 @@ def rule(run: Run) -> Iterator[Suspect]:
 
 
 def how_it_is_held(run: Run, g: int) -> str:
-    """Why a holder won't give up its lock, in words; empty where it may."""
+    """Why a holder won't give its lock back, in words; empty if it may."""
     status = run.notes.status(g)
     if status == "gone":
         return "is gone"

@@ -1,7 +1,6 @@
 """Lost wake-up: a goroutine is parked at a side, the readiness of the side's last event was taken, and no try was
-answered EAGAIN since: netrev lists all of these. Or a `pollreset` discarded an event, and the goroutine is about
-to park for reading without a read in between. It weighs more if the goroutine hangs because of it, and less if it
-has read or written since, or if no step shows its tries."""
+answered EAGAIN since: netrev lists all of these. Or a `pollreset` discarded an event, and the goroutine is about to
+park for reading without a read in between."""
 
 from typing import Iterator, Optional
 
@@ -12,7 +11,7 @@ from ..found import Evidence, Suspect, Weight
 from ..run import Run
 from ..weighing import is_accepting, is_without_tries, of_a_goroutine
 
-# who waits, at which descriptor, the step that took the readiness, and the side
+# the goroutine that waits, its descriptor, the step that took the readiness, and the side
 Taken = tuple[Optional[int], Optional[int], int, str]
 BUFFERS, WAITS = {"r": "in", "w": "out"}, {"r": "reading", "w": "writing"}
 
@@ -29,7 +28,7 @@ def rule(run: Run) -> Iterator[Suspect]:
         about = lost.pop(throw, None)
         for suspect in suspects:
             of_a_goroutine(run, suspect)
-            # (Go's own Accept tries again behind each pollreset)
+            # (Go's own Accept tries again after each pollreset)
             if is_accepting(run.recording, suspect) or is_parked(run, suspect) and about is None:
                 suspect.weight = Weight.DOUBTFUL
             if about:
@@ -40,12 +39,12 @@ def rule(run: Run) -> Iterator[Suspect]:
 
 
 def is_parked(run: Run, suspect: Suspect) -> bool:
-    """Whether the goroutine is parked at that descriptor in the end. If no wake-up is lost there, it waits behind a try."""
+    """Whether the goroutine is parked at that descriptor at the end. If no wake-up is lost there, it waits after a try."""
     return run.notes.now[f"gor {suspect.goroutine}"].startswith(f"parked {suspect.descriptor} ")
 
 
 def has_lines(run: Run, suspect: Suspect, lost: LostWakeUp) -> None:
-    """netrev's lines of a lost wake-up: that one, and that what came is still there."""
+    """netrev's lines of a lost wake-up: that one, and that what came is still unread."""
     suspect.has_line(lost.line)
     suspect.has_line(run.asleep(lost.goroutine, lost.descriptor, lost.side))
 

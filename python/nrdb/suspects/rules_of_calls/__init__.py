@@ -1,1 +1,1 @@
-"""The rules that look at Go's calls and at what NAME.where says: they come after the others, and one that isn't sure says perhaps."""
+"""The rules about Go's calls and about NAME.where: they come after the others, and an uncertain finding says perhaps."""

@@ -1,6 +1,5 @@
-"""Bytes thrown away: a Read got some of the bytes that it asked for, and the Read for the rest timed out. The
-goroutine's next Read there asks for all of them again, so the first bytes are lost, and the stream is read from
-its middle."""
+"""Bytes thrown away: a Read got some of the bytes that it asked for, the Read for the rest timed out, and the
+goroutine's next Read asks for all of them again, so the first bytes are lost."""
 
 from typing import Iterator
 

@@ -1,5 +1,5 @@
-"""End not passed on: a goroutine that only read one connection and only wrote to another met the end of the stream
-and had written everything; it never closed the other connection for writing, and the Read at its other end hangs."""
+"""End not passed on: a goroutine that copied one connection to another met the end of the stream and never closed the
+other connection for writing, and the Read at its other end hangs."""
 
 from typing import Iterator
 
@@ -9,7 +9,7 @@ from ..run import Run
 
 
 def rule(run: Run) -> Iterator[Suspect]:
-    for end in unpassed_ends(run.calls):  # (where the recording says which sockets are one connection's ends)
+    for end in unpassed_ends(run.calls):  # (if the recording says which sockets are one connection's ends)
         yield suspect_of(run, end)
 
 

@@ -1,5 +1,5 @@
-"""Left open: the other end of a connection was closed, 50 steps or more before the end. No goroutine closes this end,
-and none is in a call there that would meet the end of the stream. Perhaps one comes back to it."""
+"""Left open: the other end of a connection was closed, 50 steps or more before the end, and no goroutine closes this end
+or is in a call there that would meet the end of the stream."""
 
 from typing import Iterator
 
@@ -12,7 +12,7 @@ SINCE = 50
 
 
 def rule(run: Run) -> Iterator[Suspect]:
-    for cause in left_open(run.calls):  # (where the recording says which sockets are one connection's ends)
+    for cause in left_open(run.calls):  # (if the recording says which sockets are one connection's ends)
         if run.end - cause.steps[-1] >= SINCE:
             yield suspect_of(run.end, cause)
 

@@ -1,6 +1,5 @@
-"""Two readers: a goroutine's Read had to wait for the lock of another's Read of the same connection, and both got
-bytes. So it is chance which of them gets which bytes of the stream. Listeners and datagram sockets may have any
-number of readers. Perhaps."""
+"""Two readers: a goroutine's Read had to wait for the lock of another's Read of the same connection, and both got bytes,
+so it is chance which of them gets which bytes. Listeners and datagram sockets are left out."""
 
 from typing import Iterator
 

@@ -1,4 +1,4 @@
-"""A page in a real browser: chromium opens it, a script in it uses it as people would, and what the script wrote down is read."""
+"""A page in a real browser: chromium opens it, a script uses it as people would, and the script's notes are read."""
 
 import json
 import re
@@ -12,9 +12,9 @@ CHROMIUM = next(
     (path for name in ("chromium", "chromium-browser", "google-chrome") if (path := shutil.which(name))), ""
 )
 PATIENCE = 60  # seconds
-LIGHT, DARK = 1, 0  # the colours that a page is told people prefer
+LIGHT, DARK = 1, 0  # the colour schemes that a page may get
 
-# What a script in the page may use: the wheel, keys, the pointer, what is written where, and what went wrong.
+# The tools of a script in the page: wheel, keys, pointer, text at places, and errors.
 HANDS = """
 const wrong = [];
 addEventListener("error", (event) => wrong.push(String(event.message)));
@@ -37,7 +37,7 @@ picture.setPointerCapture = () => {};
 def used(
     page: str, script: str, size: tuple[int, int] = (1280, 800), scheme: int = LIGHT, place: str = ""
 ) -> dict[str, Any]:
-    """What a script tells that uses the page: it puts it into `told`. Nothing may go wrong while it does."""
+    """The notes of a script that uses the page, in `told`. No error may occur meanwhile."""
     probe = (
         f"<script>{HANDS}\nconst told = {{}};\n(async () => {{ {script} }})().catch((error) => wrong.push(String(error)))"
         '.finally(() => { const out = document.createElement("pre"); out.id = "told"; out.textContent = JSON.stringify({ told, wrong });'
@@ -60,7 +60,7 @@ def used(
 
 
 def unescaped(text: str) -> str:
-    """The text of an element, of which the browser wrote what is escaped."""
+    """The text of an element, unescaped."""
     for written, letter in (("&lt;", "<"), ("&gt;", ">"), ("&nbsp;", "\xa0"), ("&amp;", "&")):
         text = text.replace(written, letter)
     return text

@@ -1,4 +1,4 @@
-"""An editor, as far as an adapter sees one: requests are sent, and each message that comes is held against its form."""
+"""An editor, as an adapter sees it: requests are sent, and the form of each message is checked."""
 
 from __future__ import annotations
 
@@ -15,7 +15,7 @@ Body = dict[str, Any]
 
 
 class Refusal(Exception):
-    """A request was answered that it can't be done: why."""
+    """A request was refused: why."""
 
 
 class Client:
@@ -29,7 +29,7 @@ class Client:
         self.events: list[Body] = []
 
     def __call__(self, command: str, **arguments: Any) -> Body:
-        """What a request is answered; Refusal where it can't be done."""
+        """The answer to a request; raises Refusal if it is refused."""
         self._sent += 1
         self.send({"seq": self._sent, "type": "request", "command": command, "arguments": arguments})
         while True:
@@ -52,7 +52,7 @@ class Client:
         self._writer.flush()
 
     def message(self) -> Optional[Body]:
-        """The next message, which has to have its form; None where the adapter has ended."""
+        """The next message, with its form checked; None if the adapter has ended."""
         head = self._reader.readline()
         if not head:
             return None
@@ -64,7 +64,7 @@ class Client:
         return message
 
     def event(self, name: str) -> Body:
-        """The body of the next event of that name; what came before it is passed over."""
+        """The body of the next event of that name; earlier messages are skipped."""
         while True:
             while self.events:
                 event = self.events.pop(0)

@@ -71,7 +71,7 @@ CATEGORIES = ("console", "important", "stdout", "stderr")
 
 
 def misfit(value: Any, form: Form, where: str) -> str:
-    """Where a value isn't of a form; empty where it is."""
+    """The place at which a value doesn't fit a form; empty if it fits."""
     if isinstance(form, tuple):
         return "" if any(not misfit(value, one, where) for one in form) else f"{where} is {value!r}"
     if isinstance(form, list):
@@ -85,7 +85,7 @@ def misfit(value: Any, form: Form, where: str) -> str:
 
 
 def misfit_of_object(value: Any, form: dict[str, Form], where: str) -> str:
-    """Where an object isn't of a form; empty where it is."""
+    """The place at which an object doesn't fit a form; empty if it fits."""
     if not isinstance(value, dict):
         return f"{where} is no object"
     fields = {name.rstrip("?"): one for name, one in form.items()}
@@ -97,12 +97,12 @@ def misfit_of_object(value: Any, form: dict[str, Form], where: str) -> str:
 
 
 def first_of(said: Iterable[str]) -> str:
-    """The first that isn't empty, if there is one."""
+    """The first non-empty one, if there is one."""
     return next(filter(None, said), "")
 
 
 def misfit_of_message(message: dict[str, Any]) -> str:
-    """Where a message of an adapter isn't of its form."""
+    """The place at which a message of an adapter doesn't fit its form."""
     head = {"seq": int, "type": str}
     if message.get("type") == "event":
         form = {**head, "event": str, "body?": EVENTS.get(message.get("event", ""), object())}

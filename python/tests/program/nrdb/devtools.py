@@ -1,5 +1,5 @@
-"""Chromium, as its DevTools protocol lets a script use it: pages of several people side by side, each with a profile of its own. It
-is spoken to over a pair of pipes, so no port of it is open."""
+"""Chromium through its DevTools protocol: pages of several people side by side, each with a profile of its own. It uses
+a pair of pipes, so no port is open."""
 
 from __future__ import annotations
 
@@ -22,16 +22,16 @@ from .web_support import Web
 Body = dict[str, Any]
 LOADED = "document.getElementById('panel')?.innerText.includes('position')"
 TO, FROM = 3, 4  # the file descriptors that chromium speaks at
-FREE = 10  # above all that are given away
+FREE = 10  # above all numbers that are assigned
 ENDING = 10  # seconds
 
 
 class BrowserFailure(Exception):
-    """The browser, or a script in a page, says that something went wrong."""
+    """The browser, or a script in a page, reports an error."""
 
 
 def moved(descriptor: int) -> int:
-    """The same file descriptor at a number that nobody is given."""
+    """The same file descriptor at an unused number."""
     number = fcntl.fcntl(descriptor, fcntl.F_DUPFD_CLOEXEC, FREE)
     os.close(descriptor)
     return number
@@ -71,7 +71,7 @@ class Chromium:
         self._folder.cleanup()
 
     def __call__(self, method: str, session: str = "", **parameters: Any) -> Body:
-        """What a command is answered."""
+        """The answer to a command."""
         self._number += 1
         asked: Body = {"id": self._number, "method": method, "params": parameters}
         if session:
@@ -102,7 +102,7 @@ class Chromium:
         return message
 
     def page(self, address: str) -> Page:
-        """A page of somebody who shares nothing with the others."""
+        """A page of a person that shares nothing with the others."""
         person = self("Target.createBrowserContext")["browserContextId"]
         target = self("Target.createTarget", url="about:blank", browserContextId=person)["targetId"]
         session = self("Target.attachToTarget", targetId=target, flatten=True)["sessionId"]
@@ -114,24 +114,24 @@ class Chromium:
 
 
 class Page:
-    """A page that somebody has open."""
+    """A person's open page."""
 
     def __init__(self, browser: Chromium, session: str) -> None:
         self._browser, self._session = browser, session
 
     def does(self, method: str, **parameters: Any) -> Body:
-        """What a command is answered."""
+        """The answer to a command."""
         return self._browser(method, self._session, **parameters)
 
     def value(self, script: str) -> Any:
-        """What an expression in the page is worth."""
+        """The value of an expression in the page."""
         said = self.does("Runtime.evaluate", expression=script, awaitPromise=True, returnByValue=True)
         if "exceptionDetails" in said:
             raise BrowserFailure(f"{script}: {said['exceptionDetails']}")
         return said["result"].get("value")
 
     def until(self, script: str, patience: float = PATIENCE) -> Any:
-        """The worth of an expression, as soon as that is true."""
+        """The value of an expression, as soon as it is true."""
         limit = time.monotonic() + patience
         while time.monotonic() < limit:
             if found := self.value(script):
@@ -140,7 +140,7 @@ class Page:
         raise BrowserFailure(f"{script} didn't come true; the page says: {self.value('document.body.innerText')}")
 
     def types(self, text: str) -> None:
-        """Types into what has the keyboard, and then Enter."""
+        """Types into the focused element, and then Enter."""
         self.does("Input.insertText", text=text)
         self.presses("Enter", "\r")
 
@@ -163,7 +163,7 @@ class Page:
         path.write_bytes(base64.b64decode(self.does("Page.captureScreenshot")["data"]))
 
     def wrongs(self) -> list[str]:
-        """What the browser said that is wrong in the page, since it was opened."""
+        """The browser's errors in the page since it was opened."""
         self.value("1")
         found = []
         for event in self._browser.events:

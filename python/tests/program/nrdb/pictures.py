@@ -11,7 +11,7 @@ from .support import EXAMPLES, ROOT
 from .test_calls_page import BUGS
 from .test_timeline_page import page_of
 
-# Of each picture the recording, what is typed before, and the size of the window.
+# For each picture the recording, what is typed before, and the size of the window.
 PICTURES: dict[str, tuple[str, tuple[str, ...], tuple[int, int]]] = {
     "hijacked": ("real/hijacked", (), (1280, 580)),
     "lost-wakeup": ("lost-wakeup", ("-ex", "watch rg 0", "-ex", "goto 18"), (1280, 400)),

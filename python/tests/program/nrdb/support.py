@@ -1,5 +1,5 @@
-"""What the tests of nrdb share: where things are, nrdb played with lines, and what netrev itself shows at each position
-of a recording, by plain `print`s."""
+"""The common parts of nrdb's tests: paths, nrdb run with lines, and netrev's own values at each position of a
+recording, by plain `print`s."""
 
 import contextlib
 import io
@@ -24,8 +24,8 @@ LIMIT_OF = {Of.GOROUTINE: "gor", Of.SOCKET: "sock", Of.DESCRIPTOR: "desc"}
 
 
 def nrdb(*words, lines=(), status=0):
-    """What nrdb prints with these words, and these lines for its input; its exit status has to be this. It is called
-    here, which takes less time than a process of its own."""
+    """nrdb's output with these words, and these lines as input; its exit status must be this. It runs in this process,
+    which takes less time."""
     said, input_before = io.StringIO(), sys.stdin
     sys.stdin = io.StringIO("".join(f"{line}\n" for line in lines))
     try:
@@ -38,7 +38,7 @@ def nrdb(*words, lines=(), status=0):
 
 
 def nrdb_process(*words, lines=()):
-    """What nrdb does in a process of its own with these words and lines: what it prints, what it says on standard error, and its exit status."""
+    """nrdb in a process of its own with these words and lines: standard output, standard error, and exit status."""
     ended = subprocess.run(
         [NRDB, "--netrev", NETREV, *map(str, words)],
         input="".join(f"{line}\n" for line in lines),
@@ -51,8 +51,8 @@ def nrdb_process(*words, lines=()):
 
 
 def events(path, lines, beside=False):
-    """The events of nrdb on this recording with these lines, without those of its start and its end; and without what is told
-    beside each move, but where it is wanted."""
+    """The events of nrdb on this recording with these lines, without those of its start and end, and without those
+    beside each move, unless wanted."""
     told = [json.loads(line) for line in nrdb("--json", path, lines=lines).splitlines()]
     assert [event["event"] for event in told[:2] + told[-1:]] == ["reply", "place", "end"], told[:2]
     return [event for event in told[2:-1] if beside or event.get("topic") not in BESIDE]
@@ -72,7 +72,7 @@ def netrev(path, lines):
 
 
 class Shown:
-    """What netrev shows of a recording, by plain looks."""
+    """netrev's values of a recording, by plain queries."""
 
     def __init__(self, path):
         self.path, self.recording = path, Recording.read(path)
@@ -98,28 +98,28 @@ class Shown:
         return self.seen[position]
 
     def series(self, cells):
-        """Of each of these cells the values at all positions."""
+        """The values of each of these cells at all positions."""
         replies = netrev(self.path, [*(f"print {cell}" for cell in cells), "stepi"] * (self.length + 1))
         values = [reply.partition(" = ")[2] for reply in replies]
         return {cell: values[at :: len(cells) + 1] for at, cell in enumerate(cells)}
 
     def made(self, cell, position):
-        """The numbers of which that cell isn't absent there."""
+        """The numbers of which that cell exists there."""
         values = self.at(position)
         numbers = (int(name.split()[1]) for name in values if name.startswith(f"{cell} "))
         return [number for number in numbers if values[f"{cell} {number}"] != "absent"]
 
     def made_cells(self):
-        """The cells of all that is made by the end."""
+        """The cells of all objects that exist at the end."""
         return [cell for cell in self.cells if self.at(self.length)[cell] != "absent"]
 
 
 @lru_cache(maxsize=None)
 def shown(path):
-    """What netrev shows of a recording; what was looked at is kept."""
+    """netrev's values of a recording, kept after the first query."""
     return Shown(path)
 
 
 def recordings():
-    """The recordings of examples/ and its folders that netrev takes: those with an answer that differs are left out."""
+    """The recordings of examples/ and its folders that netrev accepts."""
     return sorted(example.path for example in ALL if not example.refused_at)

@@ -63,9 +63,7 @@ class Batch(unittest.TestCase):
             path.write_bytes(FIRST.read_bytes())
             path.with_suffix(".where").write_text("[" * 200_000)
             said = nrdb("--batch", "-ex", "where", path).splitlines()
-            self.assertEqual(
-                said[2][:60], "| first.where isn't used: line 1 isn't one of its form; docs/reference/RECORDING"[:60]
-            )
+            self.assertEqual(said[2][:60], "| first.where isn't used: line 1 is malformed. The recording works"[:60])
             self.assertEqual(said[3], "(netrev) where")
             path.with_suffix(".where").unlink()
             self.assertEqual(nrdb("--batch", "-ex", "where", path).splitlines(), said[:2] + said[3:])
@@ -83,7 +81,7 @@ class Batch(unittest.TestCase):
             file = Path(folder) / "lines"
             file.write_text(f"source {file}\nstepi\n")
             said = nrdb("--batch", "-x", file, FIRST)
-        self.assertIn("deep in each other", said)
+        self.assertIn("nested more than 8 deep", said)
         self.assertIn("at 8\n", said)
 
     def test_quit_ends_it_wherever_it_stands(self):

@@ -20,7 +20,7 @@ LOST = EXAMPLES / "lost-wakeup.jsonl"
 
 
 def said(path, *lines):
-    """What is printed of these lines, without what comes before the first."""
+    """The output of these lines, without the text before the first."""
     words = [word for line in lines for word in ("-ex", line)]
     return nrdb("--batch", *words, path).split(f"(netrev) {lines[0]}\n", 1)[1]
 
@@ -71,7 +71,7 @@ class Beside(unittest.TestCase):
         self.assertIn("\n| changed: descriptor 0 is made\n", said(LOST, "stepi 2"))
         told = said(LOST, "watch rg 0", "goto 10", "continue")
         self.assertIn("| mark 1: rg 0: ready -> nil\n", told)
-        self.assertIn("| changed: gor 0: swapping 0 r -> idle\n", told)  # (the mark has told of the word)
+        self.assertIn("| changed: gor 0: swapping 0 r -> idle\n", told)  # (the mark has reported the word)
         stale = EXAMPLES / "reused-descriptor.jsonl"
         number = next(step.number for step in shown(stale).recording.steps_of(("pollevent",), 99))
         self.assertIn("| changed: ", said(stale, f"goto {number}"))
@@ -117,7 +117,7 @@ class Lines(unittest.TestCase):
         self.assertRegex(up, r"\| frame \d: main.\(\*room\).serve at main.go:68\n")
         self.assertIn("| goid 21: waits for a mutex since step", where)
         self.assertIn("| goroutine 5: in Write on socket 3 since step 266, at main.go:63", last)
-        self.assertIn("| goroutine 999 has neither a step nor a wait up to position 266", missing)
+        self.assertIn("| goroutine 999 has no step and no wait up to position 266", missing)
         self.assertIn("N is a number", misused)
 
     def test_next_and_finish_go_by_calls(self):

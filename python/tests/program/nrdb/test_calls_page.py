@@ -27,11 +27,11 @@ from .test_timeline import data_in
 from .test_timeline_page import page_of
 
 REAL = EXAMPLES / "real"
-BUGS = {  # of each real recording: the rule that names it, the steps of its story, and a call that has to be seen
+BUGS = {  # for each real recording: the rule that names it, the steps of its story, and a call that must be visible
     "hijacked": ("deadline left behind", [107, 115, 186, 197], "Write · timed out · main.go:39"),
     "hung": ("hangs", [290, 299], "Read · hangs · main.go:13"),
     "leak": ("leaked reference", [61, 71], "Control · hasn't ended · main.go:60"),
-    "half": ("write behind CloseWrite", [65, 69], "Write · broken pipe · main.go:128"),
+    "half": ("write after CloseWrite", [65, 69], "Write · broken pipe · main.go:128"),
     "lost": ("lost wake-up", [64, 67, 68], "Read · hangs · main.go:52"),
     "past": ("deadline taken back too soon", [70, 74], "Read · hangs · main.go:38"),
 }
@@ -47,7 +47,8 @@ def opened(page: str) -> str:
 
 
 def numbers_in(told: Any, count: int) -> Sequence[int]:
-    """The numbers of a column of calls: one value that all have, or how many bytes each has and those of all in base64."""
+    """The numbers of a column of calls: one value that all have, or the number of bytes each has and all values in
+    base64."""
     if not isinstance(told, list):
         return [told] * count
     wide, text = told

@@ -82,7 +82,7 @@ class Hunt(unittest.TestCase):
         kinds = [{"name": "pollreset"}, {"name": "frob"}]
         of_kinds = self.editor("setFunctionBreakpoints", breakpoints=kinds)["breakpoints"]
         self.assertEqual([one["verified"] for one in of_kinds], [True, False])
-        self.assertIn("frob is no kind of step", of_kinds[1]["message"])
+        self.assertIn("frob is neither a kind of step", of_kinds[1]["message"])
         reasons = []
         for _ in range(4):
             stopped = self.editor.move("continue", threadId=1)
@@ -103,7 +103,7 @@ class Hunt(unittest.TestCase):
         self.assertEqual(self.editor.line(), 19)  # not at line 5, where the word is nil
         wrong = [{"name": "pollreset", "condition": "whenever"}]
         (refused,) = self.editor("setFunctionBreakpoints", breakpoints=wrong)["breakpoints"]
-        self.assertIn("is no condition", refused["message"])
+        self.assertIn("isn't a condition", refused["message"])
 
     def test_a_filter_stops_before_the_suspect(self):
         self.editor.begin(LOST, stopAt="start")
@@ -125,7 +125,7 @@ class Hunt(unittest.TestCase):
         self.assertEqual(self.editor.line(), 13)
         self.editor.move("stepBack", threadId=1)
         self.editor.move("stepOut", threadId=1)
-        self.assertEqual(self.editor.line(), 16)  # behind rwunlock, which ends the Read
+        self.assertEqual(self.editor.line(), 16)  # after rwunlock, which ends the Read
         (target,) = self.editor("gotoTargets", source={"path": LOST}, line=20)["targets"]
         stopped = self.editor.move("goto", threadId=1, targetId=target["id"])
         self.assertEqual((stopped["reason"], self.editor.line()), ("goto", 20))
@@ -144,9 +144,9 @@ class Hunt(unittest.TestCase):
         self.assertIn("fdMutex.rwlock", self.editor("evaluate", expression="rwlock", context="hover")["result"])
         labels = [one["label"] for one in self.editor("completions", text="info go", column=8)["targets"]]
         self.assertEqual(labels, ["goroutines"])
-        with self.assertRaisesRegex(Refusal, "is no cell"):
+        with self.assertRaisesRegex(Refusal, "isn't a cell"):
             self.editor("evaluate", expression="no thing", context="watch")
-        with self.assertRaisesRegex(Refusal, "can be changed"):
+        with self.assertRaisesRegex(Refusal, "can't be changed"):
             self.editor("setVariable", variablesReference=1, name="rg 0", value="nil")
         self.editor("evaluate", expression="quit", context="repl")
         self.editor.event("terminated")
@@ -269,7 +269,7 @@ class GoLines(unittest.TestCase):
 
 
 class Ends(unittest.TestCase):
-    """What is refused, and how a session ends."""
+    """Refused requests, and the end of a session."""
 
     def test_a_refused_recording_is_told_with_what_to_mend(self):
         with tempfile.TemporaryDirectory() as folder, Adapter() as editor:
@@ -282,7 +282,7 @@ class Ends(unittest.TestCase):
                 editor("launch", program=str(bad) + ".gone")
             with self.assertRaisesRegex(Refusal, "no file can have that name"):
                 editor("launch", program=LOST + "\0")
-            with self.assertRaisesRegex(Refusal, "launch comes first"):
+            with self.assertRaisesRegex(Refusal, "send launch first"):
                 editor("threads")
             editor("disconnect")
             self.assertEqual(editor.process.wait(timeout=60), 0)
@@ -292,7 +292,7 @@ class Ends(unittest.TestCase):
             ran, program = Path(folder, "ran"), Path(folder, "program")
             program.write_text(f"#!/bin/sh\ntouch {ran}\n")
             program.chmod(0o700)
-            with self.assertRaisesRegex(Refusal, "not by a launch"):
+            with self.assertRaisesRegex(Refusal, "a launch can't name"):
                 editor("launch", program=LOST, netrev=str(program))
             editor.begin(LOST)
             self.assertFalse(ran.exists())
@@ -350,7 +350,7 @@ class Ends(unittest.TestCase):
                 editor("continue", threadId=1)
             self.assertEqual(editor.event("output")["output"], "| netrev has ended\n")
             editor.event("terminated")
-            with self.assertRaisesRegex(Refusal, "launch comes first"):
+            with self.assertRaisesRegex(Refusal, "send launch first"):
                 editor("threads")
 
     def test_nothing_is_left_behind(self):
@@ -372,7 +372,7 @@ class Ends(unittest.TestCase):
 
 
 class Forms(unittest.TestCase):
-    """The forms say no to what isn't of them."""
+    """The forms reject what doesn't fit them."""
 
     def test_a_wrong_message_is_found(self):
         good = {"seq": 1, "type": "event", "event": "stopped", "body": {"reason": "step", "threadId": 1}}
@@ -387,6 +387,6 @@ class Forms(unittest.TestCase):
 
 
 def children(process):
-    """The processes that a process has started."""
+    """The child processes of a process."""
     found = subprocess.run(["ps", "-o", "pid=", "--ppid", str(process)], capture_output=True, text=True, check=False)
     return [int(word) for word in found.stdout.split()]

@@ -1,5 +1,5 @@
-"""`nrdb --dap`: messages in place of stops, times counted, files of Go, bytes of a buffer, sessions that are shared, and a pause in the
-midst of a move."""
+"""`nrdb --dap`: log messages, hit counts, files of Go, bytes of a buffer, shared sessions, and a pause during a
+move."""
 
 import base64
 import tempfile
@@ -19,18 +19,18 @@ LOST = str(EXAMPLES / "lost-wakeup.jsonl")
 HIJACKED = EXAMPLES / "real/hijacked.jsonl"
 SAMPLE = EXAMPLES.parent / "tools/go/samples/hijacked"
 SOON = 0.5  # seconds
-LONG = 999_998  # steps behind the first
+LONG = 999_998  # steps after the first
 
 
 class Points(unittest.TestCase):
-    """Breakpoints that tell, and that count."""
+    """Breakpoints that print, and that count."""
 
     def setUp(self):
         self.editor = Adapter()
         self.addCleanup(self.editor.__exit__)
 
     def moves(self, way):
-        """Moves, and gives why it stopped, and what the console was told by then."""
+        """Moves, and returns why it stopped, and the console's text by then."""
         self.editor.events.clear()
         self.editor(way, threadId=1)
         told = ""
@@ -61,7 +61,7 @@ class Points(unittest.TestCase):
         )
         wrong = [{"line": 9, "logMessage": "{nothing}"}]
         (refused,) = self.editor("setBreakpoints", source={"path": LOST}, breakpoints=wrong)["breakpoints"]
-        self.assertIn("is no cell", refused["message"])
+        self.assertIn("isn't a cell", refused["message"])
         self.assertNotIn("at 7: rg", self.moves("continue")[1])
 
     def test_times_are_counted_from_the_start_both_ways(self):
@@ -85,7 +85,7 @@ class Points(unittest.TestCase):
         self.assertEqual(places, [14, 23, 23])  # positions 12 and 22, the fourth and the eighth change; and the end
         wrong = [{"name": "blockarm", "hitCondition": "often"}]
         (refused,) = self.editor("setFunctionBreakpoints", breakpoints=wrong)["breakpoints"]
-        self.assertIn("is no number of times", refused["message"])
+        self.assertIn("isn't a hit count", refused["message"])
 
     def test_a_message_and_times_at_a_line_of_the_program(self):
         main = {"path": str(SAMPLE / "main.go")}
@@ -143,7 +143,7 @@ class Looks(unittest.TestCase):
             self.assertEqual(stopped["hitBreakpointIds"], [made["id"]])
             frames = editor("stackTrace", threadId=stopped["threadId"])["stackFrames"]
             self.assertIn(str(net), [frame["source"].get("path") for frame in frames if "source" in frame])
-            with self.assertRaisesRegex(Refusal, "goRoot has to be a text"):
+            with self.assertRaisesRegex(Refusal, "goRoot must be a string"):
                 editor("launch", program=str(HIJACKED), goRoot=7)
 
     def test_the_console_writes_never_over_the_recording(self):
@@ -158,7 +158,7 @@ class Looks(unittest.TestCase):
 
 
 class Shared(unittest.TestCase):
-    """A session that somebody else moves too."""
+    """A session that another program moves too."""
 
     def test_it_is_joined_and_others_are_seen(self):
         with serving(fronts=2) as server, Adapter() as editor:
@@ -173,7 +173,7 @@ class Shared(unittest.TestCase):
             self.assertEqual(other.ask("info position"), "at 7 of 10 forward")
             self.assertEqual(other.ask("stepi 2"), "at 9")
             editor("threads")
-            self.assertEqual(editor.stopped()["description"], "somebody has moved: at 9")
+            self.assertEqual(editor.stopped()["description"], "someone else has moved: at 9")
             self.assertEqual(editor.line(), 11)
             editor.move("reverseContinue", threadId=1)
             self.assertEqual(other.ask("info position"), "at 0 of 10 forward")
@@ -186,9 +186,9 @@ class Shared(unittest.TestCase):
             address = f"127.0.0.1:{server.port}"
             cases: tuple[tuple[dict[str, str], str], ...] = (
                 ({"program": str(FIRST), "address": "nowhere"}, "HOST:PORT"),
-                ({"program": str(FIRST)}, "address has to be a text"),
+                ({"program": str(FIRST)}, "address must be a string"),
                 ({"program": str(FIRST), "address": "127.0.0.1:1"}, "127.0.0.1:1: Connection refused"),
-                ({"program": LOST, "address": address}, "the recording has 22 steps, and that of the session 10"),
+                ({"program": LOST, "address": address}, "the recording has 22 steps, but the session's has 10"),
             )
             for arguments, why in cases:
                 with self.assertRaisesRegex(Refusal, why):
@@ -197,7 +197,7 @@ class Shared(unittest.TestCase):
 
 @pytest.mark.alone
 class Stopped(unittest.TestCase):
-    """A move of a million steps, and what is said in the midst of it."""
+    """A move of a million steps, and the requests during it."""
 
     folder: "tempfile.TemporaryDirectory[str]"
     recording: Path

@@ -1,4 +1,4 @@
-"""`nrdb --dap-port`: editors at a port, one after the other, and all others who knock there."""
+"""`nrdb --dap-port`: editors at a port, one after the other, and all other connections."""
 
 import json
 import os
@@ -36,7 +36,7 @@ def asked(number: int, command: str, **arguments: Any) -> dict[str, Any]:
 
 
 class Port(unittest.TestCase):
-    """A port that is served, and whoever connects to it."""
+    """A served port, and its connections."""
 
     environment: dict[str, str] = {}
 
@@ -61,7 +61,7 @@ class Port(unittest.TestCase):
         return Client(connection.makefile("rb"), connection.makefile("wb"))
 
     def said_to(self, data: bytes) -> bytes:
-        """All that is said to somebody who sends this, and then nothing more."""
+        """Everything that is sent to a connection that sends this, and then nothing more."""
         with self.connect() as connection:
             connection.sendall(data)
             connection.shutdown(socket.SHUT_WR)
@@ -103,7 +103,7 @@ class Editors(Port):
 
 
 class Strangers(Port):
-    """Whoever comes without the token."""
+    """Connections without the token."""
 
     def test_a_page_of_a_browser_has_nothing_run(self):
         with tempfile.TemporaryDirectory() as folder:
@@ -132,13 +132,13 @@ class Strangers(Port):
             told = self.said_to(framed(asked(1, "threads"), launch, asked(3, "initialize")))
             self.assertEqual(told.count(b'"success": false'), 2, told)
             self.assertNotIn(b'"success": true', told)
-        with self.connect() as connection, self.assertRaisesRegex(Refusal, "has the token that nrdb printed"):
+        with self.connect() as connection, self.assertRaisesRegex(Refusal, "needs the token that nrdb printed"):
             self.editor(connection).begin(LOST)
         self.goes_on()
 
 
 class OfOnesOwn(Port):
-    """A token that the environment names."""
+    """A token from the environment."""
 
     environment = {"NRDB_TOKEN": "sixteen letters!"}
 
@@ -150,7 +150,7 @@ class OfOnesOwn(Port):
         environment = os.environ | {"NRDB_TOKEN": "fifteen letters"}
         ended = subprocess.run([NRDB, "--dap-port", "0"], env=environment, capture_output=True, text=True, check=False)
         self.assertEqual((ended.returncode, ended.stdout), (2, ""))
-        self.assertIn("at least 16 printable characters", ended.stderr)
+        self.assertIn("at least 16 printable ASCII characters", ended.stderr)
 
 
 @pytest.fixture
@@ -161,7 +161,7 @@ def handshakes() -> Iterator[tuple[Handshakes, tuple[str, int]]]:
 
 
 def is_ended(connection: socket.socket) -> bool:
-    """Whether the other side ends a connection, which is waited for; what it says before is read."""
+    """Whether the other side ends a connection within the time; text before that is read."""
     connection.settimeout(PATIENCE)
     try:
         while connection.recv(65_536):
@@ -193,7 +193,7 @@ def test_one_with_the_token_is_not_ended(handshakes: tuple[Handshakes, tuple[str
 
 
 def test_silent_strangers_hold_up_no_editor(handshakes: tuple[Handshakes, tuple[str, int]]) -> None:
-    """Their time is never over, and there are more than may be at once: the oldest is ended for the editor."""
+    """(nobody reads it)"""
     opened, address = handshakes
     with patch.object(handshaking, "IN_TIME", 600), ExitStack() as connected:
         strangers = [connected.enter_context(socket.create_connection(address)) for _ in range(handshaking.MOST + 6)]

@@ -1,4 +1,4 @@
-"""examples/editors: what an editor and the adapter say to one another, message by message."""
+"""examples/editors: the messages between an editor and the adapter, one by one."""
 
 import json
 import unittest
@@ -13,13 +13,13 @@ ASKS, SAYS = "> ", "< "
 
 
 def conversation() -> list[tuple[str, dict[str, Any]]]:
-    """The messages, each with who says it."""
+    """The messages, each with its sender."""
     lines = CONVERSATION.read_text(encoding="utf-8").splitlines()
     return [(line[:2], json.loads(line[2:])) for line in lines]
 
 
 def as_told(message: dict[str, Any]) -> Any:
-    """A message as it is kept: without numbers of messages, and with the recording's name for its path."""
+    """A message as it is kept: without message numbers, and with the recording's name instead of its path."""
     kept = {name: value for name, value in message.items() if name not in ("seq", "request_seq", "type")}
     return json.loads(json.dumps(kept).replace(json.dumps(str(EXAMPLES / RECORDING)), json.dumps(RECORDING)))
 

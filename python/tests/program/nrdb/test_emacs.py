@@ -1,5 +1,5 @@
-"""A hunt in Emacs with dap-mode, both as Debian has them, and a breakpoint at a line of Go. Where they aren't here they are skipped, by
-name."""
+"""A hunt in Emacs with dap-mode, both as Debian has them, and a breakpoint at a line of Go. If they aren't installed,
+the tests are skipped, by name."""
 
 import json
 import os
@@ -84,7 +84,7 @@ GO_LINE = """
 @unittest.skipUnless(any(path.name.startswith("dap-mode") for path in FOLDERS), "dap-mode isn't here (elpa-dap-mode)")
 class Emacs(unittest.TestCase):
     def told(self, script: str, home: Path, recording: Path, **more: str) -> list[str]:
-        """What Emacs prints while it plays a script."""
+        """Emacs's output while it runs a script."""
         folders = " ".join(json.dumps(str(path)) for path in FOLDERS if path.is_dir())
         named = {
             "breakpoints": str(home / "breakpoints"),

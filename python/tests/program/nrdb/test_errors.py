@@ -1,5 +1,5 @@
-"""Whatever is typed or sent, nrdb and its adapter answer it and go on: numbers of any length, files' names with `;`, files that are too
-large, and errors that nothing expects."""
+"""nrdb and its adapter answer whatever is typed or sent, and go on: numbers of any length, file names with `;`, files
+that are too large, and unexpected errors."""
 
 import io
 import os
@@ -151,7 +151,7 @@ def test_a_recording_larger_than_memory_is_one_line(tmp_path: Path) -> None:
     large = tmp_path / "large.jsonl"
     with large.open("wb") as file:
         file.truncate(os.sysconf("SC_PHYS_PAGES") * os.sysconf("SC_PAGE_SIZE") + 1)
-    expected = f"{large} is too large: nrdb holds a recording in memory, and there isn't enough"
+    expected = f"{large} is too large: nrdb keeps a recording in memory, and there isn't enough"
     assert nrdb(large, status=3) == f"| {expected}\n"
 
 
@@ -166,6 +166,6 @@ def test_a_recording_larger_than_what_is_allowed_is_one_line(tmp_path: Path) -> 
         capture_output=True, timeout=60, check=False, preexec_fn=lambda: resource.setrlimit(resource.RLIMIT_AS, (2**30, 2**30)),
     )  # fmt: skip
     assert (run.stdout, run.stderr) == (
-        f"{large} is too large: nrdb holds a recording in memory, and there isn't enough\n",
+        f"{large} is too large: nrdb keeps a recording in memory, and there isn't enough\n",
         "",
     )

@@ -99,20 +99,18 @@ class Exploring(unittest.TestCase):
             path.write_text("\n".join(['{"netrev":1,"gor":2,"sock":1,"desc":1,"buf":16}', *steps, ""]))
             said = nrdb("--batch", "-ex", "explore 5", "-ex", "where", path)
         self.assertIn(
-            "| explore plays calls of Go's, and this run isn't made of such: ('pollclose', 0, 0): reason 9", said
+            "| explore replays calls of Go, and this recording isn't made of them: ('pollclose', 0, 0): reason 9", said
         )
         self.assertIn("(netrev) where", said)
 
     def test_other_words_and_the_recording_itself_are_refused(self) -> None:
         wrong = ("explore many", "explore 0", "explore 3 4", "explore failures all")
         said = nrdb("--batch", *(word for line in wrong for word in ("-ex", line)), GOOD)
-        self.assertEqual(
-            said.count("| explore [failures] [N]: N is how many schedules are played, from 1 to 1000000"), 4
-        )
+        self.assertEqual(said.count("| explore [failures] [N]: N is the number of schedules, from 1 to 1000000"), 4)
         shutil.copy(GOOD, "x-other-1.jsonl")
         os.symlink("x-other-1.jsonl", "x.jsonl")
         said = nrdb("--explore", "x.jsonl", status=3)
-        self.assertIn("x-other-1.jsonl is the recording itself, or its lines: name another file, or rename it", said)
+        self.assertIn("x-other-1.jsonl is the recording itself, or its NAME.where: choose another name", said)
         self.assertEqual(Path("x.jsonl").read_bytes(), GOOD.read_bytes())
 
 

@@ -1,5 +1,5 @@
-"""Each message of the adapter, decoded by Debian's go-dap, which others wrote by the protocol's specification. Where Go or go-dap isn't here
-the tests are skipped, by name."""
+"""Each message of the adapter, decoded by Debian's go-dap, whose authors wrote it from the protocol's specification.
+Without Go or go-dap the tests are skipped, by name."""
 
 import json
 import os
@@ -42,7 +42,7 @@ def decoder() -> Path:
 
 
 def decoded(messages: list[Body]) -> list[str]:
-    """What go-dap says of messages."""
+    """go-dap's output for messages."""
     lines = "".join(f"{json.dumps(one)}\n" for one in messages)
     ended = subprocess.run([decoder()], input=lines, capture_output=True, text=True, check=True, timeout=60)
     return ended.stdout.splitlines()
@@ -52,7 +52,7 @@ def decoded(messages: list[Body]) -> list[str]:
 @unittest.skipUnless(GO_DAP.is_dir(), "go-dap isn't here (Debian: apt-get install golang-github-google-go-dap-dev)")
 class Decoded(unittest.TestCase):
     def kept(self) -> list[Body]:
-        """The messages of a session that asks for all that the adapter has."""
+        """The messages of a session that asks for everything that the adapter has."""
         came: list[Body] = []
         receive = Client.message
 

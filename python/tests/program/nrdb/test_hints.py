@@ -1,5 +1,5 @@
-"""Recordings that are refused and lines that are faults: each with what nrdb says of it, which is kept as data, and
-names what to mend."""
+"""Refused recordings and faulty lines: each with nrdb's text about it, which is kept as data and names what to
+correct."""
 
 import json
 import tempfile
@@ -15,7 +15,7 @@ HERE = Path(__file__).parent
 
 
 def kept(name):
-    """What a file of these tests keeps."""
+    """The contents of a data file of these tests."""
     return json.loads((HERE / name).read_text(encoding="utf-8"))
 
 
@@ -42,7 +42,7 @@ class BadRecordings(unittest.TestCase):
     def test_without_netrev(self):
         said = nrdb("--batch", "--netrev", f"{NETREV}.none", EXAMPLES / "first.jsonl", status=3)
         self.assertRegex(
-            said, r"netrev.s program is needed: `make .*netrev` builds it; NETREV or --netrev names another one"
+            said, r"nrdb needs netrev.s program: `make .*netrev` builds it; NETREV or --netrev names another one"
         )
         self.assertRegex(said, r"; `make .*look FILE=\S+/first.jsonl` opens the recording without proofs\n")
 
@@ -65,7 +65,7 @@ class Answers(unittest.TestCase):
 
 
 def answered_steps():
-    """Of each version 2 recording of examples/ the first and the last step of each kind with each of its answers."""
+    """For each version 2 recording of examples/ the first and the last step of each kind with each of its answers."""
     for recording in map(Recording.read, recordings()):
         if recording.has_answers:
             chosen: dict[tuple[str, str], list[Step]] = {}
@@ -98,7 +98,7 @@ class BadLines(unittest.TestCase):
 
 
 def answered(text):
-    """The lines that were echoed, each with what was said of it."""
+    """The echoed lines, each with the text about it."""
     found: list[tuple[str, list[str]]] = []
     for line in text.splitlines():
         if line.startswith("(netrev) "):

@@ -13,7 +13,7 @@ from tests.examples import KNOWN, REFUSED
 from .support import EXAMPLES, HUNTS, nrdb, nrdb_process
 
 MOST = 5
-LONG = {"keeper": 50_000, "refused": 500_000}  # steps, or a few more, until all that can end has done so
+LONG = {"keeper": 50_000, "refused": 500_000}  # steps, or a few more, until everything that can end has done so
 
 
 class Hunts(unittest.TestCase):

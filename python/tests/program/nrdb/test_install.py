@@ -1,5 +1,5 @@
-"""What `make install` and `pip install` leave: the files of the packages as they are here, nrdb and netrev-go that find netrev,
-and the man page."""
+"""The results of `make install` and `pip install`: the files of the packages, nrdb and netrev-go that find netrev, and
+the man page."""
 
 import os
 import re
@@ -21,7 +21,7 @@ INSTALLED = tuple(re.findall(r'"(\w+)\*"', "".join(INCLUDED)))  # the one list o
 
 
 def printed(*words: object, **settings: str) -> str:
-    """What a program prints that ends with status 0, called elsewhere."""
+    """The output of a program that ends with status 0, called elsewhere."""
     run = subprocess.run(
         [str(word) for word in words],
         env=ENVIRONMENT | settings,
@@ -35,7 +35,7 @@ def printed(*words: object, **settings: str) -> str:
 
 
 def builder() -> Optional[str]:
-    """A Python that can build packages without asking anybody for anything."""
+    """A Python that can build packages without a network."""
     for python in (sys.executable, "/usr/bin/python3"):
         can = [python, "-c", "import setuptools, wheel, pip"]
         if shutil.which(python) and subprocess.run(can, capture_output=True, check=False).returncode == 0:
@@ -78,7 +78,7 @@ class Install(unittest.TestCase):
             self.assertEqual({file.parent.name for file in lib.glob("*/__init__.py")}, set(INSTALLED))
             self.assertEqual(contents(lib), contents(ROOT / "python"))
             self.assertEqual(printed(prefix / "bin/nrdb", *ASKED), nrdb(*ASKED))
-            self.assertIn("netrev-go records Go programs as they are", printed(prefix / "bin/netrev-go", "--help"))
+            self.assertIn("netrev-go records Go programs.", printed(prefix / "bin/netrev-go", "--help"))
             found = "import sys; from netrev_words import built; print(built.netrev_program())"
             self.assertEqual(
                 printed("python3", "-c", found, PYTHONPATH=str(prefix / "lib/netrev"), PATH=os.defpath).strip(),
@@ -94,7 +94,7 @@ class Install(unittest.TestCase):
         of = {path.relative_to(lib).parents[1] / f"{path.name.partition('.')[0]}.py" for path in compiled}
         self.assertEqual(of, modules)
         flags = {int.from_bytes(path.read_bytes()[4:8], "little") for path in compiled}
-        self.assertEqual(flags, {0b11})  # (PEP 552: by a sum of the source, which is looked at)
+        self.assertEqual(flags, {0b11})  # (PEP 552: by a checksum of the source, which is read)
         times = {path: path.stat().st_mtime_ns for path in compiled}
         self.assertEqual(printed(self.folder / "bin/nrdb", *ASKED), nrdb(*ASKED))
         self.assertEqual({path: path.stat().st_mtime_ns for path in lib.rglob("*.pyc")}, times)
@@ -123,6 +123,6 @@ class Install(unittest.TestCase):
         self.assertEqual(contents(there), contents(ROOT / "python"))
         self.assertEqual(printed(there / "bin/nrdb", *ASKED, NETREV=NETREV, PYTHONPATH=str(there)), nrdb(*ASKED))
         self.assertIn(
-            "netrev-go records Go programs as they are",
+            "netrev-go records Go programs.",
             printed(there / "bin/netrev-go", "--help", PYTHONPATH=str(there)),
         )

@@ -1,4 +1,4 @@
-"""nrdb in a session that `netrev serve` shares with somebody else."""
+"""nrdb in a session that `netrev serve` shares with another caller."""
 
 import json
 import subprocess
@@ -7,7 +7,7 @@ import threading
 import unittest
 from typing import Any
 
-from nrdb.cli import SILENT
+from nrdb.messages.session import NO_REPLY_YET
 from tests.program.sharing import Server
 
 from .support import EXAMPLES, NRDB, PATIENCE, nrdb
@@ -17,7 +17,7 @@ DONE = "cell clock: the time, in nanoseconds"
 
 
 class Joined:
-    """nrdb at a front, which is asked line by line, and tells by lines of JSON."""
+    """nrdb at a front, which gets line by line, and prints lines of JSON."""
 
     def __init__(self, port, *words):
         called = [NRDB, "--json", "--join", f"127.0.0.1:{port}", *map(str, words)]
@@ -35,7 +35,7 @@ class Joined:
             self.process.communicate()
 
     def ask(self, *lines):
-        """The events that these lines bring, and that were there before."""
+        """The events that these lines cause, and earlier ones."""
         self.lines.write("".join(f"{line}\n" for line in (*lines, "help clock")))
         self.lines.flush()
         told: list[dict[str, Any]] = []
@@ -46,13 +46,13 @@ class Joined:
             told.append(event)
 
     def ends(self):
-        """What is told when the input ends, and the exit status."""
+        """The output when the input ends, and the exit status."""
         rest, _ = self.process.communicate(timeout=PATIENCE)
         return [json.loads(line) for line in rest.splitlines()], self.process.returncode
 
 
 class Other:
-    """Somebody else, at a front of their own."""
+    """Another caller, at a front of its own."""
 
     def __init__(self, caller):
         self.caller, self.lines = caller, caller.makefile("rw")
@@ -75,7 +75,7 @@ def replies(told):
 
 
 def serving(fronts=1, left=1):
-    """A server of so many fronts that are there, and have so many connections left each."""
+    """A server with this many fronts, each with this many connections left."""
     server = Server(FIRST, fronts=fronts, connections=1 + left)
     for front in range(fronts):
         server.call(front).close()
@@ -92,7 +92,7 @@ class Join(unittest.TestCase):
                 self.assertEqual(other.ask("watch lock 0"), "mark 1")
                 self.assertEqual(other.ask("stepi 3"), "at 9")
                 told = person.ask("print lock 0")
-                self.assertEqual(told[0], {"event": "note", "text": "somebody has moved: from 6 to 9"})
+                self.assertEqual(told[0], {"event": "note", "text": "someone else has moved: from 6 to 9"})
                 self.assertEqual(told[1]["position"], 9)
                 self.assertEqual(replies(told), ["lock 0 = 9"])
                 self.assertEqual([event["event"] for event in person.ask("print lock 0")], ["reply"])
@@ -120,7 +120,7 @@ class Join(unittest.TestCase):
         with serving() as server:
             other = EXAMPLES / "lost-wakeup.jsonl"
             said = nrdb("--batch", "--join", f"127.0.0.1:{server.port}", other, status=3)
-            self.assertEqual(said, "| the recording has 22 steps, and that of the session 10\n")
+            self.assertEqual(said, "| the recording has 22 steps, but the session's has 10\n")
 
     def test_a_file_that_is_no_recording(self):
         """It has as many lines as the session's, and netrev tells its fault."""
@@ -140,7 +140,7 @@ class Join(unittest.TestCase):
                 assert waiting.stdout
                 too_long = threading.Timer(PATIENCE, waiting.kill)
                 too_long.start()
-                self.assertEqual(waiting.stdout.readline(), f"| {SILENT}\n")
+                self.assertEqual(waiting.stdout.readline(), f"| {NO_REPLY_YET}\n")
                 too_long.cancel()
                 other.leaves()
                 said, _ = waiting.communicate(timeout=PATIENCE)

@@ -1,5 +1,5 @@
-"""Whatever a terminal obeys, in each place of a recording that netrev refuses, of its header, and of the lines of source beside
-a recording: nrdb and the timeline's page write it out."""
+"""Terminal controls in each place of a recording that netrev refuses, of its header, and of the source lines beside a
+recording: nrdb and the timeline's page write them out."""
 
 import json
 import unittest
@@ -33,7 +33,7 @@ def spellings(text: str) -> Iterator[str]:
 
 
 def refused_with(text: str) -> Iterator[bytes]:
-    """Recordings that are refused, with this text in each place of the header and of a step."""
+    """Refused recordings, with this text in each place of the header and of a step."""
     for spelled in spellings(text):
         for header in (
             f'{{"netrev":1,"{spelled}":4,"sock":2,"desc":2,"buf":16}}',

@@ -1,6 +1,6 @@
-"""The pages for those who use keys, or see little: each control has a name and shows that it has the keyboard, and each text stands out from
-what is behind it, light and dark. What is checked is what the browser makes of the styles; nothing is fetched. Left out where there is no
-chromium (Debian: apt-get install chromium)."""
+"""The pages for people who use keys, or see little: each control has a name and shows its focus, and each text stands out from its
+background, light and dark. The tests check what the browser makes of the styles; nothing is fetched. Left out without chromium
+(Debian: apt-get install chromium)."""
 
 import tempfile
 from pathlib import Path
@@ -48,14 +48,14 @@ NAMELESS = """
   .map((one) => one.outerHTML.slice(0, 120))
 """
 
-# What has the keyboard: what it is, and its outline.
+# The focused element: what it is, and its outline.
 FOCUSED = """
 (() => { const one = document.activeElement, style = getComputedStyle(one), box = one.getBoundingClientRect();
   return one === document.body ? null : { is: one.id || one.textContent.slice(0, 30), style: style.outlineStyle, wide: parseFloat(style.outlineWidth),
     colour: style.outlineColor, seen: box.width > 0 && box.height > 0 }; })()
 """
 
-# The colours of the canvas that texts have, each with what they stand on.
+# The colours of texts on the canvas, each with its background.
 INKS = """
 (() => {
   const { ink, shadeOf } = inside, pairs = [];

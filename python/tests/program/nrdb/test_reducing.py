@@ -1,4 +1,4 @@
-"""`reduce` and `report`: what is left is accepted by netrev, shows the same suspect or the same value, and doesn't grow where it is
+"""`reduce` and `report`: netrev accepts the result, which shows the same suspect or value, and doesn't grow when
 reduced again; NAME.where goes with it."""
 
 import re
@@ -16,7 +16,7 @@ from .support import EXAMPLES, HUNTS, ROOT, netrev, nrdb
 from .test_suspects import checked
 from tests.folders import folder_of
 
-# of these the least that was reached, and some more
+# the least that was reached of these, and a little more
 MOST = {
     "hunts/blocked-control": 20,
     "hunts/extended-deadline": 24,
@@ -54,7 +54,7 @@ class Reducing(unittest.TestCase):
         self.folder = folder_of(self)
 
     def reduced(self, path: Path, *words: str) -> Recording:
-        """What is left of a recording, which netrev accepts, and which isn't longer than it says."""
+        """The reduction of a recording, which netrev accepts, and which isn't longer than it says."""
         out = self.folder / f"{path.stem}-less.jsonl"
         said = nrdb("--batch", "-ex", " ".join(("reduce", str(out), *words)), path)
         left = Recording.read(str(out))
@@ -156,7 +156,7 @@ class Reducing(unittest.TestCase):
     def test_what_cannot_be_reduced_is_said(self) -> None:
         path = EXAMPLES / "first.jsonl"
         said = nrdb("--batch", "-ex", f"reduce {self.folder}/x.jsonl", "-ex", f"reduce {path}", path)
-        self.assertIn("| no suspect is here", said)
+        self.assertIn("| there are no suspects", said)
         self.assertIn("is the recording itself", said)
         said = nrdb("--reduce", self.folder / "none/x.jsonl", EXAMPLES / "lost-wakeup.jsonl", status=3)
         self.assertIn("none/x.jsonl: No such file or directory", said)

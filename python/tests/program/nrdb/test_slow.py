@@ -1,5 +1,4 @@
-"""Ctrl-C, once and twice, while a netrev that is slow is waited for, and one that is killed meanwhile: at every point of a
-conversation with the built program, that of the session and that of the scout."""
+"""Ctrl-C, once and twice, during a wait for a slow netrev, also one that is killed meanwhile: at every point of a conversation with the built program, the session's and the scout's."""
 
 import unittest
 
@@ -12,7 +11,7 @@ COMMANDS = ("history lock 0 all", "until gor 0 *", "reverse-continue", "goto 3")
 
 
 def slow_and_interrupted(_weather: Weather[Slow], netrev: Slow) -> None:
-    """Ctrl-C comes while netrev takes its time."""
+    """Ctrl-C comes while netrev is slow."""
     netrev.while_stopped(pressed)
 
 
@@ -22,7 +21,7 @@ def slow_and_given_up(_weather: Weather[Slow], netrev: Slow) -> None:
 
 
 def slow_and_killed(_weather: Weather[Slow], netrev: Slow) -> None:
-    """netrev takes its time, and then it is gone."""
+    """netrev is slow, and then it is gone."""
     netrev.while_stopped(netrev.kill)
 
 

@@ -21,7 +21,7 @@ UP = "\x1b[A"
 
 
 class Typist:
-    """Types at nrdb, and reads what is on its screen."""
+    """Types at nrdb, and reads its screen."""
 
     def __init__(self, recording, home, program=NETREV, **variables):
         words = [NRDB, "--netrev", str(program), str(recording)]
@@ -29,7 +29,7 @@ class Typist:
         environment.pop("NETREV_HISTORY", None)
         self.process, self.terminal = pty.fork()
         if self.process == 0:
-            signal.signal(signal.SIGINT, signal.SIG_DFL)  # a shell's background has it ignored
+            signal.signal(signal.SIGINT, signal.SIG_DFL)  # (a shell's background job has it ignored)
             os.execve(NRDB, words, environment)
         self.screen = ""
 
@@ -48,7 +48,7 @@ class Typist:
         os.write(self.terminal, text.encode())
 
     def interrupt(self, text):
-        """Presses Ctrl-C until this text comes: one between two keys, Python may tell at the next key only."""
+        """Presses Ctrl-C until this text comes: Python may notice one between two keys only at the next key."""
         for _ in range(PATIENCE):
             self.type(INTERRUPT)
             if self.reads_until([text], 1):
@@ -70,7 +70,7 @@ class Typist:
         return True
 
     def until(self, *texts):
-        """Reads until one of these texts is on the screen, and gives what came up to its end."""
+        """Reads until one of these texts is on the screen, and returns the text up to its end."""
         if not self.reads_until(texts, PATIENCE):
             raise AssertionError(f"wanted {texts}, and the screen shows {self.screen!r}")
         end = min(self.screen.index(text) + len(text) for text in texts if text in self.screen)
@@ -78,7 +78,7 @@ class Typist:
         return seen
 
     def ask(self, line):
-        """What is said of a line: all up to the next prompt."""
+        """The answer to a line: everything up to the next prompt."""
         self.type(f"{line}\r")
         self.until("\n")
         return self.until(PROMPT)[: -len(PROMPT)]
@@ -91,7 +91,7 @@ class Typist:
 
 
 def pairs_of_locks(path, steps):
-    """Writes a recording of a lock that is taken and given up again and again."""
+    """Writes a recording of a lock that is taken and given up repeatedly."""
     lines = ['{"netrev":1,"gor":1,"sock":1,"desc":1,"buf":1}', '["sockopen",1,1]']
     lines += ['["rwlock",0,0,"r"]', '["rwunlock",0,0,"r"]'] * (steps // 2)
     path.write_text("\n".join(lines) + "\n")
@@ -207,7 +207,7 @@ class Terminal(unittest.TestCase):
         silent.write_text("#!/bin/sh\nread line\necho at 0 of 10 forward\nexec sleep 1000\n")
         silent.chmod(0o755)
         with Typist(EXAMPLES / "first.jsonl", self.home, silent) as person:
-            given_up = "| netrev didn't answer: the session is given up\n"
+            given_up = "| netrev doesn't answer: nrdb ends the session\n"
             for _ in range(PATIENCE):  # one that comes before the line is sent drops it
                 person.type("stepi\r")
                 for _ in range(2):
@@ -219,7 +219,7 @@ class Terminal(unittest.TestCase):
             self.assertEqual(person.ends(), 3)
 
     def slow(self):
-        """A netrev that takes its time to begin, and the file that it leaves when it has been started."""
+        """A netrev that is slow to begin, and the file that it leaves when it has been started."""
         program, begun = Path(self.home) / "slow", Path(self.home) / "begun"
         program.write_text(
             f'#!/bin/sh\n[ "$1" = run ] && [ ! -e {begun} ] && touch {begun} && sleep 3\nexec {NETREV} "$@"\n'
@@ -228,7 +228,7 @@ class Terminal(unittest.TestCase):
         return program, begun
 
     def loading(self):
-        """Somebody at a recording that is still read."""
+        """A user at a recording that is still being read."""
         program, begun = self.slow()
         begun.unlink(missing_ok=True)
         person = Typist(EXAMPLES / "first.jsonl", self.home, program)
@@ -237,7 +237,7 @@ class Terminal(unittest.TestCase):
             time.sleep(0.05)
         time.sleep(0.5)
         person.type(INTERRUPT)
-        person.until("| netrev reads the recording still; Ctrl-C once more ends nrdb\n")
+        person.until("| netrev is still reading the recording; press Ctrl-C again to end nrdb\n")
         return person
 
     def test_one_ctrl_c_while_a_recording_is_read_ends_nothing(self):
@@ -248,7 +248,7 @@ class Terminal(unittest.TestCase):
     def test_a_second_one_ends_it(self):
         person = self.loading()
         person.type(INTERRUPT)
-        person.until("| netrev didn't answer: the session is given up\n")
+        person.until("| netrev doesn't answer: nrdb ends the session\n")
         self.assertEqual(person.ends(), 3)
         person.__exit__()
 
@@ -281,7 +281,7 @@ class Terminal(unittest.TestCase):
             person.ask("watch lock 0")
             person.ask("continue")
             stopped = False
-            while not stopped:  # one that comes before the walk has begun just drops the line
+            while not stopped:  # one that comes before the walk has begun only drops the line
                 person.type("until lock 0 nonsense\r")
                 person.until("nonsense\n")
                 time.sleep(0.2)

@@ -13,7 +13,7 @@ from nrdb.recorded_changes import RecordedChanges
 from .support import EXAMPLES, HUNTS, nrdb, recordings, shown
 
 SEED = 20261125
-SVG = 'xmlns="http://www.w3.org/2000/svg"'  # a name, which nobody fetches, of what the page saves
+SVG = 'xmlns="http://www.w3.org/2000/svg"'  # a name, never fetched, of what the page saves
 
 
 def page_of(path, *words):
@@ -162,7 +162,7 @@ class Timeline(unittest.TestCase):
         with tempfile.TemporaryDirectory() as folder, patch.object(RecordedChanges, "between", wrong):
             file = Path(folder) / "page.html"
             said = nrdb("--batch", "-ex", f"timeline {file}", EXAMPLES / "leaked-reference.jsonl")
-            self.assertRegex(said, r"netrev shows lock 0 = \d+ at \d+, and nrdb reckons with gone: an error of nrdb's")
+            self.assertRegex(said, r"netrev shows lock 0 = \d+ at \d+, but nrdb computed gone: this is a bug in nrdb")
             self.assertFalse(file.exists())
 
 

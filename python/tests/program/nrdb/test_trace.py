@@ -42,7 +42,7 @@ class Trace(unittest.TestCase):
         path = EXAMPLES / "lost-wakeup.jsonl"
         with patch.object(ArrivingChanges, "pieces", lambda changes: [b"1 gor 0 = parking 0 r\n"]):
             said = nrdb("--trace", self.path, path, status=3)
-        self.assertIn("| netrev answers gor 0 = idle at 1, and said parking 0 r", said)
+        self.assertIn("| netrev answers gor 0 = idle at 1, but its changes give parking 0 r: this is a bug", said)
         self.assertFalse(self.path.exists())
 
     def test_a_file_that_cannot_be_written(self) -> None:

@@ -62,7 +62,7 @@ class Views(unittest.TestCase):
         self.random = random.Random(SEED)
 
     def places(self, path):
-        """Positions of a recording, its ends among them."""
+        """Positions of a recording, including its ends."""
         length = shown(path).length
         return sorted({0, length, *(self.random.randint(0, length) for _ in range(AT))})
 
@@ -79,7 +79,7 @@ class Views(unittest.TestCase):
                     self.compare(world, at, *(table["rows"] for table in tables[4 * number : 4 * number + 4]))
 
     def compare(self, world, at, goroutines, sockets, descriptors, timers):
-        """Holds the tables against the cells at the position."""
+        """Compares the tables with the cells at the position."""
         values = world.at(at)
         told = {row["goroutine"]: row["status"] for row in goroutines}
         self.assertEqual(told, {number: values[f"gor {number}"] for number in world.made("gor", at)})
@@ -161,7 +161,7 @@ class Views(unittest.TestCase):
                     self.compare_holders(world, at, socket, table)
 
     def compare_holders(self, world, at, socket, table):
-        """Holds the holders against the lock word, and each against the step that it names."""
+        """Compares the holders with the lock word, and each with the step that it names."""
         value = world.at(at)[f"lock {socket}"]
         _, read, write, references, *_ = lock_fields(value)
         self.assertIn(f"lock {socket} = {value}: ", table["rest"])

@@ -1,5 +1,5 @@
-"""`nrdb --web`: people who listen to a session's events and type lines, a terminal at another front of it, and a netrev that is
-killed. tests.test_web has the requests that aren't the page's."""
+"""`nrdb --web`: people who listen to a session's events and type lines, a terminal at another front of it, and a netrev
+that is killed. tests.test_web has the requests that aren't the page's."""
 
 import json
 import socket
@@ -17,11 +17,11 @@ from .web_support import Web
 
 FIRST = EXAMPLES / "first.jsonl"
 LOST = EXAMPLES / "lost-wakeup.jsonl"
-GONE = "netrev has ended: lines aren't answered until it is there again"
+GONE = "netrev has ended: lines aren't answered until it is back"
 
 
 def serving(fronts: int, port: "int | None" = None) -> Server:
-    """A session on the lost wake-up that is shared, as long as it is wanted."""
+    """A shared session on the lost wake-up, for as long as it is needed."""
     server = Server(LOST, fronts=fronts, connections=0, port=port)
     for front in range(fronts):
         server.call(front).close()
@@ -29,7 +29,7 @@ def serving(fronts: int, port: "int | None" = None) -> Server:
 
 
 def children(process: int) -> list[int]:
-    """The processes that this one has begun."""
+    """The child processes of this one."""
     found = []
     for task in Path(f"/proc/{process}/task").iterdir():
         with suppress(FileNotFoundError):  # (a thread may have ended meanwhile)
@@ -54,7 +54,7 @@ class Shared(unittest.TestCase):
                     self.assertEqual(listener.named("marks")["marks"], [{"mark": 1, "what": "watch rg 0"}])
                 self.assertEqual(other.said("reverse-continue")[0], "at 16 by 1")
                 told_at_the_terminal = person.ask("print rg 0")
-                self.assertEqual(told_at_the_terminal[0]["text"], "somebody has moved: from 18 to 16")
+                self.assertEqual(told_at_the_terminal[0]["text"], "someone else has moved: from 18 to 16")
                 self.assertEqual(replies(told_at_the_terminal), ["rg 0 = ready"])
                 self.assertIn("| 1. lost wake-up", one.said("info suspects")[0])
             self.assertEqual(web.ends(), (0, "", ""))
@@ -85,7 +85,7 @@ class Shared(unittest.TestCase):
 
 
 class Web_of_a_front:
-    """A session that is shared, and a page at its front."""
+    """A shared session, and a page at its front."""
 
     def __enter__(self) -> "tuple[Server, Web]":
         self._server = serving(1)
@@ -135,7 +135,7 @@ class Alone(unittest.TestCase):
             ):
                 self.assertIn(answer.status, (403, 404, 413))
             self.assertEqual(
-                one.said("source /etc/passwd"), ["| the page reads and writes no files: that is for nrdb's prompt"]
+                one.said("source /etc/passwd"), ["| the page can't read or write files: use nrdb's prompt"]
             )
             self.assertEqual(one.said("info position"), ["at 0 of 10 forward"])
 

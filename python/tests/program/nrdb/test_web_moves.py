@@ -30,7 +30,7 @@ def presses(page: Page, key: str) -> None:
 
 
 def writes(page: Page, text: str) -> None:
-    """Writes into the line, in place of what stands there."""
+    """Replaces the text of the line."""
     page.value(f"{LINE}.focus(); {LINE}.value = ''")
     page.does("Input.insertText", text=text)
 
@@ -97,7 +97,7 @@ class Working(InChromium):
             page.does("Page.reload")
             page.until(
                 r"/^browser (?!1>)\d+>$/.test(document.getElementById('you')?.innerText)"
-            )  # (the next, or the one behind it)
+            )  # (the next, or the one after it)
             page.value(f"{LINE}.focus()")
             presses(page, "ArrowUp")
             self.assertEqual(page.value(f"{LINE}.value"), "print clock")

@@ -24,7 +24,7 @@ def says(page: Page, text: str) -> None:
 
 
 def stands(page: Page, position: int, steps: int = 22) -> None:
-    """Waits until the page shows that the session stands there, in words and in the timeline."""
+    """Waits until the page shows this position, in words and in the timeline."""
     page.until(f"document.getElementById('stands').innerText.startsWith('at {position} of {steps}')")
     page.until(f"document.getElementById('panel').innerText.startsWith('goto {position}')"
                f"|| document.getElementById('panel').innerText.includes('position {position}\\n')")  # fmt: skip

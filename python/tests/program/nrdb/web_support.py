@@ -1,4 +1,4 @@
-"""`nrdb --web` in a process of its own, and whoever else is in its session."""
+"""`nrdb --web` in a process of its own, and the other participants of its session."""
 
 from __future__ import annotations
 
@@ -32,7 +32,7 @@ class Web:
         self.process.communicate()
 
     def ends(self) -> tuple[int, str, str]:
-        """Its exit status behind Ctrl-C, and what it said since it was there, on both streams."""
+        """Its exit status after Ctrl-C, and its output since it began, on both streams."""
         self.process.send_signal(signal.SIGINT)
         said, wrong = self.process.communicate(timeout=PATIENCE)
         return self.process.returncode, said, wrong

@@ -1,66 +1,50 @@
-use Rattle.std.proofs.Common.{◌≡◌, ℕ, suc, ◌+◌, ◌<◌, length, get_or, eqb, rules, tests, arith, refl, sym, ap, Result, Err, ◌∙◌, ◌∷◌, []}
-use Rattle.std.proofs.lemmas.List.{length-append}
+use Rattle.std.proofs.Common.{◌≡◌, ℕ, suc, ◌+◌, ◌==◌, [], true, List, length, Option, option_map, sym, ap, subst, arith, ◌∙◌}
 use Rattle.std.proofs.lemmas.List.Splits.{length-slice_split}
 use Rattle.std.proofs.lemmas.List.Sums.{count_by-le-length}
-use Rattle.std.proofs.lemmas.Iterator.Consumers.{YieldsList-turn, YieldsList-end}
-use Rattle.std.proofs.lemmas.Iterator.Splits.{YieldsList-from_slice_split}
-use Rattle.nr_recording.specs.Recording.{Recorded}
-use Rattle.nr_recording.specs.declared.fault.ReadFault.{ReadFault}
-use Rattle.nr_recording.specs.Reading.{lines}
-use Rattle.nr_recording.proofs.ReadLoopLemmas.{goes_on, stops, ends, wanted, never_wanted, itself}
+use Rattle.std.specs.Borrow.{Bor}
+use Rattle.std.proofs.lemmas.Bool.{or_right}
+use Rattle.std.specs.List.{list_any}
+use Rattle.nr_recording.specs.Reading.{lines, nothing, with_lines}
+use Rattle.nr_recording.specs.Auxiliary.Reading.{line_takes_memory, lines_behind}
+use Rattle.nr_recording.proofs.ReadLoopLemmas.{ends, goes_on, itself, stops}
 use Rattle.nr_recording.proofs.reading.read_lines.Goals as goal
-
-abbrev failed : ReadFault → Result Recorded ReadFault
-failed e = Err e
-
-err_is : (d e : ReadFault) → failed d ≡ failed e → d ≡ e
-err_is d e same = cc
-
-pub loop-line-init : goal.loop-line-init
-loop-line-init c = record { counted = refl; so_far = rw c.new-reader.ensures refl }
 
 pub overflow_add-number : goal.overflow_add-number
 overflow_add-number c =
-    let source = YieldsList-from_slice_split _ (λ (b : ℕ). eqb b 10) c.args.bytes.now (cc) (cc) (cc) (λ x r q k. search (rules, tests)) in
-    let turn = YieldsList-turn source c.loop-line.yielded _ c.loop-line.yielded_by _ _ c.in-Some.line c.in-Some.is c.next.ensures.steps in
-    let short = count_by-le-length (λ (b : ℕ). eqb b 10) c.args.bytes.now in
-    let all = length-slice_split (λ (b : ℕ). eqb b 10) c.args.bytes.now in
+    let few = count_by-le-length (λ (b : ℕ). b == 10) c.args.bytes.now in
+    let all = length-slice_split (λ (b : ℕ). b == 10) c.args.bytes.now in
+    let counted = c.loop-left.invariant.counted in
     let known = c.well_formed in
+    let some = ap length c.first_line.ensures in
+    let left : length (lines_behind (option_map (λ (text : Bor (List ℕ)). text.now) c.loop-left.left)) ≡ length (lines c.in-Some.text.now) = ap (λ (l : Option (Bor (List ℕ))). length (lines_behind (option_map (λ text. text.now) l))) c.in-Some.is in
     omega arith
 
-pub loop-line-preserved : goal.loop-line-preserved
-loop-line-preserved c =
-    let source = YieldsList-from_slice_split _ (λ (b : ℕ). eqb b 10) c.args.bytes.now (cc) (cc) (cc) (λ x r q k. search (rules, tests)) in
-    let turn = YieldsList-turn source c.loop-line.yielded _ c.loop-line.yielded_by _ _ c.in-Some.line c.in-Some.is c.next.ensures.steps in
-    let here : c.loop-line.number < length (lines c.args.bytes.now) = omega (arith, turn.0) in
-    let is : c.in-Some.line.now ≡ get_or (lines c.args.bytes.now) c.loop-line.number c.in-Some.line.now = rw c.loop-line.invariant.counted turn.1 in
-    record {
-      counted = omega (arith, length-append c.loop-line.yielded (c.in-Some.line ∷ []));
-      so_far = goes_on (lines c.args.bytes.now) _ _ c.in-Some.line.now c.loop-line.number _ here is c.in_default.ensures.seen c.loop-line.invariant.so_far;
-    }
-
+-- the lines that are left begin with the one that was read
 pub returns-in-Err-clause-exact : goal.returns-in-Err-clause-exact
 returns-in-Err-clause-exact c =
-    let source = YieldsList-from_slice_split _ (λ (b : ℕ). eqb b 10) c.args.bytes.now (cc) (cc) (cc) (λ x r q k. search (rules, tests)) in
-    let turn = YieldsList-turn source c.loop-line.yielded _ c.loop-line.yielded_by _ _ c.in-Some.line c.in-Some.is c.next.ensures.steps in
-    let here : c.loop-line.number < length (lines c.args.bytes.now) = omega (arith, turn.0) in
-    let is : c.in-Some.line.now ≡ get_or (lines c.args.bytes.now) c.loop-line.number c.in-Some.line.now = rw c.loop-line.invariant.counted turn.1 in
-    let after : suc c.loop-line.number ≡ c.loop-line.number + 1 = omega arith in
-    rw (c.at.ensures, ← after) (stops c.in-Err.e c.args.bytes.now _ c.in-Some.line.now c.loop-line.number here is c.in-Err.ensures.seen c.loop-line.invariant.so_far)
+    let number = c.loop-left.number in
+    let are = ap (λ (l : Option (Bor (List ℕ))). lines_behind (option_map (λ text. text.now) l)) c.in-Some.is ∙ c.first_line.ensures in
+    let so_far = subst (λ xs. with_lines (suc number) c.loop-left.reader xs ≡ with_lines 1 nothing (lines c.args.bytes.now)) are c.loop-left.invariant.so_far in
+    let after : suc number ≡ number + 1 = omega arith in
+    rw (c.at.ensures, ← after) (stops c.in-Err.e c.args.bytes.now _ _ _ number c.in-Err.ensures.seen so_far)
 
-pub returns-in-Err-clause-memory : goal.returns-in-Err-clause-memory
-returns-in-Err-clause-memory c =
-    let source = YieldsList-from_slice_split _ (λ (b : ℕ). eqb b 10) c.args.bytes.now (cc) (cc) (cc) (λ x r q k. search (rules, tests)) in
-    let turn = YieldsList-turn source c.loop-line.yielded _ c.loop-line.yielded_by _ _ c.in-Some.line c.in-Some.is c.next.ensures.steps in
-    let here : c.loop-line.number < length (lines c.args.bytes.now) = omega (arith, turn.0) in
-    let is : c.in-Some.line.now ≡ get_or (lines c.args.bytes.now) c.loop-line.number c.in-Some.line.now = rw c.loop-line.invariant.counted turn.1 in
-    λ reported. wanted c.args.bytes.now c.in-Some.line.now c.loop-line.number _ c.in-Err.e here is (λ e. c.in-Err.ensures.memory (ap Err e)) (sym c.at.ensures ∙ err_is _ _ reported)
-
-pub returns-clause-memory : goal.returns-clause-memory
-returns-clause-memory c = λ reported. absurd (never_wanted c.loop-line.number c.loop-line.reader.header c.loop-line.reader.steps (sym c.finish.ensures ∙ reported))
+pub loop-left-preserved : goal.loop-left-preserved
+loop-left-preserved c =
+    let number = c.loop-left.number in
+    let are = ap (λ (l : Option (Bor (List ℕ))). lines_behind (option_map (λ text. text.now) l)) c.in-Some.is ∙ c.first_line.ensures in
+    let so_far = subst (λ xs. with_lines (suc number) c.loop-left.reader xs ≡ with_lines 1 nothing (lines c.args.bytes.now)) are c.loop-left.invariant.so_far in
+    let counted = c.loop-left.invariant.counted in
+    let one_more = ap length are in
+    record {
+      counted = omega (arith, counted, one_more);
+      so_far = goes_on _ _ _ _ number _ c.in_default-line.ensures.seen so_far;
+      memory = λ later. c.loop-left.invariant.memory (subst (λ xs. list_any line_takes_memory xs ≡ true) (sym are) (or_right (line_takes_memory c.first_line.result.0.now) _ later));
+    }
 
 pub returns-clause-exact : goal.returns-clause-exact
 returns-clause-exact c =
-    let source = YieldsList-from_slice_split _ (λ (b : ℕ). eqb b 10) c.args.bytes.now (cc) (cc) (cc) (λ x r q k. search (rules, tests)) in
-    let end = YieldsList-end source c.loop-line.yielded _ c.loop-line.yielded_by _ _ c.in-None.is c.next.ensures.steps in
-    rw (ends c.args.bytes.now _ c.loop-line.number (c.loop-line.invariant.counted ∙ end.1) c.loop-line.invariant.so_far) (itself _ _ c.finish.ensures)
+    let are : lines_behind (option_map (λ (text : Bor (List ℕ)). text.now) c.loop-left.left) ≡ [] = ap (λ (l : Option (Bor (List ℕ))). lines_behind (option_map (λ text. text.now) l)) c.in_default.is in
+    let so_far = subst (λ xs. with_lines (suc c.loop-left.number) c.loop-left.reader xs ≡ with_lines 1 nothing (lines c.args.bytes.now)) are c.loop-left.invariant.so_far in
+    let counted = c.loop-left.invariant.counted in
+    let none = ap length are in
+    rw (ends c.args.bytes.now _ c.loop-left.number (omega (arith, counted, none)) so_far) (itself _ _ c.finish.ensures)

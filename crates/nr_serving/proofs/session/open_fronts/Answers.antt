@@ -1,7 +1,8 @@
-use Rattle.std.proofs.Common.{◌≤◌, ◌∙◌, ap, sym, subst, arith, rules}
+use Rattle.std.proofs.Common.{◌≡◌, ◌≤◌, ◌∙◌, ap, sym, subst, arith, rules}
 use Rattle.std.specs.List.{All}
 use Rattle.std.proofs.lemmas.List.Elements.{All-push}
 use Rattle.nr_journal.specs.Seat.{Left}
+use Rattle.nr_serving.specs.Session.{numbers_below}
 use Rattle.nr_serving.specs.Auxiliary.Session.{IsFresh}
 use Rattle.nr_serving.proofs.HistoryLemmas.{numbers_more}
 use Rattle.nr_serving.proofs.session.open_fronts.Goals as goal
@@ -25,3 +26,10 @@ loop-preserved g c =
 
 pub loop-init : goal.loop-init
 loop-init g c = search rules
+
+-- the tags of all are their numbers
+pub returns-clause-tags : goal.returns-clause-tags
+returns-clause-tags g c =
+    let i = c.loop.invariant in
+    let whole : c.loop.counter ≡ c.args.shape.fronts = omega (arith, i.within, c.loop.auto.counter-end, c.loop-test.false) in
+    i.tags ∙ ap numbers_below whole

@@ -1,6 +1,5 @@
 use Rattle.std.proofs.Common.{◌≡◌, ℕ, length, [], Some, None, rules, sym, ap, ◌∙◌}
-use Rattle.nr_rev.specs.declared.step.Step.{Step}
-use Rattle.nr_changes.specs.Touched.{Touched, touched}
+use Rattle.nr_changes.specs.Touched.{touched}
 use Rattle.nr_machine.specs.World.{WorldParts, meant}
 use Rattle.nr_machine.proofs.SocketsLemmas.{length-sockets_of}
 use Rattle.nr_machine.proofs.touches_cells.WorldTouchesCells.touched.Goals as goal

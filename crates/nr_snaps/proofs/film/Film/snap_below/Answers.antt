@@ -9,7 +9,7 @@ use Rattle.nr_snaps.proofs.film.Film.snap_below.Goals as goal
 pub returns-else-copy-eq0 : goal.returns-else-copy-eq0
 returns-else-copy-eq0 g c =
     let inside = c.self.inside in
-    let has = c.self.invariant in
+    let has = c.self.invariant.0 in
     let film : Reel g.row.W.Denot = record { recording = run_of inside.recording; every = inside.every; origin = inside.start } in
     let least = has.least in
     let k = c.args.n / inside.every in

@@ -1,25 +1,37 @@
-use Rattle.std.proofs.Common.{sym, arith}
-use Rattle.nr_walker.proofs.WayBackLemmas.{IsWay-last, IsWay-backward}
+use Rattle.std.proofs.Common.{◌<◌, refl, sym, subst, arith}
+use Rattle.nr_walker.proofs.WayLemmas.{IsWay-backward, IsWay-last, IsWay-place}
 use Rattle.nr_walker.proofs.walker.Walker.backward.Goals as goal
 
--- the last delta leads back to the position before
-pub undo-requires : goal.undo-requires
-undo-requires g c =
-    let last = IsWay-last g.W.Reversible.is_well_formed g.W.Worlds.world g.W.Reversible.steps g.W.Reversible.back c.self.inside.film.now c.self.inside.deltas c.in-Some.delta c.self.inside.position
-    c.self.inside.world
-    (sym c.in-Some.ensures.value) c.self.invariant in
+-- the last step has a place
+pub index_mut-requires : goal.index_mut-requires
+index_mut-requires g c =
+    let inside = c.self.inside in
+    let some = subst (λ v. 0 < v.kept) (sym c.self.view_is) c.requires in
+    let within = IsWay-place g.W.Reversible.is_well_formed g.W.Worlds.world g.W.Reversible.steps g.W.Reversible.back inside.film.now inside.position inside.next c.place_before-self-inside.result inside.kept inside.depth
+    inside.world inside.places c.self.invariant.0 some c.place_before-self-inside.ensures in
+    let len = inside.places.ok.0 in
+    omega (arith, within, len)
+
+-- and its delta leads back
+pub undo_from-requires : goal.undo_from-requires
+undo_from-requires g c =
+    let inside = c.self.inside in
+    let some = subst (λ v. 0 < v.kept) (sym c.self.view_is) c.requires in
+    let last = IsWay-last g.W.Reversible.is_well_formed g.W.Worlds.world g.W.Reversible.steps g.W.Reversible.back inside.film.now g.met.W.Reversible.steps_unique inside.position inside.next
+    c.place_before-self-inside.result inside.kept inside.depth inside.world inside.places c.index_mut.result.now c.self.invariant.0 some c.place_before-self-inside.ensures c.index_mut.ensures.value in
     (last.0, last.1)
 
-pub overflow_sub-self : goal.overflow_sub-self
-overflow_sub-self g c =
-    let last = IsWay-last g.W.Reversible.is_well_formed g.W.Worlds.world g.W.Reversible.steps g.W.Reversible.back c.self.inside.film.now c.self.inside.deltas c.in-Some.delta c.self.inside.position
-    c.self.inside.world
-    (sym c.in-Some.ensures.value) c.self.invariant in
-    let some = last.3 in
-    omega (arith, some)
-
+-- one delta fewer is kept, and its place is that of the next step
 pub invariant_of-self : goal.invariant_of-self
 invariant_of-self g c =
-    rw c.in-Some.ensures.items (IsWay-backward g.W.Reversible.is_well_formed g.W.Worlds.world g.W.Reversible.steps g.W.Reversible.back c.self.inside.film.now g.met.W.Reversible.back_is_unique
-    c.self.inside.deltas c.in-Some.delta c.self.inside.position c.self.inside.world c.undo.new.self
-    (sym c.in-Some.ensures.value) c.self.invariant c.undo.ensures)
+    let inside = c.self.inside in
+    let way = c.self.invariant.0 in
+    let some = subst (λ v. 0 < v.kept) (sym c.self.view_is) c.requires in
+    let within = IsWay-place g.W.Reversible.is_well_formed g.W.Worlds.world g.W.Reversible.steps g.W.Reversible.back inside.film.now inside.position inside.next c.place_before-self-inside.result inside.kept inside.depth
+    inside.world inside.places way some c.place_before-self-inside.ensures in
+    let len = inside.places.ok.0 in (
+      IsWay-backward g.W.Reversible.is_well_formed g.W.Worlds.world g.W.Reversible.steps g.W.Reversible.back inside.film.now g.met.W.Reversible.steps_unique g.met.W.Reversible.back_is_unique inside.position
+          inside.next c.place_before-self-inside.result inside.kept inside.depth inside.world c.undo_from.new.self inside.places _ c.index_mut.result.now c.undo_from.new.delta way some
+          c.place_before-self-inside.ensures c.index_mut.ensures.value c.undo_from.ensures refl way.room,
+      omega (arith, within, len),
+    )

@@ -1,0 +1,37 @@
+//! The places of deltas: that of the step after position k is k modulo `depth + 1`.
+
+ghost use Rattle.std.specs.Prelude.{◌≡◌, ℕ, ◌<◌, ◌≤◌, ◌+◌, ◌-◌, ◌%◌, vec_capacity, vec_len};
+
+use nr_rev::Worlds;
+
+/// Makes places until there are so many, in room that is there. They hold deltas of no step.
+pub(crate) fn make_places<W: Worlds>(places: &mut Vec<W::Delta>, count: usize)
+where
+    W::Delta: Drop,
+    requires { count ≤ vec_capacity places.old }
+    ensures made { count ≤ vec_len places.new }
+    ensures room { vec_capacity places.new ≡ vec_capacity places.old }
+{
+    while places.len() < count {
+        places.push_reserved(W::no_delta());
+    }
+}
+
+/// The place of the step after the one with this place.
+#[inline(always)]
+pub(crate) fn place_after(place: usize, depth: usize) -> usize
+    ensures is { (position : ℕ) → place ≡ position % (depth + 1)
+        → result ≡ (position + 1) % (depth + 1) }
+    ensures near { result ≤ place + 1 }
+{
+    if place >= depth { 0 } else { place + 1 }
+}
+
+/// The place of the step before the one with this place.
+#[inline(always)]
+pub(crate) fn place_before(place: usize, depth: usize) -> usize
+    ensures { (position : ℕ) → 0 < position → place ≡ position % (depth + 1)
+        → result ≡ (position - 1) % (depth + 1) }
+{
+    if place == 0 { depth } else { place - 1 }
+}

@@ -1,0 +1,367 @@
+// netrev's notes of all descriptors that are open, from which a recording can begin in the middle of a run: the ring keeps the newest points,
+// and what is open may be older. These functions are put behind those of runtime/netpoll_epoll.go in an overlaid Go.
+//
+// Four times while the ring goes round once, a goroutine that holds no lock of the runtime's notes each of them: points that say how its lock
+// word and its descriptor are, and which goroutine waits there in which step. They are written under all locks of the descriptor, so that
+// nothing of it changes between them.
+
+package runtime
+
+import (
+	"internal/runtime/atomic"
+	"unsafe"
+)
+
+const (
+	netrevRowsLeast   = 1 << 10 // descriptors that are known
+	netrevRowShare    = 64      // for so many points one more
+	netrevRowBytes    = unsafe.Sizeof(netrevRow{})
+	netrevRowTries    = 64      // rows in which one may be
+	netrevQueueMost   = 1 << 10 // goroutines that are queued at lock words
+	netrevWaiterBytes = unsafe.Sizeof(netrevWaiter{})
+	netrevParts       = 4  // notes while the ring goes round once
+	netrevShare       = 64 // for so many points of the ring one descriptor may be noted, each time
+)
+
+// Kinds of points. The first has the lock word's address, the next two that of the descriptor. No point of either is between them.
+const (
+	netrevNotedKind          = 134 // a is the lock word, b the descriptor, c the two semaphores
+	netrevNotedPollKind      = 135 // a is the tag, b the sequence of reading, c that of writing
+	netrevNotedDeadlinesKind = 136 // a is the deadline of reading, b that of writing, c what netrevNoteFlags says
+	netrevNotedInsideKind    = 137 // the goroutine is inside the wait of side a, at place b
+	netrevNotedQueuedKind    = 138 // the goroutine is queued for the lock of side a
+	netrevNotesBeginKind     = 139 // a is the number of the notes that begin here, b how many descriptors are known
+	netrevNotesEndKind       = 140 // a is the number of the notes that end here, b how many descriptors were noted, c how many there was no room for
+	netrevNotedNamedKind     = 141 // a, b and c are those of the socket's point netrevNamedKind
+)
+
+// Places of a goroutine inside a wait.
+const (
+	netrevIsOutside = iota
+	netrevIsEntering
+	netrevIsArmed
+	netrevIsParking
+	netrevIsParked
+	netrevIsSwapping
+	netrevIsChecking
+)
+
+// A netrevSide is which goroutine is inside the wait of a side, where, and with which stack and when it began. The descriptor's lock is held for it.
+type netrevSide struct{ place, goid, stack, since uint64 }
+
+// A netrevRow is a descriptor, whose memory is one for good: it keeps its row when it is another socket's. The lock word is 0 where it is nobody's.
+type netrevRow struct {
+	pd, word uintptr
+	sides    [2]netrevSide
+	name     [3]int64 // of its point netrevNamedKind
+	marks    uint64
+	_        [2]uint64
+}
+
+// Marks of a row.
+const (
+	netrevIsNamed = 1
+	netrevIsShut  = 2
+)
+
+// A netrevWaiter is a goroutine that is queued at the semaphore of a lock word, whose root's lock is held for it.
+type netrevWaiter struct {
+	addr                      uintptr // of the semaphore; 0 in a free row
+	order, goid, stack, since uint64
+	_                         [3]uint64
+}
+
+// Whether a descriptor's timers run, and its tag: these are otherwise in older releases. They are set where the rules of notes fit.
+var (
+	netrevRunning func(pd *pollDesc) int64
+	netrevTagOf   func(pd *pollDesc) int64
+)
+
+var (
+	netrevRows     uintptr // 0 where there are no notes
+	netrevRowsMost uint64
+	netrevQueue    uintptr
+	netrevRowOrder uintptr // the numbers of the rows that are taken, in their order
+	netrevRowCount uint32
+	netrevQueued   uint64
+	netrevUnqueued uint32 // 1 where a goroutine was queued that found no row
+	netrevDue      uint64 // behind how many points the next notes are due
+	netrevIsDue    uint32 // 1 once there were so many: that is read much more often, and the count of points is written by all processors
+	netrevNoting   uint32
+	netrevTimes    uint64
+	netrevRowLock  mutex
+)
+
+// netrevRowsFor is how many rows a log of so many points has.
+func netrevRowsFor(points uintptr) uintptr {
+	if rows := points / netrevRowShare; rows > netrevRowsLeast {
+		return rows
+	}
+	return netrevRowsLeast
+}
+
+// netrevKeepRows begins the tables of descriptors, after the log has begun.
+func netrevKeepRows() {
+	const readAndWrite, ownAndEmpty = 3, 0x22
+	if netrevRunning == nil || netrevTagOf == nil {
+		return
+	}
+	rows := netrevRowsFor(uintptr(netrevPoints))
+	order, errno := netrevSystem(netrevMmap, 0, rows*4, readAndWrite, ownAndEmpty, ^uintptr(0), 0)
+	if errno != 0 {
+		return
+	}
+	netrevRowsMost, netrevDue, netrevRowOrder = uint64(rows), netrevPoints/netrevParts, order
+	netrevRows = netrevBase + netrevRowsBegin
+	netrevQueue = netrevRows + rows*netrevRowBytes
+}
+
+func netrevRowAt(row uint64) *netrevRow {
+	return (*netrevRow)(unsafe.Pointer(netrevRows + uintptr(row)*unsafe.Sizeof(netrevRow{})))
+}
+
+// netrevRowOf is the row of a descriptor; nil where it has none. One that is new takes one.
+func netrevRowOf(pd uintptr, isNew bool) *netrevRow {
+	first := netrevMixed(uint64(pd))
+	for try := uint64(0); try < netrevRowTries; try++ {
+		number := (first + try) % netrevRowsMost
+		row := netrevRowAt(number)
+		if atomic.Loaduintptr(&row.pd) == 0 && isNew && atomic.Casuintptr(&row.pd, 0, pd) {
+			place := atomic.Xadd(&netrevRowCount, 1) - 1
+			*(*uint32)(unsafe.Pointer(netrevRowOrder + uintptr(place)*4)) = uint32(number)
+			return row
+		}
+		if at := atomic.Loaduintptr(&row.pd); at == pd {
+			return row
+		} else if at == 0 {
+			return nil
+		}
+	}
+	return nil
+}
+
+// netrevInside is a goroutine that has come to a place of a wait, which may begin there.
+func netrevInside(pd *pollDesc, mode int32, place, goid, stack uint64, begins bool) {
+	if netrevRows == 0 {
+		return
+	}
+	row := netrevRowOf(uintptr(unsafe.Pointer(pd)), false)
+	if row == nil {
+		return
+	}
+	side := &row.sides[netrevBit(mode == 'w')]
+	side.place = place
+	if begins {
+		side.goid, side.stack, side.since = goid, stack, uint64(nanotime())
+	}
+}
+
+// netrevBehind is the place of a goroutine behind a point of a wait: behind one that found nothing against waiting, or not.
+func netrevBehind(kind uint64, goesOn bool) uint64 {
+	switch {
+	case goesOn && (kind == netrevWaitBegin || kind == netrevWaitCheck):
+		return netrevIsEntering
+	case goesOn && kind == netrevArm:
+		return netrevIsArmed
+	case goesOn && kind == netrevCheckAgain:
+		return netrevIsParking
+	case goesOn && kind == netrevPark:
+		return netrevIsParked
+	case kind == netrevCheckAgain || kind == netrevPark:
+		return netrevIsSwapping
+	case goesOn && kind == netrevSwap:
+		return netrevIsChecking
+	}
+	return netrevIsOutside
+}
+
+func netrevWaiterAt(row uint64) *netrevWaiter {
+	return (*netrevWaiter)(unsafe.Pointer(netrevQueue + uintptr(row)*unsafe.Sizeof(netrevWaiter{})))
+}
+
+// netrevQueues is a goroutine that joins the queue of a semaphore, whose root's lock is held.
+func netrevQueues(addr *uint32, goid, stack uint64) {
+	if netrevRows == 0 {
+		return
+	}
+	at := uintptr(unsafe.Pointer(addr))
+	for try := uint64(0); try < netrevRowTries; try++ {
+		row := netrevWaiterAt((netrevMixed(uint64(at)) + try) % netrevQueueMost)
+		if atomic.Casuintptr(&row.addr, 0, at) {
+			row.order, row.goid, row.stack, row.since = uint64(atomic.Xadd64(&netrevQueued, 1)), goid, stack, uint64(nanotime())
+			return
+		}
+	}
+	atomic.Store(&netrevUnqueued, 1)
+}
+
+// netrevFirst is the goroutine that is queued longest at a semaphore, of those behind an order; nil where none is.
+func netrevFirst(at uintptr, behind uint64) *netrevWaiter {
+	var first *netrevWaiter
+	for try := uint64(0); try < netrevRowTries; try++ {
+		row := netrevWaiterAt((netrevMixed(uint64(at)) + try) % netrevQueueMost)
+		if atomic.Loaduintptr(&row.addr) == at && row.order > behind && (first == nil || row.order < first.order) {
+			first = row
+		}
+	}
+	return first
+}
+
+// netrevLeaves takes the first out of the queue of a semaphore, whose root's lock is held.
+func netrevLeaves(addr *uint32) {
+	if netrevRows == 0 {
+		return
+	}
+	if first := netrevFirst(uintptr(unsafe.Pointer(addr)), 0); first != nil {
+		atomic.Storeuintptr(&first.addr, 0)
+	}
+}
+
+// A descriptor that was opened for the socket of a lock word. While notes are made, and may have gone past its row, it is noted here.
+//
+//go:linkname poll_runtime_netrevKnows internal/poll.runtime_netrevKnows
+func poll_runtime_netrevKnows(descriptor uintptr, word *uint64) {
+	if netrevRows == 0 {
+		return
+	}
+	row := netrevRowOf(descriptor, true)
+	if row == nil {
+		return
+	}
+	lock(&netrevRowLock)
+	row.word, row.marks = uintptr(unsafe.Pointer(word)), 0
+	row.sides = [2]netrevSide{}
+	unlock(&netrevRowLock)
+	if atomic.Load(&netrevNoting) != 0 {
+		netrevNote(row)
+	}
+}
+
+// A socket that is about to be destroyed, and its lock word with it.
+//
+//go:linkname poll_runtime_netrevForgets internal/poll.runtime_netrevForgets
+func poll_runtime_netrevForgets(descriptor uintptr) {
+	if row := netrevRowKnown(descriptor); row != nil {
+		lock(&netrevRowLock)
+		row.word = 0
+		unlock(&netrevRowLock)
+	}
+}
+
+// A socket whose ends have names.
+//
+//go:linkname poll_runtime_netrevIsCalled internal/poll.runtime_netrevIsCalled
+func poll_runtime_netrevIsCalled(descriptor uintptr, a, b, c int64) {
+	if row := netrevRowKnown(descriptor); row != nil {
+		lock(&netrevRowLock)
+		row.name, row.marks = [3]int64{a, b, c}, row.marks|netrevIsNamed
+		unlock(&netrevRowLock)
+	}
+}
+
+// A socket whose side of writing was shut.
+//
+//go:linkname poll_runtime_netrevIsShut internal/poll.runtime_netrevIsShut
+func poll_runtime_netrevIsShut(descriptor uintptr) {
+	if row := netrevRowKnown(descriptor); row != nil {
+		lock(&netrevRowLock)
+		row.marks |= netrevIsShut
+		unlock(&netrevRowLock)
+	}
+}
+
+func netrevRowKnown(descriptor uintptr) *netrevRow {
+	if netrevRows == 0 || descriptor == 0 {
+		return nil
+	}
+	return netrevRowOf(descriptor, false)
+}
+
+// netrevNotes notes all descriptors, if that is due. No lock of the runtime's is held here.
+func netrevNotes() {
+	if netrevRows == 0 || atomic.Load(&netrevIsDue) == 0 || !atomic.Cas(&netrevNoting, 0, 1) {
+		return
+	}
+	netrevTimes++
+	count, noted, left := atomic.Load(&netrevRowCount), int64(0), int64(0)
+	begin := netrevNotesPoint(netrevNotesBeginKind, int64(count), 0)
+	for place := uint32(0); place < count; place++ {
+		row := netrevRowAt(uint64(*(*uint32)(unsafe.Pointer(netrevRowOrder + uintptr(place)*4))))
+		if row.word == 0 {
+			continue
+		}
+		if noted >= int64(netrevPoints/netrevShare) {
+			left++
+		} else if netrevNote(row) {
+			noted++
+		}
+	}
+	netrevNotesPoint(netrevNotesEndKind, noted, left)
+	atomic.Store64(&netrevDue, begin+netrevPoints/netrevParts)
+	atomic.Store(&netrevIsDue, 0)
+	atomic.Store(&netrevNoting, 0)
+}
+
+func netrevNotesPoint(kind uint64, b, c int64) (number uint64) {
+	number = netrevNext()
+	netrevWrite(number, kind, 0, 0, int64(netrevTimes), b, c, nanotime(), 0)
+	return number
+}
+
+// netrevNote notes a descriptor under its locks, if it is a socket's, and says whether it is.
+func netrevNote(row *netrevRow) bool {
+	lock(&netrevRowLock)
+	word := (*uint64)(unsafe.Pointer(row.word))
+	if word == nil {
+		unlock(&netrevRowLock)
+		return false
+	}
+	readers := (*uint32)(unsafe.Pointer(row.word + 8))
+	own, root, pd := netrevLockOf(word), semtable.rootFor(readers), (*pollDesc)(unsafe.Pointer(row.pd))
+	lock(own)
+	lockWithRank(&root.lock, lockRankRoot)
+	lock(&pd.lock)
+	netrevNoteLocked(row, atomic.Load64(word), pd)
+	unlock(&pd.lock)
+	unlock(&root.lock)
+	unlock(own)
+	unlock(&netrevRowLock)
+	return true
+}
+
+func netrevNoteLocked(row *netrevRow, state uint64, pd *pollDesc) {
+	now := nanotime()
+	readers, writers := row.word+8, row.word+12
+	counts := int64(*(*uint32)(unsafe.Pointer(readers))) | int64(*(*uint32)(unsafe.Pointer(writers)))<<32
+	netrevWrite(netrevNext(), netrevNotedKind, 0, row.word, int64(state), int64(row.pd), counts, now, 0)
+	netrevWrite(netrevNext(), netrevNotedPollKind, 0, row.pd, netrevTagOf(pd), int64(pd.rseq), int64(pd.wseq), now, 0)
+	netrevWrite(netrevNext(), netrevNotedDeadlinesKind, 0, row.pd, pd.rd, pd.wd, netrevNoteFlags(row, pd), now, 0)
+	for i, mode := range [2]int64{'r', 'w'} {
+		if side := &row.sides[i]; side.place != netrevIsOutside {
+			netrevWrite(netrevNext(), netrevNotedInsideKind, side.goid, row.pd, mode, int64(side.place), 0, now, side.stack)
+		}
+	}
+	for i, at := range [2]uintptr{readers, writers} {
+		for first := netrevFirst(at, 0); first != nil; first = netrevFirst(at, first.order) {
+			netrevWrite(netrevNext(), netrevNotedQueuedKind, first.goid, row.word, [2]int64{'r', 'w'}[i], 0, 0, now, first.stack)
+		}
+	}
+	if row.marks&netrevIsNamed != 0 {
+		netrevWrite(netrevNext(), netrevNotedNamedKind, 0, row.word, row.name[0], row.name[1], row.name[2], now, 0)
+	}
+}
+
+// netrevNoteFlags are bits: whether it is closing, had an event error, the timer of reading runs, that of writing does, its side of writing is
+// shut; from bit 8 the words of reading and of writing, 2 bits each (0 nil, 1 ready, 2 wait, 3 a goroutine); and bit 12 where a goroutine may be
+// queued that isn't noted.
+func netrevNoteFlags(row *netrevRow, pd *pollDesc) int64 {
+	flags := netrevBit(pd.closing) | netrevBit(pd.info().eventErr())<<1 | netrevRunning(pd)<<2 | netrevBit(row.marks&netrevIsShut != 0)<<4
+	return flags | netrevWordCode(pd.rg.Load())<<8 | netrevWordCode(pd.wg.Load())<<10 | int64(atomic.Load(&netrevUnqueued))<<12
+}
+
+func netrevWordCode(word uintptr) int64 {
+	if word == 0 || word == pdReady || word == pdWait {
+		return int64(word)
+	}
+	return 3
+}

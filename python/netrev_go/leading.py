@@ -1,0 +1,97 @@
+"""Puts the steps that lead to a noted socket into a recording, with the numbers that the recording has."""
+
+from __future__ import annotations
+
+import json
+from typing import TYPE_CHECKING
+
+from netrev_machine.deadlines import READING, WRITING
+from netrev_machine.polling import deadline_of
+
+from .prelude import Lead, Unreachable, relative, spelled
+from .sockets import BUFFER, Socket
+from .zeros import Line, written
+
+if TYPE_CHECKING:
+    from .converter import Converter
+
+of_json = json.JSONEncoder(separators=(",", ":")).encode
+
+
+class NotLed(Exception):
+    """The clock is too late for a socket: its deadline has passed, and its timer hasn't run."""
+
+    def __init__(self, socket: Socket, why: str) -> None:
+        super().__init__(why)
+        self.opening = socket.opening
+
+
+def lead(converter: Converter, socket: Socket) -> None:
+    """Makes the steps that lead to a socket as it was noted."""
+    soon = converter.clock
+    for step in socket.leads:
+        g = converter.goroutine(step.goroutine)
+        if step.kind == "sockopen":
+            socket.number = converter.sockets
+            converter.sockets += 1
+            put(converter, step, g, f'["sockopen",{BUFFER},{socket.capacity()},["number",{socket.number}]]')
+        elif step.kind == "pollopen":
+            converter.takes_descriptor(socket)
+            put(converter, step, g, f'["pollopen",{g},{socket.number},["number",{socket.descriptor}]]')
+        elif step.kind in ("soon", "setdeadline"):
+            soon = max(soon, set_deadline(converter, socket, step, g))
+        elif step.kind == "passes":
+            passes(converter, socket, step.arguments[0], soon)
+        elif step.kind == "syswrite":
+            put(converter, step, g, written(g, socket.number, step.arguments[0], of_json(answer_of(step))))
+        else:
+            if step.kind == "evict":
+                converter.deadlines.evict(socket.descriptor)
+            said = spelled(step, g, socket.number, socket.descriptor, socket.tag)
+            put(converter, step, g, of_json([*said, answer_of(step)]))
+    assert socket.note
+    reading, writing = converter.deadlines.descriptors[socket.descriptor].sequences
+    socket.sequences = socket.note.sequences[READING] - reading, socket.note.sequences[WRITING] - writing
+
+
+def answer_of(step: Lead) -> object:
+    """The answer as a recording has it."""
+    return step.answer[0] if len(step.answer) == 1 else list(step.answer)
+
+
+def put(converter: Converter, step: Lead, g: int, line: Line) -> None:
+    """A step of a goroutine's, with the stack that it had; no order of the program's is of it."""
+    converter.lines.append(line)
+    converter.stacks.append(step.stack)
+    converter.last_steps[g] = len(converter.lines)
+    if step.stack:
+        converter.last_stacks[g] = step.stack
+
+
+def set_deadline(converter: Converter, socket: Socket, step: Lead, g: int) -> int:
+    """Sets a deadline that was noted, or one that passes soon; the time at which it passes."""
+    mode, deadline = step.arguments
+    if step.kind == "soon":
+        time = deadline
+    else:
+        try:
+            time = relative(deadline, converter.begin, converter.clock)
+        except Unreachable as why:
+            raise NotLed(socket, str(why)) from None
+    ends = deadline_of(converter.clock, time)
+    converter.deadlines.set(socket.descriptor, mode, ends)
+    put(converter, step, g, f'["setdeadline",{g},{socket.descriptor},"{mode}",{time},"done"]')
+    return ends if step.kind == "soon" else 0
+
+
+def passes(converter: Converter, socket: Socket, side: int, soon: int) -> None:
+    """A deadline passes, and its timer's function runs."""
+    timer = converter.deadlines.armed(socket.descriptor, side)
+    converter.go_on_to(soon)
+    while timer and timer.armed:
+        converter.pop()
+    sequence = converter.deadlines.descriptors[socket.descriptor].sequences[side]
+    place = converter.deadlines.place(socket.descriptor, side, sequence)
+    assert place is not None
+    converter.deadlines.fire(place)
+    converter.step(f'["fire",{place},"done"]')

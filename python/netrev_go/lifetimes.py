@@ -1,0 +1,47 @@
+"""The lifetimes of goroutines: a recording has room for a number of them at once, because one that has ended hands its
+number to the next."""
+
+from __future__ import annotations
+
+from collections.abc import Iterable
+from dataclasses import dataclass, field
+
+from .points import Kind, Point
+
+ENDS = int(Kind.ENDS)
+
+
+@dataclass
+class Lifetimes:
+    """Of goroutines the points at which they begin to make steps, and those at which they end, by Go's names."""
+
+    began: dict[int, int] = field(default_factory=dict)
+    ended: dict[int, int] = field(default_factory=dict)
+
+    def most(self, goroutines: Iterable[int]) -> int:
+        """How many of these goroutines there are at once, at most."""
+        moments = []
+        for goroutine in goroutines:
+            moments.append((self.began.get(goroutine, 0), 1))
+            if goroutine in self.ended:
+                moments.append((self.ended[goroutine], -1))
+        count = most = 0
+        for _, change in sorted(moments):
+            count += change
+            most = max(most, count)
+        return most
+
+    def in_order(self) -> list[tuple[int, int]]:
+        """The ends, the last one first: the point and the goroutine."""
+        return sorted(((number, goroutine) for goroutine, number in self.ended.items()), reverse=True)
+
+
+def lifetimes_of(used: Iterable[tuple[int, int]], ends: Iterable[Point]) -> Lifetimes:
+    """The lifetimes of goroutines. `used` has which goroutine made which point, in the points' order."""
+    found = Lifetimes()
+    for goroutine, number in used:
+        found.began.setdefault(goroutine, number)
+    for point in ends:
+        if point.kind == ENDS and point.goroutine in found.began:
+            found.ended[point.goroutine] = point.number
+    return found

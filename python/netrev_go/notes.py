@@ -1,0 +1,173 @@
+"""What the recorder noted of sockets that were open before the oldest point that the log kept: how the lock word and the descriptor of each
+were, which goroutines waited there in which of their steps, and which had it in use (go/log/notes.go writes these points)."""
+
+from __future__ import annotations
+
+from collections import Counter
+from collections.abc import Iterable
+from dataclasses import dataclass, field
+from typing import NamedTuple
+
+from .points import Kind, Point
+
+NOTED, POLL, DEADLINES, INSIDE, QUEUED, BEGIN, END, NAMED = map(
+    int,
+    (
+        Kind.NOTED, Kind.NOTED_POLL, Kind.NOTED_DEADLINES, Kind.NOTED_INSIDE, Kind.NOTED_QUEUED, Kind.NOTES_BEGIN, Kind.NOTES_END,
+        Kind.NOTED_NAMED,
+    ),
+)  # fmt: skip
+INCREF, INCREF_CLOSE, DECREF, RW_LOCK, RW_UNLOCK, RELEASE, ACQUIRE, EVICT = map(
+    int,
+    (Kind.INCREF, Kind.INCREF_CLOSE, Kind.DECREF, Kind.RW_LOCK, Kind.RW_UNLOCK, Kind.RELEASE, Kind.ACQUIRE, Kind.EVICT),
+)
+# Places of a goroutine inside a wait, as go/log/notes.go numbers them.
+ENTERING, ARMED, PARKING, PARKED, SWAPPING, CHECKING = range(1, 7)
+# Words of a descriptor there.
+NIL, READY, WAIT, GOROUTINE = range(4)
+CLOSING, EVENT_ERROR, READ_RUNS, WRITE_RUNS, SHUT = (1 << bit for bit in range(5))
+WORDS, UNQUEUED = (8, 10), 1 << 12
+REFERENCES, WAITING = (3, 2**20 - 1), ((23, 2**20 - 1), (43, 2**20 - 1))  # fields of a lock word
+YES = 2
+READING, WRITING = 0, 1
+
+
+class Inside(NamedTuple):
+    """A goroutine inside a wait, its place there, and the stack with which it began."""
+
+    goroutine: int
+    place: int
+    stack: int
+
+
+class Queued(NamedTuple):
+    """A goroutine that is queued for a lock, of which side (0 of reading, 1 of writing)."""
+
+    goroutine: int
+    side: int
+    stack: int
+
+
+@dataclass
+class Note:
+    """A noted socket, and what later points say about it: which goroutine gives up a lock or a reference that it had
+    then."""
+
+    number: int  # of the point
+    word: int
+    counts: tuple[int, int]
+    tag: int = 0
+    sequences: tuple[int, int] = (0, 0)
+    deadlines: tuple[int, int] = (0, 0)  # by Go's clock
+    flags: int | None = None  # None until that point was met
+    inside: dict[int, Inside] = field(default_factory=dict)  # by side
+    queued: list[Queued] = field(default_factory=list)
+    holders: dict[int, int] = field(default_factory=dict)  # by side
+    references: Counter[int] = field(default_factory=Counter)  # of goroutines, apart from those of locks
+    evicter: int = 0
+    is_in_motion: bool = False  # a goroutine was on its way from one to the other that waits for its lock
+
+    def add(self, point: Point) -> None:
+        """Takes what a further point of the note says."""
+        _, kind, goroutine, _, a, b, c, _, stack = point
+        if kind == POLL:
+            self.tag, self.sequences = a, (b, c)
+        elif kind == DEADLINES:
+            self.deadlines, self.flags = (a, b), c
+        elif kind == INSIDE:
+            self.inside[side_of(a)] = Inside(goroutine, b, stack)
+        elif kind == QUEUED:
+            self.queued.append(Queued(goroutine, side_of(a), stack))
+
+    def goroutines(self) -> set[int]:
+        """The goroutines that wait at the socket."""
+        return {one.goroutine for one in self.inside.values()} | {one.goroutine for one in self.queued}
+
+    def known(self) -> set[int]:
+        """The goroutines that had the socket's locks and references."""
+        return {*self.holders.values(), *self.references, self.evicter} - {0}
+
+    def waits_to_write(self) -> bool:
+        """Whether a goroutine waits inside a write, and not for a connection, which it does without the lock."""
+        return WRITING in self.inside and self.is_taken(WRITING)
+
+    def field(self, place: tuple[int, int]) -> int:
+        """A field of the lock word."""
+        return self.word >> place[0] & place[1]
+
+    def is_taken(self, side: int) -> bool:
+        return bool(self.word & 2 << side)
+
+    def word_of(self, side: int) -> int:
+        """The descriptor's word of a side."""
+        return (self.flags or 0) >> WORDS[side] & 3
+
+    def runs(self, side: int) -> bool:
+        """Whether the timer of a side runs."""
+        return bool((self.flags or 0) & READ_RUNS << side)
+
+
+def side_of(mode: int) -> int:
+    return int(mode == ord("w"))
+
+
+class Debts:
+    """Finds which goroutines had locks and references of a socket as it was noted: those that give them up without having got them since."""
+
+    def __init__(self, note: Note) -> None:
+        self.note = note
+        self.had: Counter[int] = Counter()
+        self.owes: Counter[int] = Counter()
+        self.locked: set[int] = set()
+        self.queued = {one.goroutine for one in note.queued}
+        self.waits: set[int] = set()
+
+    def point(self, point: Point) -> None:
+        """A later point of the socket."""
+        note, (_, kind, g, _, old, new, bits, _, _) = self.note, point
+        side = 0 if bits & 1 else 1
+        if kind == RW_UNLOCK:
+            if side not in self.locked:
+                note.holders.setdefault(side, g)
+                self.locked.add(side)
+            self.owes[g] += old >> WAITING[side][0] & WAITING[side][1] > 0
+        elif kind == RW_LOCK and bits & YES:
+            self.locked.add(side)
+        elif kind == RW_LOCK and old != new:
+            self.waits.add(g)
+        elif kind == INCREF and bits & YES:
+            self.had[g] += 1
+        elif kind == INCREF_CLOSE and bits & YES:
+            self.had[g] += 1
+            self.owes[g] += sum(old >> shift & most for shift, most in WAITING)
+        elif kind == DECREF:
+            self.had[g] -= 1
+            if self.had[g] < 0:
+                note.references[g] += 1
+                self.had[g] = 0
+        elif kind == RELEASE:
+            self.owes[g] -= 1
+            note.is_in_motion |= self.owes[g] < 0
+        elif kind == ACQUIRE:
+            note.is_in_motion |= g not in self.waits and g not in self.queued
+        elif kind == EVICT and not note.evicter:
+            note.evicter = g
+
+
+class Span(NamedTuple):
+    """The points between which all open descriptors were noted, by their numbers."""
+
+    begin: int
+    end: int
+
+
+def spans(points: Iterable[Point]) -> list[Span]:
+    """The whole notes of a log: those with both ends."""
+    begun: dict[int, int] = {}
+    found = []
+    for point in points:
+        if point.kind == BEGIN:
+            begun[point.a] = point.number
+        elif point.kind == END and point.a in begun:
+            found.append(Span(begun[point.a], point.number))
+    return found

@@ -1,0 +1,154 @@
+"""Recordings of a server that runs: of now, or when a call of its has waited long. Its log has two small tables that say which goroutines wait
+at sockets, and since when, so that looking at them often costs little."""
+
+from __future__ import annotations
+
+import argparse
+import pathlib
+import time
+from array import array
+from collections.abc import Iterator
+from dataclasses import replace
+from typing import BinaryIO, NamedTuple
+
+from netrev_words.plain import plain
+
+from . import messages
+from .converting import Wish, convert, program_of
+from .keeping import Saying, complain, say
+from .line_reader import line_reader
+from .lines import Calls, Roots, lines_of
+from .logfile import HEADER_BYTES, ROW_WORDS, WAITER_WORDS, WORD, Header, NoLog, stack_at
+from .notes import PARKED
+from .outputs import base_name, look, numbered
+from .points import Log
+from .report import line_of
+from .running import log_of_process, writes
+from .status import Status
+from .toolchain import Go, Trouble
+from .where import own_line
+
+LOOKS = 10  # in the time that a call may wait
+OFTENEST, SELDOMEST = 0.05, 1.0  # seconds between two looks
+# Words of a row of the table of descriptors: its lock word's address, and of each side the place, goroutine, stack and begin of a wait.
+AT_A_WORD, SIDES, SIDE_WORDS = 1, 2, 4
+ACCEPTS = "internal/poll.(*FD).Accept"
+
+
+class Waiting(NamedTuple):
+    """A goroutine that waits at a socket: by Go's name, for what, from which stack (0: none is known), since when by Go's clock, and the address of the
+    socket's lock word."""
+
+    goroutine: int
+    what: str
+    stack: int
+    since: int
+    word: int
+
+    @property
+    def is_reader(self) -> bool:
+        """Whether it waits to read, as those do that are idle."""
+        return self.what == READS
+
+
+READS, WRITES, LOCKS = "waits to read", "waits to write", "waits for a lock of a socket"
+
+
+def waiting_in(file: BinaryIO, header: Header) -> Iterator[Waiting]:
+    """The goroutines that wait, by the tables of a log."""
+    file.seek(header.rows_begin)
+    rows, queue = array("Q"), array("Q")
+    rows.frombytes(file.read(header.rows * ROW_WORDS * WORD))
+    queue.frombytes(file.read(header.queue * WAITER_WORDS * WORD))
+    for side, what in enumerate((READS, WRITES)):
+        places, goroutines, stacks, begins = (
+            rows[SIDES + SIDE_WORDS * side + word :: ROW_WORDS] for word in range(SIDE_WORDS)
+        )
+        for row, place in enumerate(places):
+            word = rows[row * ROW_WORDS + AT_A_WORD]
+            if place == PARKED and word:
+                yield Waiting(goroutines[row], what, stacks[row], begins[row], word)
+    for place, address in enumerate(queue[::WAITER_WORDS]):
+        if address:
+            _, goroutine, stack, since = queue[place * WAITER_WORDS + 1 : place * WAITER_WORDS + 5]
+            yield Waiting(goroutine, LOCKS, stack, since, address // WORD * WORD - WORD)
+
+
+class Watch:
+    """Looks at the log of a process for calls that have waited long."""
+
+    def __init__(self, log: pathlib.Path, file: BinaryIO, header: Header, go: Go | None) -> None:
+        self._log, self._file, self._header, self._go = log, file, header, go
+        self._calls: dict[int, Calls | None] = {}
+
+    def calls(self, stack: int) -> Calls | None:
+        """The calls of a stack."""
+        if stack not in self._calls:
+            found = None
+            if stack and self._go and (addresses := stack_at(self._file, stack)):
+                log = Log([], {stack: addresses}, text=self._header.text, program=self._header.program)
+                program = program_of(self._log, log.program)
+                roots = Roots(self._go.sources(), pathlib.Path.cwd())
+                found = lines_of(log, {stack}, program, line_reader(self._go), roots).get(stack)
+            self._calls[stack] = found
+        return self._calls[stack]
+
+    def is_meant(self, one: Waiting) -> bool:
+        """Whether it is a call of the program's that is to go on: one that accepts isn't, nor are reads in Go's own goroutines alone, as those of idle
+        connections."""
+        calls = self.calls(one.stack)
+        if calls is None or not calls.calls:
+            return not one.is_reader
+        if any(call.function == ACCEPTS for call in calls.calls):
+            return False
+        return own_line(calls) is not None or not one.is_reader
+
+    def stuck(self, longest: float, only_writes: bool) -> Waiting | None:
+        """The call that has waited longest, if it is longer than that."""
+        now = time.clock_gettime_ns(time.CLOCK_MONOTONIC)
+        for one in sorted(waiting_in(self._file, self._header), key=lambda one: one.since):
+            if now - one.since < longest * 1e9:
+                return None
+            if not (only_writes and one.is_reader) and self.is_meant(one):
+                return one
+        return None
+
+    def words(self, one: Waiting) -> str:
+        """The message about a call that has waited long."""
+        line, function = line_of(self.calls(one.stack))
+        now = time.clock_gettime_ns(time.CLOCK_MONOTONIC)
+        return f"{line}: {function + ' ' if function else ''}{one.what} since {(now - one.since) / 1e9:.1f} s (goid {one.goroutine})"
+
+
+def snapshot(options: argparse.Namespace, go: Go | None, wish: Wish, known: list[object]) -> int:
+    """Makes the recording of now of a process that runs on."""
+    base = base_name(options.o, "snapshot")
+    look(base)
+    saying = Saying([])
+    outcome = convert(log_of_process(options.pid), numbered(base, 1), go, wish, known, saying.hear, True)
+    saying.rest(outcome.lines)
+    return Status.DONE if outcome.taken else Status.REFUSED
+
+
+def watch(options: argparse.Namespace, go: Go | None, wish: Wish, known: list[object]) -> int:
+    """Makes a recording of a process when a call of its has waited as long as that."""
+    log = log_of_process(options.pid)
+    look(base_name(options.o, "snapshot"))
+    pause = min(max(options.stuck / LOOKS, OFTENEST), SELDOMEST)
+    try:
+        with log.open("rb", buffering=0) as file:
+            header = Header(file.read(HEADER_BYTES))
+            if not header.rows:
+                raise Trouble(messages.NO_TABLE.format(log=plain(str(log))))
+            watching = Watch(log, file, header, go)
+            say([f"netrev-go: watching process {options.pid}; Ctrl-C ends that"])
+            while writes(options.pid, log):
+                found = watching.stuck(options.stuck, options.writes)
+                if found:
+                    say([plain(watching.words(found))])
+                    return snapshot(options, go, replace(wish, first=found.word, failed=True), known)
+                time.sleep(pause)
+    except (OSError, NoLog) as fault:
+        raise Trouble(messages.LOG_UNREADABLE.format(log=plain(str(log)), why=fault)) from None
+    complain(messages.NO_LONG_WAIT.format(process=options.pid))
+    return Status.DONE

@@ -1,0 +1,50 @@
+"""The beginning of a recording: the first steps of a recording of a long-running server lead to its state."""
+
+from typing import Optional, Protocol
+
+from .messages import session as messages
+from .netrev import Netrev, Own, Reply
+from .output import Place, Printer
+from .recording import Recording
+from .shapes import go_to, position_of
+
+
+class Standing(Protocol):
+    """A session: its netrev, its recording, its position, and its printer."""
+
+    netrev: Netrev
+    recording: Optional[Recording]
+    printer: Printer
+    stood: int
+
+    def ask(self, line: str) -> str:
+        """The first line of netrev's reply."""
+
+    def place(self, position: int) -> Place:
+        """The position with the steps round it."""
+
+
+def begins_at(recording: Recording) -> int:
+    """The position at which a recording begins: 0, or after the steps that lead to its first state."""
+    begins = recording.lines.prelude
+    return begins if 0 < begins <= recording.length else 0
+
+
+def begin_words(recording: Recording) -> str:
+    """The note of a recording that begins in the middle of a run; empty for others."""
+    begins = begins_at(recording)
+    return messages.BEGINS_IN_THE_MIDDLE.format(steps=begins) if begins else ""
+
+
+def tell_begin(session: Standing, reply: str) -> None:
+    """Goes to the beginning of the recording and prints the position; `reply` is netrev's to `info position`. A shared
+    session keeps its position."""
+    recording = session.recording
+    if recording and begins_at(recording) and session.stood == 0 and isinstance(session.netrev, Own):
+        go_to(begins_at(recording), session.ask)
+        reply = session.ask("info position")
+        session.stood = position_of(reply).position
+    session.printer.reply("info position", Reply(reply), "")
+    session.printer.place(session.place(session.stood))
+    if recording and (words := begin_words(recording)):
+        session.printer.note(words)

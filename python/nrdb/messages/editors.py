@@ -1,0 +1,57 @@
+"""Messages of the adapter for editors."""
+
+# Messages of the protocol.
+ONE_HEADER = "a message has the header Content-Length, and no other"
+CONTENT_LENGTH = "a message must begin with its Content-Length, at most 16 MiB"
+TOO_MUCH = "more than {most} bytes came before the launch"
+NOT_JSON = "a message isn't JSON"
+NOT_AN_OBJECT = "a message isn't an object"
+NO_COMMAND = "a request needs a number and a command"
+UNKNOWN_REQUEST = "nrdb doesn't support {command}"
+STRING = "{command}: {name} must be a string"
+INTEGER = "{command}: {name} must be a whole number"
+OBJECTS = "{command}: {name} must be a list of objects"
+
+# Launch and attach.
+LAUNCH_FIRST = "no recording is open: send launch first"
+TOKEN_FIRST = "send launch first, with the token that nrdb printed"
+TOKEN_IS_WRONG = "launch over a port needs the token that nrdb printed"
+SHORT_TOKEN = "{variable} must have at least {least} printable ASCII characters"
+STOP_AT = 'stopAt must be "end", "start" or a position'
+ADDRESS = "address must be the HOST:PORT of a front of `netrev serve`"
+SOURCE = 'source must be "recording" or "go"'
+OPTION_STRING = "{name} must be a string"
+OWN_PROGRAM = "a launch can't name netrev's program: start nrdb with NETREV or --netrev instead"
+
+# Breakpoints.
+NO_LINES = "set breakpoints in the recording's text: the program's lines are unknown without NAME.where"
+LINE = "a breakpoint needs a line, which is a whole number"
+NOT_A_CELL = "{name} isn't a cell"
+NOT_A_KIND = "{name} is neither a kind of step nor a function that steps come from; the kinds are {kinds}"
+NOT_A_CONDITION = "{text} isn't a condition: use a cell and its value, such as gor 3 parked* or rg 0 = ready"
+NOT_A_COUNT = "{text} isn't a hit count: use 3, >= 3, < 3, or % 3 for each third"
+NOT_IN_BRACES = "{{{name}}} isn't a cell: a message has cells in braces, such as {{rg 0}}, or {{{here}}}"
+FILTERS = "filters must be a list of strings"
+NOT_A_FILTER = "{name} isn't a filter"
+NO_EXCEPTION = "no filter stopped here"
+
+# Moves and values.
+NO_CALLS = "the network and the clock make no calls"
+NO_STEP = "no step is in this line or after it"
+HAS_STEPS = "the recording has {steps} steps"
+SOMEONE_MOVED = "someone else has moved: at {position}"
+NETREV_ANSWERED = "netrev answered: {fault}; {hint}"
+NO_GOROUTINE = "no such goroutine"
+GOID_IS_IDLE = "goid {goid} makes no step in the recording"
+OTHER_POSITION = "this belongs to another position"
+NOT_A_FRAME = "not a frame"
+NO_VARIABLE = "no scope or variable has the reference {reference} at this stop"
+NOT_A_VALUE = "{text} isn't a cell: write it as for print, such as rg 0 or gor 3"
+READ_ONLY = "the values of a recording can't be changed"
+RANGE = "{first} and {count} must be whole numbers"
+NOT_A_BUFFER = "{name} isn't a buffer: use in 0 or out 0"
+COUNT = "count must be a whole number from 0"
+NO_BUFFER = "{name} doesn't exist here"
+READING = "netrev reads the recording"
+JOINING = "joining netrev's session"
+SEARCHING = "netrev goes through the steps"

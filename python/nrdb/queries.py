@@ -1,0 +1,89 @@
+"""Queries in a row, such as those of a script: they are sent to netrev together, and each is shown in its turn."""
+
+import codecs
+import io
+from functools import lru_cache
+from typing import Iterator, Protocol, Sequence, TextIO
+
+from .attached import Attached
+from .commands import Ambiguous, parts_of, whole_words
+from .netrev import AT_ONCE, Netrev
+from .output import Printer
+
+MOST = 1_024  # lines that are sent together
+
+
+class Answering(Protocol):
+    """What a session has for the answers to lines."""
+
+    netrev: Netrev
+    printer: Printer
+    attached: Attached
+
+    def echoed(self, line: str) -> bool:
+        """Answers a line that wasn't typed, and shows it first. False if the session has ended."""
+
+
+@lru_cache(maxsize=1_024)
+def query_of(line: str) -> str:
+    """A line as it is sent to netrev, if it is a `print` and nothing else; otherwise empty."""
+    try:
+        parts = parts_of(line)
+        words = whole_words(parts[0].split()) if len(parts) == 1 else [""]
+    except Ambiguous:
+        return ""
+    return " ".join(words) if words[0] == "print" else ""
+
+
+def runs_of(session: Answering, lines: Sequence[str]) -> Iterator[Sequence[str]]:
+    """Lines in runs: queries in a row that may be sent together, and each other line alone. A run is made when the lines before it have been
+    answered."""
+    first = 0
+    while first < len(lines):
+        end = first + 1
+        if session.netrev.asks_ahead and session.attached.taking is None:
+            end = max(end, end_of_queries(lines, first))
+        yield lines[first:end]
+        first = end
+
+
+def end_of_queries(lines: Sequence[str], first: int) -> int:
+    """The end of the queries in a row that begin at a line, as many as are sent at once."""
+    size = 0
+    for at in range(first, min(first + MOST, len(lines))):
+        query = query_of(lines[at])
+        size += len(query) + 1
+        if not query or size > AT_ONCE:
+            return at
+    return min(first + MOST, len(lines))
+
+
+def answer_run(session: Answering, run: Sequence[str]) -> bool:
+    """Answers a run of lines that weren't typed, each shown first. False if the session has ended."""
+    if len(run) == 1:
+        return session.echoed(run[0])
+    session.netrev.ask_ahead(list(map(query_of, run)))
+    with session.printer.joined():
+        return all(map(session.echoed, run))
+
+
+def lines_together(stream: TextIO) -> Iterator[list[str]]:
+    """The lines of a stream as they come, those together that came at once, without blanks at their ends."""
+    raw = getattr(stream, "buffer", None)
+    if not isinstance(raw, io.BufferedReader) or stream.errors is None:
+        yield from ([line.rstrip()] for line in stream)
+        return
+    decoder = io.IncrementalNewlineDecoder(codecs.getincrementaldecoder(stream.encoding)(stream.errors), True)
+    begun: list[str] = []  # of a line that has no end yet
+    is_open = True
+    while is_open:
+        came = raw.read1(AT_ONCE)
+        is_open = bool(came)
+        *lines, rest = decoder.decode(came, not is_open).split("\n")
+        if lines:
+            lines[0] = "".join((*begun, lines[0]))
+            begun = []
+            yield list(map(str.rstrip, lines))
+        begun += [rest] if rest else []
+    if begun:
+        yield ["".join(begun).rstrip()]

@@ -1,0 +1,244 @@
+"""Servers that run far past their ring, and have a bug then: netrev has to accept what `netrev-go watch` or `snapshot` records, it has to have
+the connection of the bug, which is older than the oldest point, and what is printed has to name the bug's line.
+
+    python3 python tests.go_servers [--seconds N] [--points N] [--connections N] [--pause N] [--stuck T] [--gopath FOLDER] [--keep FOLDER] [NAME ..]
+
+The servers are those of tools/go/samples: `keep` needs Go alone, `stream` Debian's golang-google-grpc-dev below GOPATH, `pool` Debian's
+golang-github-lib-pq-dev there and PostgreSQL (postgresql). The bug comes after so many seconds. A line is printed for each; with --keep the
+recordings stay, and what was printed of them. The exit status is 1 if one isn't as it has to be."""
+
+import argparse
+import json
+import os
+import pathlib
+import pwd
+import re
+import shutil
+import socket
+import subprocess
+import sys
+import tempfile
+import time
+from contextlib import contextmanager
+from dataclasses import dataclass
+from typing import Iterator
+
+from netrev_go.logfile import HEADER_BYTES, Header
+from netrev_go.running import places
+from netrev_go.suites import DEBIAN, ROOT, SAMPLES
+
+TOOL = SAMPLES.parent / "netrev-go"
+BEHIND = 3.0  # seconds from the bug to a snapshot
+PATIENCE = 1_800.0  # seconds for a watch to end: a busy machine is slow
+POSTGRES = "/usr/lib/postgresql/*/bin"
+
+
+@dataclass(frozen=True)
+class Server:
+    """A sample with a bug: the options of the watch that waits for it, or None where a snapshot is made when it has come; and what is to be printed, in
+    which {line} is the place of the bug."""
+
+    sample: str
+    bug: str
+    watch: tuple[str, ...] | None
+    printed: tuple[str, ...]
+    has_old_socket: bool = True  # what is printed names a socket that is older than the oldest point
+
+
+SERVERS = {
+    "keep-deadline": Server(
+        "keep", "deadline", None, ("deadline left behind",)
+    ),  # (which was set before the oldest point)
+    "keep-wakeup": Server("keep", "wakeup", (), ("lost wake-up", "{line}")),
+    "keep-mutex": Server("keep", "mutex", ("--writes",), ("a mutex", "{line}")),
+    "stream-mutex": Server("stream", "mutex", (), ("a mutex", "{line}"), False),
+    "pool-mutex": Server("pool", "mutex", (), ("a mutex", "{line}")),
+}
+
+
+def bug_line(server: Server) -> str:
+    """The place of a server's bug."""
+    lines = (SAMPLES / server.sample / "main.go").read_text(encoding="utf-8").split("\n")
+    return next(f"main.go:{number}" for number, line in enumerate(lines, 1) if line.endswith(f"// BUG {server.bug}"))
+
+
+def built(sample: str, gopath: pathlib.Path, folder: pathlib.Path) -> pathlib.Path:
+    """The sample's program, which records if it is asked to."""
+    program = folder / sample
+    settings = os.environ | ({"GO111MODULE": "off", "GOPATH": str(gopath)} if sample != "keep" else {})
+    words = [str(TOOL), "build", "-o", str(program), "main.go"]
+    run = subprocess.run(words, cwd=SAMPLES / sample, env=settings, capture_output=True, text=True, check=False)
+    if run.returncode != 0:
+        sys.exit(f"{sample} can't be built: {run.stderr.strip()}")
+    return program
+
+
+def free_port() -> int:
+    with socket.socket() as free:
+        free.bind(("127.0.0.1", 0))
+        return int(free.getsockname()[1])
+
+
+@contextmanager
+def database(folder: pathlib.Path) -> Iterator[dict[str, str]]:
+    """What the environment of a client of PostgreSQL's has. The server, which refuses to be root's, is run by another user then."""
+    commands = max(pathlib.Path("/").glob(POSTGRES.lstrip("/")), default=None)
+    if commands is None:
+        sys.exit("PostgreSQL isn't here: apt-get install postgresql")
+    data, port = folder / "data", free_port()
+    data.mkdir()
+    before: list[str] = []
+    if os.geteuid() == 0:
+        users = {entry.pw_name for entry in pwd.getpwall()}
+        other = "postgres" if "postgres" in users else "nobody"
+        shutil.chown(data, other)
+        folder.chmod(0o755)
+        before = ["runuser", "-u", other, "--"]
+    initdb = [*before, str(commands / "initdb"), "-A", "trust", "-D", str(data), "-U", "postgres", "--no-sync"]
+    subprocess.run(initdb, stdout=subprocess.DEVNULL, check=True, cwd="/")
+    settings = [
+        "-c",
+        "listen_addresses=127.0.0.1",
+        "-c",
+        "unix_socket_directories=",
+        "-c",
+        "fsync=off",
+        "-p",
+        str(port),
+    ]
+    words = [*before, str(commands / "postgres"), "-D", str(data), *settings]
+    with (folder / "postgres.log").open("wb") as log:
+        process = subprocess.Popen(words, stdout=log, stderr=log, cwd="/")
+        try:
+            while subprocess.run(
+                [commands / "pg_isready", "-q", "-h", "127.0.0.1", "-p", str(port)], check=False
+            ).returncode:
+                assert process.poll() is None, (folder / "postgres.log").read_text()
+                time.sleep(0.5)
+            yield {"PGHOST": "127.0.0.1", "PGPORT": str(port), "PGUSER": "postgres", "PGDATABASE": "postgres"}
+        finally:
+            process.terminate()
+            process.wait()
+
+
+def passed(log: pathlib.Path) -> int:
+    """How many points a log has had so far."""
+    with log.open("rb") as file:
+        return Header(file.read(HEADER_BYTES)).passed
+
+
+def resident(process: int) -> int:
+    """The megabytes of a process."""
+    status = pathlib.Path(f"/proc/{process}/status").read_text()
+    found = re.search(r"^VmRSS:\s+(\d+) kB", status, re.MULTILINE)
+    return int(found[1]) // 1024 if found else 0
+
+
+@dataclass
+class Came:
+    """What came of a server's run."""
+
+    printed: str
+    points: int
+    megabytes: int
+
+
+def ran(
+    server: Server, program: pathlib.Path, options: argparse.Namespace, name: pathlib.Path, more: dict[str, str]
+) -> Came:
+    """Runs a server until its bug is recorded."""
+    logs = pathlib.Path(tempfile.mkdtemp(prefix="netrev-servers-", dir=places()[0]))
+    words = [str(program), str(options.connections), str(options.seconds), server.bug, str(options.pause)]
+    settings = os.environ | more | {"NETREV_LOG": str(logs / "log"), "NETREV_POINTS": str(options.points)}
+    process = subprocess.Popen(words, env=settings, stdout=subprocess.DEVNULL, stderr=subprocess.DEVNULL)
+    log = logs / f"log.{process.pid}"
+    try:
+        command = ["watch", str(process.pid), "--stuck", options.stuck, *(server.watch or ())]
+        if server.watch is None:
+            time.sleep(options.seconds + BEHIND)
+            command = ["snapshot", str(process.pid)]
+        run = subprocess.run(
+            [str(TOOL), "-o", str(name), *command], cwd=SAMPLES / server.sample, capture_output=True, text=True, errors="replace",
+            timeout=options.seconds + PATIENCE, check=False,
+        )  # fmt: skip
+        return Came(run.stdout + run.stderr + late_suspects(run.stdout, name), passed(log), resident(process.pid))
+    finally:
+        process.kill()
+        process.wait()
+        shutil.rmtree(logs)
+
+
+def late_suspects(printed: str, name: pathlib.Path) -> str:
+    """The suspects, if netrev-go didn't wait for them: a netrev that isn't proved is slow."""
+    if "for the suspects" not in printed:
+        return ""
+    words = [str(ROOT / "nrdb"), "--suspects", str(name.with_suffix(".jsonl"))]
+    return subprocess.run(words, capture_output=True, text=True, check=False).stdout
+
+
+def old_sockets(name: pathlib.Path) -> set[int]:
+    """The sockets of a recording that were open before the oldest point of its log."""
+    prelude = 0
+    with name.with_suffix(".where").open(encoding="utf-8") as lines:
+        for line in lines:
+            if line.startswith('{"prelude":'):
+                prelude = json.loads(line)["prelude"]
+    with name.with_suffix(".jsonl").open(encoding="utf-8") as steps:
+        next(steps)
+        opened = [line.startswith('["sockopen",') for line, _ in zip(steps, range(prelude))]
+    return set(range(sum(opened)))
+
+
+def faults(server: Server, came: Came, name: pathlib.Path, options: argparse.Namespace) -> list[str]:
+    """What isn't as it has to be."""
+    found = []
+    if not re.search(r"\.jsonl: ok \d+ steps", came.printed):
+        return ["netrev doesn't accept the recording"]
+    if came.points <= options.points:
+        found.append("no point was lost")
+    wanted = [words.format(line=bug_line(server)) if "{" in words else words for words in server.printed]
+    found += [f"{words!r} isn't printed" for words in wanted if words not in came.printed]
+    named = {int(number) for number in re.findall(r"socket (\d+)", came.printed)}
+    if server.has_old_socket and not named & old_sockets(name):
+        found.append("no socket is named that was open before")
+    return found
+
+
+def main(words: list[str]) -> int:
+    parser = argparse.ArgumentParser(prog="tests.go_servers")
+    parser.add_argument("--seconds", type=int, default=60)
+    parser.add_argument("--points", type=int, default=2**16)
+    parser.add_argument("--connections", type=int, default=50)
+    parser.add_argument("--pause", type=int, default=200, help="milliseconds between two requests of a client")
+    parser.add_argument("--stuck", default="5s", help="for how long a call waits that is recorded")
+    parser.add_argument("--gopath", type=pathlib.Path, default=DEBIAN)
+    parser.add_argument("--keep", type=pathlib.Path)
+    parser.add_argument("names", nargs="*", metavar="NAME", default=list(SERVERS))
+    options, status = parser.parse_args(words), 0
+    with tempfile.TemporaryDirectory() as place:
+        folder = pathlib.Path(place)
+        kept = (options.keep or folder).resolve()
+        for name in options.names:
+            server = SERVERS[name]
+            program = built(server.sample, options.gopath, folder)
+            if server.sample == "pool":
+                own = pathlib.Path(tempfile.mkdtemp(dir=place))
+                folder.chmod(0o755)
+                with database(own) as settings:
+                    came = ran(server, program, options, kept / name, settings)
+            else:
+                came = ran(server, program, options, kept / name, {})
+            (kept / f"{name}.txt").write_text(came.printed)
+            wrong = faults(server, came, kept / name, options)
+            steps = re.search(r"ok (\d+ steps; .*)", came.printed)
+            print(
+                f"{name}: {'; '.join(wrong) or 'named'}; {options.seconds} s, {came.points} points, {came.megabytes} MB; "
+                f"{steps[1] if steps else came.printed}",
+                flush=True,
+            )
+            status |= bool(wrong)
+    return status
+
+
+if __name__ == "__main__":
+    sys.exit(main(sys.argv[1:]))

@@ -1,0 +1,67 @@
+"""What is printed of a server's cost, by programs that say what they took and leave a log of so many points. No Go is needed."""
+
+import io
+import pathlib
+import subprocess
+import unittest
+from contextlib import redirect_stdout
+
+from netrev_fuzz.logs import binary
+from netrev_go.costs import CONNECTIONS, SERVED, Served, tell_served
+
+from .folders import folder_of
+
+# Without a log, with the trace, with the other one, and with a log: nanoseconds and bytes of a request. The log is beside the program's name.
+SERVER = """#!/bin/sh
+[ -z "${NETREV_LOG-}" ] || cp "$0.log" "$NETREV_LOG.7"
+[ -z "${NETREV_LOG-}" ] || : > "$NETREV_LOG.program.1.2"
+case "$3${NETREV_LOG:+log}" in
+trace) echo 150000 257 ;;
+flight) exit %d ;;
+log) echo 160000 0 ;;
+*) echo 125000 0 ;;
+esac
+"""
+
+
+class Requests(unittest.TestCase):
+    def table(self, status: int = 3, passed: int = 44_000) -> str:
+        """What is printed after three rounds of such a server."""
+        folder = folder_of(self)
+        program, logs = folder / "server", folder / "logs"
+        logs.mkdir()
+        program.write_text(SERVER % status)
+        program.chmod(0o755)
+        pathlib.Path(f"{program}.log").write_bytes(binary([], room=16, passed=passed))
+        served = Served("1.27.3", (program, program), 1_000, list(SERVED))
+        for _ in range(3):
+            served.measure(logs)
+        self.assertEqual(list(logs.iterdir()), [])
+        out = io.StringIO()
+        with redirect_stdout(out):
+            tell_served([served])
+        return out.getvalue()
+
+    def test_a_row_for_each_way(self) -> None:
+        rows = self.table().splitlines()[2:]
+        self.assertEqual(rows[: len(rows) // 2], [
+            "| 1.27.3 | 20 | without the overlay | 125.0 (125.0 to 125.0) | +0.0 % |  |  |",
+            "| 1.27.3 | 20 | with it, no log | 125.0 (125.0 to 125.0) | +0.0 % |  |  |",
+            "| 1.27.3 | 20 | recording | 160.0 (160.0 to 160.0) | +28.0 % | 2,560 | 40.0 |",
+            "| 1.27.3 | 20 | runtime/trace | 150.0 (150.0 to 150.0) | +20.0 % | 257 |  |",
+        ])  # fmt: skip
+        self.assertEqual(len(rows), 4 * len(CONNECTIONS))
+
+    def test_a_program_that_fails_ends_the_measuring(self) -> None:
+        with self.assertRaises(subprocess.CalledProcessError):
+            self.table(status=1)
+
+    def test_nothing_is_printed_of_none(self) -> None:
+        out = io.StringIO()
+        with redirect_stdout(out):
+            tell_served([])
+        self.assertEqual(out.getvalue(), "")
+
+
+if __name__ == "__main__":
+    unittest.main()

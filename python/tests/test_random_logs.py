@@ -1,0 +1,72 @@
+"""Logs of random programs become recordings that the model accepts, in whose end each socket and descriptor is as Go had it, and that
+have the log's bytes and each goroutine's steps. Another share of them is tried by `make fuzz-around`, which asks netrev too."""
+
+import pytest
+
+from netrev_fuzz.random_logs import Program, program_of, replayed, wrong
+from netrev_go.answering import Unconvertible
+from netrev_go.making import make
+from netrev_go.points import Kind, Log
+from tests.test_go_converting import DESCRIPTOR, WORD, Points
+
+KEPT: tuple[str, ...] = ()  # seeds whose recordings were refused, or had another end
+
+
+@pytest.mark.parametrize("seed", [*map(str, range(60)), *KEPT])
+def test_a_log_becomes_a_recording_that_has_all_of_it(seed: str) -> None:
+    assert wrong(seed) == ""
+
+
+def test_random_programs_do_all_that_is_recorded() -> None:
+    programs = [program_of(str(seed)) for seed in range(60)]
+    kinds = {point.kind for program in programs for point in program.runtime.points}
+    assert kinds >= {
+        kind for kind in Kind if Kind.INIT <= kind <= Kind.CLOSE_WRITE or Kind.NOTED <= kind < Kind.NOTED_NAMED
+    }
+    assert sum(map(uses_again, programs)) > 5 and sum(map(fires_late, programs)) > 3
+
+
+def uses_again(program: Program) -> bool:
+    """Whether a descriptor is another socket's later."""
+    return len(program.runtime.descriptors) < sum(fd.pd is not None for fd in program.all)
+
+
+def fires_late(program: Program) -> bool:
+    """Whether a timer's function ran that was stopped or moved before."""
+    return any(point.kind == Kind.FIRE and point.b & 4 for point in program.runtime.points)
+
+
+def said_of(log: Points) -> str:
+    """What is wrong with the recording of a log."""
+    return replayed(make(Log(log.points)))[2]
+
+
+@pytest.mark.parametrize("sizes", [(5_000,) * 3, (1, 4_095, 4_096, 1), (65_536, 65_536, 1), (200_000, 1, 200_000)])
+def test_writes_go_on_past_the_capacity(sizes: tuple[int, ...]) -> None:
+    log = Points().opened()
+    for size in sizes:
+        log.add(Kind.WRITE, 1, WORD, size, size, 0)
+    assert said_of(log) == ""
+
+
+OTHER_WORD, OTHER = WORD + 20, DESCRIPTOR + 300
+
+
+def two_timers(*fired: tuple[int, int], now: int = 105) -> Points:
+    """Two descriptors' deadlines pass at once, at 105; then these of their timers go off."""
+    log = Points().opened().opened(OTHER_WORD, OTHER)
+    for descriptor in (DESCRIPTOR, OTHER):
+        log.add(Kind.SET_DEADLINE, 1, descriptor, 114, 5, time=100)
+    for descriptor, bits in fired:
+        log.add(Kind.FIRE, 0, descriptor, 1, bits, time=now)
+    return log
+
+
+@pytest.mark.parametrize("fired", [((DESCRIPTOR, 1), (OTHER, 1)), ((OTHER, 1), (DESCRIPTOR, 1)), ((OTHER, 1),)])
+def test_timers_that_are_due_at_once_go_off_in_any_order(fired: tuple[tuple[int, int], ...]) -> None:
+    assert said_of(two_timers(*fired)) == ""
+
+
+def test_a_timer_is_due_at_its_time_and_not_before() -> None:
+    with pytest.raises(Unconvertible):
+        said_of(two_timers((OTHER, 1), now=104))

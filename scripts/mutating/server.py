@@ -1,0 +1,110 @@
+"""A plugin of pytest's that tries one mutant after the other, each in a process of its own that begins where all tests are loaded.
+
+It reads requests, a line of JSON each, from the first of the two descriptors that NETREV_MUTANTS names: the file, its
+text before and behind the change, for how many seconds to try, and the test, if it is one alone. Into the second it writes what came of it: the test that failed, nothing, or
+"too long". A mutant's file lies changed on the disk meanwhile, for the processes that tests start; here the code of the function that it changes
+is put into the function that is there."""
+
+from __future__ import annotations
+
+import gc
+import json
+import os
+import select
+import signal
+import sys
+import time
+from collections.abc import Iterator
+from types import CodeType, FunctionType
+from typing import Any
+
+import pytest
+from _pytest.runner import runtestprotocol
+
+from .changes import NOT_PUT_IN, TOO_LONG
+
+
+def codes_in(code: CodeType) -> Iterator[CodeType]:
+    """The codes of a code, itself first, in the order of the source."""
+    yield code
+    for constant in code.co_consts:
+        if isinstance(constant, CodeType):
+            yield from codes_in(constant)
+
+
+def key(code: CodeType) -> tuple[str, int, str]:
+    return code.co_filename, code.co_firstlineno, code.co_name
+
+
+def changed_codes(file: str, before: str, behind: str) -> dict[tuple[str, int, str], CodeType]:
+    """The codes that a mutant changes, by where the old ones stand. A change may not add lines."""
+    old, new = (list(codes_in(compile(text, file, "exec", dont_inherit=True))) for text in (before, behind))
+    named: dict[tuple[str, int, str], CodeType] = {key(code): code for code in new}
+    return {key(code): named[key(code)] for code in old if key(code) in named and named[key(code)] != code}
+
+
+def put_in(file: str, before: str, behind: str) -> bool:
+    """Gives the functions that are loaded the mutant's code. Whether that was done, or its module isn't loaded yet."""
+    if not any(getattr(module, "__file__", None) == file for module in list(sys.modules.values())):
+        return True
+    changed = changed_codes(file, before, behind)
+    is_put_in = False
+    for function in gc.get_objects():
+        if type(function) is FunctionType:
+            code = changed.get(key(function.__code__))
+            if code is not None and code.co_freevars == function.__code__.co_freevars:
+                function.__code__ = code
+                is_put_in = True
+    return is_put_in
+
+
+def first_failed(items: list[pytest.Item]) -> str:
+    """Runs tests until one fails; its name."""
+    for item, following in zip(items, [*items[1:], None]):
+        reports = runtestprotocol(item, log=False, nextitem=following)
+        if any(report.failed for report in reports):
+            return item.nodeid
+    return ""
+
+
+def tried(request: dict[str, Any], items: list[pytest.Item]) -> str:
+    """The test that fails, in a process of its own."""
+    reading, writing = os.pipe()
+    process = os.fork()
+    if process == 0:
+        failed = "pytest ended"
+        try:
+            os.close(reading)
+            os.setpgid(0, 0)
+            if request["before"] == request["behind"] or put_in(request["file"], request["before"], request["behind"]):
+                failed = first_failed(items)
+            else:
+                failed = NOT_PUT_IN
+        finally:
+            os.write(writing, failed.encode())
+            os._exit(0)
+    os.close(writing)
+    failed = TOO_LONG
+    if select.select([reading], [], [], request["patience"])[0]:
+        failed = os.read(reading, 65_536).decode()
+    os.close(reading)
+    try:
+        os.killpg(process, signal.SIGKILL)
+    except ProcessLookupError:
+        pass
+    os.waitpid(process, 0)
+    return failed
+
+
+def pytest_runtestloop(session: pytest.Session) -> bool:
+    """In place of running the tests: runs those of each request."""
+    requests, answers = (int(number) for number in os.environ["NETREV_MUTANTS"].split(","))
+    with open(requests, encoding="utf-8") as lines, open(answers, "w", encoding="utf-8", buffering=1) as replies:
+        print("ready", file=replies)
+        for line in lines:
+            request = json.loads(line)
+            begin = time.monotonic()
+            items = [item for item in session.items if request["only"] in ("", item.nodeid)]
+            reply = {"failed": tried(request, items), "seconds": round(time.monotonic() - begin, 2)}
+            print(json.dumps(reply), file=replies)
+    return True

@@ -1,0 +1,255 @@
+"""Tries mutants: each in a copy of the repository, against the tests that call the function that it changes."""
+
+from __future__ import annotations
+
+import json
+import os
+import random
+import shutil
+import signal
+import subprocess
+import sys
+import tempfile
+import time
+from collections.abc import Iterable, Iterator
+from dataclasses import dataclass
+from pathlib import Path
+from queue import Empty, SimpleQueue
+from threading import Lock, Thread
+
+from .changes import KINDS, NOT_PUT_IN, TOO_LONG, Mutant, can_compile, mutants_of
+from .go_changes import go_mutants_of
+
+from .topics import Topics
+
+ROOT = Path(__file__).resolve().parent.parent.parent
+PACKAGES = ("python/nrdb", "python/netrev_calls", "python/netrev_go")
+UNTOUCHED = ("messages",)  # modules of texts alone, and folders of them
+FOUND, SURVIVED, UNTESTED, UNBUILT = "found", "survives", "no test imports it", "can't be compiled"
+FAILS_ANYWAY = "its test fails without it too"
+PATIENCE, GO_PATIENCE = 600, 1_800  # seconds
+SERVERS = 4  # that are kept
+
+
+@dataclass
+class Verdict:
+    """What came of a mutant."""
+
+    mutant: Mutant
+    answer: str
+    by: str = ""  # the test that found it
+    seconds: float = 0.0
+
+
+def copied(root: Path, room: Path) -> None:
+    """A copy of the repository: its Python and the files at its top; all other folders are the repository's own."""
+    room.mkdir(parents=True)
+    for path in root.iterdir():
+        if path.is_file():
+            shutil.copy2(path, room)
+        elif path.name == "python":
+            shutil.copytree(path, room / path.name, ignore=shutil.ignore_patterns("__pycache__"))
+        elif path.name not in (".git", "out"):
+            (room / path.name).symlink_to(path)
+
+
+def all_mutants(root: Path, parts: Iterable[str] = PACKAGES) -> Iterator[Mutant]:
+    """The mutants of these files and folders."""
+    for part in parts:
+        place = root / part
+        paths = [place] if place.is_file() else sorted(place.rglob("*"))
+        for path in paths:
+            if any(name in path.with_suffix("").parts for name in UNTOUCHED):
+                continue
+            if path.suffix == ".py":
+                yield from mutants_of(root, path)
+            elif path.suffix == ".go" and not path.name.endswith("_test.go"):
+                yield from go_mutants_of(root, path)
+
+
+def drawn(mutants: Iterable[Mutant], count: int, seed: int) -> list[Mutant]:
+    """So many mutants, of each kind as many; fewer if there aren't so many."""
+    dice = random.Random(seed)
+    piles: dict[str, list[Mutant]] = {kind: [] for kind in KINDS}
+    for mutant in mutants:
+        piles[mutant.kind].append(mutant)
+    for pile in piles.values():
+        dice.shuffle(pile)
+    chosen: list[Mutant] = []
+    while len(chosen) < count and any(piles.values()):
+        for pile in piles.values():
+            while pile and len(chosen) < count:
+                mutant = pile.pop()
+                path = ROOT / mutant.file
+                if path.suffix == ".go" or can_compile(mutant, path.read_text(encoding="utf-8")):
+                    chosen.append(mutant)
+                    break
+    return chosen
+
+
+def pytest_by(python: str) -> list[str]:
+    """How pytest is started."""
+    return [python, "-m", "pytest", "-q"]
+
+
+class Server:
+    """A pytest that has loaded tests, and runs some of them for each mutant."""
+
+    def __init__(self, room: Path, python: str, tests: list[str]) -> None:
+        requests, self._requests = os.pipe()
+        self._replies, replies = os.pipe()
+        environment = {**os.environ, "PYTHONHASHSEED": "0", "NETREV_MUTANTS": f"{requests},{replies}"}
+        environment["PYTHONPATH"] = str(room / "scripts")
+        self.output = tempfile.TemporaryFile()
+        self.process = subprocess.Popen(
+            [*pytest_by(python), "-p", "mutating.server", *tests], cwd=room, env=environment, stdin=subprocess.DEVNULL,
+            stdout=self.output, stderr=subprocess.STDOUT, pass_fds=(requests, replies), start_new_session=True,
+        )  # fmt: skip
+        os.close(requests)
+        os.close(replies)
+        self._lines = open(self._replies, encoding="utf-8")
+        if not self._lines.readline():
+            self.output.seek(0)
+            raise RuntimeError(f"pytest didn't load the tests: {self.output.read().decode()[-2_000:]}")
+
+    def first_failed(self, file: Path, before: str, behind: str, patience: float, only: str = "") -> str:
+        """The first test that fails with a mutant, of all or the only one; the empty text if none does."""
+        request = {"file": str(file), "before": before, "behind": behind, "patience": patience, "only": only}
+        os.write(self._requests, f"{json.dumps(request)}\n".encode())
+        return str(json.loads(self._lines.readline())["failed"])
+
+    def end(self) -> None:
+        os.close(self._requests)
+        self.process.wait()
+
+
+class Worker:
+    """A copy of the repository in which one mutant after the other is tried."""
+
+    def __init__(self, room: Path, topics: Topics, python: str) -> None:
+        self.room, self.topics, self.python = room, topics, python
+        self.passing: dict[str, bool] = {}
+        self.time = int(time.time())
+        self.servers: dict[tuple[str, ...], Server] = {}  # by the files of tests
+
+    def put(self, file: str, text: str) -> None:
+        """Writes a file with a time that no compiled module of it has."""
+        path = self.room / file
+        path.write_text(text, encoding="utf-8")
+        self.time += 2
+        os.utime(path, (self.time, self.time))
+
+    def run_anew(self, tests: list[str], patience: float) -> str:
+        """The first of the tests that fails, in a new pytest; the empty text if none does."""
+        process = subprocess.Popen(
+            [*pytest_by(self.python), "-x", *tests], cwd=self.room, env={**os.environ, "PYTHONHASHSEED": "0"},
+            stdin=subprocess.DEVNULL, stdout=subprocess.PIPE, stderr=subprocess.STDOUT, start_new_session=True,
+        )  # fmt: skip
+        try:
+            output = process.communicate(timeout=patience)[0].decode(errors="replace")
+        except subprocess.TimeoutExpired:
+            os.killpg(process.pid, signal.SIGKILL)
+            process.communicate()
+            return TOO_LONG
+        failed = [line.split(" ", 1)[1] for line in output.splitlines() if line.startswith(("FAILED ", "ERROR "))]
+        if process.returncode in (0, 5):
+            return ""
+        return failed[0].partition(" - ")[0] if failed else f"pytest ended with {process.returncode}"
+
+    def server(self, tests: list[str]) -> Server:
+        """The pytest that has loaded these files of tests; a few are kept."""
+        files = tuple(tests)
+        if files not in self.servers:
+            if len(self.servers) == SERVERS:
+                self.servers.pop(next(iter(self.servers))).end()
+            self.servers[files] = Server(self.room, self.python, tests)
+        return self.servers[files]
+
+    def first_failed(self, mutant: Mutant, text: str, tests: list[str]) -> str:
+        """The first of a mutant's tests that fails."""
+        behind = mutant.applied(text)
+        is_python = mutant.file.endswith(".py")
+        server = self.server(tests) if mutant.is_inside and is_python else None
+        self.put(mutant.file, behind)
+        try:
+            if server:
+                failed = server.first_failed(self.room / mutant.file, text, behind, PATIENCE)
+                if failed != NOT_PUT_IN:
+                    return failed
+            return self.run_anew(tests, PATIENCE if is_python else GO_PATIENCE)
+        finally:
+            self.put(mutant.file, text)
+
+    def passes(self, test: str, tests: list[str]) -> bool:
+        """Whether a test of these files passes in the copy as it is, which is asked once."""
+        if test not in self.passing:
+            self.passing[test] = not self.server(tests).first_failed(self.room, "", "", GO_PATIENCE, test)
+        return self.passing[test]
+
+    def verdict(self, mutant: Mutant) -> Verdict:
+        begin = time.monotonic()
+        text = (self.room / mutant.file).read_text(encoding="utf-8")
+        tests = self.topics.tests_of(mutant.file)
+        if not tests:
+            return Verdict(mutant, UNTESTED)
+        failed = self.first_failed(mutant, text, tests)
+        took = time.monotonic() - begin
+        if failed and mutant.file.endswith(".go") and self.is_unbuilt(mutant, text):
+            return Verdict(mutant, UNBUILT, "", took)
+        if not failed:
+            return Verdict(mutant, SURVIVED, "", took)
+        if "::" in failed and not self.passes(failed, tests):
+            return Verdict(mutant, FAILS_ANYWAY, failed, took)
+        return Verdict(mutant, FOUND, failed, took)
+
+    def end(self) -> None:
+        for server in self.servers.values():
+            server.end()
+
+    def is_unbuilt(self, mutant: Mutant, text: str) -> bool:
+        """Whether Go's own check of types refuses the mutant."""
+        path = self.room / mutant.file
+        self.put(mutant.file, mutant.applied(text))
+        ran = subprocess.run(["gofmt", "-e", str(path)], capture_output=True, check=False)
+        self.put(mutant.file, text)
+        return ran.returncode != 0
+
+
+def tried(mutants: list[Mutant], topics: Topics, room: Path, at_once: int, python: str) -> Iterator[Verdict]:
+    """The verdicts, as they come."""
+    queue: SimpleQueue[Mutant] = SimpleQueue()
+    for mutant in mutants:
+        queue.put(mutant)
+    verdicts: SimpleQueue[Verdict | BaseException] = SimpleQueue()
+    lock = Lock()
+
+    def work(number: int) -> None:
+        try:
+            folder = room / str(number)
+            with lock:
+                copied(ROOT, folder)
+            worker = Worker(folder, topics, python)
+            try:
+                while True:
+                    verdicts.put(worker.verdict(queue.get_nowait()))
+            except Empty:
+                worker.end()
+        except BaseException as error:
+            verdicts.put(error)
+
+    threads = [Thread(target=work, args=(number,), daemon=True) for number in range(at_once)]
+    for thread in threads:
+        thread.start()
+    for _ in mutants:
+        verdict = verdicts.get()
+        if isinstance(verdict, BaseException):
+            raise verdict
+        yield verdict
+
+
+def python_with_pytest() -> str:
+    """A Python that has pytest, as scripts/pytest.sh looks for it."""
+    for python in (sys.executable, "/usr/bin/python3"):
+        if not subprocess.run([python, "-c", "import pytest"], stderr=subprocess.DEVNULL, check=False).returncode:
+            return python
+    raise SystemExit("mutants.py: no Python here has pytest (Debian: apt-get install python3-pytest)")
