@@ -1,2 +1,1 @@
-pub mod ArgumentsLemmas
 pub mod StartingLemmas

@@ -1,3 +1,2 @@
 -- what callers need
-pub mod Arguments
 pub mod Starting

@@ -1,5 +1,5 @@
 -- What a program does over its file, and what is printed where none runs.
-use Rattle.std.specs.Prelude.{◌≡◌, ◌⊎◌, ℕ, true, List, ◌++◌, codes}
+use Rattle.std.specs.Prelude.{◌≡◌, ◌⊎◌, ℕ, List, ◌++◌, codes}
 use Rattle.std.specs.declared.io.ErrorKind.{ErrorKind}
 use Rattle.std.specs.declared.io.ErrorKind.TheVariants as kind
 use Rattle.nr_rev.specs.Refusing.{refused_memory}
@@ -10,7 +10,6 @@ use Rattle.nr_programs.specs.Changes.{Changes}
 use Rattle.nr_programs.specs.Run.{EndsPrinting}
 use Rattle.nr_programs.specs.Auxiliary.Run.{Checks}
 use Rattle.nr_programs.specs.Serving.{ServesAll}
-use Rattle.nr_programs.specs.Sharing.{is_in_range}
 use Rattle.nr_programs.specs.Suspects.{ShowsSuspects}
 use Rattle.nr_programs.specs.Transcript.{RunsTranscript}
 use Rattle.nr_programs.specs.Upgrade.{Upgrades}
@@ -18,10 +17,10 @@ use Rattle.nr_programs.specs.declared.run.ExitStatus.{ExitStatus}
 use Rattle.nr_programs.specs.declared.run.ExitStatus.TheVariants as statuses
 use Rattle.netrev.specs.declared.starting.Unstarted.{Unstarted}
 use Rattle.netrev.specs.declared.starting.Unstarted.TheVariants as unstarted
-use Rattle.netrev.specs.declared.arguments.Program.{Program}
-use Rattle.netrev.specs.declared.arguments.Program.TheVariants as program
-use Rattle.netrev.specs.declared.arguments.ArgumentsFault.{ArgumentsFault}
-use Rattle.netrev.specs.declared.arguments.ArgumentsFault.TheVariants as arguments
+use Rattle.nr_arguments.specs.declared.arguments.Program.{Program}
+use Rattle.nr_arguments.specs.declared.arguments.Program.TheVariants as program
+use Rattle.nr_arguments.specs.declared.arguments.ArgumentsFault.{ArgumentsFault}
+use Rattle.nr_arguments.specs.declared.arguments.ArgumentsFault.TheVariants as arguments
 
 -- a fault of the arguments
 abbrev pub unstarted_of_arguments : ArgumentsFault → Unstarted
@@ -43,15 +42,6 @@ usage_text =
     ++ codes "       netrev suspects FILE\n"
     ++ codes "       netrev serve FILE --port P [--fronts N] [--workers W] [--journal H]"
     ++ codes " [--connections C]\n"
-
--- the numbers that a program is asked for with are in their ranges
-abbrev pub IsInRange : Program → Type 0
-IsInRange (program.Run file) = Unit {0}
-IsInRange (program.Check file) = Unit {0}
-IsInRange (program.Upgrade file) = Unit {0}
-IsInRange (program.Changes file) = Unit {0}
-IsInRange (program.Suspects file) = Unit {0}
-IsInRange (program.Serve file sharing) = is_in_range sharing ≡ true
 
 -- What a program does over the bytes of its file. Only `run` reads input, and it writes its
 -- transcript. Only `serve` opens ports.

@@ -2,7 +2,7 @@
 
 ghost use Rattle.std.specs.Prelude.{◌≡◌, [], ◌∷◌, ◌++◌};
 
-use crate::arguments::Program;
+use nr_arguments::Program;
 use nr_serving::{Arrival, Connections, Conversations, Fronts, Next, Ports};
 use std::io;
 use std::net::{Ipv4Addr, Shutdown, SocketAddr, TcpListener, TcpStream};

@@ -8,13 +8,12 @@
 //! `netrev serve FILE --port P` answers the commands of several people, who share one session, over the loopback.
 #![tactic(auto)]
 
-pub mod arguments;
 mod loopback;
 pub mod starting;
 
-use crate::arguments::read_words;
 use crate::loopback::Loopback;
 use crate::starting::{Unstarted, start};
+use nr_arguments::read_words;
 use nr_machine::World;
 use nr_programs::ExitStatus;
 use nr_serving::LoggedPorts;

@@ -2,12 +2,13 @@
 
 ghost use Rattle.std.specs.Prelude.{◌≡◌, false, IfOk, IfErr};
 ghost use Rattle.std.specs.IoError.{error_kind};
-ghost use Rattle.netrev.specs.Starting.{IsInRange, Plays, PrintsUnstarted, unstarted_of_arguments, unstarted_by};
+ghost use Rattle.nr_arguments.specs.Arguments.{IsInRange};
+ghost use Rattle.netrev.specs.Starting.{Plays, PrintsUnstarted, unstarted_of_arguments, unstarted_by};
 ghost use Rattle.nr_rev.specs.Refusing.{refused_memory};
 ghost use Rattle.nr_programs.specs.declared.run.ExitStatus.{ExitStatus as Status};
 ghost use Rattle.netrev.specs.declared.starting.Unstarted.TheVariants as reasons;
 
-use crate::arguments::{ArgumentsFault, Program, USAGE};
+use nr_arguments::{ArgumentsFault, Program, USAGE};
 use nr_changes::TouchesCells;
 use nr_programs::{
     ExitStatus, changes_bytes, check_bytes, refuse, run_bytes, serve_bytes, suspects_bytes,

@@ -1,8 +1,9 @@
 -- What is out and what is held of the texts of replies.
-use Rattle.std.proofs.Common.{◌≡◌, ℕ, ◌+◌, List, [], ◌++◌, arith, length, take, refl, sym, ap, ◌∙◌, subst, append-nil, length-append, Ok, Err, Result}
-use Rattle.std.proofs.lemmas.List.{take-append-le}
-use Rattle.std.proofs.Math.Seq.{take-append-add}
-use Rattle.nr_text.specs.Streams.{Outgoing, Sends, WritesAll, WritesPrefix}
+use Rattle.std.proofs.Common.{◌≡◌, ℕ, ◌+◌, ◌-◌, ◌≤◌, List, [], ◌++◌, Option, Some, arith, length, take, refl, sym, ap, ◌∙◌, subst, append-nil, length-append, Ok, Err, Result}
+use Rattle.std.specs.Io.KnownBytes.{Appends}
+use Rattle.std.proofs.lemmas.List.{length-take-le, take-append-le}
+use Rattle.std.proofs.Math.Seq.{take-append-add, take-append_seam}
+use Rattle.nr_text.specs.Streams.{Outgoing, Sends, WritesAll, WritesPrefix, saturating_count}
 use Rattle.nr_text.specs.Auxiliary.Streams.{Prints}
 use Rattle.nr_text.specs.declared.sink.Part.{Part}
 use Rattle.nr_text.proofs.StreamLemmas.{sends_none, sends_then}
@@ -48,3 +49,15 @@ cut_before old new held text count reported cut = record {
   failed = cut.failed;
   count_is = λ none. absurd (let zero : length held ≡ 0 = ap length none in omega (arith, zero, cut.within));
 }
+
+-- what was held is left when the part of a text behind it is taken back
+pub part_taken_back : (old new : Outgoing) (text held bytes still : List ℕ) (count : ℕ) → old.contents ≡ Some held → new.contents ≡ Some bytes → WritesPrefix old new text count
+    → ((n : ℕ) → count ≡ saturating_count n → n ≤ length bytes → still ≡ take (length bytes - n) bytes) → still ≡ held
+part_taken_back old new text held bytes still count before after cut taken =
+    let n = cut.n in
+    let known = subst (λ (o : Option (List ℕ)). Appends old.contents o (take n text)) after cut.out.appended in
+    let grown : bytes ≡ held ++ take n text = subst (λ (o : Option (List ℕ)). Appends o (Some bytes) (take n text)) before known in
+    let is_n : length (take n text) ≡ n = length-take-le n text (omega (arith, cut.within)) in
+    let lengths : length bytes ≡ length held + length (take n text) = ap length grown ∙ length-append held (take n text) in
+    let rest : length bytes - n ≡ length held = omega (arith, lengths, is_n) in
+    taken n cut.count_is (omega (arith, lengths, is_n)) ∙ ap (λ k. take k bytes) rest ∙ ap (take (length held)) grown ∙ take-append_seam held (take n text)

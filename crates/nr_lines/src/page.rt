@@ -1,6 +1,7 @@
 //! Replies that are held.
 
-ghost use Rattle.std.specs.Prelude.{◌≡◌, ◌++◌, [], false, true};
+ghost use Rattle.std.specs.Prelude.{◌≡◌, ℕ, ◌≤◌, ◌-◌, ◌++◌, [], false, length, take, true};
+ghost use Rattle.nr_text.specs.Streams.{saturating_count};
 ghost use Rattle.nr_text.specs.Auxiliary.Streams.{Prints};
 ghost use Rattle.nr_lines.specs.Page.{PrintsBehind};
 
@@ -56,13 +57,23 @@ impl Page {
         ensures holds { result ≡ true → self.new ≡ self.old ++ T.text text.now }
         ensures leaves { result ≡ false → self.new ≡ self.old }
     {
-        let Err(Part(part)) = self.sink.print(text) else {
+        let Err(part) = self.sink.print(text) else {
             return true;
         };
-        let mut bytes = self.take();
-        bytes.truncate(bytes.len() - part as usize);
-        self.sink = Sink::new(bytes);
+        self.take_back(part);
         false
+    }
+
+    /// Takes back the bytes of a part of a text, which are the last ones.
+    // (It has room for a page, which would be cleared for each text that is held.)
+    #[inline(never)]
+    fn take_back(&mut self, part: Part)
+        ensures { (n : ℕ) → part.0 ≡ saturating_count n → n ≤ length self.old
+            → self.new ≡ take (length self.old - n) self.old }
+    {
+        let mut bytes = self.take();
+        bytes.truncate(bytes.len().saturating_sub(part.0 as usize));
+        self.sink = Sink::new(bytes);
     }
 
     /// Puts out what is held, in one write where the writer takes all of it.

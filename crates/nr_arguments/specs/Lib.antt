@@ -1,0 +1,2 @@
+-- what callers need
+pub mod Arguments

@@ -1,0 +1,6 @@
+//! The program's arguments: which program they ask for, on which file, with which numbers.
+#![tactic(auto)]
+
+mod arguments;
+
+pub use arguments::{ArgumentsFault, Program, USAGE, USUAL_JOURNAL, plain_arguments_ask, read_words};

@@ -1,0 +1,103 @@
+#!/usr/bin/env python3
+"""Finds the numbers that no proof needs:  scripts/numbers.py [--list] [CRATE ..]
+
+Each constant and each bound of a loop is made one less in a copy of the repository, where `rt must-fail` tries it as an edit. A number
+whose change is refused is fixed by a contract. One whose crate is still proved rests on the source alone: a smaller one is slower, or gives
+up earlier, and no theorem says so.
+
+Without names it tries the crates of netrev. With --list it prints what it would change. A crate takes minutes. The status is 0 if each
+change was tried, else 1.
+"""
+
+from __future__ import annotations
+
+import argparse
+import re
+import shutil
+import subprocess
+import sys
+import tempfile
+from pathlib import Path
+from typing import Iterator, NamedTuple
+
+ROOT = Path(__file__).resolve().parent.parent
+CONSTANT = re.compile(r"^ *(?:pub(?:\(crate\))? )?const (\w+): [iu](?:8|16|32|64|size) = (.+);$", re.M)
+BOUND = re.compile(r"^ *for _ in 0\.\.(u64::MAX) \{$", re.M)
+VERDICT = re.compile(r"^(?:rt: )?must-fail (\w+)/(\w+)\.edit: (refused|NOT REFUSED|BAD EDIT|NOT TRIED)", re.M)
+WORDS = {"refused": "fixed by a contract", "NOT REFUSED": "**the source alone**"}
+
+
+class Number(NamedTuple):
+    """A number in the source of a crate: its file, the line that has it, and the text that is made one less."""
+
+    crate: str
+    name: str
+    file: str
+    line: str
+    text: str
+
+    @property
+    def edit(self) -> str:
+        """The edit that makes it one less."""
+        before, _, after = self.line.rpartition(self.text)
+        return f"file: {self.file}\nold: {self.line}\nnew: {before}({self.text}) - 1{after}\n"
+
+
+def crates_of_netrev() -> list[str]:
+    """The crates that netrev consists of, in the order of crates.txt."""
+    needs = {}
+    for line in (ROOT / "crates.txt").read_text("utf-8").splitlines():
+        head, _, below = line.partition(":")
+        needs[head.split()[0]] = below.split()
+    parts, unread = {"netrev"}, ["netrev"]
+    while unread:
+        new = set(needs.get(unread.pop(), [])) - parts
+        parts |= new
+        unread += new
+    return [name for name in needs if name in parts]
+
+
+def numbers_of(crate: str) -> Iterator[Number]:
+    """The numbers of a crate, file by file. A line that a file has twice can't be named by an edit, and is left out."""
+    folder = ROOT / "crates" / crate
+    for path in sorted((folder / "src").rglob("*.rt")):
+        source, file = path.read_text("utf-8"), str(path.relative_to(folder))
+        bounds = [(f"bound_of_{path.stem}", found[0], found[1]) for found in BOUND.finditer(source)]
+        for name, line, text in [(found[1], found[0], found[2]) for found in CONSTANT.finditer(source)] + bounds:
+            if source.count(line.strip()) == 1:
+                yield Number(crate, name, file, line.strip(), text)
+
+
+def verdicts(numbers: list[Number]) -> dict[tuple[str, str], str]:
+    """What the prover says of each number that is one less, by its crate and its name."""
+    with tempfile.TemporaryDirectory(prefix="netrev-numbers-") as folder:
+        copy = Path(folder) / "netrev"
+        shutil.copytree(ROOT, copy, ignore=shutil.ignore_patterns("must-fail", ".git", "target"))
+        for number in numbers:
+            path = copy / "crates" / number.crate / "must-fail" / f"{number.name}.edit"
+            path.parent.mkdir(exist_ok=True)
+            path.write_text(number.edit, "utf-8")
+        command = ["rt", "must-fail", *dict.fromkeys(number.crate for number in numbers)]
+        output = subprocess.run(command, cwd=copy, capture_output=True, text=True, check=False)
+    return {(found[1], found[2]): found[3] for found in VERDICT.finditer(output.stdout + output.stderr)}
+
+
+def main() -> int:
+    parser = argparse.ArgumentParser(description=(__doc__ or "").partition("\n")[0])
+    parser.add_argument("--list", action="store_true", help="print the changes, and try none")
+    parser.add_argument("crates", nargs="*", metavar="CRATE")
+    arguments = parser.parse_args()
+    numbers = [number for crate in arguments.crates or crates_of_netrev() for number in numbers_of(crate)]
+    if arguments.list:
+        print("\n".join(f"{number.crate}/{number.file}: {number.line}" for number in numbers))
+        return 0
+    found = verdicts(numbers)
+    print("| Crate | Number | Held by |\n|---|---|---|")
+    for number in numbers:
+        verdict = found.get((number.crate, number.name), "no verdict")
+        print(f"| {number.crate} | `{number.name}` = {number.text} | {WORDS.get(verdict, verdict)} |")
+    return 0 if all(verdict in WORDS for verdict in found.values()) and len(found) == len(numbers) else 1
+
+
+if __name__ == "__main__":
+    sys.exit(main())
