@@ -1,5 +1,5 @@
 #!/usr/bin/env python3
-"""Finds the numbers that no proof needs:  scripts/numbers.py [--list] [CRATE ..]
+"""Finds the numbers that no proof needs:  scripts/bounds.py [--list] [CRATE ..]
 
 Each constant and each bound of a loop is made one less in a copy of the repository, where `rt must-fail` tries it as an edit. A number
 whose change is refused is fixed by a contract. One whose crate is still proved rests on the source alone: a smaller one is slower, or gives
@@ -70,7 +70,7 @@ def numbers_of(crate: str) -> Iterator[Number]:
 
 def verdicts(numbers: list[Number]) -> dict[tuple[str, str], str]:
     """What the prover says of each number that is one less, by its crate and its name."""
-    with tempfile.TemporaryDirectory(prefix="netrev-numbers-") as folder:
+    with tempfile.TemporaryDirectory(prefix="netrev-bounds-") as folder:
         copy = Path(folder) / "netrev"
         shutil.copytree(ROOT, copy, ignore=shutil.ignore_patterns("must-fail", ".git", "target"))
         for number in numbers:
