@@ -32,15 +32,17 @@ def binary(
     passed: Optional[int] = None,
     holders: Optional[Sequence[HolderRow]] = None,
     holders_lost: int = 0,
+    is_sparse: bool = False,
 ) -> bytes:
     """The log with these points, each at the place of its number. `room` is the number of places. `holders` is the
-    table of locked mutexes (None: the log has none), which lacked room `holders_lost` times."""
+    table of locked mutexes (None: the log has none), which lacked room `holders_lost` times. In one that is sparse a
+    point without a time has that of the point before."""
     points = list(points)
     room = room or max((point.number for point in points), default=0) + 1
     last = max((point.number for point in points), default=-1) + 1
     words = (MAGIC, last if passed is None else passed, room, STACKS, begin, 1, 0, 0, 0, 0, 0)
     of_holders = (len(holders or ()), holders_lost, 0 if holders is None else 1)
-    header = struct.pack("<15Q", *words, 0, *of_holders)
+    header = struct.pack("<19Q", *words, 0, *of_holders, 0, 0, 0, is_sparse)
     table = bytearray(STACKS * 256)
     for number, (made, started, calls) in (stacks or {}).items():
         of_stack = (number, len(calls), made, started, *calls)

@@ -31,7 +31,8 @@ GREATEST = 2**63 - 1
 SOONEST = 3  # nanoseconds from now that a deadline may be, as the steps that lead to others let two go by
 READ, FIRE = int(Kind.READ), int(Kind.FIRE)
 
-Repeated = tuple[Line | None, Line, int]  # the bytes that arrive before, the goroutine's own line, and its number
+# The bytes that arrive before, the goroutine's own line and its number, and the stack of its call.
+Repeated = tuple[Line | None, Line, int, list[int]]
 
 
 class Converter:
@@ -54,7 +55,7 @@ class Converter:
         self.ended: list[int] = []  # the number of steps after each point
         self.made: list[Made] = []  # the goroutines' steps, by Go's names
         self._number = 0  # of the point
-        self.last_stacks: list[int] = []
+        self.calls: dict[tuple[int, Socket], list[int]] = {}  # the last stack of a goroutine at a socket
         self.sockets = 0
         self.free: list[int] = []
         self.descriptors = 0
@@ -70,7 +71,7 @@ class Converter:
     def convert(self) -> None:
         """Makes the steps of all points."""
         lines, stacks, made, ended = self.lines, self.stacks, self.made, self.ended
-        last_stacks, last_steps = self.last_stacks, self.last_steps
+        last_steps = self.last_steps
         others, known = self._others(), dict[tuple[object, ...], Repeated]()
         # (there may be a million points: repeated lines are put together once, and no function is called for them again)
         for point, socket in self.points:
@@ -88,14 +89,14 @@ class Converter:
             repeated = known.get(said)
             if repeated is None:
                 repeated = known[said] = self._repeated(point, socket)
-            before, line, g = repeated
+            before, line, g, call = repeated
             if before:
                 lines.append(before)
                 stacks.append(0)
             if stack:  # (as `of` has it)
-                last_stacks[g] = stack
+                call[0] = stack
             else:
-                stack = last_stacks[g]
+                stack = call[0]
             lines.append(line)
             stacks.append(stack)
             step = last_steps[g] = len(lines)
@@ -106,7 +107,11 @@ class Converter:
         self._number = point.number
         g = self.goroutine(point.goroutine)
         before = arrival(socket.number, point.b) if point.kind == READ else None
-        return before, repeated_line(point, g, socket), g
+        return before, repeated_line(point, g, socket), g, self.call(point.goroutine, socket)
+
+    def call(self, identity: int, socket: Socket) -> list[int]:
+        """The stack of a goroutine's last call at a socket; 0 if none is known."""
+        return self.calls.setdefault((identity, socket), [0])
 
     def _others(self) -> dict[int, Callable[[Point, Socket], None]]:
         """What makes the steps of points that aren't one repeated line."""
@@ -134,12 +139,13 @@ class Converter:
         self.lines.append(text)
         self.stacks.append(0)
 
-    def of(self, g: int, stack: int, text: Line) -> None:
-        """A step of a goroutine. If its point has the stack of another goroutine, the step has the goroutine's last stack."""
+    def of(self, g: int, socket: Socket, stack: int, text: Line) -> None:
+        """A step of a goroutine at a socket. If its point has no stack, the step has that of the goroutine's last call there."""
+        call = self.call(self.names[g], socket)
         if stack:
-            self.last_stacks[g] = stack
+            call[0] = stack
         else:
-            stack = self.last_stacks[g]
+            stack = call[0]
         lines = self.lines
         lines.append(text)
         self.stacks.append(stack)
@@ -163,13 +169,12 @@ class Converter:
             if number not in self._taken_over:  # the one that had it from the start is named too
                 self._taken_over.add(number)
                 self.taken.append((number, 0, self.names[number]))
-            self.names[number], self.last_stacks[number] = identity, 0
+            self.names[number] = identity
             self.taken.append((number, len(self.lines), identity))
             return number
         number = len(self.names)
         self.names.append(identity)
         self.last_steps.append(0)
-        self.last_stacks.append(0)
         if number:
             self.step(f'["spawn",["number",{number}]]')
         return number
@@ -184,7 +189,7 @@ class Converter:
         g = self.goroutine(point.goroutine)
         socket.number = self.sockets
         self.sockets += 1
-        self.of(g, point.stack, f'["sockopen",{BUFFER},{socket.capacity()},["number",{socket.number}]]')
+        self.of(g, socket, point.stack, f'["sockopen",{BUFFER},{socket.capacity()},["number",{socket.number}]]')
 
     def read(self, point: Point, socket: Socket) -> None:
         """A read that gets nothing, or many bytes. (Of a few bytes it is repeated.)"""
@@ -193,14 +198,14 @@ class Converter:
             return self.beside.failed(self.last_steps[g], point)
         for count in parts(max(point.b, 0), BUFFER):
             self.step(arrival(socket.number, count))
-            self.of(g, point.stack, read_line(g, socket.number, point.a, f'["got",{count}]'))
+            self.of(g, socket, point.stack, read_line(g, socket.number, point.a, f'["got",{count}]'))
         if point.b > 0:
             return
         if point.c != AGAIN and not socket.peer_closed:
             socket.peer_closed = True
             self.step(f'["peerclose",{socket.number},"done"]')
         answer = '"again"' if point.c == AGAIN else '"eof"'
-        self.of(g, point.stack, read_line(g, socket.number, point.a, answer))
+        self.of(g, socket, point.stack, read_line(g, socket.number, point.a, answer))
 
     def write(self, point: Point, socket: Socket) -> None:
         passed, _, identity, _, asked, put, error, _, stack = point
@@ -209,7 +214,7 @@ class Converter:
             if not can_answer(socket, point):
                 return self.beside.failed(self.last_steps[g], point)
             answer = '"pipe"' if error == BROKEN_PIPE else '"again"'
-            self.of(g, stack, written(g, number, min(max(asked, 1), BUFFER), answer))
+            self.of(g, socket, stack, written(g, number, min(max(asked, 1), BUFFER), answer))
             return
         capacity = socket.capacity()
         for count in parts(put, min(capacity, BUFFER)):
@@ -218,7 +223,7 @@ class Converter:
                 self.step(drained(number, missing))
                 socket.held -= missing
             socket.held += count
-            self.of(g, stack, put_line(g, number, count))
+            self.of(g, socket, stack, put_line(g, number, count))
         if socket.last_put == passed and socket in self.put_off:
             self.shut(socket, *self.put_off.pop(socket))
 
@@ -232,11 +237,11 @@ class Converter:
 
     def shut(self, socket: Socket, g: int, stack: int) -> None:
         socket.shut = True
-        self.of(g, stack, f'["closewrite",{g},{socket.number},"done"]')
+        self.of(g, socket, stack, f'["closewrite",{g},{socket.number},"done"]')
 
-    def park(self, point: Point, _: Socket) -> None:
+    def park(self, point: Point, socket: Socket) -> None:
         g = self.goroutine(point.goroutine)
-        self.of(g, 0, f'["parkcommit",{g},"{"yes" if point.b else "no"}"]')
+        self.of(g, socket, 0, f'["parkcommit",{g},"{"yes" if point.b else "no"}"]')
 
     def event(self, point: Point, socket: Socket) -> None:
         """An event that was fetched before the descriptor was closed comes too late: Go says so if its events have tags, and
@@ -250,7 +255,7 @@ class Converter:
         g = self.goroutine(point.goroutine)
         reading, writing = self.takes_descriptor(socket)
         socket.sequences = socket.sequences[READING] - reading, socket.sequences[WRITING] - writing
-        self.of(g, point.stack, f'["pollopen",{g},{socket.number},["number",{socket.descriptor}]]')
+        self.of(g, socket, point.stack, f'["pollopen",{g},{socket.number},["number",{socket.descriptor}]]')
 
     def takes_descriptor(self, socket: Socket) -> tuple[int, int]:
         """Opens a descriptor for a socket, and says what its sequences are then."""
@@ -269,14 +274,14 @@ class Converter:
         socket.is_open = False
         self.free.append(socket.descriptor)
         self.tags[socket.descriptor] += 1
-        self.of(g, point.stack, f'["pollclose",{g},{socket.descriptor},"done"]')
+        self.of(g, socket, point.stack, f'["pollclose",{g},{socket.descriptor},"done"]')
 
     def evict(self, point: Point, socket: Socket) -> None:
         g = self.goroutine(point.goroutine)
         for side in (READING, WRITING):
             self.pop_what_fires(socket, side)
         self.deadlines.evict(socket.descriptor)
-        self.of(g, point.stack, f'["evict",{g},{socket.descriptor},"done"]')
+        self.of(g, socket, point.stack, f'["evict",{g},{socket.descriptor},"done"]')
 
     def set_deadline(self, point: Point, socket: Socket) -> None:
         """The deadline is just Go's, also where another processor had read a later time before this one's point."""
@@ -293,7 +298,7 @@ class Converter:
             time = max(1, time - (self.clock - now)) if time + passed <= GREATEST else GREATEST
             ends = min(self.clock + time, GREATEST)
         self.deadlines.set(number, mode, ends, changes=changes if ends == first else None)
-        self.of(g, stack, f'["setdeadline",{g},{number},"{mode}",{time},"done"]')
+        self.of(g, socket, stack, f'["setdeadline",{g},{number},"{mode}",{time},"done"]')
 
     def pop_what_fires(self, socket: Socket, side: int) -> None:
         """A timer that is about to be stopped or armed again goes off first if the log has its firing: it had left Go's heap by

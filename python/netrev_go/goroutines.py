@@ -311,6 +311,7 @@ class Passing:
         """A value goes from one goroutine to another, which waits for that."""
         _, kind, g, at, other, b, _, _, stack = point
         at = self._keys.get(at, at)
+        self._ready[other] = g
         way = b if kind == MET else GIVES
         if way != GIVES and way != TAKES:  # of a log of before
             what = self._parked[other].what if other in self._parked else OTHER

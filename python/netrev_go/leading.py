@@ -34,21 +34,21 @@ def lead(converter: Converter, socket: Socket) -> None:
         if step.kind == "sockopen":
             socket.number = converter.sockets
             converter.sockets += 1
-            put(converter, step, g, f'["sockopen",{BUFFER},{socket.capacity()},["number",{socket.number}]]')
+            put(converter, socket, step, g, f'["sockopen",{BUFFER},{socket.capacity()},["number",{socket.number}]]')
         elif step.kind == "pollopen":
             converter.takes_descriptor(socket)
-            put(converter, step, g, f'["pollopen",{g},{socket.number},["number",{socket.descriptor}]]')
+            put(converter, socket, step, g, f'["pollopen",{g},{socket.number},["number",{socket.descriptor}]]')
         elif step.kind in ("soon", "setdeadline"):
             soon = max(soon, set_deadline(converter, socket, step, g))
         elif step.kind == "passes":
             passes(converter, socket, step.arguments[0], soon)
         elif step.kind == "syswrite":
-            put(converter, step, g, written(g, socket.number, step.arguments[0], of_json(answer_of(step))))
+            put(converter, socket, step, g, written(g, socket.number, step.arguments[0], of_json(answer_of(step))))
         else:
             if step.kind == "evict":
                 converter.deadlines.evict(socket.descriptor)
             said = spelled(step, g, socket.number, socket.descriptor, socket.tag)
-            put(converter, step, g, of_json([*said, answer_of(step)]))
+            put(converter, socket, step, g, of_json([*said, answer_of(step)]))
     assert socket.note
     reading, writing = converter.deadlines.descriptors[socket.descriptor].sequences
     socket.sequences = socket.note.sequences[READING] - reading, socket.note.sequences[WRITING] - writing
@@ -59,13 +59,13 @@ def answer_of(step: Lead) -> object:
     return step.answer[0] if len(step.answer) == 1 else list(step.answer)
 
 
-def put(converter: Converter, step: Lead, g: int, line: Line) -> None:
+def put(converter: Converter, socket: Socket, step: Lead, g: int, line: Line) -> None:
     """A step of a goroutine's, with the stack that it had; no order of the program's is of it."""
     converter.lines.append(line)
     converter.stacks.append(step.stack)
     converter.last_steps[g] = len(converter.lines)
     if step.stack:
-        converter.last_stacks[g] = step.stack
+        converter.call(step.goroutine, socket)[0] = step.stack
 
 
 def set_deadline(converter: Converter, socket: Socket, step: Lead, g: int) -> int:
@@ -80,7 +80,7 @@ def set_deadline(converter: Converter, socket: Socket, step: Lead, g: int) -> in
             raise NotLed(socket, str(why)) from None
     ends = deadline_of(converter.clock, time)
     converter.deadlines.set(socket.descriptor, mode, ends)
-    put(converter, step, g, f'["setdeadline",{g},{socket.descriptor},"{mode}",{time},"done"]')
+    put(converter, socket, step, g, f'["setdeadline",{g},{socket.descriptor},"{mode}",{time},"done"]')
     return ends if step.kind == "soon" else 0
 
 

@@ -12,7 +12,7 @@ import sys
 from array import array
 from collections.abc import Callable, Iterable
 from functools import lru_cache, partial
-from itertools import compress
+from itertools import accumulate, compress
 from typing import BinaryIO, cast
 from operator import xor
 
@@ -27,7 +27,7 @@ HOLDER_CALL = 4  # the word of the first call
 POINT_WORDS = 8
 WORD = 8
 PAGE = 4_096
-HEADER_WORDS = 18
+HEADER_WORDS = 19
 ROW_WORDS, WAITER_WORDS = 16, 8  # of the tables of descriptors, and of goroutines that are queued for their locks
 STACK_BYTES, HOLDER_BYTES, POINT_BYTES = STACK_WORDS * WORD, HOLDER_WORDS * WORD, POINT_WORDS * WORD
 ROW_BYTES, WAITER_BYTES = ROW_WORDS * WORD, WAITER_WORDS * WORD
@@ -39,6 +39,7 @@ HOLDER_BEGUN = 1  # instead of an address, in a row that is being written
 # As many points may be under way on other processors while one is written.
 UNDER_WAY = 64
 LOW = 2**32 - 1
+NEVER = -1  # instead of a time
 OF_KINDS = bytes(KINDS)
 
 
@@ -64,6 +65,7 @@ class Header:
         self.knows_holders = words[14] == 1 and not words[13]
         self.rows, self.queue = words[15:17]  # (0 in logs of before)
         self.is_copy = words[17] == 1  # made while the program wrote
+        self.is_sparse = words[18] == 1  # points without a time have that of the point before
         are_possible = 0 < self.points <= MOST_POINTS and self.stacks <= MOST_STACKS and self.holders <= MOST_HOLDERS
         are_possible = are_possible and self.rows <= MOST_POINTS and self.queue <= MOST_POINTS
         if not are_possible or self.begin >= 2**63:
@@ -125,13 +127,17 @@ def whole_points(file: BinaryIO, header: Header) -> tuple[list[Point], int]:
     first = max(0, header.passed - header.points)
     turn = first % header.points
     points: list[Point] = []
+    latest = header.begin if header.is_sparse else NEVER
     for begin, end, number in ((turn, held, first), (0, min(turn, held), first + header.points - turn)):
         end = min(end, begin + max(0, header.passed - number))
         for place in range(begin, end, AT_ONCE):
             file.seek(ring + place * POINT_BYTES)
             text = file.read(min(AT_ONCE, end - place) * POINT_BYTES)
             if text != bytes(len(text)):
-                points += points_of(text[: len(text) // POINT_BYTES * POINT_BYTES], number + place - begin)
+                found = points_of(text[: len(text) // POINT_BYTES * POINT_BYTES], number + place - begin, latest)
+                points += found
+                if header.is_sparse and found:
+                    latest = max(latest, found[-1].time)
     return points, held
 
 
@@ -139,9 +145,9 @@ def whole_points(file: BinaryIO, header: Header) -> tuple[list[Point], int]:
 made = cast(Callable[[tuple[int, ...]], Point], partial(tuple.__new__, Point))
 
 
-def points_of(text: bytes, first: int) -> list[Point]:
-    """The whole points of a part of the ring, in which the first has this number. (A column at a time, as there may be
-    millions.)"""
+def points_of(text: bytes, first: int, latest: int = NEVER) -> list[Point]:
+    """The whole points of a part of the ring, in which the first has this number. Those without a time have that of the point
+    before, if the `latest` time before them is known. (A column at a time, as there may be millions.)"""
     signed = array("q", text)
     heads, *columns, lasts = (signed[column::POINT_WORDS] for column in range(POINT_WORDS))
     numbers = range(first, first + len(heads))
@@ -149,8 +155,9 @@ def points_of(text: bytes, first: int) -> list[Point]:
         text[::POINT_BYTES],
         array("I", text)[14::16],
     )  # the lowest byte of the head, the lower half of the last word
-    points = map(made, zip(numbers, kinds, *columns, stacks))
+    seen, times = columns[:-1], columns[-1]
     if are_whole(first, heads, columns, lasts):
+        points = map(made, zip(numbers, kinds, *seen, timed(times, latest), stacks))
         return (
             list(points) if not kinds.translate(None, OF_KINDS) else [point for point in points if point.kind in KINDS]
         )
@@ -162,7 +169,17 @@ def points_of(text: bytes, first: int) -> list[Point]:
         head >> 8 == number + 1 and head & 255 in KINDS and (total ^ total >> 32) & LOW == last >> 32
         for number, head, total, last in zip(numbers, words[0::POINT_WORDS], sums, words[7::POINT_WORDS])
     ]
-    return list(compress(points, whole))
+    rows = (numbers, kinds, *seen, timed(array("q", compress(times, whole)), latest), stacks)
+    kept = [row if row is rows[-2] else compress(row, whole) for row in rows]
+    return list(map(made, zip(*kept)))
+
+
+def timed(times: array[int], latest: int) -> Iterable[int]:
+    """The times, and for each 0 the greatest before it; if none is known before, as they are."""
+    if latest == NEVER:
+        return times
+    greatest = accumulate(times, max, initial=latest)
+    return [time or before for time, before in zip(times, greatest)]
 
 
 def are_whole(first: int, heads: array[int], columns: list[array[int]], lasts: array[int]) -> bool:

@@ -8,8 +8,8 @@ from collections.abc import Iterable, Iterator
 
 from .points import Kind, Point
 
-READY, SENT, RECEIVED, MET, CHANNEL_CLOSED = map(
-    int, (Kind.READY, Kind.SENT, Kind.RECEIVED, Kind.MET, Kind.CHANNEL_CLOSED)
+READY, SENT, RECEIVED, MET, CHANNEL_CLOSED, HANDED = map(
+    int, (Kind.READY, Kind.SENT, Kind.RECEIVED, Kind.MET, Kind.CHANNEL_CLOSED, Kind.HANDED)
 )
 END = Point(2**63, 0, 0, 0, 0, 0, 0, 0, 0)  # after the last one
 
@@ -72,7 +72,7 @@ class Orders:
     def point(self, point: Point) -> None:
         """The program puts goroutines in order."""
         _, kind, g, at, a, b, _, _, _ = point
-        if kind == READY:
+        if kind == READY or kind == HANDED:
             self._comes_behind(a, self._frontier(g))
         elif kind == SENT or kind == RECEIVED:
             self._buffer(kind == SENT, self.channels[at], g, a, b)

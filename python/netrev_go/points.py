@@ -71,7 +71,7 @@ class Kind(IntEnum):
 # Sets of plain numbers, as points have them: an enumeration's members are compared much more slowly.
 KINDS = frozenset(map(int, Kind))
 # Points at which the program itself puts goroutines in order, and which are at no socket.
-ORDERING = frozenset(range(Kind.READY, Kind.FOUND_CLOSED + 1))
+ORDERING = frozenset(range(Kind.READY, Kind.FOUND_CLOSED + 1)) | {int(Kind.HANDED)}
 # Points at which a goroutine begins to wait outside of the poller, goes on, gets a value that it waits for, makes or stops a timer, adds to
 # a WaitGroup, makes a channel, fails to connect a socket, and ends.
 WAITING = frozenset(range(Kind.PARKS, Kind.DIAL_FAILED + 1))

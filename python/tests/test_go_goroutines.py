@@ -126,6 +126,11 @@ class Found(unittest.TestCase):
         points = Points().add(Kind.PARKS, 8, CHANNEL, VALUE, 3, stack=5).add(Kind.HANDED, 7, CHANNEL, 8, 3, stack=4)
         self.assertEqual(self.uses(points), {(7, "put", 4): 1, (8, "took", 5): 1})
 
+    def test_who_gives_a_value_ends_the_wait(self) -> None:
+        for kind in (Kind.HANDED, Kind.MET):
+            points = Points().add(Kind.PARKS, 8, CHANNEL, VALUE, 3, stack=5).add(kind, 7, CHANNEL, 8, GIVES)
+            self.assertEqual([park.by for park in points.add(Kind.GOES_ON, 8).found().parks], [7])
+
     def test_closes(self) -> None:
         points = Points().add(Kind.CHANNEL_CLOSED, 7, CHANNEL, 0, 3, stack=4).add(Kind.FOUND_CLOSED, 8, CHANNEL)
         self.assertEqual(self.uses(points), {(7, "closed", 4): 1, (8, "ended", 0): 1})

@@ -91,6 +91,23 @@ class Times(unittest.TestCase):
         for name in NAMES:
             self.assertIsNone(make(read(from_text((REAL / f"{name}.log").read_text())[0])).times)
 
+    def test_in_a_sparse_log_a_point_without_a_time_has_that_of_the_point_before(self) -> None:
+        times = [0, 1_020, 0, 1_015, 0, 1_300]
+        points = [point._replace(time=time) for point, time in zip(opened(3), times)]
+        self.assertEqual([point.time for point in read(binary(points, begin=1_000)).points], times)
+        log = read(binary(points, begin=1_000, is_sparse=True))
+        self.assertEqual([point.time for point in log.points], [1_000, 1_020, 1_020, 1_015, 1_020, 1_300])
+        self.assertEqual(make(log).times, [0, 20, 20, 20, 20, 300])
+
+    def test_of_a_sparse_log_so_do_those_behind_a_point_that_is_missing(self) -> None:
+        times = [1_010, 0, 5_000, 0, 1_300, 0]
+        points = [point._replace(time=time) for point, time in zip(opened(3), times)]
+        log = read(binary(points[:2] + points[3:], begin=1_000, is_sparse=True))
+        self.assertEqual(
+            [(point.number, point.time) for point in log.points],
+            [(0, 1_010), (1, 1_010), (3, 1_010), (4, 1_300), (5, 1_300)],
+        )
+
     def test_steps_that_a_point_brings_besides_have_its_time(self) -> None:
         points = [*self.timed([1_010, 1_020]).points]
         points.append(Point(2, Kind.SET_DEADLINE, 1, points[1].at, ord("r") + ord("w"), 500, 0, 1_700, 0))
@@ -110,6 +127,36 @@ class Times(unittest.TestCase):
             self.assertEqual((lines.fault, list(lines.times)), ("", times))
             write_where(name, [0] * len(times), {}, times=times[:-1])
             self.assertEqual(list(Lines.beside(str(name.with_suffix(".jsonl")), len(times)).times), [])
+
+
+class StacksOfCalls(unittest.TestCase):
+    """A point within a call needs no stack: its step has that with which the call came to the socket."""
+
+    def stacks(self, *points: tuple[Kind, int, int, int]) -> list[int]:
+        """The stacks of the steps of points after the opening of two sockets: each is a kind, a goroutine, a socket, and a stack."""
+        made = opened(2)
+        for kind, g, socket, stack in points:
+            at = made[2 * socket].at if kind != Kind.RESET else made[2 * socket + 1].at
+            made.append(Point(len(made), kind, g, at, ord("r") if kind == Kind.RESET else 0, 8, 2, 0, stack))
+        recording = make(Log(made))
+        steps = [stack for line, stack in zip(recording.lines, recording.stacks) if "spawn" not in str(line)]
+        return steps[-len(points) :]
+
+    def test_a_later_step_of_the_call_has_it(self) -> None:
+        lock, reset, unlock = (Kind.RW_LOCK, 1, 0, 5), (Kind.RESET, 1, 0, 0), (Kind.RW_UNLOCK, 1, 0, 0)
+        self.assertEqual(self.stacks(lock, reset, unlock), [5, 5, 5])
+
+    def test_a_call_at_another_socket_meanwhile_keeps_its_own(self) -> None:
+        lock, unlock = (Kind.RW_LOCK, 1, 0, 5), (Kind.RW_UNLOCK, 1, 0, 0)
+        inner = (Kind.INCREF, 1, 1, 6), (Kind.DECREF, 1, 1, 0)
+        self.assertEqual(self.stacks(lock, *inner, unlock), [5, 6, 6, 5])
+
+    def test_a_call_of_another_goroutine_too(self) -> None:
+        self.assertEqual(
+            self.stacks((Kind.RW_LOCK, 1, 0, 5), (Kind.INCREF, 1, 0, 0), (Kind.DECREF, 1, 0, 0)), [5, 5, 5]
+        )
+        first, second = (Kind.INCREF, 2, 0, 6), (Kind.INCREF, 3, 0, 7)
+        self.assertEqual(self.stacks(first, second, (Kind.DECREF, 2, 0, 0)), [6, 7, 6])
 
 
 class Reading(unittest.TestCase):

@@ -61,6 +61,10 @@ class Orders(unittest.TestCase):
         log = Ordered().step(1).step(2).ready(1, 2).step(1).step(2).step(2)
         self.assertEqual(log.orders(), [["1.1", "2.2"]])
 
+    def test_who_is_handed_a_value_comes_behind_who_gives_it(self) -> None:
+        log = Ordered().step(1).step(2).at(Kind.HANDED, 1, 2, 3).step(1).step(2)
+        self.assertEqual(log.orders(), [["1.1", "2.2"]])
+
     def test_an_order_goes_through_goroutines_without_steps(self) -> None:
         log = Ordered().step(1).ready(1, 8).ready(8, 9).ready(9, 2).step(2)
         self.assertEqual(log.orders(), [["1.1", "2.1"]])

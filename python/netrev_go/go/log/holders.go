@@ -2,7 +2,8 @@
 // put behind those of runtime/sema.go in an overlaid Go.
 //
 // A mutex is locked and unlocked too often for a point in the ring. So a row is written as a mutex is locked and freed before it is
-// unlocked: at any time, and when the process has ended, the table has what is locked then.
+// unlocked: at any time, and when the process has ended, the table has what is locked then. Most mutexes are unlocked soon, on the same processor:
+// each processor has a few rows of its own, which stay in its cache, and only what finds these taken uses the others.
 
 package runtime
 
@@ -13,10 +14,14 @@ import (
 )
 
 const (
-	netrevHolders     = 1 << 13
+	netrevHolders     = netrevNearEnd + netrevFarRows
+	netrevNearRows    = 16 // of each of the first processors
+	netrevNearTries   = 2  // of them in which a mutex may be
+	netrevNearEnd     = netrevNearRows * 64
+	netrevFarRows     = 1 << 13
+	netrevFarTries    = 16
 	netrevHolderWords = 16
 	netrevHolderCalls = netrevHolderWords - netrevHolderCall
-	netrevHolderTries = 16 // rows in which a mutex may be
 )
 
 // Words of a row.
@@ -55,10 +60,28 @@ func netrevHasHolders() {
 	}
 }
 
-// netrevHolderOf is the row in which a mutex may be, the first time, the second time, and so on.
-func netrevHolderOf(at unsafe.Pointer, try uint64) *netrevHolderRow {
-	row := (netrevMixed(uint64(uintptr(at))) + try) % netrevHolders
+// netrevNearUsed is the number of processors that have rows of their own and used them.
+var netrevNearUsed uint32
+
+func netrevHolderRowAt(row uint64) *netrevHolderRow {
 	return (*netrevHolderRow)(unsafe.Pointer(netrevBase + netrevHeaderBytes + netrevStacksBytes + uintptr(row)*netrevHolderWords*8))
+}
+
+// netrevNear is a row of a processor in which a mutex may be, and netrevFar one of those for all.
+func netrevNear(processor, place uint64) *netrevHolderRow {
+	return netrevHolderRowAt(processor*netrevNearRows + place%netrevNearRows)
+}
+
+func netrevFar(place uint64) *netrevHolderRow {
+	return netrevHolderRowAt(netrevNearEnd + place%netrevFarRows)
+}
+
+// netrevNearby is the processor of a goroutine that runs, if it has rows of its own; else netrevNearEnd.
+func netrevNearby(gp *g) uint64 {
+	if pp := gp.m.p.ptr(); pp != nil && uint64(pp.id) < netrevNearEnd/netrevNearRows {
+		return uint64(pp.id)
+	}
+	return netrevNearEnd
 }
 
 // netrevHolds is a goroutine that has locked a mutex, with the frame of the function that says so.
@@ -67,20 +90,43 @@ func netrevHolds(at unsafe.Pointer, how uint64, frame uintptr) {
 	if gp.m == nil || gp != gp.m.curg {
 		return
 	}
-	for try := uint64(0); try < netrevHolderTries; try++ {
-		row := netrevHolderOf(at, try)
-		if atomic.Load64(&row[netrevHolderAt]) == 0 && atomic.Cas64(&row[netrevHolderAt], 0, netrevHolderBegun) {
-			row[netrevHolderWhose] = uint64(gp.goid)<<1 | how
-			row[netrevHolderPassed] = atomic.Load64(netrevWord(netrevHeadPassed))
-			row[netrevHolderLength] = 0
-			if netrevLines {
-				row[netrevHolderLength] = netrevCallsFrom(gp, frame, row[netrevHolderCall:])
-			}
-			atomic.Store64(&row[netrevHolderAt], uint64(uintptr(at)))
-			return
+	passed := atomic.Load64(netrevWord(netrevHeadPassed))
+	if row := netrevTakesRow(netrevNearby(gp), netrevMixed(uint64(uintptr(at)))); row != nil {
+		row[netrevHolderWhose] = uint64(gp.goid)<<1 | how
+		row[netrevHolderPassed] = passed
+		row[netrevHolderLength] = 0
+		if netrevLines {
+			row[netrevHolderLength] = netrevCallsFrom(gp, frame, row[netrevHolderCall:])
 		}
+		atomic.Store64(&row[netrevHolderAt], uint64(uintptr(at)))
+		return
 	}
 	atomic.Xadd64(netrevWord(netrevHeadHoldersLost), 1)
+}
+
+// netrevTakesRow takes a free row; nil where there is none.
+func netrevTakesRow(processor, place uint64) *netrevHolderRow {
+	if processor < netrevNearEnd {
+		for used := atomic.Load(&netrevNearUsed); uint64(used) <= processor; used = atomic.Load(&netrevNearUsed) {
+			atomic.Cas(&netrevNearUsed, used, uint32(processor)+1)
+		}
+		for try := uint64(0); try < netrevNearTries; try++ {
+			if row := netrevNear(processor, place+try); netrevIsTaken(row) {
+				return row
+			}
+		}
+	}
+	for try := uint64(0); try < netrevFarTries; try++ {
+		if row := netrevFar(place + try); netrevIsTaken(row) {
+			return row
+		}
+	}
+	return nil
+}
+
+// netrevIsTaken takes a row, if it is free.
+func netrevIsTaken(row *netrevHolderRow) bool {
+	return atomic.Load64(&row[netrevHolderAt]) == 0 && atomic.Cas64(&row[netrevHolderAt], 0, netrevHolderBegun)
 }
 
 // netrevCallsFrom puts the addresses behind the calls from a frame on into words, and returns how many those are.
@@ -102,23 +148,51 @@ func netrevCallsFrom(gp *g, frame uintptr, words []uint64) uint64 {
 
 // netrevLetsGo is a goroutine that is about to unlock a mutex, which another may have locked.
 func netrevLetsGo(at unsafe.Pointer, how uint64) {
-	mine := netrevGoroutine()<<1 | how
-	if !netrevFrees(at, how, func(whose uint64) bool { return whose == mine }) {
-		netrevFrees(at, how, func(uint64) bool { return true })
+	gp := getg()
+	if gp.m == nil || gp.m.curg == nil {
+		return
+	}
+	processor, mine := netrevNearby(gp), uint64(gp.m.curg.goid)<<1|how
+	if !netrevFrees(uint64(uintptr(at)), mine, true, processor) {
+		netrevFrees(uint64(uintptr(at)), mine, false, processor)
 	}
 }
 
-// netrevFrees frees one row of a mutex that is held so, by a goroutine that is meant.
-func netrevFrees(at unsafe.Pointer, how uint64, isMeant func(whose uint64) bool) bool {
-	for try := uint64(0); try < netrevHolderTries; try++ {
-		row := netrevHolderOf(at, try)
-		address := uint64(uintptr(at))
-		if atomic.Load64(&row[netrevHolderAt]) == address && row[netrevHolderWhose]&1 == how && isMeant(row[netrevHolderWhose]) &&
-			atomic.Cas64(&row[netrevHolderAt], address, 0) {
+// netrevFrees frees one row of a mutex that is held so, by this goroutine or by any, and says whether there was one.
+func netrevFrees(at, mine uint64, isMine bool, processor uint64) bool {
+	place := netrevMixed(at)
+	if processor < netrevNearEnd && netrevFreesNear(at, mine, isMine, processor, place) {
+		return true
+	}
+	for other := uint64(0); other < uint64(atomic.Load(&netrevNearUsed)); other++ {
+		if other != processor && netrevFreesNear(at, mine, isMine, other, place) {
+			return true
+		}
+	}
+	for try := uint64(0); try < netrevFarTries; try++ {
+		if netrevIsFreed(netrevFar(place+try), at, mine, isMine) {
 			return true
 		}
 	}
 	return false
+}
+
+func netrevFreesNear(at, mine uint64, isMine bool, processor, place uint64) bool {
+	for try := uint64(0); try < netrevNearTries; try++ {
+		if netrevIsFreed(netrevNear(processor, place+try), at, mine, isMine) {
+			return true
+		}
+	}
+	return false
+}
+
+// netrevIsFreed frees a row, if it is of this mutex.
+func netrevIsFreed(row *netrevHolderRow, at, mine uint64, isMine bool) bool {
+	if atomic.Load64(&row[netrevHolderAt]) != at {
+		return false
+	}
+	whose := row[netrevHolderWhose]
+	return whose&1 == mine&1 && (!isMine || whose == mine) && atomic.Cas64(&row[netrevHolderAt], at, 0)
 }
 
 // Package sync had its own mutex up to Go 1.23; since 1.24 that is in internal/sync.

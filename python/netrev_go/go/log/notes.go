@@ -140,8 +140,8 @@ func netrevRowOf(pd uintptr, isNew bool) *netrevRow {
 	return nil
 }
 
-// netrevInside is a goroutine that has come to a place of a wait, which may begin there.
-func netrevInside(pd *pollDesc, mode int32, place, goid, stack uint64, begins bool) {
+// netrevInside is a goroutine that has come to a place of a wait, which begins there if `since` is a time.
+func netrevInside(pd *pollDesc, mode int32, place, goid, stack uint64, since int64) {
 	if netrevRows == 0 {
 		return
 	}
@@ -151,8 +151,8 @@ func netrevInside(pd *pollDesc, mode int32, place, goid, stack uint64, begins bo
 	}
 	side := &row.sides[netrevBit(mode == 'w')]
 	side.place = place
-	if begins {
-		side.goid, side.stack, side.since = goid, stack, uint64(nanotime())
+	if since != 0 {
+		side.goid, side.stack, side.since = goid, stack, uint64(since)
 	}
 }
 
@@ -318,13 +318,13 @@ func netrevNote(row *netrevRow) bool {
 	}
 	readers := (*uint32)(unsafe.Pointer(row.word + 8))
 	own, root, pd := netrevLockOf(word), semtable.rootFor(readers), (*pollDesc)(unsafe.Pointer(row.pd))
-	lock(own)
+	mp := netrevSpin(own)
 	lockWithRank(&root.lock, lockRankRoot)
 	lock(&pd.lock)
 	netrevNoteLocked(row, atomic.Load64(word), pd)
 	unlock(&pd.lock)
 	unlock(&root.lock)
-	unlock(own)
+	netrevUnspin(own, mp)
 	unlock(&netrevRowLock)
 	return true
 }

@@ -11,13 +11,13 @@ const (
 	netrevReadyKind      = 117 // a is whom the goroutine made ready, or made where b is 1
 	netrevSentKind       = 118
 	netrevReceivedKind   = 119
-	netrevMetKind        = 120 // a is the other goroutine: a value went from one to the other, and neither goes on before; b says which way
+	netrevMetKind        = 120 // a is the other goroutine, which is made ready: a value went from one to the other, and neither goes on before; b says which way
 	netrevClosedKind     = 121
 	netrevEndedKind      = 122 // the channel was found closed, with nothing in it
 	netrevParksKind      = 124 // the goroutine begins to wait: a is for what, and where, netrevAt and netrevSelects say
 	netrevGoesOnKind     = 125 // a goroutine that waited goes on
 	netrevCasesKind      = 126 // further cases of the select at which the goroutine is about to wait
-	netrevHandedKind     = 127 // a value for a buffered channel goes to goroutine a, which waits for it
+	netrevHandedKind     = 127 // a value for a buffered channel goes to goroutine a, which waits for it and is made ready
 	netrevEndsKind       = 128 // the goroutine ends
 	netrevTimerKind      = 129 // the goroutine makes a timer that goes off at a, with its channel, if it has one, or sets it anew
 	netrevGroupKind      = 130 // the goroutine adds a to a WaitGroup, whose counter is b then; Done adds -1
@@ -48,6 +48,14 @@ func netrevReadied(gp *g, traceskip int) int {
 		netrevOrder(netrevReadyKind, netrevGoroutine(), nil, int64(gp.goid), 0, 0)
 	}
 	return traceskip &^ (netrevSema | netrevSemaRead)
+}
+
+// netrevMetSkip marks the frames to skip, if the point of the value that a waiting sender gives says that it is made ready.
+func netrevMetSkip(c *hchan, skip int) int {
+	if c.dataqsiz == 0 {
+		return skip + netrevSema
+	}
+	return skip
 }
 
 // What a goroutine waits for outside of the poller. Go 1.19 has one reason for mutexes and WaitGroups, and 1.23 another for mutexes alone.

@@ -51,6 +51,7 @@ const (
 	netrevHeadRows         // how many rows the table of descriptors has
 	netrevHeadQueue        // and that of who is queued for their locks
 	netrevHeadCopied       // 1 in a copy that was made while the program ran
+	netrevHeadSparse       // 1: a point that has no time has that of the point before, and one without a stack that of its call
 )
 
 // Kinds of points, numbered as the steps of a recording are; above 100 is what is no step. orders.go has the others.
@@ -73,8 +74,15 @@ const (
 	netrevOpenFailed  = 116
 )
 
-// netrevStacked are the other kinds that have a stack, a bit for each from netrevOpenFailed on: 118 to 122, 124, 127 and 129 to 133 of orders.go.
-const netrevStacked = 0x1f<<2 | 1<<8 | 1<<11 | 0x1f<<13
+// Which kinds of points have a stack, and which read the clock: a bit for each of the steps, and one for each of the others from netrevOpenFailed on
+// (those of orders.go). These are the costliest parts of a point. A step further inside of a call has the stack with which the call came to its
+// socket, and a point without a time that of the point before.
+const (
+	netrevStackedSteps  = 1<<3 | 1<<9 | 1<<10 | 1<<12 | 1<<netrevAcquire | 1<<netrevWaitBegin // sockopen, incref, increfclose, rwlock
+	netrevStackedOthers = 0x1f<<2 | 1<<8 | 1<<11 | 0x1f<<13
+	netrevTimedSteps    = netrevStackedSteps | 1<<netrevSwap | 1<<netrevEventCame | 1<<31 // closewrite
+	netrevTimedOthers   = 0x3f<<1 | 1<<8 | 0x1f<<11 | 1<<17
+)
 
 // What marks a semaphore of a lock word, in the arguments of the runtime's own functions.
 const (
@@ -98,10 +106,7 @@ var (
 	netrevPoints uint64
 	netrevRoomed uint64 // the points with smaller numbers have room
 	netrevBegin  int64
-	netrevLocks  [64]struct {
-		mutex
-		pad [56]byte
-	}
+	netrevLocks  [64]netrevSpinLock
 )
 
 func netrevWord(i uintptr) *uint64 { return (*uint64)(unsafe.Pointer(netrevBase + i*8)) }
@@ -307,6 +312,7 @@ func netrevMap(file uintptr, process uint64) (errno uintptr) {
 	*netrevWord(netrevHeadText) = uint64(firstmoduledata.text)
 	*netrevWord(netrevHeadHolders) = netrevHolders
 	*netrevWord(netrevHeadRows), *netrevWord(netrevHeadQueue) = uint64(netrevRowsFor(points)), netrevQueueMost
+	*netrevWord(netrevHeadSparse) = 1
 	atomic.Store64(netrevWord(netrevHeadMagic), netrevMagic)
 	return 0
 }
@@ -345,14 +351,19 @@ func netrevCopy(from, to uintptr) (copied uintptr) {
 	}
 }
 
-// netrevLog writes a point: what, by which goroutine, at which address, what was seen there, and the time: where Go read none for
-// what the point is of, that is now. Its number is taken here, inside the lock of what the point is of. The stack's number is returned.
+// netrevLog writes a point: what, by which goroutine, at which address, what was seen there, and the time: if Go read none for what the point
+// is of, that is now, or 0. Its number is taken here, inside the lock of what the point is of. The stack's number is returned.
 func netrevLog(kind uint64, goid uint64, at uintptr, a, b, c, now int64) (stack uint64) {
 	number := netrevNext()
-	if now == 0 {
+	hasTime, hasStack := netrevTimedSteps>>kind&1 != 0, netrevStackedSteps>>kind&1 != 0
+	gp := getg()
+	if kind >= netrevOpenFailed { // at a channel a goroutine may pass the point of another, whose stack that isn't
+		hasTime, hasStack = netrevTimedOthers>>(kind-netrevOpenFailed)&1 != 0, netrevStackedOthers>>(kind-netrevOpenFailed)&1 != 0 && goid == uint64(gp.goid)
+	}
+	if now == 0 && hasTime {
 		now = nanotime()
 	}
-	if gp := getg(); netrevLines && netrevHasStack(kind, goid, gp) && gp.m != nil && gp == gp.m.curg {
+	if hasStack && netrevLines && gp.m != nil && gp == gp.m.curg {
 		stack = netrevStack(gp, sys.GetCallerSP()-16)
 	}
 	netrevWrite(number, kind, goid, at, a, b, c, now, stack)
@@ -386,12 +397,6 @@ func netrevWrite(number, kind, goid uint64, at uintptr, a, b, c, now int64, stac
 	sum := goid ^ uint64(at) ^ uint64(a) ^ uint64(b) ^ uint64(c) ^ uint64(now) ^ number
 	p[0], p[1], p[2], p[3] = (number+1)<<8|kind, goid, uint64(at), uint64(a)
 	p[4], p[5], p[6], p[7] = uint64(b), uint64(c), uint64(now), stack|(sum^sum>>32)<<32
-}
-
-// netrevHasStack says whether a point of this kind has a stack. At a channel a goroutine may pass the point of another, whose stack that
-// isn't.
-func netrevHasStack(kind, goid uint64, gp *g) bool {
-	return kind <= netrevOpenFailed || netrevStacked>>(kind-netrevOpenFailed)&1 != 0 && goid == uint64(gp.goid)
 }
 
 // netrevRoom takes the room for the next points, while the ring goes round for the first time. A point that comes before that is
@@ -474,9 +479,12 @@ func netrevPoll(kind uint64, pd *pollDesc, a, b, c int64) {
 
 // netrevStep is a point of a wait, after which the goroutine is at this place of it.
 func netrevStep(kind uint64, pd *pollDesc, mode int32, seen int64, place uint64) {
-	goid := netrevGoroutine()
-	stack := netrevLog(kind, goid, uintptr(unsafe.Pointer(pd)), int64(mode), seen, 0, 0)
-	netrevInside(pd, mode, place, goid, stack, kind == netrevWaitBegin)
+	goid, since := netrevGoroutine(), int64(0)
+	if kind == netrevWaitBegin {
+		since = nanotime()
+	}
+	stack := netrevLog(kind, goid, uintptr(unsafe.Pointer(pd)), int64(mode), seen, 0, since)
+	netrevInside(pd, mode, place, goid, stack, since)
 }
 
 // netrevPollAlone is a point at a descriptor whose lock isn't held.
@@ -569,7 +577,7 @@ func netrevCommitted(gp *g, pd *pollDesc, word *atomic.Uintptr, mode int64) bool
 	lock(&pd.lock)
 	parks := netpollblockcommit(gp, unsafe.Pointer(word))
 	netrevLog(netrevPark, uint64(gp.goid), uintptr(unsafe.Pointer(pd)), mode, netrevBit(parks), 0, 0)
-	netrevInside(pd, int32(mode), netrevBehind(netrevPark, parks), uint64(gp.goid), 0, false)
+	netrevInside(pd, int32(mode), netrevBehind(netrevPark, parks), uint64(gp.goid), 0, 0)
 	unlock(&pd.lock)
 	return parks
 }
@@ -678,8 +686,33 @@ func poll_runtime_netrevPoint(kind uint64, word *uint64, a, b, c int64) {
 	netrevLog(kind, netrevGoroutine(), uintptr(unsafe.Pointer(word)), a, b, c, 0)
 }
 
-func netrevLockOf(word *uint64) *mutex {
-	return &netrevLocks[uintptr(unsafe.Pointer(word))>>5%64].mutex
+// A netrevSpinLock is held for some instructions, and seldom waited for: then it costs less than the runtime's.
+type netrevSpinLock struct {
+	taken uint32
+	_     [60]byte
+}
+
+// netrevSpin takes a lock; the goroutine stays on its thread until netrevUnspin.
+func netrevSpin(l *netrevSpinLock) *m {
+	const tries, pause = 16, 20
+	mp := acquirem()
+	for try := 1; !atomic.Cas(&l.taken, 0, 1); try++ {
+		if try%tries != 0 {
+			procyield(pause)
+		} else {
+			osyield()
+		}
+	}
+	return mp
+}
+
+func netrevUnspin(l *netrevSpinLock, mp *m) {
+	atomic.StoreRel(&l.taken, 0)
+	releasem(mp)
+}
+
+func netrevLockOf(word *uint64) *netrevSpinLock {
+	return &netrevLocks[uintptr(unsafe.Pointer(word))>>5%64]
 }
 
 // A swap of a lock word, and its number, are one.
@@ -687,12 +720,12 @@ func netrevLockOf(word *uint64) *mutex {
 //go:linkname poll_runtime_netrevSwap internal/poll.runtime_netrevSwap
 func poll_runtime_netrevSwap(kind uint64, word *uint64, old, new uint64, bits int64) bool {
 	l := netrevLockOf(word)
-	lock(l)
+	mp := netrevSpin(l)
 	done := atomic.Cas64(word, old, new)
 	if done {
 		netrevLog(kind, netrevGoroutine(), uintptr(unsafe.Pointer(word)), int64(old), int64(new), bits, 0)
 	}
-	unlock(l)
+	netrevUnspin(l, mp)
 	return done
 }
 
@@ -701,10 +734,10 @@ func poll_runtime_netrevSwap(kind uint64, word *uint64, old, new uint64, bits in
 //go:linkname poll_runtime_netrevClosed internal/poll.runtime_netrevClosed
 func poll_runtime_netrevClosed(kind uint64, word *uint64, bits int64) {
 	l := netrevLockOf(word)
-	lock(l)
+	mp := netrevSpin(l)
 	old := int64(atomic.Load64(word))
 	netrevLog(kind, netrevGoroutine(), uintptr(unsafe.Pointer(word)), old, old, bits, 0)
-	unlock(l)
+	netrevUnspin(l, mp)
 }
 
 // netrevTests is where the file LOG.tests is mapped, of a program that has tests; 0 where it isn't.

@@ -22,10 +22,11 @@ var orders = []rule{
 		one(replace, "c.qcount == 0", "$0 && netrevEnded(c)"),
 		edit{replace, "empty(c)", 2, []string{"", "$0 && netrevEnded(c)"}}),
 	rule{channels, "send", []variant{
-		{"1.18 to 1.25", "", []edit{one(replace, "sg.elem != nil", "netrevToReceiver(c, sg.g) && $0")}},
-		{"1.26 and 1.27", "", []edit{one(replace, "sg.elem.get() != nil", "netrevToReceiver(c, sg.g) && $0")}}}},
+		{"1.18 to 1.25", "", []edit{one(replace, "sg.elem != nil", "netrevToReceiver(c, sg.g) && $0"), readied}},
+		{"1.26 and 1.27", "", []edit{one(replace, "sg.elem.get() != nil", "netrevToReceiver(c, sg.g) && $0"), readied}}}},
 	ordered(channels, "recv",
-		one(replace, "c.dataqsiz == 0", "netrevFromSender(c, sg.g, $0)")),
+		one(replace, "c.dataqsiz == 0", "netrevFromSender(c, sg.g, $0)"),
+		one(replace, "goready(gp, skip+1)", "goready(gp, netrevMetSkip(c, skip+1))")),
 	ordered(channels, "closechan",
 		one(behind, "lock(&c.lock)", "netrevChannel(netrevClosedKind, c)")),
 	ordered(selecting, "selectgo",
@@ -33,6 +34,9 @@ var orders = []rule{
 		one(before, "chanbuf(c, c.recvx)", "netrevChannel(netrevReceivedKind, c)"),
 		one(before, "chanbuf(c, c.sendx)", "netrevChannel(netrevSentKind, c)")),
 }
+
+// The point of a value that goes to a goroutine says too that this one is made ready.
+var readied = one(replace, "goready(gp, skip+1)", "goready(gp, skip+1+netrevSema)")
 
 func ordered(file, function string, edits ...edit) rule {
 	return rule{file, function, all(edits...)}
