@@ -3,4 +3,6 @@
 
 mod arguments;
 
-pub use arguments::{ArgumentsFault, Program, USAGE, USUAL_JOURNAL, plain_arguments_ask, read_words};
+pub use arguments::{
+    ArgumentsFault, Program, USAGE, USUAL_JOURNAL, plain_arguments_ask, read_words,
+};
