@@ -1,6 +1,6 @@
-"""nrdb, the companion at netrev's prompt.
+"""nrdb, the prompt around netrev.
 
-It runs `netrev run FILE`, or joins a session that netrev serves, sends the lines that are typed, and prints netrev's
-replies as they come. What it adds is made of further replies and of the recording's text, and begins with `|`. Nothing
-of it is proved; docs/reference/NRDB.md tells what it does.
+It runs `netrev run FILE`, or joins a session of `netrev serve`, sends the typed lines, and prints netrev's replies
+as they come. Its own lines begin with `|`; nrdb derives them from further replies and from the recording's text,
+and they are unproved. docs/reference/NRDB.md describes nrdb.
 """

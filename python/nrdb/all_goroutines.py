@@ -1,5 +1,5 @@
-"""All goroutines of a log, as NAME.where has them (docs/reference/RECORDING.md has the format), also those that never use a socket:
-Go's numbers, each wait outside the poller, and the objects at which they wait."""
+"""All goroutines of a log, as NAME.where has them (docs/reference/RECORDING.md has the format), including those
+without sockets: Go's numbers, each wait outside the poller, and the objects at which they wait."""
 
 from typing import TYPE_CHECKING, Any, Container, Iterator, NamedTuple, Optional, Sequence
 
@@ -147,7 +147,7 @@ READ = "read"  # how an RWMutex is held
 
 
 class LeftOut(NamedTuple):
-    """How many waits of a reason and a stack there was no room for, by whether they last to the end."""
+    """The number of waits with a reason and a stack that didn't fit, by whether they last to the end."""
 
     reason: str
     stack: int
@@ -173,7 +173,7 @@ class AllGoroutines:
     """The file's facts about all goroutines. It is empty for a file of the first form."""
 
     def begin_goroutines(self) -> None:
-        """No goroutine is known by Go's name."""
+        """Starts without any known goroutine."""
         self.goroutines: dict[int, GoGoroutine] = {}
         self.parks: dict[int, list[Park]] = {}  # by goroutine, in the order in which they begin
         self.objects: dict[int, Object] = {}
@@ -187,13 +187,13 @@ class AllGoroutines:
         self.owners: dict[
             int, list[tuple[int, int]]
         ] = {}  # for a number: after which step each goroutine took it, and its name
-        self._owned: dict[int, int] = {}  # by Go's name the number that a goroutine has taken
+        self._owned: dict[int, int] = {}  # the number that a goroutine has taken, by Go's number
 
     def add_goroutines(self, line: dict[str, Any], calls: dict[int, "Call"], stacks: Container[int]) -> None:
         """Adds a line about all goroutines, or about the objects at which they wait."""
 
         def known(numbers: Sequence[int]) -> Iterator[int]:
-            """Of stacks their numbers; 0 for one that isn't in the file."""
+            """The numbers of stacks; 0 for one that isn't in the file."""
             return (number if number in stacks else 0 for number in numbers)
 
         if "goroutines" in line:

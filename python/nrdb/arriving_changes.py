@@ -14,8 +14,8 @@ from .changed_lines import NoChanges
 from .recorded_changes import RecordedChanges, Told
 from .scout import Lost
 
-LOOKS = 0.05  # seconds between two looks whether Ctrl-C came
-PAUSE = 0.001  # seconds until more has come, since netrev says little at once
+LOOKS = 0.05  # seconds between two checks for Ctrl-C
+PAUSE = 0.001  # seconds to wait for more output of netrev
 PIPE = 2**20  # bytes
 
 
@@ -56,7 +56,7 @@ class ArrivingChanges(RecordedChanges):
             self._reader.join(SILENCE)
 
     def _is_begun(self) -> bool:
-        """Whether a thread reads. One that Ctrl-C kept from being started reads nothing, and another takes its place."""
+        """Whether a thread reads. If Ctrl-C prevented it from starting, another thread takes its place."""
         return self._reader is not None and self._reader.ident is not None
 
     def _wait(self, position: Optional[int]) -> None:
@@ -99,7 +99,7 @@ class ArrivingChanges(RecordedChanges):
 
     @contextmanager
     def _lost_where_wrong(self) -> Iterator[None]:
-        """Within, a line that is no change is netrev's failure."""
+        """Context in which a line that isn't a change counts as netrev's failure."""
         try:
             yield
         except NoChanges as wrong:
@@ -114,7 +114,7 @@ class ArrivingChanges(RecordedChanges):
         return bool(self._failure) or (self.has(position) and not self._fault)
 
     def _read(self, process: "subprocess.Popen[bytes]") -> None:
-        """Reads all that netrev says, in the thread, unless another reads in its place."""
+        """Reads netrev's output in the thread, unless another thread reads instead."""
         assert process.stdout
         failure = ""
         try:

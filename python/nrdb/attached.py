@@ -9,18 +9,18 @@ END = "end"
 
 @dataclass
 class Attached:
-    """The lines of each mark; those that are being taken, for which one; and those that are to be run now."""
+    """The lines of each mark, the mark whose lines are being typed, and the lines to run next."""
 
     lines: dict[str, list[str]] = field(default_factory=dict)
     taking: Optional[str] = None
     pending: deque[str] = field(default_factory=deque)
 
     def begin(self, mark: str) -> None:
-        """The lines that follow replace those of this mark."""
+        """The following lines replace those of this mark."""
         self.lines[mark], self.taking = [], mark
 
     def takes(self, line: str) -> bool:
-        """Whether the line is one of a mark's: it is taken then, and runs when that hits."""
+        """Whether the line belongs to a mark: it is kept, and runs when the mark hits."""
         if self.taking is None:
             return False
         if line.strip() == END:
@@ -30,12 +30,12 @@ class Attached:
         return True
 
     def hits(self, marks: Sequence[str]) -> None:
-        """The session has moved, and these marks hit: their lines are to be run. Those that were still left belong to the
-        stop before."""
+        """These marks hit after a move: their lines are to run. Lines that are left from an earlier stop are
+        dropped."""
         self.pending = deque(line for mark in marks for line in self.lines.get(mark, ()))
 
     def listed(self, entries: Sequence[str]) -> Iterator[str]:
-        """What the marks of `info breakpoints` run."""
+        """The lines of each mark, for `info breakpoints`."""
         for mark in (entry.split()[0] for entry in entries):
             if lines := self.lines.get(mark):
                 yield f"mark {mark} runs: {'; '.join(lines)}"

@@ -10,7 +10,7 @@ from .shapes import go_to, position_of
 
 
 class Standing(Protocol):
-    """A session: its netrev, its recording, its position, and its printer."""
+    """The parts of a session that are needed here: its netrev, its recording, its position, and its printer."""
 
     netrev: Netrev
     recording: Optional[Recording]
@@ -21,7 +21,7 @@ class Standing(Protocol):
         """The first line of netrev's reply."""
 
     def place(self, position: int) -> Place:
-        """The position with the steps round it."""
+        """The position with the steps around it."""
 
 
 def begins_at(recording: Recording) -> int:

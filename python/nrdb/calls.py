@@ -14,7 +14,9 @@ from .notes import CLOSED, Look, Looks, Notes
 from .recording import Recording
 from .whose import NONE, Whose
 
-Maker = Callable[..., Look]  # takes the book, the notes, and the step's arguments, of which the first is its goroutine
+Maker = Callable[
+    ..., Look
+]  # called with the book, the notes, and the step's arguments, the first of which is its goroutine
 SETTING = {"r": "SetReadDeadline", "w": "SetWriteDeadline", "rw": "SetDeadline"}
 LOCKING = {"r": "Read", "w": "Write"}
 WAITING = {"r": "WaitRead", "w": "WaitWrite"}
@@ -27,7 +29,7 @@ class Book:
     def __init__(self, recording: Recording) -> None:
         self.calls: list[Call] = []
         self._recording, self._errors = recording, recording.lines.errors
-        self.error = ""  # the system's name of the step's error, as long as no call has it
+        self.error = ""  # the system's name of the step's error, until a call gets it
         self.open: dict[int, list[Call]] = defaultdict(list)  # the calls that each goroutine is in, the innermost last
         self.asleep: dict[int, tuple[int, int]] = {}  # since which step, and the clock then
         self.descriptor_of: dict[int, int] = {}  # of a socket that is open
@@ -35,7 +37,7 @@ class Book:
 
     @cached_property
     def whose(self) -> Whose:
-        """Whose each step is."""
+        """The owner of each step."""
         return Whose(self._recording, self.notes)
 
     def sleeps_at_the_end(self, call: Call) -> bool:
@@ -50,7 +52,8 @@ class Book:
         return {kind: partial(self._seeing_errors, LOOKS.get(kind)) for kind in OF_A_GOROUTINE}
 
     def _seeing_errors(self, maker: Optional[Maker], notes: Notes, g: int, *arguments: Any) -> Look:
-        """Where steps have errors of the system: the innermost call has it, which may end with this step."""
+        """For recordings with errors of the system: the innermost call gets the step's error, and may end with this
+        step."""
         made, goroutine, calls = maker and maker(self, notes, g, *arguments), notes.goroutine(g), self.open[g]
 
         def look(step: int) -> None:
@@ -70,7 +73,7 @@ class Book:
         return call
 
     def settle(self, step: int, goroutine: Goroutine, calls: list[Call]) -> None:
-        """After a step by which a call of the goroutine's may end."""
+        """Updates the call after a step by which it may end."""
         if self.error and calls:
             calls[-1].outcome, calls[-1].error = Outcome.SYSTEM_ERROR, self.error
             self.error = ""
@@ -79,7 +82,7 @@ class Book:
 
 
 def fail(notes: Notes, call: Call, outcome: Outcome) -> None:
-    """A call has this outcome; for a timeout, a close and a shut write side also the step that caused it."""
+    """A call ends with this result; for a timeout, a close and a shut write side also the step that caused it."""
     call.outcome = outcome
     if outcome is Outcome.CLOSED and call.socket in notes.closer:
         call.cause = notes.closer[call.socket].step
@@ -91,7 +94,7 @@ def fail(notes: Notes, call: Call, outcome: Outcome) -> None:
         call.passed = timeout.passing.step
 
 
-# What looks behind the steps of each kind, made of the book, the notes and a step's arguments, as in `noting.py`. (`sysread`, `syswrite`,
+# The functions that run after the steps of each kind, made of the book, the notes and a step's arguments, as in `noting.py`. (`sysread`, `syswrite`,
 # `setdeadline` and `closewrite` end no call.)
 
 
@@ -155,7 +158,7 @@ def locks(book: Book, notes: Notes, g: int, s: int, side: str) -> Look:
 
 
 def gives(book: Book, notes: Notes, g: int, s: int, side: str = "") -> Look:
-    """A call gives up its reference, with the lock of a side or without."""
+    """A call gives up its reference, with or without the lock of a side."""
     goroutine, calls, locked, holds, settle = notes.goroutine(g), book.open[g], notes.locks, notes.holds[s], book.settle
 
     def look(step: int) -> None:
@@ -201,7 +204,7 @@ def destroys(book: Book, notes: Notes, g: int, d: int) -> Look:
 
 
 def checks(book: Book, notes: Notes, g: int, d: int, side: str) -> Look:
-    """A step that checks a descriptor's side; outside of a call, as `Dial` waits, it is one of its own."""
+    """A step that checks a descriptor's side; outside of a call, as in `Dial`, it is a call of its own."""
     goroutine, calls, names = notes.goroutine(g), book.open[g], tuple(WAITING.values())
 
     def look(step: int) -> None:
@@ -218,7 +221,7 @@ def checks(book: Book, notes: Notes, g: int, d: int, side: str) -> Look:
 
 
 def checks_again(book: Book, notes: Notes, g: int) -> Look:
-    """`waitcheck`: the side is that of the wait which it ends."""
+    """`waitcheck`: the side is that of the wait that it ends."""
     goroutine, calls = notes.goroutine(g), book.open[g]
 
     def look(step: int) -> None:
@@ -254,7 +257,7 @@ def writes(book: Book, notes: Notes, g: int, s: int, digits: str) -> Look:
 
 
 def names_control(name: Callable[[str], str]) -> Maker:
-    """A step that names the call which its `incref` began as a `Control`: `setdeadline`, by its mode, and `closewrite`."""
+    """A step that tells what its `incref` began as a `Control`: `setdeadline`, by its mode, and `closewrite`."""
 
     def of(book: Book, notes: Notes, g: int, which: int, mode: str = "", *_: object) -> Look:
         calls = book.open[g]

@@ -19,7 +19,8 @@ NOTHING = "changed: nothing that a cell shows"
 def tables_beside(
     changes: RecordedChanges, recording: Recording, position: int, hit: Sequence[Listed]
 ) -> Iterator[Table]:
-    """The tables beside a move to a position: whose timers the steps there are about, which marks hit, and what the last step changed."""
+    """The tables after a move to a position: the owners of the timers in the steps there, the marks that hit, and
+    the changes of the last step."""
     if (timers := timers_beside(recording, position)).rows:
         yield timers
     if hit:
@@ -44,13 +45,13 @@ def changed_table(changes: RecordedChanges, position: int, told: Collection[str]
 
 
 def _order(cell: str) -> tuple[int, int, int]:
-    """Whose a cell is, which number that has, and what is shown of it."""
+    """The sort key of a cell: the sort of its object, the object's number, and the cell's name."""
     name, *number = cell.split()
     return ORDER.index(CELLS[name].of), int(number[0]) if number else 0, NAMES.index(name)
 
 
 def _spelled(cell: str, old: str, new: str) -> str:
-    """A change in words: of what is new just that."""
+    """A change in words; a new object has only its new value."""
     name, *number = cell.split()
     if number and old == "absent":
         return f"{CELLS[name].of.value} {number[0]} is made"

@@ -1,4 +1,4 @@
-"""The lines of `netrev changes` as they came, and what is found in them by searching bytes: nothing is taken apart before it is asked for."""
+"""The lines of `netrev changes` as bytes, which are searched and parsed only when they are needed."""
 
 import re
 from array import array
@@ -9,11 +9,11 @@ from .messages import session as messages
 
 LINE = re.compile(rb"\d+ [a-z]+(?: \d+)? = [ -~]+")
 LINES = re.compile(r"^(\d+) ([a-z]+(?: \d+)?) = ([ -~]+)$", re.MULTILINE | re.ASCII)
-WINDOW = 2**14  # bytes of lines that are taken apart at once: few, so that a processor has all of that near
+WINDOW = 2**14  # bytes of lines that are parsed at once: few enough for a processor's cache
 
 
 def next_step(text: str, place: int) -> int:
-    """The place after a given one at which the lines of a step begin; -1 if the text ends within those of the step before."""
+    """The place after the given one at which the lines of the next step begin; -1 if the text ends first."""
     line = text.find("\n", place)
     step = text[line + 1 : text.find(" ", line) + 1]
     while step and text.startswith(step, line + 1):
@@ -22,18 +22,18 @@ def next_step(text: str, place: int) -> int:
 
 
 class NoChanges(ValueError):
-    """A text isn't what `netrev changes` says, or isn't all of it."""
+    """A text isn't the whole output of `netrev changes`."""
 
 
 class ChangedLines:
-    """Lines of changes, in pieces of whole lines. One thread may take more of them while another asks."""
+    """Lines of changes, in pieces of whole lines. One thread may add lines while another reads."""
 
     def __init__(self) -> None:
         self.pieces: list[bytes] = []
-        self._lasts = array("I")  # of each piece its last step
+        self._lasts = array("I")  # the last step of each piece
 
     def take(self, lines: bytes) -> None:
-        """Takes whole lines, each with its line feed; NoChanges if they have another form."""
+        """Adds whole lines, each with its line feed; NoChanges if they have another form."""
         first, last = lines[: lines.index(b"\n")], lines[lines.rfind(b"\n", 0, -1) + 1 : -1]
         if lines.count(b"\n") != lines.count(b" = ") or not (LINE.fullmatch(first) and LINE.fullmatch(last)):
             raise NoChanges(messages.CHANGES_MALFORMED)

@@ -1,4 +1,4 @@
-"""`history CELL`, and what the watches that hit at a stop saw change."""
+"""`history CELL`, and the changes at which watches hit."""
 
 from itertools import islice
 from typing import Optional, Sequence

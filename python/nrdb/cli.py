@@ -1,6 +1,7 @@
-"""The command line of nrdb, and its exit status, which is netrev's: 0 done, 1 the recording was refused, 2 usage error, 3 the file,
-the program or the connection failed; and 4 if --suspects, --explore or --explore-failures finds something. Modules that most
-sessions don't need are imported when they are used, so that the prompt appears sooner."""
+"""The command line of nrdb, and its exit status, which is netrev's: 0 done, 1 the recording was refused, 2 usage
+error, 3 the file, the program or the connection failed; and 4 if --suspects, --explore or --explore-failures
+finds something. Modules that most sessions don't need are imported when they are used, so that the prompt
+appears sooner."""
 
 import argparse
 import gc
@@ -36,7 +37,7 @@ DONE, REFUSED, USAGE, FAILED, SUSPECTS = range(5)
 
 def main(words: Optional[Sequence[str]] = None) -> int:
     """Runs nrdb with these words; its exit status."""
-    gc.set_threshold(200_000)  # (of a million steps some millions of objects are kept, and few are in cycles)
+    gc.set_threshold(200_000)  # (a recording of a million steps makes millions of objects, few of them in cycles)
     wanted = parsed(sys.argv[1:] if words is None else words)
     if wanted.dap or wanted.dap_port is not None:
         from .dap import serve_port, serve_streams
@@ -46,11 +47,11 @@ def main(words: Optional[Sequence[str]] = None) -> int:
         parser().error(messages.NO_RECORDING_GIVEN)
     for stream in (sys.stdin, sys.stdout):
         if isinstance(stream, io.TextIOWrapper):
-            stream.reconfigure(errors="surrogateescape")  # bytes that are no UTF-8 go as they come
+            stream.reconfigure(errors="surrogateescape")  # bytes that aren't UTF-8 are passed on unchanged
     printer = JsonPrinter() if wanted.json else TextPrinter(is_coloured=has_colours())
     try:
         return run(wanted, printer)
-    except OSError as error:  # the output can't be printed: its reader has gone, or there is no room
+    except OSError as error:  # the output can't be written: its reader has gone, or the disk is full
         sys.stdout = open(os.devnull, "w", encoding="utf-8")
         if not isinstance(error, BrokenPipeError):
             print(messages.STANDARD_OUTPUT.format(why=error.strerror), file=sys.stderr)
@@ -58,7 +59,7 @@ def main(words: Optional[Sequence[str]] = None) -> int:
 
 
 def run(wanted: argparse.Namespace, printer: Printer) -> int:
-    """Runs the session that is wanted, and tells how it ended; its exit status."""
+    """Runs the requested session and reports how it ended; the exit status."""
     try:
         status = start(wanted, printer)
     except Ended as ended:
@@ -92,7 +93,7 @@ def without_netrev(file: Optional[str]) -> str:
 
 
 def start(wanted: argparse.Namespace, printer: Printer) -> int:
-    """Opens the session that is wanted, and runs it to its end; the exit status."""
+    """Opens the requested session and runs it to its end; the exit status."""
     interrupts = Interrupts()
     with closing(opened(wanted, interrupts, printer)) as netrev:
         try:
@@ -122,28 +123,28 @@ def begun(wanted: argparse.Namespace, netrev: Netrev, interrupts: Interrupts, pr
             session.recording.suspects.drop()
     ended = netrev.close()
     status = status or (FAILED if session.errors else DONE)
-    return status if wanted.web is not None else ended or status  # (the page may have gone on with another netrev)
+    return status if wanted.web is not None else ended or status  # (the page may have started another netrev)
 
 
 def has_prompt(wanted: argparse.Namespace) -> bool:
-    """Whether a user types at a terminal, so that a Ctrl-C may not be meant for the session."""
+    """Whether a user types at a terminal, so that Ctrl-C may be meant for something else than the session."""
     ends = wanted.batch or wanted.suspects or wanted.explore or wanted.explore_failures or wanted.web is not None
     return sys.stdin.isatty() and not ends and all(getattr(wanted, name) is None for name in WRITERS)
 
 
 def is_of_all(wanted: argparse.Namespace) -> bool:
-    """Whether the output is about all steps, at whatever position."""
+    """Whether the output is about all steps, whatever the position."""
     return bool(wanted.suspects or wanted.trace or wanted.timeline)
 
 
 def session_of(wanted: argparse.Namespace, netrev: Netrev, interrupts: Interrupts, printer: Printer) -> Session:
-    """The session that is wanted, which hasn't begun yet."""
+    """The requested session, which hasn't begun yet."""
     recording = Recording.read(wanted.file) if wanted.file else None
     if wanted.join and wanted.file and (fault := fault_of(wanted.netrev, wanted.file)):
         raise NoRecording(messages.NOT_A_RECORDING.format(path=wanted.file, fault=fault))
     lent = netrev if is_of_all(wanted) and not wanted.lines and not wanted.join else None
     scout = Scout(lambda: Own(wanted.netrev, wanted.file, interrupts), lent) if wanted.file else None
-    tell = printer.note if has_prompt(wanted) else lambda _: None  # (a batch is the same at any pace)
+    tell = printer.note if has_prompt(wanted) else lambda _: None  # (a batch prints the same at any speed)
     recorded = ArrivingChanges(wanted.netrev, wanted.file, interrupts, tell) if wanted.file else None
     session = Session(netrev, recording, scout, printer, interrupts, ANSWERS, recorded=recorded)
     if recording and recorded and shutil.which(wanted.netrev):
@@ -156,7 +157,7 @@ def session_of(wanted: argparse.Namespace, netrev: Netrev, interrupts: Interrupt
 
 
 def refused(wanted: argparse.Namespace, netrev: Netrev, first: str, printer: Printer) -> int:
-    """Tells that netrev's first reply is a fault, and of a recording why; the exit status."""
+    """Reports that netrev's first reply is a fault, and explains it for a recording; the exit status."""
     if wanted.join and not first.startswith("fault "):
         raise Strange("info position", first)
     printer.reply("", Reply(first), "")
@@ -166,15 +167,15 @@ def refused(wanted: argparse.Namespace, netrev: Netrev, first: str, printer: Pri
 
 
 def opened(wanted: argparse.Namespace, interrupts: Interrupts, printer: Printer) -> Netrev:
-    """A netrev of one's own, or a front of a session that is shared."""
+    """A netrev of this session alone, or a front of a shared session."""
     if wanted.join:
         return Joined(address(wanted.join), interrupts, lambda: printer.note(messages.NO_REPLY_YET))
     return Own(wanted.netrev, wanted.file, interrupts)
 
 
 def played(session: Session, wanted: argparse.Namespace) -> int:
-    """Takes the lines of -x and -ex, and then prints the suspects, writes the timeline, or takes lines of the terminal or of
-    the input; the exit status."""
+    """Runs the lines of -x and -ex, and then prints the suspects, writes the timeline, or reads lines from the
+    terminal or the input; the exit status."""
     for sort, text in wanted.lines or ():
         if sort == "line":
             session.printer.echo(text)
@@ -197,7 +198,7 @@ def played(session: Session, wanted: argparse.Namespace) -> int:
 
 
 def unless_stopped(session: Session, work: Callable[[], int]) -> int:
-    """The status of some work; FAILED if it was interrupted, or isn't possible."""
+    """The exit status of some work; FAILED if it was interrupted or isn't possible."""
     try:
         with session.interrupts.held():
             return work()
@@ -225,7 +226,7 @@ def schedules_tried(session: Session, is_of_failures: bool) -> int:
 
 
 def made(session: Session, path: str, write: Callable[..., str], part: Sequence[int]) -> int:
-    """Writes a file, of a timeline maybe with a part, and says what was written; the exit status."""
+    """Writes a file, for a timeline perhaps with a part, and says what was written; the exit status."""
     session.printer.note(write(session, path, *part))
     return DONE
 
@@ -267,7 +268,7 @@ def typed(session: Session) -> None:
 
 
 def run_typed(session: Session, run: Sequence[str]) -> bool:
-    """Answers lines of an input that isn't a terminal, each shown first. False if the session has ended."""
+    """Runs the lines of an input that isn't a terminal, each echoed first. False if the session has ended."""
     if len(run) > 1:
         return session.guarded(lambda _: answer_run(session, run), "")
     session.printer.echo(run[0])

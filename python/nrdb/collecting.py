@@ -1,4 +1,4 @@
-"""What a session says, kept as text for an editor's console or a page."""
+"""A session's output, kept as text for an editor's console or a page."""
 
 import io
 
@@ -16,7 +16,7 @@ class Collecting(TextPrinter):
         """The caller shows the typed line itself."""
 
     def take(self) -> str:
-        """What was said since the last time."""
+        """The output since the last call."""
         said = self.kept.getvalue()
         self.kept.seek(0)
         self.kept.truncate()

@@ -1,5 +1,4 @@
-"""The commands, netrev's own and those that nrdb adds, each a row of one table; and how a word that is cut short, or
-that another debugger has, is read."""
+"""The commands of netrev and nrdb in one table, and the reading of abbreviations and of other debuggers' names."""
 
 import re
 from dataclasses import dataclass
@@ -141,7 +140,7 @@ TOPICS = {
         Topic(Origin.NRDB, "holders S", "which goroutines hold references of socket S, and since which step"),
     )
 }
-# What nrdb takes beside netrev's own forms of its commands.
+# Forms of netrev's commands that nrdb answers itself.
 FORMS = {
     "break": command(
         "break FILE:LINE | FUNCTION", "stops before each step at which a goroutine comes to a line or a function"
@@ -190,9 +189,9 @@ TABLES_OF_OTHERS = {
     "threads": "goroutines",
 }  # commands there, topics here
 
-FILE = re.compile(r"\b(FILE|OUT\.\w+)\b(?!:)")  # what stands for a file in a command's usage
+FILE = re.compile(r"\b(FILE|OUT\.\w+)\b(?!:)")  # the words for a file in a command's usage
 DIRECTIONS = ("reverse", "forward")
-PAGINATION = "pagination"  # that GDB sets too
+PAGINATION = "pagination"  # settings that GDB has too
 SETTINGS = ("exec-direction", PAGINATION)
 
 
@@ -204,8 +203,8 @@ class Ambiguous(Exception):
 
 
 def whole(word: str, known: Collection[str], spellings: Mapping[str, str] = {}) -> str:
-    """The known word that this one spells, in another debugger's spelling too, or, where just one does, that begins
-    with it. Else the word itself."""
+    """The known word that this one is, in another debugger's spelling too, or the only one that begins with it.
+    Otherwise the word itself."""
     if word in known:
         return word
     if word in spellings:
@@ -222,12 +221,12 @@ ALL_SPELLINGS = {**SPELLINGS, **SHORT}
 
 @lru_cache(maxsize=1_024)
 def whole_command(word: str) -> str:
-    """The command that a word spells, in short, in part or as another debugger does. Else the word itself."""
+    """The command that a word is, abbreviated or in another debugger's spelling. Otherwise the word itself."""
     return whole(word, COMMANDS, ALL_SPELLINGS)
 
 
 def whole_words(words: list[str]) -> list[str]:
-    """The words of a line, those written out that were cut short: the command, a topic, a direction, a dump."""
+    """The words of a line with abbreviations written out: the command, a topic, a direction, a dump."""
     if words[0] in TABLES_OF_OTHERS:
         return ["info", TABLES_OF_OTHERS[words[0]], *words[1:]]
     first = whole_command(words[0])

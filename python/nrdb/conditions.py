@@ -9,14 +9,14 @@ from .messages import session as messages
 
 
 class Condition(NamedTuple):
-    """A cell, and what its value or the value's words have to be; `*` is any text."""
+    """A cell, and the required value, as printed or in words; `*` is any text."""
 
     cell: str
     value: str
 
     @classmethod
     def of(cls, words: Sequence[str]) -> Optional["Condition"]:
-        """The condition that words spell, as `until` has it: gor 3 parked*, rg 0 = ready; None if they spell none."""
+        """The condition that words form, as in `until`: gor 3 parked*, rg 0 = ready; None if they form none."""
         words = [word for word in words if word not in ("=", "==")]
         for length in (2, 1):
             if (cell := cell_of(words[:length])) and words[length:]:

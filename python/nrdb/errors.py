@@ -1,5 +1,5 @@
-"""Errors of commands, and those that nothing expects, which are nrdb's own: one line for the user, and the traceback if that is
-wanted."""
+"""Errors of commands, and unexpected errors, which are nrdb's own: one line for the user, and the traceback on
+request."""
 
 import os
 import sys
@@ -10,8 +10,8 @@ from netrev_words.plain import plain
 
 from .messages import session as messages
 
-WANTED_BY = "NRDB_TRACEBACK"  # the environment variable that has tracebacks printed
-LONGEST = 200  # characters of an error's text
+WANTED_BY = "NRDB_TRACEBACK"  # the environment variable that turns tracebacks on
+LONGEST = 200  # the most characters of an error's text
 
 
 class Misused(Exception):
@@ -29,11 +29,11 @@ def needed(part: Optional[Part]) -> Part:
 
 
 class Mismatched(Exception):
-    """A session was joined that has another recording."""
+    """The recording of the joined session is another one."""
 
 
 def unexpected(error: Exception) -> str:
-    """The line that tells of an error. If NRDB_TRACEBACK is set, its traceback goes to standard error."""
+    """The line that reports an error. If NRDB_TRACEBACK is set, its traceback goes to standard error."""
     if isinstance(error, MemoryError):
         return messages.OUT_OF_MEMORY
     if os.environ.get(WANTED_BY):

@@ -1,4 +1,4 @@
-"""The files that nrdb writes: whole or not at all, and never over the recording that it reads."""
+"""Writes nrdb's files atomically, and never over the recording that nrdb reads."""
 
 import os
 from contextlib import contextmanager
@@ -12,7 +12,7 @@ from .errors import Misused
 
 
 def spare(path: str, recording: str) -> None:
-    """Misused if a file to be written is the recording, or its NAME.where."""
+    """Raises Misused if a file to be written is the recording, or its NAME.where."""
     for own in (Path(recording), Path(recording).with_suffix(".where")) if recording else ():
         if os.path.exists(path) and own.exists() and own.samefile(path):
             raise Misused(messages.OWN_FILE.format(path=path))
@@ -20,7 +20,7 @@ def spare(path: str, recording: str) -> None:
 
 @contextmanager
 def writing(path: str, recording: str, mode: str = "w") -> Iterator[IO[Any]]:
-    """A file to be written; Misused if that fails."""
+    """A file to be written; raises Misused if that fails."""
     spare(path, recording)
     try:
         with whole(Path(path), mode) as file:
@@ -30,6 +30,6 @@ def writing(path: str, recording: str, mode: str = "w") -> Iterator[IO[Any]]:
 
 
 def written(path: str, recording: str, data: bytes) -> None:
-    """Writes a file; Misused if that fails."""
+    """Writes a file; raises Misused if that fails."""
     with writing(path, recording, "wb") as file:
         file.write(data)

@@ -1,5 +1,5 @@
-"""`steps` and `calls`: what a goroutine did, what happened to a socket or a descriptor, all steps of a kind; and where `next` and `finish`
-lead."""
+"""`steps` and `calls`: what a goroutine did, what happened to a socket or a descriptor, and all steps of a kind;
+and the destinations of `next` and `finish`."""
 
 from itertools import chain
 from typing import Callable, Iterator, NamedTuple, Optional
@@ -20,7 +20,7 @@ SUBJECTS = {"gor": "goroutine", "sock": "socket", "desc": "descriptor"}
 
 
 class Subject(NamedTuple):
-    """Whose steps or calls are asked for: a goroutine's, a socket's, a descriptor's; or those of a kind, of all."""
+    """The subject of `steps` or `calls`: a goroutine, a socket, a descriptor, a kind of step, or everything."""
 
     name: str = ""
     number: int = 0
@@ -30,7 +30,7 @@ class Subject(NamedTuple):
 
     @property
     def is_numbered(self) -> bool:
-        """Whether it is one of several: a goroutine, a socket or a descriptor."""
+        """Whether the subject has a number: a goroutine, a socket or a descriptor."""
         return self.name in SUBJECTS
 
     @classmethod
@@ -119,18 +119,19 @@ def call_row(recording: Recording, call: Call, position: int) -> Row:
 
 
 class Stay(Exception):
-    """There is nowhere to go: why."""
+    """No destination exists: the reason."""
 
 
 class Goal(NamedTuple):
-    """A position to go to, and the call that is passed on the way, if it is a whole one."""
+    """A destination, and the call that is passed on the way, if a whole one is."""
 
     position: int
     call: Optional[Call] = None
 
 
 def goroutine_at(recording: Recording, position: int) -> int:
-    """The goroutine of the last step, or of the last one before that is of any; at the start of the next one."""
+    """The goroutine of the last step, or of the last earlier step that a goroutine made; at the start, of the next
+    one."""
     whose = book_of(recording).whose.goroutines
     for at in chain(range(position - 1, -1, -1), range(position, len(whose))):
         if whose[at] >= 0:
@@ -192,7 +193,7 @@ def _own_step(book: Book, goroutine: int, numbers: range) -> int:
 
 
 def _call_at(book: Book, goroutine: int, position: int) -> Call:
-    """The innermost call that the goroutine is in; Stay if there is none."""
+    """The innermost call that the goroutine is in; raises Stay if it is in none."""
     inside = calls_at(book, goroutine, position)
     if not inside:
         raise Stay(messages.IN_NO_CALL.format(goroutine=goroutine))

@@ -19,16 +19,16 @@ class GoroutineStack(NamedTuple):
     since: int
     does: str
     is_past: bool = False
-    goid: int = 0  # Go's own number, if the recording's was used again
+    goid: int = 0  # Go's own number, if several goroutines had that of the recording
 
     def words(self) -> str:
-        """It in a line: `goroutine 3: waits for a mutex since step 9, at main.go:34 sync.(*Mutex).Lock`."""
+        """The stack as a line: `goroutine 3: waits for a mutex since step 9, at main.go:34 sync.(*Mutex).Lock`."""
         at = f"{', last' if self.is_past else ','} at {self.stack.words()}" if self.stack.calls else ""
         return f"{self.name}{f' (goid {self.goid})' if self.goid else ''}: {self.does}{at}"
 
 
 def stack_of(recording: Recording, name: Name, position: int) -> Optional[GoroutineStack]:
-    """The stack of a goroutine at a position; None if the recording has neither a step nor a wait of it up to there."""
+    """The stack of a goroutine at a position; None if the recording has neither a step nor a wait of it before."""
     wait = waits_of(recording).at(name, position)
     goid = 0 if name.is_goid else recording.lines.reused_goid(name.number, position)
     if wait:

@@ -6,8 +6,8 @@ from .output import Row
 from .waits import Name, of_names
 from .words import DOING, SIDES
 
-MANY = 4  # that wait for the same, from which on they are one row
-RUNS = 8  # of numbers that are shown
+MANY = 4  # goroutines that wait for the same, from which on they share a row
+RUNS = 8  # numbers that are shown
 
 
 def grouped(rows: list[Row], who_has: Callable[[int, str], str]) -> list[Row]:
@@ -33,7 +33,8 @@ def _likeness(values: dict[str, Any]) -> Optional[Hashable]:
 
 
 def _common(values: dict[str, Any]) -> tuple[str, ...]:
-    """What those that are parked have in common, in words: what is unread, the deadline, the line of the program."""
+    """What the parked goroutines of a group have in common, as text: what is unread, the deadline, the line of the
+    program."""
     known = values["waits_for"].split("; ")[1:]
     unread = "bytes are unread" if "unread" in known[0] else ""
     rest = ["deadlines to come" if words.startswith("deadline at ") else words for words in known[1:]]
@@ -75,7 +76,7 @@ def _goid(row: Row) -> dict[str, Any]:
 
 
 def _runs(numbers: list[int]) -> str:
-    """Numbers in words, those in a row as one run."""
+    """Numbers as text, consecutive ones as a range."""
     runs: list[list[int]] = []
     for number in sorted(numbers):
         if runs and runs[-1][1] == number - 1:

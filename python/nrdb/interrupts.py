@@ -1,5 +1,5 @@
-"""Ctrl-C. While netrev is asked it waits for the reply, which is never left half read; a long walk looks between two
-questions whether it came. A second one, while netrev doesn't answer, gives the session up."""
+"""Ctrl-C. While netrev is asked, nrdb reads the whole reply before it stops; a long walk checks for Ctrl-C between
+two queries. A second Ctrl-C, while netrev doesn't answer, gives the session up."""
 
 import signal
 from contextlib import contextmanager
@@ -7,15 +7,16 @@ from typing import Callable, Iterator
 
 
 class Interrupted(Exception):
-    """Ctrl-C was pressed in a walk, which stops here."""
+    """Ctrl-C was pressed during a walk, which stops."""
 
 
 class GivenUp(Exception):
-    """Ctrl-C was pressed again while netrev didn't answer: a reply is left half read, and the session of no use."""
+    """Ctrl-C was pressed again while netrev didn't answer: a reply is half read, so the session can't be used any
+    more."""
 
 
 class Interrupts:
-    """Holds Ctrl-C back while `held`."""
+    """Delays Ctrl-C in the context `held`."""
 
     def __init__(self) -> None:
         self._came = False
@@ -47,7 +48,8 @@ class Interrupts:
 
     @contextmanager
     def shielded(self) -> Iterator[None]:
-        """Within, nothing is left half done: Ctrl-C is remembered. Two give the session up here too."""
+        """Context in which Ctrl-C is remembered, so that nothing is left half done. Two of them give the session up
+        here too."""
         self._shields += 1
         try:
             yield
@@ -55,7 +57,7 @@ class Interrupts:
             self._shields -= 1
 
     def clear(self) -> None:
-        """Forgets that Ctrl-C came: what it was for is done."""
+        """Forgets an earlier Ctrl-C, whose work is done."""
         self._came = False
 
     def give_up(self) -> None:
@@ -64,7 +66,7 @@ class Interrupts:
         self.check_given_up()
 
     def came(self) -> None:
-        """Ctrl-C was pressed."""
+        """Handles a Ctrl-C."""
         if self._came:
             self._is_given_up = True
         self._came = True

@@ -1,4 +1,4 @@
-"""What to correct in a line that netrev answers with a fault."""
+"""Hints about a line that netrev answers with a fault."""
 
 import difflib
 import re
@@ -13,7 +13,7 @@ from .commands import ALL_TOPICS, COMMANDS, SPELLINGS, TOPIC_SPELLINGS, TOPICS
 
 
 def hint(words: list[str], fault: str) -> str:
-    """What to mend in the line of these words, which was answered with this fault."""
+    """The hint for the line of these words, which was answered with this fault."""
     number = fault.split()[1]
     if number == "201":
         return unknown(words)
@@ -25,7 +25,7 @@ def hint(words: list[str], fault: str) -> str:
 
 
 def unknown(words: list[str]) -> str:
-    """Of a word that is no command."""
+    """The hint for a word that isn't a command."""
     first, _, form = words[0].partition("/")
     plain = unicodedata.normalize("NFKC", words[0]).lower().rstrip("!;")
     if words[0].startswith("!"):
@@ -96,7 +96,7 @@ def of_condition(cell: str, words: list[str]) -> str:
 
 
 def of_steps(words: list[str], command: str) -> str:
-    """Of a number of steps."""
+    """The hint for a number of steps."""
     if len(words) > 1:
         return messages.ONLY_A_NUMBER.format(command=command)
     if re.fullmatch(r"-\d+", words[0]):
@@ -109,7 +109,7 @@ def of_steps(words: list[str], command: str) -> str:
 
 
 def spelled_number(word: str) -> Optional[int]:
-    """The number that a word spells in another language, or None; also None for one that netrev takes nowhere."""
+    """The number that a word is in another notation, or None; also None for one that netrev accepts nowhere."""
     try:
         number = int(word, 0)
     except ValueError:
@@ -121,7 +121,7 @@ def spelled_number(word: str) -> Optional[int]:
 
 
 def of_break(words: list[str], command: str = "break") -> str:
-    """Of what a break should stop at."""
+    """The hint for the place of a break."""
     if not words:
         return messages.BREAK.format(command=command)
     word = words[0]
@@ -150,7 +150,7 @@ def kind_hint(word: str) -> str:
 
 
 def of_delete(words: list[str]) -> str:
-    """Of what should be deleted."""
+    """The hint for words after `delete`."""
     if words[:1] == ["checkpoint"]:
         return messages.DELETE_CHECKPOINT
     numbers = [word for word in words if number_of(word) is not None]
@@ -158,7 +158,7 @@ def of_delete(words: list[str]) -> str:
 
 
 def of_dump(words: list[str]) -> str:
-    """Of what should be dumped."""
+    """The hint for words after `dump`."""
     kinds = "|".join(DUMPS)
     if not words or (len(words) == 1 and words[0] not in DUMPS):
         return messages.DUMP.format(kinds=kinds, number=words[0] if words and number_of(words[0]) is not None else 0)
@@ -177,7 +177,7 @@ def of_info(words: list[str]) -> str:
 
 
 def of_set(words: list[str]) -> str:
-    """Of what should be set."""
+    """The hint for words after `set`."""
     if words and words[0] not in ("exec-direction", "direction"):
         return messages.SETTINGS
     return messages.DIRECTIONS
@@ -192,7 +192,7 @@ def of_continue(words: list[str], command: str) -> str:
 
 
 def of_restart(words: list[str]) -> str:
-    """Of a checkpoint to go to."""
+    """The hint for words after `restart`."""
     return messages.RESTART
 
 

@@ -1,5 +1,5 @@
-"""The beginnings of a text's lines. There may be a million, so they are counted by blocks, and found in a block when
-one of its lines is asked for."""
+"""The beginnings of a text's lines. There may be a million, so they are counted by blocks, and found within a block
+when one of its lines is needed."""
 
 from bisect import bisect_left
 from itertools import accumulate
@@ -14,7 +14,7 @@ class LineStarts:
         self._data = data
         counts = (data.count(b"\n", begin, begin + BLOCK) for begin in range(0, len(data), BLOCK))
         self._before = list(accumulate(counts, initial=0))  # how many line feeds are before each block
-        # of the last block: how many line feeds are before it and up to its end, and their places in it
+        # for the last block: how many line feeds are before it and up to its end, and their places in it
         self._first = self._last = 0
         self._behind = [0]
 

@@ -6,7 +6,7 @@ from typing import TextIO
 
 from netrev_words.vocabulary import number_of
 
-LEAST = 20  # columns, below which nothing is broken
+LEAST = 20  # columns below which nothing is broken
 INDENT = 4
 
 

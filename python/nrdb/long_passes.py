@@ -1,4 +1,4 @@
-"""What a pass over a million steps does without."""
+"""Turns garbage collection off for passes over a million steps."""
 
 import gc
 from contextlib import contextmanager

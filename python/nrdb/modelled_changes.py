@@ -1,5 +1,5 @@
-"""The changes of a recording without netrev: of schedules that are only played, or of recordings on the way to the
-smallest. The machine in Python gives them, as `netrev changes` does."""
+"""The changes of a recording without netrev, for schedules of `explore` and candidates of `reduce`: the machine in
+Python computes them, in the form of `netrev changes`."""
 
 from typing import Any, Callable, Iterable, Iterator, Optional
 
@@ -11,12 +11,12 @@ from netrev_words.vocabulary import KINDS, MOST
 from .recorded_changes import RecordedChanges
 from .recording import Recording, Row
 
-WIDE = Limits(MOST, MOST, MOST, MOST)  # (the maker of the steps kept to the limits)
+WIDE = Limits(MOST, MOST, MOST, MOST)  # (the steps were made within the limits)
 OF_BYTES = frozenset(kind for kind, row in KINDS.items() if "bytes" in row.arguments)
 
 
 class PlayedSteps(Recording):
-    """Steps that were only played, for the rules."""
+    """Steps of the model, as the rules need them."""
 
     def __init__(self, steps: Iterable[Step]) -> None:
         super().__init__(b"")

@@ -1,4 +1,4 @@
-"""A netrev to talk to: one of one's own, `netrev run FILE`, or a front of a session that netrev serves."""
+"""A connection to netrev: a process `netrev run FILE`, or a front of a session that netrev serves."""
 
 import errno
 import os
@@ -14,15 +14,15 @@ from .messages import session as messages
 from .interrupts import Interrupts
 from .shapes import Listed, Strange, entries_in, mark_of, value_of
 
-AT_ONCE = 16_384  # bytes that are sent before replies are read: no pipe is filled by them
+AT_ONCE = 16_384  # bytes that are sent before replies are read: they fit into any pipe
 READ = 65_536
 LONGEST = 2 * 1_048_576 + 64  # bytes of the longest reply, a dump of a full buffer
 SILENCE = 1  # seconds after which a caller that waits for the first reply is told so
 
 
 def bytes_of(text: str) -> bytes:
-    """Lines as they are sent. Bytes that aren't UTF-8 are sent unchanged; so is half a character, which an editor's
-    JSON can name."""
+    """Lines as bytes. Bytes that aren't UTF-8 are sent unchanged; so is half a character, which an editor's JSON
+    can contain."""
     try:
         return text.encode("utf-8", "surrogateescape")
     except UnicodeEncodeError:
@@ -59,7 +59,8 @@ class Lines:
         self._rest = b""
 
     def next(self, asked: str) -> Optional[str]:
-        """The next line, without its line feed; None at the end. Strange, with the line that was asked, if a line doesn't end."""
+        """The next line, without its line feed; None at the end. Raises Strange, with the line that was sent, if a
+        line doesn't end."""
         while not self._whole:
             if len(self._rest) > LONGEST:
                 raise Strange(asked, self._rest[:READ].decode("latin-1"))
@@ -72,7 +73,7 @@ class Lines:
         return self._whole.popleft().decode("utf-8", "surrogateescape")
 
     def has_one(self) -> bool:
-        """Whether a line is here already."""
+        """Whether a line has arrived already."""
         return bool(self._whole)
 
     def _read(self) -> bytes:
@@ -85,8 +86,8 @@ class Lines:
 
 
 class Netrev:
-    """Lines are sent, and each is answered by a line; the two lists by a line more an entry. No line is sent as long as a
-    reply is left to be read, so each reply belongs to its line."""
+    """Sends lines and reads a reply to each: one line, for the two lists one more for each entry. No line is sent
+    while a reply is unread, so each reply belongs to its line."""
 
     asks_ahead = True  # whether no other front can change what a query shows
 
@@ -107,8 +108,8 @@ class Netrev:
         return self._reply(line)
 
     def ask_ahead(self, queries: Sequence[str]) -> None:
-        """Sends queries together, of one line each, which change nothing. `ask` has their replies as long as no other line is sent; what goes
-        wrong is raised when that reply is asked for."""
+        """Sends several queries of one line each at once; they change nothing. `ask` returns their replies as long
+        as no other line is sent; an error is raised when that reply is asked for."""
         self._begin(list(queries))
         for query in queries:
             try:
@@ -136,7 +137,7 @@ class Netrev:
         return self.looks([f"print {cell}" for cell in cells])
 
     def looks(self, lines: Sequence[str]) -> list[str]:
-        """What these looks show, `print CELL` and `dump WHAT S`."""
+        """The results of these queries, `print CELL` and `dump WHAT S`."""
         return [value_of(line, reply) for line, reply in zip(lines, self.ask_all(lines))]
 
     def marks(self) -> list[Listed]:
@@ -151,7 +152,7 @@ class Netrev:
     def _begin(self, lines: list[str]) -> None:
         self._interrupts.check_given_up()
         self._ahead.clear()
-        if self._unread:  # whatever came next would be the reply to another line
+        if self._unread:  # the next line would be the reply to another query
             self.drop()
             raise Ended
         self._unread = len(lines)
@@ -183,12 +184,12 @@ class Netrev:
         raise NotImplementedError
 
     def drop(self) -> None:
-        """Ends the conversation without waiting for anything."""
+        """Ends the conversation without waiting for netrev."""
         self.close()
 
 
 class Own(Netrev):
-    """`netrev run FILE`, in a process group of its own: an interrupt from the keyboard is not for it."""
+    """`netrev run FILE`, in a process group of its own, so Ctrl-C at the keyboard doesn't reach it."""
 
     def __init__(self, program: str, path: str, interrupts: Interrupts):
         super().__init__(interrupts)
@@ -219,7 +220,7 @@ class Own(Netrev):
 
 
 class Joined(Netrev):
-    """A front of a session of `netrev serve`, by its address. `silent` is called if the first reply takes long."""
+    """A front of a session of `netrev serve`, at its address. `silent` is called if the first reply takes long."""
 
     asks_ahead = False
 

@@ -1,10 +1,11 @@
-"""What is noted of a recording: each sort of note, and the uses of descriptors, which most are of. (Goroutines: `noted_goroutines.py`.)"""
+"""The notes of a recording: a class for each sort of note, and the uses of descriptors, which have most of them.
+(Goroutines: `noted_goroutines.py`.)"""
 
 from bisect import bisect_left
 from typing import NamedTuple, Optional
 
 CLOSING, TIMED_OUT, EVENT_ERROR = 1, 2, 3  # the codes of a side
-new = tuple.__new__  # (of a million steps some 100,000 notes are made, and a named tuple's own takes thrice as long)
+new = tuple.__new__  # (a million steps make some 100,000 notes, and creating a named tuple takes three times as long)
 
 
 class Setting(NamedTuple):
@@ -17,7 +18,7 @@ class Setting(NamedTuple):
 
 
 class Due(NamedTuple):
-    """What a side's deadline is due to: its last setting, and the first one after it of the other side alone."""
+    """The origin of a side's deadline: its last setting, and the first later one of the other side alone."""
 
     setting: Setting
     moved: Optional[Setting]
@@ -40,7 +41,8 @@ class Taking(NamedTuple):
 
 
 class Wait(NamedTuple):
-    """A wait of a side began: at which step, whose it is, and the step at which that goroutine had last read or written."""
+    """The beginning of a wait of a side: its step, its goroutine, and the step at which that goroutine last read or
+    wrote."""
 
     step: int
     goroutine: int
@@ -55,7 +57,7 @@ class ErrorEvent(NamedTuple):
 
 
 class Timeout(NamedTuple):
-    """A call ended since its deadline had passed, and what that is due to."""
+    """A call that ended because its deadline had passed, and the origin of that deadline."""
 
     step: int
     goroutine: int
@@ -66,8 +68,8 @@ class Timeout(NamedTuple):
 
 
 class Hold(NamedTuple):
-    """A reference of a socket: the goroutine that holds it, since which step, its kind, and the side of the lock that it came with,
-    if any."""
+    """A reference of a socket: its goroutine, the step since which it is held, its kind, and the side of the lock
+    that it came with, if any."""
 
     goroutine: int
     step: int
@@ -82,7 +84,7 @@ class By(NamedTuple):
     goroutine: int
 
 
-AT = {"r": 0, "w": 1}  # for values of both sides, the index of each
+AT = {"r": 0, "w": 1}  # the values of both sides, by the index of the side
 SIDES = {"r": (0,), "w": (1,), "rw": (0, 1)}  # of a mode
 
 
@@ -98,9 +100,9 @@ class Use:
         self.descriptor, self.socket, self.opened, self.closed, self.tag = descriptor, socket, opened, 0, tag
         self.settings: list[Setting] = []
         self.errors: list[ErrorEvent] = []
-        self.thrown: list[Taking] = []  # readinesses for reading that a pollreset threw away
-        # of both sides: what its deadline is due to, the steps at which that passed, the last event, the last readiness that was taken or
-        # thrown away, and the waits
+        self.thrown: list[Taking] = []  # readinesses for reading that a pollreset discarded
+        # for both sides: the origin of its deadline, the steps at which that passed, the last event, the last readiness that was taken or
+        # discarded, and the waits
         self.dues: list[Optional[Due]] = [None, None]
         self.passings: tuple[list[Passing], ...] = ([], [])
         self.last_events = [0, 0]
@@ -108,11 +110,11 @@ class Use:
         self.waits: tuple[list[Wait], ...] = ([], [])
 
     def last_event(self, side: str) -> int:
-        """The step of the last event of a side; 0 where none came."""
+        """The step of the last event of a side; 0 if none came."""
         return self.last_events[AT[side]]
 
     def setting(self, step: int) -> Setting:
-        """That of a step."""
+        """The setting of a step."""
         return self.settings[bisect_left(self.settings, (step,))]
 
     def setting_behind(self, side: str, step: int) -> Optional[Setting]:

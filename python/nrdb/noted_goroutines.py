@@ -3,7 +3,7 @@
 from typing import Optional
 
 IDLE, ACQUIRING, QUEUED, PARKED = "idle", "acquiring", "queued", "parked"
-MANY = 3  # pauses of a place that ended, from which on the longest of them says something
+MANY = 3  # pauses of a place that must have ended before the longest of them counts
 
 
 class Pauses:
@@ -61,7 +61,7 @@ class Statuses(dict[str, Status]):
 
     def __init__(self) -> None:
         super().__init__()
-        # an idle goroutine pauses as long as it holds a reference, which is noted at its steps and not as it leaves the place
+        # an idle goroutine pauses as long as it holds a reference, which is noted at its steps and not when it leaves the place
         self.pauses: dict[str, Pauses] = {IDLE: Pauses()}
         self[IDLE] = Status(IDLE, NoPauses())
 

@@ -1,7 +1,7 @@
-"""What no cell shows, gathered in one pass over a recording's steps and their changes: which goroutine holds which reference since
-when, which set which deadline, which took which event, and how long each paused. This is nrdb's own analysis. A recording may have
-a million steps, so the work for a step is prepared once for all similar lines nearby: a function that notes it and one that looks
-at the state."""
+"""Facts that no cell shows, gathered in one pass over a recording's steps and their changes: which goroutine holds
+which reference since when, which set which deadline, which took which event, and how long each paused. This is
+nrdb's own analysis. A recording may have a million steps, so the work for a step is prepared once for all
+similar lines nearby: a function that notes the step and one that inspects the state."""
 
 from collections import deque
 from types import MappingProxyType
@@ -17,15 +17,15 @@ from .noting import NOTES, Note
 from .recorded_changes import RecordedChanges, Told
 from .recording import Recording
 
-Look = Callable[[int], None]  # takes the step's number
-Looks = Mapping[str, Callable[..., Look]]  # of a kind what makes such, of the notes and a step's arguments
+Look = Callable[[int], None]  # called with the step's number
+Looks = Mapping[str, Callable[..., Look]]  # makes such a function for a kind, from the notes and a step's arguments
 Row = tuple[Goroutine, Optional[Note], Optional[Look]]
 CLOSED = 1  # in a lock word
-MOST_CHANGED = 1_024  # bytes of what a firing changes: a dozen lines at most
+MOST_CHANGED = 1_024  # bytes of a firing's changes: a dozen lines at most
 
 
 class Now(dict[str, str]):
-    """The cells after the last step, each asked for once."""
+    """The cells after the last step, each read once."""
 
     def __init__(self, changes: RecordedChanges, position: int) -> None:
         super().__init__()
@@ -41,9 +41,11 @@ class Notes:
 
     def __init__(self, recording: Recording, looks: Looks = MappingProxyType({})) -> None:
         self.recording, self.changes, self._looks = recording, changes_of(recording), looks
-        self.step = self.moved = self.code = 0  # the step, the bytes that it moved, and the code that it found
-        self.told: dict[str, str] = {}  # what the steps near this one changed: `12 lock 0`, with what that shows
-        self._lines, self._fired_at = "", 0  # the lines of that, and where in these the last firing was found
+        self.step = (
+            self.moved
+        ) = self.code = 0  # the step, the number of bytes that it moved, and the code that it found
+        self.told: dict[str, str] = {}  # the changes of the steps nearby: `12 lock 0`, with the value
+        self._lines, self._fired_at = "", 0  # the lines of those changes, and the place of the last firing in them
         self.clock = 0
         self.statuses = Statuses()
         self.pauses = self.statuses.pauses
@@ -51,10 +53,10 @@ class Notes:
         self.goroutine(0).is_made(0, self.statuses[IDLE])
         self.made = 1  # goroutines
         self._turn = NOBODY  # the goroutine of the last step
-        self.wakers: dict[int, Note] = {}  # of descriptors, the goroutines that are woken there
+        self.wakers: dict[int, Note] = {}  # for descriptors, the goroutines that are woken there
         self.comings: dict[tuple[int, str, int], Note] = {}  # and an event there, with its mode and error
-        # of sockets: their lock words and what their buffers hold, who holds them, who closed them or their write sides, and when bytes
-        # came, the peer closed, and an evict was
+        # for sockets: their lock words and the contents of their buffers, the holders, who closed them or their write sides, and when bytes
+        # came, the peer closed, and an evict happened
         self.locks: dict[int, int] = {}
         self.inputs: dict[int, int] = {}
         self.outputs: dict[int, int] = {}
@@ -62,10 +64,13 @@ class Notes:
         self.closer: dict[int, By] = {}
         self.shut: dict[int, By] = {}
         self.arrived: dict[int, int] = {}
-        self.again: dict[str, dict[int, int]] = {"r": {}, "w": {}}  # of each side the last try that was answered EAGAIN
+        self.again: dict[str, dict[int, int]] = {
+            "r": {},
+            "w": {},
+        }  # for each side the last try that was answered EAGAIN
         self.peer: dict[int, int] = {}
         self.evicted: dict[int, int] = {}
-        # of descriptors: their tags and what is told of them, all uses, the tags of those that are open, which are ready for reading, and the last event that was
+        # for descriptors: their tags and notes, all uses, the tags of those that are open, which are ready for reading, and the last event that was
         # dropped, with its tag
         self.tags: dict[int, int] = {}
         self.infos: dict[int, int] = {}
@@ -73,13 +78,13 @@ class Notes:
         self.use_of: dict[int, Use] = {}  # the last one of each
         self.socket_before: dict[Use, int] = {}  # the socket of the use before
         self.open_tags: dict[int, int] = {}
-        self.free: list[int] = []  # the one that was freed last at the end
+        self.free: list[int] = []  # the one that was freed last is at the end
         self.ready: dict[str, set[int]] = {"r": set(), "w": set()}  # of each side
         self.stale: dict[int, tuple[int, int]] = {}
         self.timeouts: list[Timeout] = []
         # those after a CloseWrite: the step, the goroutine, and the socket
         self.refused_writes: list[tuple[int, int, int]] = []
-        self.longest_holds: dict[str, int] = {}  # of each kind, of those that ended
+        self.longest_holds: dict[str, int] = {}  # of each kind, for those that ended
         self._has_answers, self._rows = recording.has_answers, recording.rows(self._row)
         self._go_through()
         self.goroutines = dict(sorted(self.goroutines.items()))
@@ -93,13 +98,14 @@ class Notes:
                     self._note_steps(range(told.first, told.end))
             self._turn.last = self.step
         except (KeyError, IndexError, ValueError):
-            deque(self.changes.texts(), maxlen=0)  # (a line that isn't a change shows that)
+            deque(self.changes.texts(), maxlen=0)  # (a malformed line shows here)
             raise
         self.told.clear()
         self._lines = ""
 
     def _note_steps(self, steps: range) -> None:
-        """Goes through these steps. After enough pauses, a step of a goroutine right after another one doesn't report a pause."""
+        """Goes through these steps. After enough pauses, a goroutine's step right after another one of its steps
+        doesn't report a pause."""
         turn, is_enough = self._turn, self.pauses[IDLE].count >= MANY
         for step, number, (goroutine, note, look) in zip(steps, map(str, steps), self._rows):
             if goroutine is not turn:
@@ -115,7 +121,7 @@ class Notes:
         self.step, self._turn = steps.stop - 1, turn
 
     def _pauses(self, goroutine: Goroutine, step: int) -> None:
-        """A goroutine that is idle and holds a reference has made no step before this one."""
+        """Checks that an idle goroutine that holds a reference made no step before this one."""
         idle, pause = self.pauses[IDLE], step - max(goroutine.last, goroutine.since)
         if pause > idle.enough:
             idle.ends(pause)
@@ -127,22 +133,22 @@ class Notes:
         self._lines, self._fired_at = told.text, 0
 
     def _row(self, values: list[Any]) -> Row:
-        """What is made of a step's array: its goroutine, if it has one, the function that notes it, and the function that looks at
-        the state."""
+        """The parts of a step's array: its goroutine, if it has one, the function that notes it, and the function
+        that inspects the state."""
         kind, *arguments = values[:-1] if self._has_answers else values
         goroutine = self.goroutine(arguments[0]) if kind in OF_A_GOROUTINE else NOBODY
         note, look = NOTES.get(kind), self._looks.get(kind)
         return goroutine, note and note(self, *arguments), look and look(self, *arguments)
 
     def goroutine(self, g: int) -> Goroutine:
-        """A goroutine, which may still have to be made."""
+        """A goroutine, created if it isn't known yet."""
         found = self.goroutines.get(g)
         if found is None:
             found = self.goroutines[g] = Goroutine(g)
         return found
 
     def fired(self, number: str) -> list[str]:
-        """The lines of what a firing changed, without its number: netrev says first that there is one less."""
+        """The lines of a firing's changes, without its number: netrev prints first that one firing less is left."""
         before = f"\n{number} "
         at = self._fired_at = self._lines.index(f"{before}firings", self._fired_at)
         _, _, *lines = self._lines[at : at + MOST_CHANGED].split(before)
@@ -150,10 +156,11 @@ class Notes:
             lines[-1] = lines[-1].partition("\n")[0]
         return lines
 
-    # what a step may do to a goroutine
+    # the effects of a step on a goroutine
 
     def moves(self, goroutine: Goroutine, step: int, shown: str) -> None:
-        """A goroutine has a new status by its own step, which ends its pause. A goroutine that isn't idle can make no other step."""
+        """A goroutine gets a new status by its own step, which ends its pause. A goroutine that isn't idle can make
+        no other step."""
         before = goroutine.status
         status = goroutine.status = self.statuses[shown]
         if step - goroutine.since > before.pauses.enough:
@@ -163,7 +170,7 @@ class Notes:
             status.sleepers[goroutine] = None
 
     def is_woken(self, goroutine: Goroutine, step: int, shown: str) -> None:
-        """A goroutine that sleeps has another status by a step of another."""
+        """A sleeping goroutine gets another status by a step of another."""
         del goroutine.status.sleepers[goroutine]
         goroutine.status, goroutine.since = self.statuses[shown], step
 

@@ -1,8 +1,8 @@
-"""What notes the steps of each kind: a function of the notes and of a step's arguments, which makes one that is called at each step with this
-line, with the step's number, and with that as text.
-
-Those of goroutines, sockets and descriptors have a module each. Each asks for the cells that it needs, by the step and the cell (`12 lock 0`). Which cells a kind may change is the machine's law:
-`changed_aspects` in crates/nr_rev/specs/Aspect.antt. `parkcommit` neither makes a word ready nor takes that; nor does a deadline or an evict."""
+"""The functions that note the steps of each kind: each gets the notes and a step's arguments, and returns a
+function that is called at each step with this line, with the step's number and that number as text. Those for
+goroutines, sockets and descriptors have a module each. Each reads the cells that it needs, by the step and the
+cell (`12 lock 0`). `changed_aspects` in crates/nr_rev/specs/Aspect.antt says which cells a kind may change;
+`parkcommit` neither makes a word ready nor takes a readiness, nor does a deadline or an evict."""
 
 from typing import Callable
 

@@ -1,4 +1,4 @@
-"""What notes the steps of descriptors, waits and deadlines (`noting.py`)."""
+"""The functions that note steps of descriptors, waits and deadlines (`noting.py`)."""
 
 from __future__ import annotations
 
@@ -13,7 +13,7 @@ if TYPE_CHECKING:
 
 
 def opened(notes: Notes, g: int, s: int) -> Note:
-    """The descriptor is the one that was freed last, else a new one."""
+    """The new descriptor is the one that was freed last, else a new number."""
     told = notes.told.get
 
     def note(step: int, number: str) -> None:
@@ -102,7 +102,7 @@ def taken(notes: Notes, step: int, number: str, g: int, d: int, side: str) -> Ta
 
 
 def looked(notes: Notes, g: int) -> Note:
-    """A goroutine looks why it was woken."""
+    """A goroutine checks why it was woken."""
     goroutine, own = notes.goroutine(g), stepped(notes, g)
 
     def note(step: int, number: str) -> None:
@@ -148,7 +148,7 @@ def evicted(notes: Notes, g: int, d: int) -> Note:
 
 
 def came(notes: Notes, d: int, tag: int, mode: str, error: int) -> Note:
-    """An event comes. (Each use of a descriptor has another tag, so little is made for that.)"""
+    """An event comes. (Each use of a descriptor has another tag, so little is prepared for it.)"""
     comes, open_tags = coming(notes, d, mode, error), notes.open_tags
 
     def note(step: int, number: str) -> None:
@@ -161,7 +161,7 @@ def came(notes: Notes, d: int, tag: int, mode: str, error: int) -> Note:
 
 
 def coming(notes: Notes, d: int, mode: str, error: int) -> Note:
-    """What notes an event that isn't dropped."""
+    """The function that notes an event that isn't dropped."""
     made = notes.comings.get((d, mode, error))
     if made is None:
         made = notes.comings[d, mode, error] = _coming(notes, d, mode, error)
@@ -188,14 +188,14 @@ def _coming(notes: Notes, d: int, mode: str, error: int) -> Note:
 
 @lru_cache(maxsize=1_024)
 def cell_and_value(line: str) -> tuple[str, int, str]:
-    """The name of a cell, its number, and what it shows: `info 0 = 8`. (What firings change is much the same.)"""
+    """The name of a cell, its number, and its value: `info 0 = 8`. (Firings have similar changes.)"""
     cell, _, value = line.partition(" = ")
     name, _, which = cell.partition(" ")
     return name, int(which or -1), value
 
 
 def fired(notes: Notes, i: int) -> Note:
-    """A deadline passes: whose that is tells the cell."""
+    """A deadline passes; the changed cell tells whose it is."""
 
     def note(step: int, number: str) -> None:
         for line in notes.fired(number):

@@ -1,4 +1,4 @@
-"""What notes the steps of sockets and their references (`noting.py`)."""
+"""The functions that note steps of sockets and their references (`noting.py`)."""
 
 from __future__ import annotations
 
@@ -10,7 +10,7 @@ from .noting_goroutines import Note
 if TYPE_CHECKING:
     from .notes import Notes
 
-# in a lock word, whose lower bits are the two locks: waiting readers and writers are in higher ones
+# fields of a lock word: the lower bits are the two locks, waiting readers and writers are in the higher ones
 REFERENCES = (2**20 - 1) << 3
 WAITING = 1 << 23
 
@@ -85,8 +85,8 @@ def shut(notes: Notes, g: int, s: int) -> Note:
 
 
 def referred(kind: str) -> Callable[..., Note]:
-    """The function that notes a step of a kind that may take a reference: if the lock word counts one more, and, for a side, if the
-    lock was taken with it."""
+    """The function that notes a step of a kind that may take a reference: whether the lock word counts one more,
+    and, for a side, whether the lock was taken with it."""
 
     def of(notes: Notes, g: int, s: int, side: str = "") -> Note:
         goroutine, locks, told, cell = notes.goroutine(g), notes.locks, notes.told.get, f" lock {s}"
@@ -136,7 +136,8 @@ def given(notes: Notes, g: int, s: int, side: str = "") -> Note:
 
 
 def fitting(holds: list[Hold], g: int, side: str) -> Hold:
-    """The reference that a goroutine gives up: its own last one of that sort, else another's, since Go counts and names none."""
+    """The reference that a goroutine gives up: its own last one of that sort, else another's, because Go only
+    counts references."""
     of_the_sort = [one for one in holds if one.side == side]
     mine = [one for one in of_the_sort if one.goroutine == g]
     return (mine or of_the_sort or holds)[-1]

@@ -1,4 +1,4 @@
-"""A call of Go's, as it is made of steps: what it is of, when it began and ended, and how."""
+"""A call of Go: its object, its beginning and end, and its result."""
 
 from dataclasses import dataclass
 from enum import Enum
@@ -18,7 +18,7 @@ class Outcome(Enum):
     CLOSED = "closed"
     EVENT_ERROR = "event error"
     BROKEN_PIPE = "broken pipe"
-    SYSTEM_ERROR = "system error"  # one that no step has, by the lines beside the recording
+    SYSTEM_ERROR = "system error"  # an error that no step shows, from NAME.where
 
     is_error: bool  # whether the program has an error for it: of the end of a file it has one that every reader expects
 
@@ -39,20 +39,22 @@ class Call:
     descriptor: int
     first: int
     last: int = 0
-    waited: int = 0  # steps in which its goroutine slept
-    slept: int = 0  # nanoseconds of the clock in these
-    moved: Optional[int] = None  # bytes, if it has tried to read or to write any
+    waited: int = 0  # steps during which its goroutine slept
+    slept: int = 0  # nanoseconds of the clock during these
+    moved: Optional[int] = None  # bytes, if it tried to read or write any
     outcome: Outcome = Outcome.DONE
-    side: str = ""  # of the lock that it has
-    is_asking: bool = False  # for a lock that another has
-    is_ending: bool = False  # it has given up its reference, and still has to release or to destroy
+    side: str = ""  # of the lock that it holds
+    is_asking: bool = False  # for a lock that another goroutine holds
+    is_ending: bool = False  # it has given up its reference, and must still release or destroy
     destroys: bool = False
-    cause: int = 0  # the step that brought its error about: which set the deadline, closed the socket or its write side
-    passed: int = 0  # and of a timeout the step at which the deadline passed
+    cause: int = (
+        0  # the step that caused its error: the setting of the deadline, the close of the socket or of its write side
+    )
+    passed: int = 0  # and for a timeout the step at which the deadline passed
     error: str = ""  # the system's name of its error, if it has one
 
     def steps(self) -> str:
-        """Its steps, in words."""
+        """Its steps, as text."""
         if not self.last:
             return f"since step {self.first}"
         return f"step {self.first}" if self.first == self.last else f"steps {self.first} to {self.last}"
@@ -68,7 +70,7 @@ class Call:
         return f"{moved}, {ended}" if self.moved else ended
 
     def as_begun(self) -> "Call":
-        """It as it is known before it ends: when it began."""
+        """The call as it is known before it ends, with its beginning only."""
         return Call(self.goroutine, self.name, self.socket, self.descriptor, self.first)
 
     def words(self) -> str:

@@ -21,14 +21,14 @@ At the prompt, `help` lists the commands."""
 
 
 class InOrder(argparse.Action):
-    """Keeps -x and -ex in the order in which they are given."""
+    """Keeps -x and -ex in the given order."""
 
     def __call__(self, _parser: Any, space: argparse.Namespace, value: Any, _option: Optional[str] = None) -> None:
         space.lines = [*(space.lines or []), (self.const, value)]
 
 
 class Words(argparse.ArgumentParser):
-    """Parses the words, and tells what is wrong with them."""
+    """Parses the command line, and reports errors."""
 
     def error(self, message: str) -> NoReturn:
         super().error(plain(message))

@@ -1,5 +1,5 @@
-"""What nrdb prints: events, as text for people or as a line of JSON each for editors and scripts. netrev's replies are
-printed as they are; all else begins with `|`."""
+"""nrdb's output: events, as text for people or as lines of JSON for editors and scripts. netrev's replies are
+printed unchanged; everything else begins with `|`."""
 
 import json
 import os
@@ -17,7 +17,7 @@ from .netrev import Reply
 from .recorded_answers import answer_text
 from .recording import Step
 
-Values = dict[str, Any]  # what a row says, by name, as JSON has it
+Values = dict[str, Any]  # the values of a row by name, as in JSON
 
 
 @dataclass(frozen=True)
@@ -46,7 +46,7 @@ class Place:
 
 
 class Style(Enum):
-    """The style of a line on a terminal with colours: netrev's own replies are left as they are."""
+    """The style of a line on a terminal with colours: netrev's own replies have none."""
 
     PLAIN = ""
     ADDED = "36"  # cyan: what nrdb adds
@@ -55,8 +55,8 @@ class Style(Enum):
 
 @dataclass(frozen=True)
 class Row:
-    """A row of a table: its values by name, and its line. A row without a line is shown by the row before; one without values is a
-    further line of the row before."""
+    """A row of a table: its values by name, and its line. A row without a line is part of the line before; one
+    without values is a further line of the row before."""
 
     values: Values
     text: str
@@ -64,7 +64,7 @@ class Row:
 
 @dataclass(frozen=True)
 class Table:
-    """Rows about a topic, with a line for what is omitted, or for none."""
+    """Rows about a topic, with a line about omitted rows, or about an empty table."""
 
     topic: str
     rows: list[Row]
@@ -72,7 +72,7 @@ class Table:
 
 
 def displays_table(cells: Sequence[str], values: Sequence[str], words_of: Callable[[str, str], str]) -> Table:
-    """The cells that are displayed, each with its value and what that says in words."""
+    """The displayed cells, each with its value and the meaning."""
     rows = []
     for cell, value in zip(cells, values):
         words = words_of(cell, value)
@@ -95,12 +95,12 @@ class Printer(ABC):
         self.put(plain(text))
 
     def put(self, text: str) -> None:
-        """Writes a line that is plain, or styled."""
+        """Writes a line, in plain text or styled."""
         print(text, file=self.out, flush=self._flushes)
 
     @contextmanager
     def joined(self) -> Iterator[None]:
-        """Within, no line is read, and what is written goes out together at the end."""
+        """Context in which no line is read, and the output is written together at the end."""
         self._flushes = False
         try:
             yield
@@ -114,7 +114,7 @@ class Printer(ABC):
 
     @abstractmethod
     def reply(self, line: str, reply: Reply, words: str) -> None:
-        """netrev's reply to a line, and what its value says in words."""
+        """netrev's reply to a line, and the meaning of its value."""
 
     @abstractmethod
     def place(self, place: Place) -> None:
@@ -146,7 +146,7 @@ class TextPrinter(Printer):
         return f"\x1b[{style.value}m{plain(text)}\x1b[0m" if is_styled else plain(text)
 
     def add(self, text: str, style: Style = Style.ADDED) -> None:
-        """A line that nrdb adds; several on a terminal that isn't so wide."""
+        """Prints a line of nrdb's own; several on a narrow terminal."""
         for line in wrapped(plain(text), width_of(self.out) - len("| ")):
             self.put(self.styled(f"| {line}", style))
 
@@ -182,10 +182,10 @@ class JsonPrinter(Printer):
 
     def _event(self, event: str, **values: Any) -> None:
         text = json.dumps({"event": event, **values}, separators=(",", ":"))
-        self.write(text.replace("\x7f", "\\u007f"))  # the one control that JSON leaves as it is
+        self.write(text.replace("\x7f", "\\u007f"))  # the only control character that JSON leaves unescaped
 
     def echo(self, line: str) -> None:
-        """The reply tells its line."""
+        """The reply contains its line."""
 
     def reply(self, line: str, reply: Reply, words: str) -> None:
         self._event("reply", line=line, reply=reply.lines, words=words or None)

@@ -87,7 +87,7 @@ def _descriptor_row(number: int, values: list[str], socket: Optional[int]) -> Ro
 
 
 def timers_table(world: World) -> Table:
-    """The clock and what is to come: the deadlines of open descriptors, in the order of their times."""
+    """The clock and the deadlines of open descriptors that are still to come, in the order of their times."""
     names = ("clock", "timers", "least", "firings")
     values = dict(zip(names, world.values(list(names))))
     clock = int(values["clock"])

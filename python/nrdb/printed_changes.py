@@ -10,12 +10,12 @@ from .changed_lines import NoChanges
 from .recorded_changes import RecordedChanges
 from .recording import Recording
 
-AT_LEAST, A_STEP = 5, 0.00005  # seconds that netrev gets, and more for each step: the model takes about that long
+AT_LEAST, A_STEP = 5, 0.00005  # seconds that netrev gets, and more for each step: about the time of the model
 
 
 def printed_changes(netrev: str, path: str, recording: Recording) -> Optional[RecordedChanges]:
-    """What netrev says that the steps of the recording in a file change; None if it can't be asked, takes as long as the model would, or
-    refuses the recording."""
+    """netrev's list of the changes of a recording in a file; None if netrev can't be started, takes as long as the
+    model would, or refuses the recording."""
     words, seconds = [netrev, "changes", file_word(path)], AT_LEAST + A_STEP * recording.length
     try:
         run = subprocess.run(words, stdin=subprocess.DEVNULL, capture_output=True, timeout=seconds, check=False)

@@ -1,4 +1,4 @@
-"""Queries in a row, such as those of a script: they are sent to netrev together, and each is shown in its turn."""
+"""Consecutive queries, such as those of a script: they are sent to netrev together, and each is shown in its turn."""
 
 import codecs
 import io
@@ -14,7 +14,7 @@ MOST = 1_024  # lines that are sent together
 
 
 class Answering(Protocol):
-    """What a session has for the answers to lines."""
+    """The part of a session that answers lines."""
 
     netrev: Netrev
     printer: Printer
@@ -26,7 +26,7 @@ class Answering(Protocol):
 
 @lru_cache(maxsize=1_024)
 def query_of(line: str) -> str:
-    """A line as it is sent to netrev, if it is a `print` and nothing else; otherwise empty."""
+    """A line in the form that is sent to netrev, if it is only a `print`; otherwise empty."""
     try:
         parts = parts_of(line)
         words = whole_words(parts[0].split()) if len(parts) == 1 else [""]
@@ -36,8 +36,8 @@ def query_of(line: str) -> str:
 
 
 def runs_of(session: Answering, lines: Sequence[str]) -> Iterator[Sequence[str]]:
-    """Lines in runs: queries in a row that may be sent together, and each other line alone. A run is made when the lines before it have been
-    answered."""
+    """Lines in runs: consecutive queries that may be sent together, and each other line alone. A run is made when
+    the lines before it have been answered."""
     first = 0
     while first < len(lines):
         end = first + 1
@@ -48,7 +48,7 @@ def runs_of(session: Answering, lines: Sequence[str]) -> Iterator[Sequence[str]]
 
 
 def end_of_queries(lines: Sequence[str], first: int) -> int:
-    """The end of the queries in a row that begin at a line, as many as are sent at once."""
+    """The end of the consecutive queries that begin at a line, as many as are sent at once."""
     size = 0
     for at in range(first, min(first + MOST, len(lines))):
         query = query_of(lines[at])
@@ -68,13 +68,13 @@ def answer_run(session: Answering, run: Sequence[str]) -> bool:
 
 
 def lines_together(stream: TextIO) -> Iterator[list[str]]:
-    """The lines of a stream as they come, those together that came at once, without blanks at their ends."""
+    """The lines of a stream as they arrive, those together that arrived at once, without trailing blanks."""
     raw = getattr(stream, "buffer", None)
     if not isinstance(raw, io.BufferedReader) or stream.errors is None:
         yield from ([line.rstrip()] for line in stream)
         return
     decoder = io.IncrementalNewlineDecoder(codecs.getincrementaldecoder(stream.encoding)(stream.errors), True)
-    begun: list[str] = []  # of a line that has no end yet
+    begun: list[str] = []  # the part of a line whose end hasn't arrived
     is_open = True
     while is_open:
         came = raw.read1(AT_ONCE)

@@ -1,5 +1,5 @@
-"""Recorded answers in words: what a step of each kind can answer, what an answer says, and where to look if the program
-had another one than the machine."""
+"""Recorded answers as text: the answers that a step of each kind can have, their meanings, and where to look if the
+program's answer differs from the machine's."""
 
 import json
 from typing import Any, Optional
@@ -96,7 +96,7 @@ def spelled(kind: str) -> str:
 
 
 def meaning(kind: str, recorded: Any) -> Optional[str]:
-    """What it means that the program had this answer and the machine another."""
+    """The meaning of a difference between the program's answer and the machine's."""
     if name_of(recorded) not in KINDS[kind].answers:
         return messages.ONLY_ANSWERS.format(kind=kind, answers=spelled(kind))
     return MEANS.get(kind)

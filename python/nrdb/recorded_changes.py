@@ -11,7 +11,7 @@ from typing import Callable, Iterable, Iterator, NamedTuple, Optional, Sequence
 from .messages import session as messages
 from .changed_lines import ChangedLines, NoChanges
 
-FEW = 300  # questions, up to which the answer is looked for in the lines
+FEW = 300  # queries that are answered by a search of the lines; after that, arrays are made
 AT_START = {"clock": "0", "waiters": "0", "timers": "0", "firings": "0", "gor 0": "idle"}
 
 
@@ -24,20 +24,20 @@ class Change(NamedTuple):
 
 
 class Told(NamedTuple):
-    """What the steps from one number to another changed: their lines in one text, a line feed before each."""
+    """The changes of the steps from one number to another: their lines in one text, a line feed before each."""
 
     first: int
     end: int
     text: str
 
     def cells(self) -> Iterator[tuple[str, str]]:
-        """Each step with a cell (`12 lock 0`), and what that shows."""
+        """Each step with a cell (`12 lock 0`), and the value."""
         cells_and_values = iter(self.text[1:].replace(" = ", "\n").split("\n"))
         return zip(cells_and_values, cells_and_values)
 
 
 class Texts(dict[str, int]):
-    """Texts, each once, and their numbers in the order in which they came."""
+    """Texts, each stored once, and their numbers in the order in which they came."""
 
     def __init__(self) -> None:
         super().__init__()
@@ -50,7 +50,7 @@ class Texts(dict[str, int]):
 
 
 class OfCells(dict[str, "array[int]"]):
-    """Of each cell an array of numbers."""
+    """An array of numbers for each cell."""
 
     def __missing__(self, cell: str) -> "array[int]":
         self[cell] = made = array("I")
@@ -58,7 +58,7 @@ class OfCells(dict[str, "array[int]"]):
 
 
 def value_at_start(cell: str) -> str:
-    """What a cell shows before the first step."""
+    """The value of a cell before the first step."""
     return AT_START.get(cell, "absent")
 
 
@@ -66,7 +66,11 @@ class RecordedChanges:
     """The changes of a recording's steps, which may still be arriving: a caller waits for those that it needs."""
 
     def __init__(self) -> None:
-        self._steps, self._values, self._texts = OfCells(), OfCells(), Texts()  # of each cell's changes
+        self._steps, self._values, self._texts = (
+            OfCells(),
+            OfCells(),
+            Texts(),
+        )  # for each cell the numbers of its changes
         self._lines = ChangedLines()
         self._held = 0  # how many of its pieces are in the arrays
         self._asked = 0
@@ -87,7 +91,7 @@ class RecordedChanges:
 
     @property
     def length(self) -> int:
-        """How many steps can be made: all of them, or those before the first fault."""
+        """The number of steps that can be made: all of them, or those before the first fault."""
         self._wait(None)
         return self._length
 
@@ -109,7 +113,7 @@ class RecordedChanges:
             yield int(step), [(cell, value) for _, cell, value in lines]
 
     def value(self, cell: str, position: int) -> str:
-        """What a cell shows at a position."""
+        """The value of a cell at a position."""
         return next((value for _, value in self.back(cell, position)), value_at_start(cell))
 
     def back(self, cell: str, position: int) -> Iterator[tuple[int, str]]:
@@ -121,7 +125,7 @@ class RecordedChanges:
         return ((steps[at], texts[values[at]]) for at in range(bisect_right(steps, position) - 1, -1, -1))
 
     def values(self, position: int, cells: Iterable[str]) -> list[str]:
-        """What cells show at a position."""
+        """The values of cells at a position."""
         return [self.value(cell, position) for cell in cells]
 
     def steps_of(self, cell: str, until: Optional[int] = None) -> "array[int]":
@@ -164,8 +168,8 @@ class RecordedChanges:
         return (Change(int(step), cell, value) for step, cell, value in self.texts())
 
     def told(self) -> Iterator[Told]:
-        """All changes, some thousands of steps at a time, for a caller that needs few of them: no line is parsed
-        alone."""
+        """All changes, some thousands of steps at a time, for a caller that needs few of them: no line is parsed by
+        itself."""
         self._wait(None)
         first = 1
         for end, text in self._lines.whole_steps(self._length + 1):
@@ -173,19 +177,19 @@ class RecordedChanges:
             first = end
 
     def _is_asked_little(self) -> bool:
-        """Whether little was asked, so that the lines are searched. Else what has come is in the arrays."""
+        """Whether so few queries came that the lines are searched. Otherwise the changes so far are in the arrays."""
         self._asked += 1
         if self._asked > FEW:
             self._hold()
         return self._asked <= FEW
 
     def _hold(self) -> None:
-        """Holds in arrays what has come."""
+        """Puts the changes so far into arrays."""
         while self._held < len(self._lines.pieces):
             self._hold_piece()
 
     def _hold_piece(self) -> None:
-        """Holds the next piece in arrays, whole."""
+        """Puts the next piece into arrays, whole."""
         steps, values, texts = self._steps, self._values, self._texts
         for step, cell, value in self._lines.texts(self._held, self._held + 1):
             steps[cell].append(int(step))
@@ -193,23 +197,23 @@ class RecordedChanges:
         self._held += 1
 
     def _wait(self, position: Optional[int]) -> None:
-        """Returns when what leads to a position has arrived, or everything."""
+        """Returns when the changes up to a position have arrived, or everything."""
 
-    # how they are read
+    # how the changes are read
 
     def prepare(self) -> None:
-        """Starts reading, unless that has happened."""
+        """Starts reading, unless it has started."""
 
     def drop(self) -> None:
-        """Ends reading them."""
+        """Stops reading."""
 
     @property
     def is_whole(self) -> bool:
-        """Whether all has been read."""
+        """Whether everything has been read."""
         return self._is_whole
 
     def has(self, position: Optional[int]) -> bool:
-        """Whether what leads to a position has been read, or all."""
+        """Whether the changes up to a position have been read, or all."""
         return self._is_whole or (position is not None and position < self._lines.last)
 
     def take(self, piece: bytes) -> None:
@@ -232,7 +236,7 @@ class RecordedChanges:
                 raise NoChanges(messages.CHANGES_MALFORMED) from None
 
     def _take_end(self, line: str) -> None:
-        """Takes the last line: how many steps there are, or the fault."""
+        """Reads the last line: the number of steps, or the fault."""
         first, *words = line.split()
         if first == "ok":
             self._length = int(words[0])

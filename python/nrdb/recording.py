@@ -20,11 +20,16 @@ from .recorded_changes import RecordedChanges
 from .suspect_list import SuspectList
 from .where import Lines
 
-BEFORE_BLANKS = (b"\n\n", b"\n ", b"\n\t", b"\n\r")  # one of these is in a text that has a blank line after the first
+BEFORE_BLANKS = (
+    b"\n\n",
+    b"\n ",
+    b"\n\t",
+    b"\n\r",
+)  # a text that has a blank line after the first contains one of these
 BLANK_LINE = re.compile(rb"^[ \t\r]*$", re.MULTILINE)
 SHOWN = 40
 PIECE = 1_024  # steps
-AT_ONCE = 16_384  # steps that are read together
+AT_ONCE = 16_384  # steps that are parsed together
 Row = TypeVar("Row")
 
 
@@ -51,7 +56,7 @@ class Step(NamedTuple):
 
 
 class NoRecording(Exception):
-    """The text isn't a recording: netrev has never read it, or another one."""
+    """The text isn't a recording: netrev never read it, or read another one."""
 
 
 def parsed(text: bytes) -> Any:
@@ -78,12 +83,12 @@ def shortened(text: str) -> str:
 
 
 class Recording:
-    """A recording's text. Steps are read when they are asked for: there may be a million."""
+    """A recording's text. Steps are parsed when they are needed, because a recording may have a million."""
 
     def __init__(self, data: bytes):
         self.data = data
         self._starts = LineStarts(data)
-        end = len(data.rstrip(b" \t\r\n"))  # (after it there are only blank lines)
+        end = len(data.rstrip(b" \t\r\n"))  # (only blank lines follow it)
         numbers = range(1, self._starts.line_at(end) + (end > 0))
         blanks = (
             BLANK_LINE.finditer(data, 0, end)
@@ -94,16 +99,17 @@ class Recording:
         self._numbers: Sequence[int] = [number for number in numbers if number not in blank] if blank else numbers
         self.header_line = self._numbers[0] if self._numbers else 1
         self.lines = Lines()
-        self.changes: Optional[RecordedChanges] = None  # that its steps make, from netrev, if asked
+        self.changes: Optional[RecordedChanges] = None  # the changes of its steps, from netrev, once they are needed
         self.suspects: Optional[SuspectList] = None  # netrev's list, for a recording in a file
 
     def _are_arrays(self, end: int) -> bool:
-        """Whether each line up to that place except the first begins as an array does: none is blank then."""
+        """Whether each line up to that place except the first begins as an array does, so that none is blank."""
         return self.data.count(b"\n[", 0, end) == self._starts.line_at(end) - 1
 
     @classmethod
     def read(cls, path: str) -> "Recording":
-        """Reads the file, which netrev reads too; an OSError if that fails, NoRecording if it can't be read twice."""
+        """Reads the file that netrev reads too; raises an OSError if that fails, NoRecording if it can't be read
+        twice."""
         check_name(path)
         if not stat.S_ISREG(os.stat(path).st_mode) and not os.path.isdir(path):
             raise NoRecording(messages.NOT_A_FILE.format(path=path))
@@ -118,11 +124,11 @@ class Recording:
 
     @property
     def length(self) -> int:
-        """How many steps there are."""
+        """The number of steps."""
         return max(len(self._numbers) - 1, 0)
 
     def line(self, number: int) -> bytes:
-        """The line of that number, from 1, without its line feed; empty if there is none."""
+        """The line of that number, from 1, without its line feed; empty if it doesn't exist."""
         if not 1 <= number < len(self._starts):
             return b""
         begin = self._starts[number - 1]
@@ -134,7 +140,7 @@ class Recording:
         return self.data[: self._starts[number - 1]]
 
     def before_step(self, number: int) -> bytes:
-        """The lines before that of a step, from 1 to one more than there are."""
+        """The lines before that of a step, from 1 to one more than the last."""
         return self.before_line(self._numbers[number]) if number <= self.length else self.data
 
     def is_last(self, number: int) -> bool:
@@ -153,7 +159,7 @@ class Recording:
         return self.limits.get("netrev") == 2
 
     def step_or_none(self, number: int) -> Optional[Step]:
-        """The step of that number, from 1, or None if there is none."""
+        """The step of that number, from 1, or None if it doesn't exist."""
         return self.step(number) if 1 <= number <= self.length else None
 
     def step(self, number: int) -> Step:
@@ -161,7 +167,7 @@ class Recording:
         return self._made(number, parsed(self.line(self._numbers[number])))
 
     def _made(self, number: int, values: Any) -> Step:
-        """The step of that number, by the array in its line."""
+        """The step of that number, from the array in its line."""
         if not (isinstance(values, list) and values and isinstance(values[0], str)):
             raise NoRecording(messages.NOT_A_STEP.format(line=self._numbers[number]))
         kind, *arguments = values
@@ -193,7 +199,7 @@ class Recording:
     def _rows_together(
         self, made: Callable[[list[Any]], Row], begin: int, end: Optional[int]
     ) -> Iterator[Iterable[Row]]:
-        """What is made of each step's array, of the steps together that are read together."""
+        """A value for each step's array, for the steps that are parsed together."""
         end = self.length if end is None else min(end, self.length)
         for first in range(begin, end + 1, AT_ONCE):
             last = min(first + AT_ONCE, end + 1) - 1
@@ -208,7 +214,7 @@ class Recording:
             yield map(rows.__getitem__, lines)
 
     def steps_of(self, kinds: tuple[str, ...], until: int, socket: Optional[int] = None) -> Iterator[Step]:
-        """The steps of these kinds among the first ones, and of this socket if one is given."""
+        """The steps of these kinds among the first ones, and at this socket if one is given."""
         for number, values in self.arrays_like(kinds, until, socket):
             step = self._made(number, values)
             if step.kind in kinds and socket in (None, step.argument("s")):
@@ -217,7 +223,7 @@ class Recording:
     def arrays_like(
         self, kinds: tuple[str, ...], until: int, socket: Optional[int] = None
     ) -> Iterator[tuple[int, list[Any]]]:
-        """The arrays of such steps with their numbers, and maybe of others."""
+        """The arrays of such steps with their numbers, perhaps with others between."""
         numbers = list(self._numbers_of(kinds, until, socket))
         lines = [self.line(self._numbers[number]) for number in numbers]
         yield from zip(numbers, parsed(b"[%s]" % b",".join(lines)))
@@ -228,12 +234,13 @@ class Recording:
         return b"\\" in self.data
 
     def _numbers_of(self, kinds: tuple[str, ...], until: int, socket: Optional[int]) -> Iterable[int]:
-        """The numbers of these steps, and perhaps of others. They are found by searching the text, if that finds all."""
+        """The numbers of these steps, and perhaps of others. They are found by a search of the text, if that finds
+        all."""
         until = min(until, self.length)
         if not until or self.has_escapes:
             return range(1, until + 1)
         named = rb"" if socket is None else rb"\s*,\s*\d+\s*,\s*%d\b" % socket
-        prefix = commonprefix(kinds)  # (a pattern is searched faster the longer it begins with letters)
+        prefix = commonprefix(kinds)  # (a search is faster if the pattern begins with many letters)
         rest = "|".join(kind[len(prefix) :] for kind in kinds)
         spelled = re.compile(rb'"%s(?:%s)"%s' % (prefix.encode(), rest.encode(), named))
         begin, end = self._starts[self._numbers[1] - 1], self._starts[self._numbers[until]]

@@ -1,5 +1,5 @@
-"""A recording that netrev refuses, explained: the line, what to mend in it, and of a step that doesn't apply, or whose
-recorded answer isn't the machine's, what stood just before it at the places that it names."""
+"""Explains why netrev refuses a recording: the line, what to correct in it, and for a step that doesn't apply, or
+whose recorded answer isn't the machine's, the values just before it."""
 
 import json
 import os
@@ -48,7 +48,7 @@ def explained(program: str, path: str, fault: str) -> list[str]:
 
 
 def fault_of(program: str, path: str) -> str:
-    """The first fault of a recording; empty if netrev accepts it, or is missing."""
+    """The first fault of a recording; empty if netrev accepts it, or isn't installed."""
     try:
         words = [program, "check", path]
         ended = subprocess.run(words, stdin=subprocess.DEVNULL, stdout=subprocess.PIPE, check=False)
@@ -58,7 +58,7 @@ def fault_of(program: str, path: str) -> str:
 
 
 def step_explained(program: str, recording: Recording, number: int, reason: int) -> list[str]:
-    """Why a step doesn't apply."""
+    """The reason why a step doesn't apply."""
     step = recording.step(number)
     said = [line_of(step), f"reason {reason}: {REASONS[reason]}"]
     if reason in messages.REASONS:
@@ -67,7 +67,7 @@ def step_explained(program: str, recording: Recording, number: int, reason: int)
 
 
 def line_of(step: Step) -> str:
-    """The step, and how steps of its kind are written."""
+    """The step, and the form of steps of its kind."""
     return f"line {step.line}: {step}" + (f"   ({KINDS[step.kind].usage})" if step.arguments else "")
 
 
@@ -87,13 +87,14 @@ def answer_explained(program: str, recording: Recording, number: int) -> list[st
 
 
 def with_meaning(kind: str, answer: Any) -> str:
-    """An answer with what it says."""
+    """An answer with its meaning."""
     words = answer_words(kind, answer)
     return answer_text(answer) + (f"   ({words})" if words else "")
 
 
 def likely(recording: Recording, step: Step, shown: list[str]) -> Iterator[Any]:
-    """The answers that the machine may have to a step, by what is shown just before it: netrev decides which it is."""
+    """The answers that the machine may give to a step, from the values just before it; netrev then decides which it
+    is."""
     for name in KINDS[step.kind].answers:
         if name == "code":
             yield from (["code", code] for code in range(4))
@@ -104,7 +105,7 @@ def likely(recording: Recording, step: Step, shown: list[str]) -> Iterator[Any]:
 
 
 def count_of(recording: Recording, step: Step, shown: list[str]) -> int:
-    """The number that the machine must answer to a step: one that is made, or how many bytes move."""
+    """The number that the machine must answer to a step: that of the new object, or how many bytes move."""
     earlier = step.number - 1
     if step.kind == "pollopen":
         return opened_by(recording, earlier)[1]
@@ -117,12 +118,12 @@ def count_of(recording: Recording, step: Step, shown: list[str]) -> int:
 
 
 def held(shown: list[str], cell: str) -> int:
-    """How many bytes a buffer holds, by the values that are shown."""
+    """How many bytes a buffer holds, from the values just before."""
     return next(int(told.split()[3]) for told in shown if told.startswith(f"{cell} "))
 
 
 def is_taken(program: str, recording: Recording, step: Step, answer: Any) -> bool:
-    """Whether netrev takes the recording up to this step, with this for the step's answer."""
+    """Whether netrev accepts the recording up to this step, with this answer for the step."""
     line = json.dumps([step.kind, *step.arguments, answer]).encode()
     with tempfile.TemporaryDirectory(prefix="nrdb-") as folder:
         cut = os.path.join(folder, "cut.jsonl")
@@ -132,7 +133,7 @@ def is_taken(program: str, recording: Recording, step: Step, answer: Any) -> boo
 
 
 def named_cells(step: Step) -> list[str]:
-    """The cells of what a step names."""
+    """The cells of the objects that a step names."""
     cells = []
     for name, value in zip(KINDS[step.kind].arguments, step.arguments):
         cells += [f"{cell} {value}" for cell in CELLS_OF.get(name, ())]
@@ -140,7 +141,7 @@ def named_cells(step: Step) -> list[str]:
 
 
 def before(program: str, recording: Recording, step: Step) -> list[str]:
-    """What the cells that a step names show before it, by a run of the recording that is cut there."""
+    """The values of the cells that a step names just before it, by a run of the recording up to there."""
     lines = [f"stepi {FAR}", *(f"print {cell}" for cell in named_cells(step))]
     with tempfile.TemporaryDirectory(prefix="nrdb-") as folder:
         cut = os.path.join(folder, "cut.jsonl")

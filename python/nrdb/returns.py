@@ -14,9 +14,9 @@ def function_at(recording: Recording, goroutine: int, position: int) -> str:
 
 
 def position_of_return(recording: Recording, goroutine: int, position: int) -> Optional[int]:
-    """The position before the goroutine's first step that is made outside of the function in which it is; None if there is no such step,
-    or the function isn't known. A later call of the function from another line, or from another function, is outside.
-    """
+    """The position before the goroutine's first step outside the function in which it is; None if no such step
+    exists, or the function isn't known. A later call of the function from another line, or from another
+    function, is outside."""
     frames = frames_from_own(stack_at(recording, goroutine, position))
     whose = book_of(recording).whose.goroutines
     later = (number for number in range(position + 1, recording.length + 1) if whose[number - 1] == goroutine)
@@ -39,6 +39,6 @@ def frames_from_own(stack: Stack) -> tuple[Call, ...]:
 
 
 def is_within(stack: Stack, frames: tuple[Call, ...]) -> bool:
-    """Whether a stack is within the function of these frames, called as it is in them."""
+    """Whether a stack is within the function of these frames, called in the same way."""
     outer = stack.calls[len(stack.calls) - len(frames) :] if len(stack.calls) >= len(frames) else ()
     return bool(outer) and outer[0].function == frames[0].function and outer[1:] == frames[1:]

@@ -1,8 +1,8 @@
-"""A second netrev over the same recording, which goes wherever something is to be seen: so the session's position,
-marks and checkpoints stay as they were typed, and those who share one don't notice.
+"""A second netrev over the same recording, for queries at other positions, so the session's position, marks and
+checkpoints stay as they are.
 
-A look that is left in the middle may leave replies that nobody read. So the netrev of such a look is ended, and the next one starts
-another; where it ended by itself the look is begun anew, once.
+If a query is interrupted, unread replies may remain. So its netrev is ended, and the next query starts another; if
+netrev ended by itself, the query is repeated once.
 """
 
 from typing import Callable, Optional, Sequence, TypeVar
@@ -11,19 +11,19 @@ from .messages import session as messages
 from .netrev import Ended, Netrev
 from .shapes import move_of
 
-JOURNAL = 65_536  # commands that a session of `netrev run` has room for
-MOST_PLACED = 2  # commands that lead to a position
+JOURNAL = 65_536  # commands that fit into a session of `netrev run`
+MOST_PLACED = 2  # commands that go to a position
 
 Seen = TypeVar("Seen")
 
 
 class Lost(Exception):
-    """The scout's netrev can't be had: what is wrong with it."""
+    """The second netrev isn't available: the reason."""
 
 
 class Scout:
-    """Queries any position. netrev is started at the first query, and anew when its journal is nearly full. A session
-    in which nothing moves may lend its own for the beginning, and ends that itself."""
+    """Queries any position. netrev is started at the first query, and again when its journal is nearly full. A
+    session in which nothing moves may lend its own netrev for the beginning, and ends that itself."""
 
     def __init__(self, opened: Callable[[], Netrev], lent: Optional[Netrev] = None):
         self._opened = opened
@@ -32,7 +32,7 @@ class Scout:
         self._stands: Optional[int] = None  # its position, if known
 
     def prepare(self) -> None:
-        """Starts netrev, if it isn't there yet, and doesn't wait until it has read the recording."""
+        """Starts netrev, if it hasn't started, and doesn't wait until it has read the recording."""
         if self._netrev is None:
             try:
                 self._netrev, self._placed, self._stands = self._opened(), 0, None
@@ -40,13 +40,13 @@ class Scout:
                 raise Lost(f"{error.filename}: {error.strerror}") from None
 
     def drop(self) -> None:
-        """Ends netrev, whatever it does; one that was lent is given back."""
+        """Ends netrev, whatever it does; a lent one is given back."""
         dropped, self._netrev = self._netrev, None
         if dropped is not None and dropped is not self._lent:
             dropped.drop()
 
     def look(self, position: int, looks: Callable[[Netrev], Seen]) -> Seen:
-        """What `look` reads at the position from the second netrev."""
+        """The result of a query at the position, from the second netrev."""
         return self._anew(lambda: looks(self._at(position)))
 
     def values(self, position: int, cells: Sequence[str]) -> list[str]:
@@ -65,7 +65,7 @@ class Scout:
             raise Lost(messages.SECOND_NETREV_ENDED) from None
 
     def _whole(self, look: Callable[[], Seen]) -> Seen:
-        """What is seen. If the look is left in the middle, for whatever reason, its netrev is ended."""
+        """The whole result. If the query is interrupted, for whatever reason, its netrev is ended."""
         try:
             return look()
         except BaseException:
@@ -73,7 +73,7 @@ class Scout:
             raise
 
     def _walker(self) -> Netrev:
-        """The netrev that looks, which is about to go somewhere."""
+        """The netrev for queries, which is about to go somewhere."""
         self.prepare()
         assert self._netrev
         self._stands = None

@@ -51,19 +51,19 @@ class Session:
     program: str = ""  # netrev's, and the recording's file, if known
     path: str = ""
     breaks: Breaks = field(default_factory=Breaks)  # at places of the program
-    frame: Optional[int] = None  # of the stack, from the innermost; None for the program's own line
+    frame: Optional[int] = None  # the frame of the stack, from the innermost; None for the program's own line
     is_before: bool = False  # a place of the program: the stack is that of the next step
-    goroutine: Optional[Name] = None  # that was chosen, until the session moves
-    recorded: Optional[RecordedChanges] = None  # if there is a recording
+    goroutine: Optional[Name] = None  # the chosen goroutine, until the session moves
+    recorded: Optional[RecordedChanges] = None  # if the session has a recording
     errors: int = 0  # of nrdb's own
-    conditions: dict[str, Condition] = field(default_factory=dict)  # of marks, by their numbers
+    conditions: dict[str, Condition] = field(default_factory=dict)  # conditions of marks, by their numbers
     latest: str = ""  # the number of the mark that was set last
 
     def __post_init__(self) -> None:
         self.breaks.is_met = lambda number, at: number not in self.conditions or self.holds(self.conditions[number], at)
 
     def begin(self, reply: str) -> None:
-        """Prints the position of netrev's first reply. Mismatched if the session has another recording."""
+        """Prints the position of netrev's first reply; raises Mismatched if the session has another recording."""
         self.stood, self.length, _ = position_of(reply)
         if self.recording and self.recording.length != self.length:
             raise Mismatched(messages.OTHER_RECORDING.format(steps=self.recording.length, length=self.length))
@@ -78,7 +78,7 @@ class Session:
         return position_of(self.ask("info position"))
 
     def place(self, position: int) -> Place:
-        """The position with the steps round it."""
+        """The position with the steps around it."""
         if self.recording is None:
             return Place(position, self.length, None, None)
         last, then = (self.recording.step_or_none(number) for number in (position, position + 1))
@@ -89,15 +89,15 @@ class Session:
         return World(self.netrev, self.text(), self.stands().position)
 
     def text(self) -> Recording:
-        """The recording; Misused if a session was joined without it."""
+        """The recording; raises Misused if a session was joined without it."""
         return needed(self.recording)
 
     def looks(self) -> Scout:
-        """The second netrev; Misused if a session was joined without the recording."""
+        """The second netrev; raises Misused if a session was joined without the recording."""
         return needed(self.scout)
 
     def changes(self) -> RecordedChanges:
-        """What each step changed; Misused if a session was joined without the recording."""
+        """The changes of each step; raises Misused if a session was joined without the recording."""
         return needed(self.recorded)
 
     def run(self, line: str) -> bool:
@@ -119,8 +119,8 @@ class Session:
             return True
 
     def attempt(self, line: str) -> bool:
-        """Answers a line, which may have several commands with `;` between, and runs the commands of marks that hit.
-        False if the session has ended."""
+        """Answers a line, which may have several commands separated by `;`, and runs the commands of marks that
+        hit. False if the session has ended."""
         if not line.split() or line.lstrip().startswith("#"):
             return True
         for part in parts_of(line):
@@ -136,7 +136,7 @@ class Session:
         return True
 
     def attempt_one(self, line: str) -> bool:
-        """Answers a command, or prints what is wrong with it. False if the session has ended."""
+        """Answers a command, or prints its error. False if the session has ended."""
         try:
             self.tell_of_others()
             return self.answer(line)
@@ -159,9 +159,9 @@ class Session:
         return self.pass_on(line, words)
 
     def pass_on(self, line: str, words: list[str]) -> bool:
-        """Sends a line to netrev, and shows its reply. A line that netrev knows goes as it was typed."""
+        """Sends a line to netrev, and shows its reply. A line that netrev knows is sent as it was typed."""
         sent = " ".join(words) if words[0] in COMMANDS else line
-        # (a stop takes away the temporary breaks that it names, so what stands before it is asked for too)
+        # (a stop deletes the temporary breaks that it names, so the marks are listed before)
         stood = self.netrev.marks() if words[0] in STOPPING and self.recorded else []
         reply = self.stop_of(sent) if words[0] in STOPPING else self.netrev.ask(sent)
         self.show(line, reply, words[0] == "dump")
@@ -178,7 +178,8 @@ class Session:
         return reply.first != "bye"
 
     def note_marks(self, entries: Sequence[str]) -> None:
-        """Says what the marks of `info breakpoints` run, the breaks at places of the program, and the conditions."""
+        """Prints the lines that the marks of `info breakpoints` run, the breaks at places of the program, and the
+        conditions."""
         standing = [*(entry.split()[0] for entry in entries), *self.breaks.standing]
         conditions = [one.says(number) for number, one in self.conditions.items() if number in standing]
         breaks = [one.words() for one in self.breaks.standing.values()]
@@ -186,7 +187,7 @@ class Session:
             self.printer.note(line)
 
     def stop_of(self, sent: str) -> Reply:
-        """The reply to a move to a stop, which goes on past marks whose conditions don't hold."""
+        """The reply to a move to a stop, which continues past marks whose conditions don't hold."""
         while True:
             reply = self.back_to_a_break(sent, self.netrev.ask(sent))
             move = move_of(sent, reply.first) if MOVED.fullmatch(reply.first) and sent != "resume" else None
@@ -230,13 +231,14 @@ class Session:
         self.printer.reply(line, reply, words)
 
     def words_of(self, cell: str, value: str, is_dump: bool = False) -> str:
-        """What a value says in words."""
+        """The meaning of a value."""
         if value == "absent":
             return absent_words(cell, self.recording.limits if self.recording else {})
         return dump_words(cell, value) if is_dump else in_words(cell, value) if cell_of(cell.split()) else ""
 
     def arrive(self, position: int, numbers: Sequence[str] = (), stood: Sequence[Listed] = ()) -> None:
-        """Prints the position after a move, the marks that hit (`stood` are those before it), and what the last step changed."""
+        """Prints the position after a move, the marks that hit (`stood` are those before it), and the changes of
+        the last step."""
         self.stood, self.frame, self.is_before, self.goroutine = position, None, False, None
         self.attached.hits(numbers)
         self.printer.place(self.place(position))
@@ -251,7 +253,7 @@ class Session:
         return [listed[number] for number in numbers if number in listed]
 
     def show_displays(self) -> None:
-        """Shows the cells that are displayed."""
+        """Shows the displayed cells."""
         if self.displays:
             self.printer.table(displays_table(self.displays, self.netrev.values(self.displays), self.words_of))
 
@@ -270,7 +272,8 @@ class Session:
         return go_to(position, self.ask)
 
     def source(self, path: str) -> bool:
-        """Answers the lines of a file, printing each first; an OSError if it can't be read. False if the session has ended."""
+        """Answers the lines of a file, printing each first; raises an OSError if it can't be read. False if the
+        session has ended."""
         if self.depth == NESTED:
             raise Misused(messages.NESTED.format(most=NESTED))
         lines = lines_of_script(path)

@@ -1,5 +1,5 @@
-"""The shapes of netrev's replies, as docs/reference/COMMANDS.md has them. Each reply is held against that of its question, so that none
-is taken for the reply to another; what has no such shape wasn't said by netrev."""
+"""The forms of netrev's replies, as docs/reference/COMMANDS.md has them. Each reply must have the form for its
+line, so that none is mistaken for the reply to another line; a reply without such a form isn't netrev's."""
 
 import re
 from typing import Callable, Match, NamedTuple
@@ -33,11 +33,11 @@ OF_DUMP = {
 
 
 class Refused(Exception):
-    """netrev refused what it was asked: its reply."""
+    """netrev refused a line: its reply."""
 
 
 class Strange(Exception):
-    """A reply that netrev doesn't give: netrev isn't what answers."""
+    """A reply that netrev doesn't give: another program answers."""
 
     def __init__(self, line: str, reply: str):
         shown = reply if len(reply) <= SHOWN else f"{reply[: SHOWN - 2]}.."
@@ -72,7 +72,8 @@ class Listed(NamedTuple):
 
 
 def matched(shape: re.Pattern[str], line: str, reply: str) -> Match[str]:
-    """The parts of a reply to this line, which must have this form; Refused if it is a fault, otherwise Strange."""
+    """The parts of a reply to this line, which must have this form; raises Refused if it is a fault, otherwise
+    Strange."""
     found = shape.fullmatch(reply)
     if found is None:
         raise Refused(reply) if reply.startswith("fault ") else Strange(line, reply)
@@ -80,24 +81,24 @@ def matched(shape: re.Pattern[str], line: str, reply: str) -> Match[str]:
 
 
 def position_of(reply: str) -> Position:
-    """What `info position` is answered."""
+    """The reply to `info position`, parsed."""
     found = matched(POSITION, "info position", reply)
     return Position(int(found[1]), int(found[2]), found[3])
 
 
 def move_of(line: str, reply: str) -> Move:
-    """What a move is answered."""
+    """The reply to a move, parsed."""
     found = matched(MOVED, line, reply)
     return Move(int(found[1]), bool(found[2]), tuple((found[3] or "").split()))
 
 
 def mark_of(line: str) -> Listed:
-    """An entry of `info breakpoints`."""
+    """An entry of `info breakpoints`, parsed."""
     return Listed(*matched(LISTED, "info breakpoints", line).groups())
 
 
 def entries_in(line: str, first: str) -> int:
-    """How many entries follow the first line of a reply."""
+    """The number of entries that follow the first line of a reply."""
     if not first.startswith(("marks ", "checkpoints ")):
         return 0
     count = int(matched(LISTING, line, first)[1])
@@ -107,7 +108,7 @@ def entries_in(line: str, first: str) -> int:
 
 
 def value_of(line: str, reply: str) -> str:
-    """What a look, `print CELL` or `dump WHAT S`, shows."""
+    """The value in the reply to `print CELL` or `dump WHAT S`."""
     verb, _, what = line.partition(" ")
     found = matched(VALUE, line, reply)
     shape = (OF_CELL if verb == "print" else OF_DUMP)[what.split()[0]]
@@ -117,13 +118,14 @@ def value_of(line: str, reply: str) -> str:
 
 
 def is_shaped(what: str, value: str, is_dump: bool) -> bool:
-    """Whether netrev shows such a value of a cell, or of a dump."""
+    """Whether a cell, or a dump, can have this value."""
     shape = (OF_DUMP if is_dump else OF_CELL).get(what.split()[0])
     return shape is not None and shape.fullmatch(value) is not None
 
 
 def go_to(position: int, ask: Callable[[str], str]) -> str:
-    """Goes to a position, whatever the direction, by what netrev is asked; its reply to the last command."""
+    """Goes to a position, whatever the direction, through the function that asks netrev; its reply to the last
+    command."""
     now, _, direction = position_of(ask("info position"))
     if position == now:
         return f"at {now}"

@@ -1,6 +1,6 @@
-"""What `netrev suspects FILE` lists of a recording: each line as netrev printed it, and what it says. netrev is asked once. An older one,
-which has no such program, lists nothing, and neither does one that fails: the rules of `info suspects` go by nrdb's own notes then
-(`suspects/reckoned.py`)."""
+"""The output of `netrev suspects FILE` for a recording: each line as netrev printed it, and its meaning. netrev is
+started once. An older netrev without that command lists nothing, nor does one that fails: then the rules of
+`info suspects` use nrdb's own notes (`suspects/reckoned.py`)."""
 
 import re
 import subprocess
@@ -9,7 +9,7 @@ from typing import Iterable, NamedTuple, Optional
 from .interrupts import Interrupts
 from .noted import By
 
-PAUSE = 0.05  # seconds between two looks whether Ctrl-C came
+PAUSE = 0.05  # seconds between two checks for Ctrl-C
 LOST_WAKE_UP = re.compile(r"at \d+ lost-wakeup gor (\d+) desc (\d+) ([rw]) event (\d+) taken (\d+) by (\d+)")
 ASLEEP = re.compile(
     r"at \d+ asleep gor (\d+) desc (\d+) (?:(r) because (?:closing|deadline|error|bytes|end)|(w) because (?:closing|deadline|shut|room))"
@@ -61,9 +61,10 @@ class OfDeadline(NamedTuple):
 
 
 class Listed:
-    """The suspects of a list: lost wake-ups, the lines of goroutines that sleep although their side has to be answered, by goroutine,
-    descriptor and side, held references by socket and goroutine, and what came of deadlines: those that passed, the calls that ended, by
-    step, and those that were taken back, by step, descriptor and side."""
+    """The suspects of a list: lost wake-ups, the lines of goroutines that sleep although their side has to be
+    answered, by goroutine, descriptor and side, held references by socket and goroutine, and the effects of
+    deadlines: those that passed, the calls that ended, by step, and those that were taken back, by step,
+    descriptor and side."""
 
     def __init__(self, lines: Iterable[str] = ()) -> None:
         self.lost_wake_ups: list[LostWakeUp] = []
@@ -76,7 +77,7 @@ class Listed:
             self._take(line)
 
     def _take(self, line: str) -> None:
-        """Takes a line; one of no known form says nothing to the rules."""
+        """Adds a line; the rules ignore one of an unknown form."""
         if found := OF_A_DEADLINE.fullmatch(line):
             self._take_deadline(line, *found.groups())
         elif found := HELD_REFERENCE.fullmatch(line):

@@ -1,4 +1,4 @@
-"""Lines of files: of source, and of nrdb's commands."""
+"""Reads the lines of source files and of files with nrdb's commands."""
 
 import os
 import stat
@@ -11,7 +11,8 @@ MOST_BYTES = 2**20
 
 
 def lines_of_script(path: str) -> list[str]:
-    """The lines of a file of commands; an OSError if it can't be read. Bytes that are no UTF-8 go as they come."""
+    """The lines of a file of commands; raises an OSError if it can't be read. Bytes that aren't UTF-8 are passed on
+    unchanged."""
     check_name(path)
     return Path(path).read_text(encoding="utf-8", errors="surrogateescape").splitlines()
 

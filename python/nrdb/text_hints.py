@@ -1,4 +1,4 @@
-"""What to correct in a line of a recording that netrev rejects with fault 101 to 106."""
+"""Hints about a line of a recording that netrev rejects with fault 101 to 106."""
 
 import json
 import re
@@ -28,7 +28,7 @@ MOST_STEPS = 1_000_000
 
 
 def text_hint(recording: Recording, number: int, fault: int) -> str:
-    """What to mend in line `number`, which has this fault."""
+    """The hint for line `number`, which has this fault."""
     line = recording.line(number)
     for magic, said in messages.MAGIC.items():
         if line.startswith(magic):
@@ -60,7 +60,7 @@ def parsed(text: str) -> Any:
 
 
 def json_hint(recording: Recording, number: int, text: str) -> str:
-    """Of a line that is no JSON."""
+    """The hint for a line that isn't JSON."""
     is_last = recording.is_last(number)
     if not text:
         return messages.EMPTY if is_last else messages.NO_HEADER
@@ -91,7 +91,7 @@ def json_hint(recording: Recording, number: int, text: str) -> str:
 
 
 def header_hint(value: Any) -> str:
-    """Of the first line, which isn't the header that was wanted."""
+    """The hint for a first line that isn't a valid header."""
     if isinstance(value, list) and value and isinstance(value[0], dict):
         return messages.ONE_ARRAY
     if not isinstance(value, dict):
@@ -122,7 +122,7 @@ def limits_words(key: str, limit: Limit) -> str:
 
 
 def kind_of_step_hint(value: Any) -> str:
-    """Of a step whose kind isn't known."""
+    """The hint for a step of an unknown kind."""
     if isinstance(value, dict) and "netrev" in value:
         return messages.SECOND_HEADER
     name = value[0] if isinstance(value, list) and value else None
@@ -135,7 +135,7 @@ def kind_of_step_hint(value: Any) -> str:
 
 
 def answered_hint(value: list[Any]) -> str:
-    """Of a step of version 2 whose arguments are wrong, or its recorded answer."""
+    """The hint for a step of version 2 whose arguments, or recorded answer, are wrong."""
     kind, given = KINDS[value[0]], value[1:]
     if given and is_answer(given[-1]):
         return arguments_hint(value[:-1])
@@ -146,7 +146,7 @@ def answered_hint(value: list[Any]) -> str:
 
 
 def arguments_hint(value: list[Any]) -> str:
-    """Of a step whose arguments are wrong."""
+    """The hint for a step whose arguments are wrong."""
     kind = KINDS[value[0]]
     given = value[1:]
     if len(given) == len(kind.arguments) + 1 and is_answer(given[-1]):

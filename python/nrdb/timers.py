@@ -12,13 +12,13 @@ from .output import Row, Table
 from .recording import Recording, Step
 from .words import SIDES
 
-# the steps that arm, stop and run timers, and those by which descriptors are used again and the time goes on
+# the steps that arm, stop and run timers, and those that reuse descriptors or advance the clock
 FOLLOWED = frozenset(("pollopen", "pollclose", "setdeadline", "evict", "tick", "pop", "fire"))
 
 
 class Timer(NamedTuple):
-    """A timer of a `pop` or a `fire`: its sides, the descriptor and the socket that this was of when the deadline was set, when it
-    was due, and the step that set it. A stale one was stopped or moved before its function ran."""
+    """A timer of a `pop` or a `fire`: its sides, the descriptor and its socket when the deadline was set, the due
+    time, and the step that set it. A stale one was stopped or moved before its function ran."""
 
     sides: str
     descriptor: int
@@ -40,11 +40,11 @@ class Following:
     def __init__(self) -> None:
         self._deadlines = Deadlines()
         self._clock = 0
-        self._free: list[int] = []  # descriptors, the one that was freed last at the end
+        self._free: list[int] = []  # free descriptors, the one that was freed last at the end
         self._sockets: dict[int, int] = {}  # of descriptors
 
     def follow(self, number: int, kind: str, *arguments: Any) -> Optional[Timer]:
-        """Goes through a step; the timer that it pops or runs."""
+        """Processes a step; the timer that it pops or runs."""
         deadlines = self._deadlines
         match kind, *arguments:
             case "tick", time:
@@ -67,7 +67,7 @@ class Following:
 
 
 def _timer(armed: Optional[Armed], is_stale: bool) -> Timer:
-    """A timer, as it is printed."""
+    """A timer in the form for printing."""
     assert armed  # (netrev has popped one)
     socket, step, g = armed.setter
     return Timer(armed.covers, armed.descriptor, socket, armed.due, step, g, is_stale)

@@ -1,4 +1,4 @@
-"""Which sockets the goroutines have to do with in a part of a recording, without going through what is before it."""
+"""The sockets that goroutines use in a part of a recording, found without reading the part before."""
 
 from bisect import bisect_right
 from collections import Counter
@@ -10,7 +10,7 @@ from .whose import AS_BEFORE, NONE, OF_A_DESCRIPTOR, OF_A_SOCKET, Place, row_of
 
 
 class Touched(Counter[Place]):
-    """How many steps of each goroutine are of each socket, in the steps from one to another."""
+    """How many steps of each goroutine are about each socket, in the steps from one to another."""
 
     def __init__(self, notes: Notes, first: int, last: int) -> None:
         super().__init__()
@@ -37,13 +37,13 @@ class Touched(Counter[Place]):
                 named[g] = socket_of.get(arguments[1], NONE)
             elif kind == "pollopen":
                 named[g] = socket_of[next(self._opened).descriptor] = arguments[1]
-            else:  # (its end is of no socket)
+            else:  # (its end belongs to no socket)
                 self[g, NONE] += 1
                 continue
             self[g, named[g]] += 1
 
     def _named_before(self, g: int) -> int:
-        """The socket that a goroutine named last before these steps. It goes on with what it began then, so its status
+        """The socket that a goroutine named last before these steps. It continues what it began then, so its status
         belongs to that socket."""
         begun, words = 0, [""]
         for step, status in self._notes.changes.back(f"gor {g}", self._begin):

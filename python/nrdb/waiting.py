@@ -1,5 +1,6 @@
-"""`info goroutines`: what each goroutine does that is neither idle nor gone, and what it waits for, in the poller or elsewhere. It is the
-first look if something hangs, so a thousand that wait for one lock ask for that lock once."""
+"""`info goroutines`: what each goroutine does that is neither idle nor gone, and what it waits for, in the poller
+or elsewhere. It is the first query if something hangs, so a thousand goroutines that wait for one lock read that
+lock once."""
 
 from functools import cached_property
 from typing import Iterable, Mapping, Optional
@@ -21,7 +22,7 @@ QUEUES = {"r": "rq", "w": "wq"}
 
 
 class Queue:
-    """The goroutines that wait for one side of a socket's lock, as they are seen for one table."""
+    """The goroutines that wait for one side of a socket's lock, cached for one table."""
 
     def __init__(self, world: World, socket: int, side: str):
         self._world, self._socket, self._side = world, socket, side
@@ -66,7 +67,7 @@ def queues_of(world: World, statuses: Iterable[str]) -> dict[Lock, Queue]:
 
 
 class Waits:
-    """What the goroutines of one table wait for; `statuses` are those of all that are looked at."""
+    """What the goroutines of one table wait for; `statuses` are those of all goroutines in it."""
 
     def __init__(self, world: World, statuses: Mapping[int, str]):
         self._world, self._statuses = world, statuses
@@ -120,7 +121,7 @@ class Waits:
         return "which is taken" if queue.is_taken else f"which nobody has{self._owed(socket, queue)}"
 
     def _wait_words(self, descriptor: int, side: str) -> list[str]:
-        """Of a wait: whose descriptor it is, what lies there unread or has room, and its deadline."""
+        """The text about a wait: its descriptor's socket, what is unread or has room, and its deadline."""
         world, said = self._world, []
         if descriptor in self._sockets:
             socket = self._sockets[descriptor]

@@ -11,14 +11,14 @@ from .recording import Recording
 from .where import Lines, Stack, Wait
 from .words import duration
 
-MOST_NUMBERS = 8  # of goroutines that are named
+MOST_NUMBERS = 8  # goroutines that are named
 LAST_USE, A_CONNECTION, A_RESPONSE, ALL_REQUESTS = (
     "the last who uses the descriptor",
     "a connection of net/http",
     "a response of net/http",
     "the end of all requests of net/http",
 )
-# What a wait is for, where its stack says it.
+# The reason of a wait, if its stack shows it.
 OF_FUNCTIONS = {
     "sync.(*Mutex).Lock": A_MUTEX,
     "sync.(*Mutex).lockSlow": A_MUTEX,
@@ -46,7 +46,7 @@ class Name(NamedTuple):
 
     @property
     def values(self) -> dict[str, Optional[int]]:
-        """It as JSON has it."""
+        """The name in the form of JSON."""
         return {"goroutine": None, "goid": self.number} if self.is_goid else {"goroutine": self.number}
 
 
@@ -62,7 +62,7 @@ class Waiting(NamedTuple):
     by: Optional[Name] = None
     objects: tuple[At, ...] = ()
     begin: int = 0  # nanoseconds, which order waits after one step
-    due: int = 0  # until when a sleep is to last, if that is known
+    due: int = 0  # the planned end of a sleep, if known
 
     def is_at(self, position: int) -> bool:
         """Whether it was under way at a position."""
@@ -70,7 +70,7 @@ class Waiting(NamedTuple):
 
     @property
     def is_asleep(self) -> bool:
-        """Whether its goroutine only lets time pass."""
+        """Whether its goroutine only sleeps for a time."""
         return self.reason == A_SLEEP or any(call.function == A_SLEEP for call in self.stack.calls[:2])
 
     @property
@@ -146,7 +146,8 @@ def name_of_goid(lines: Lines, goid: int, step: Optional[int] = None) -> Name:
 
 
 def of_names(names: Iterable[Name]) -> str:
-    """Goroutines by their names: `goroutine 3`, `goroutines 3 and 5, goid 41`; of many the first ones and how many more there are."""
+    """Goroutines by their names: `goroutine 3`, `goroutines 3 and 5, goid 41`; of many the first ones and the
+    number of the others."""
     every = set(names)
     numbers, goids = (sorted(name.number for name in every if name.is_goid is is_goid) for is_goid in (False, True))
     named = [f"goroutine{'s' if numbers[1:] else ''} {listed(numbers)}"] if numbers else []
@@ -154,7 +155,7 @@ def of_names(names: Iterable[Name]) -> str:
 
 
 def listed(numbers: list[int]) -> str:
-    """Numbers in words: `3, 5 and 7`."""
+    """Numbers as text: `3, 5 and 7`."""
     shown = list(map(str, numbers[:MOST_NUMBERS]))
     last = f"{len(numbers) - MOST_NUMBERS} more" if numbers[MOST_NUMBERS:] else shown.pop()
     return f"{', '.join(shown)} and {last}" if shown else last

@@ -17,7 +17,7 @@ OF_SOCKETS = frozenset(("peers", "ends", "addresses", "sent", "sizes", "errors")
 OF_CALL = {"function": str, "file": str, "line": int, "of": str}
 MOST_BYTES, MOST_LINE = 2**26, 2**24  # of the file, and of one of its lines
 SHOWN = 12  # calls of a stack
-FORMS = (1, 2)  # of the file; the second has all goroutines
+FORMS = (1, 2)  # forms of the file; the second has all goroutines
 
 
 class Call(NamedTuple):
@@ -75,7 +75,7 @@ class Wait(NamedTuple):
 
 
 class Unusable(Exception):
-    """A file of lines that can't be used: why."""
+    """A file of lines that can't be used: the reason."""
 
 
 class Lines(AllGoroutines):
@@ -114,29 +114,35 @@ class Lines(AllGoroutines):
         return messages.LINES_UNUSED.format(name=name, fault=self.fault)
 
     def _begin(self) -> None:
-        """No line is known."""
+        """Starts without any known line."""
         self.steps = array("l")
         self.stacks: dict[int, Stack] = {0: Stack((), None)}
-        self.orders: Optional[list[tuple[int, int]]] = None  # of the program, by steps; None if the recorder saw none
+        self.orders: Optional[
+            list[tuple[int, int]]
+        ] = None  # steps that the program orders; None if the recorder saw none
         self.bytes: Optional[
             int
-        ] = None  # as which a read or a write counts at most; None where each has all of its own
-        self.has_tags = False  # of Go's own, which it compared with the use of the descriptor as an event came
-        self.prelude = 0  # this many steps lead to the state in which the recording begins
+        ] = None  # the most bytes that a read or a write counts; None if each has all of its own
+        self.has_tags = False  # whether Go compared an event's tag with the use of the descriptor
+        self.prelude = 0  # how many steps lead to the state in which the recording begins
         self.tests: list[tuple[int, int, str]] = []  # the first and the last step while each test ran, package and name
-        self.peers: dict[int, int] = {}  # of a socket the one at the connection's other end
-        self.ends: dict[int, tuple[int, int]] = {}  # of a socket the numbers of its own name and of the other end's
-        self.addresses: dict[int, tuple[str, str]] = {}  # of sockets for datagrams, and to which they are connected
-        self.sent: dict[int, str] = {}  # to which address a datagram went, by a step of the call
-        self.sizes: dict[int, int] = {}  # how many bytes a read or a write had that counts as fewer, by its step
-        self.errors: dict[int, str] = {}  # of the system, by the step after which a goroutine's call had them
-        self.waits: dict[int, list[Wait]] = {}  # outside of the poller, by goroutine
-        self.times = array("q")  # of the steps, nanoseconds from the recorder's begin; empty if the recorder had none
+        self.peers: dict[int, int] = {}  # for a socket the one at the connection's other end
+        self.ends: dict[int, tuple[int, int]] = {}  # for a socket the numbers of its own name and of the other end's
+        self.addresses: dict[
+            int, tuple[str, str]
+        ] = {}  # for datagram sockets their addresses, and those that they are connected to
+        self.sent: dict[int, str] = {}  # the address that a datagram was sent to, by a step of the call
+        self.sizes: dict[int, int] = {}  # how many bytes a read or a write had that counts fewer, by its step
+        self.errors: dict[int, str] = {}  # the system's errors, by the step after which a goroutine's call had them
+        self.waits: dict[int, list[Wait]] = {}  # waits outside of the poller, by goroutine
+        self.times = array(
+            "q"
+        )  # the times of the steps, in nanoseconds from the start of the log; empty if the recorder had none
         self._calls: dict[int, Call] = {}
         self.begin_goroutines()
 
     def _take(self, lines: Iterable[str], steps: int) -> None:
-        """Takes the lines of the file, or none of them."""
+        """Reads the lines of the file, all or none of them."""
         number = 0
         try:
             for number, line in enumerate(lines, 1):
@@ -182,7 +188,7 @@ class Lines(AllGoroutines):
             self._add_of_sockets(line)
         elif "times" in line:
             self.times.extend(accumulate(_later(line["times"]), initial=self.times[-1] if self.times else 0))
-            del self.times[-len(line["times"]) - 1]  # (that from which it is counted)
+            del self.times[-len(line["times"]) - 1]  # (the one from which it is counted)
         elif "waits" in line:
             for values in line["waits"]:
                 wait = Wait(*map(typed, values, (int, int, int, str, int, int)))
@@ -192,7 +198,7 @@ class Lines(AllGoroutines):
             self.add_goroutines(line, self._calls, self.stacks)
         elif line["step"] == len(self.steps) + 1:
             numbers = line["stacks"]
-            are_known = self.stacks.keys() >= set(numbers)  # (mostly all of the thousand are)
+            are_known = self.stacks.keys() >= set(numbers)  # (mostly all thousand are numbers)
             self.steps.extend(numbers if are_known else (one if one in self.stacks else 0 for one in numbers))
 
     def _add_of_sockets(self, line: dict[str, Any]) -> None:
@@ -236,7 +242,7 @@ class Lines(AllGoroutines):
 
 
 def of_steps(first: Any, steps: int) -> None:
-    """Unusable if the file's first line belongs to another recording."""
+    """Raises Unusable if the file's first line belongs to another recording."""
     if first["where"] not in FORMS:
         raise Unusable(messages.LINES_OF_OTHER_VERSION)
     if first["steps"] != steps:
@@ -244,7 +250,7 @@ def of_steps(first: Any, steps: int) -> None:
 
 
 def _later(values: Any) -> Any:
-    """The differences between times; a TypeError or a ValueError if one is invalid. There may be a million."""
+    """The differences between times; raises a TypeError or a ValueError if one is invalid. There may be a million."""
     if set(map(type, values)) - {int}:
         raise TypeError
     if min(values, default=0) < 0:
@@ -253,7 +259,7 @@ def _later(values: Any) -> Any:
 
 
 def stack_lines(stack: Stack) -> list[str]:
-    """The calls of a stack, a line each, those of the program marked."""
+    """The calls of a stack, one a line, with those of the program marked."""
     lines = []
     for call in stack.calls[:SHOWN]:
         mark = "*" if call.of == OF_THE_PROGRAM else " "

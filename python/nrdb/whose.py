@@ -12,7 +12,7 @@ from .timers import timers_of
 NONE = -1
 Place = tuple[int, int]  # a socket and a descriptor
 NOWHERE = NONE, NONE
-# how it is found of which socket and descriptor a step is
+# the ways to find the socket and descriptor of a step
 OF_A_SOCKET, OF_A_DESCRIPTOR, AS_BEFORE, OF_NONE, OTHER = range(5)
 OTHERS = ("sockopen", "pollopen", "pollclose", "pollevent", "pop", "fire")
 
@@ -29,7 +29,7 @@ class Row(NamedTuple):
 
 
 def row_of(values: list[Any]) -> Row:
-    """What is known by a step's array."""
+    """The facts in a step's array."""
     kind, *arguments = values
     named = dict(zip(KINDS[kind].arguments, arguments))
     how = AS_BEFORE
@@ -50,10 +50,10 @@ class Whose:
     def __init__(self, recording: Recording, notes: Notes) -> None:
         self._recording = recording
         self.goroutines, self._sockets, self._descriptors = array("i"), array("i"), array("i")
-        self._of_timers: list[int] = []  # the steps of timers, until their owners are asked for
+        self._of_timers: list[int] = []  # the steps of timers, until their owners are needed
         self._opened = iter(notes.uses)
         self._made = 0  # sockets
-        self._named: dict[int, Place] = {}  # what a goroutine named last
+        self._named: dict[int, Place] = {}  # the last object that a goroutine named
         self._descriptor_of: dict[int, int] = {}
         self._socket_of: dict[int, int] = {}
         self._tagged: dict[Place, int] = {}  # the socket of a use of a descriptor, by its tag
@@ -86,7 +86,7 @@ class Whose:
             descriptor_is(d)
 
     def _other(self, number: int, kind: str, g: int, arguments: list[Any]) -> Place:
-        """The socket and the descriptor of a step that makes such, or frees one, or is of a timer or an event."""
+        """The socket and the descriptor of a step that makes or frees one, or belongs to a timer or an event."""
         if kind == "sockopen":
             self._made += 1
             return self._made - 1, NONE
@@ -109,7 +109,7 @@ class Whose:
         return place
 
     def _look_at_timers(self) -> None:
-        """Finds the timers' owners, which callers need that ask for sockets and descriptors of all steps."""
+        """Finds the timers' owners, for callers that need the sockets and descriptors of all steps."""
         timers = timers_of(self._recording) if self._of_timers else {}
         for number in self._of_timers:
             timer = timers[number]

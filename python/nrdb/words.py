@@ -1,4 +1,4 @@
-"""Values of cells in words: lock words, summaries, statuses, wait words and deadlines."""
+"""The meanings of cells' values as text: lock words, summaries, statuses, wait words and deadlines."""
 
 import json
 from dataclasses import dataclass
@@ -7,7 +7,7 @@ from typing import Any, Mapping
 from netrev_words.plurals import counted
 from netrev_words.vocabulary import CELLS, Of
 
-DUMPED = 80  # digits of a dump that are shown as text
+DUMPED = 80  # bytes of a dump that are shown as text
 FIELD = 0xFFFFF  # references and waiters are counted in 20 bits each
 UNITS = ((1_000_000_000, "s"), (1_000_000, "ms"), (1_000, "µs"), (1, "ns"))
 SIDES = {"r": "read", "w": "write"}
@@ -44,12 +44,12 @@ class LockWord:
 
 
 def lock_words(value: str) -> str:
-    """A lock word in words."""
+    """The meaning of a lock word."""
     return str(LockWord.of(int(value)))
 
 
 def info_words(value: str) -> str:
-    """The summary of a descriptor in words."""
+    """The meaning of a descriptor's summary."""
     bits = {1: "closing", 2: "event error", 4: "read deadline passed", 8: "write deadline passed"}
     said = [words for bit, words in bits.items() if int(value) & bit]
     return ", ".join(said) or "nothing is set"
@@ -94,7 +94,7 @@ def poll_words(value: str) -> str:
 
 
 def deadline_words(value: str) -> str:
-    """A deadline in words."""
+    """The meaning of a deadline."""
     return "no deadline" if value == "0" else "has passed" if value.startswith("-") else ""
 
 
@@ -116,14 +116,15 @@ def in_words(cell: str, value: str) -> str:
 
 
 def dump_words(what: str, value: str) -> str:
-    """What a dump shows in words: bytes as text."""
+    """The bytes of a dump as text."""
     if not what.startswith(("in", "out")) or value == "-":
         return ""
     return json.dumps(bytes.fromhex(value[:DUMPED]).decode("latin-1")) + (" .." if len(value) > DUMPED else "")
 
 
 def absent_words(cell: str, limits: Mapping[str, Any]) -> str:
-    """Why a cell is absent: nothing of that number yet, or never, by the limits of the recording's header."""
+    """The reason why a cell is absent: no object of that number yet, or never, by the limits of the recording's
+    header."""
     name, *number = cell.split()
     of = CELLS[name].of if name in CELLS else Of.SOCKET
     if of is Of.ALL:

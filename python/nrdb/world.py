@@ -33,7 +33,7 @@ class World:
         return int(self.value(cell))
 
     def of_each(self, numbers: Iterable[int], *names: str) -> dict[int, list[str]]:
-        """Of each number the values of the cells with these names, in their order."""
+        """For each number the values of the cells with these names, in order."""
         numbers = list(numbers)
         values = self.values([f"{name} {number}" for number in numbers for name in names])
         return {number: values[at * len(names) : (at + 1) * len(names)] for at, number in enumerate(numbers)}
@@ -44,7 +44,7 @@ class World:
         return [] if shown in ("-", "absent") else [int(word) for word in shown.split()]
 
     def made(self, of: Of) -> int:
-        """How many goroutines, sockets or descriptors were made: those are the numbers below."""
+        """The number of goroutines, sockets or descriptors that exist, whose numbers are all below it."""
         return made_at(self.netrev, of)
 
     def sockets_of_open(self) -> dict[int, int]:

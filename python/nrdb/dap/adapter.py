@@ -1,4 +1,4 @@
-"""The adapter: answers an editor's requests one by one, by a session of nrdb's."""
+"""The adapter: answers an editor's requests one by one, from a session of nrdb."""
 
 from contextlib import ExitStack, closing
 from typing import Callable, NamedTuple, Optional, Sequence
@@ -30,7 +30,7 @@ CANCELLED, ENDS = "cancelled", "the editor ends the session"
 
 
 def shown(text: str) -> str:
-    """Text of several lines as an editor may show it."""
+    """Text of several lines in the form that editors show."""
     return "\n".join(plain(line) for line in text.split("\n"))
 
 
@@ -45,7 +45,8 @@ class Outcome(NamedTuple):
 
 
 class Adapter:
-    """Serves one editor, whose requests come from `source`. `program` is netrev's: no message names another."""
+    """Serves one editor, whose requests come from `source`. `program` is netrev; no message can name another
+    program."""
 
     def __init__(self, wire: Wire, source: Source, program: str):
         self._wire, self._source, self._program = wire, source, program
@@ -73,7 +74,8 @@ class Adapter:
         }  # fmt: skip
 
     def serve(self, begun: Sequence[Request] = ()) -> None:
-        """Answers until the editor has gone, or says that it goes. These requests came already; `initialize` was answered then."""
+        """Answers requests until the editor has gone or disconnects. The given requests came already; `initialize`
+        was answered then."""
         with closing(self._source), self._opened:
             for request in begun:
                 self._initialize(request) if request.command == "initialize" else self._guarded(request)
@@ -83,7 +85,7 @@ class Adapter:
                     return
 
     def _guarded(self, request: Request) -> None:
-        """Answers a request; of an error that nothing expects the editor's console tells, and the session goes on."""
+        """Answers a request. An unexpected error is printed on the editor's console, and the session goes on."""
         try:
             self._answer(request)
         except EditorGone:
@@ -100,7 +102,7 @@ class Adapter:
             self._refused(work, shown(str(why)))
         except Interrupted:
             self._refused(work, CANCELLED)
-        except GivenUp:  # (the request that ends it comes next, and is answered before all is closed)
+        except GivenUp:  # (the request that ends the session comes next, and is answered before the close)
             work.refuses(ENDS)
             self._target_or_none = None
         except (Ended, Strange, Lost) as why:
@@ -121,7 +123,7 @@ class Adapter:
                 self._close()
 
     def _worked(self, request: Request, work: Work) -> Outcome:
-        """The result of a request, while the editor is heard."""
+        """The result of a request, while the editor's messages are still read."""
         if self._source.ends(request):
             raise Interrupted
         if request.command in ("launch", "attach"):
@@ -164,7 +166,7 @@ class Adapter:
         return self._target_or_none
 
     def _of_target(self, answer: Callable[[Target, Numbering, Request], Body]) -> Callable[[Request], Outcome]:
-        """What is answered of the recording that is open, and moves nothing."""
+        """The answer to a request that needs an open recording and moves nothing."""
         return lambda request: Outcome(answer(self._target, self._numbering, request))
 
     def _stopped(self, stop: Stop) -> None:
@@ -222,7 +224,7 @@ class Adapter:
         return Outcome(event="initialized")
 
     def _cancel(self, request: Request) -> Outcome:
-        return Outcome()  # (what it was for was stopped when it was heard, or is done)
+        return Outcome()  # (its work was stopped when it arrived, or is done)
 
     def _configured(self, request: Request) -> Outcome:
         return Outcome(stop=self._target.stop)
@@ -288,7 +290,7 @@ class Adapter:
         return self._typed(text) if context == "repl" else Outcome(looks.value(self._target, text, context))
 
     def _typed(self, text: str) -> Outcome:
-        """Runs a line of nrdb's that was typed in the console."""
+        """Runs a line of nrdb that was typed in the console."""
         target, before = self._target, self._target.debuggee.position
         goes_on = target.debuggee.session.run(text)
         said = target.debuggee.printer.take().rstrip("\n")

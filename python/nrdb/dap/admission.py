@@ -8,22 +8,22 @@ from ..messages import editors as texts
 from .messages import Request, Unanswerable
 
 TOKEN = "token"  # the argument of a launch
-NAMED_BY = "NRDB_TOKEN"  # the variable that has a token of one's own
+NAMED_BY = "NRDB_TOKEN"  # the variable for a token that the user chooses
 LEAST = 16  # characters of one
-BEFORE = ("initialize", "disconnect")  # that are answered to anybody
-OPENING = ("launch", "attach")  # that have the token
+BEFORE = ("initialize", "disconnect")  # requests that are answered without the token
+OPENING = ("launch", "attach")  # requests that carry the token
 
 
 class Stranger(Unanswerable):
-    """A launch without the token: nothing more is read from its sender."""
+    """A launch without the token: nothing more is read from that connection."""
 
 
 class NoToken(Exception):
-    """The token of one's own can't be one: why."""
+    """The token that the user chose isn't valid: the reason."""
 
 
 def token_for_a_port() -> str:
-    """The token of one's own, else a new one."""
+    """The token that the user chose, else a new one."""
     own = os.environ.get(NAMED_BY)
     if own is None:
         return secrets.token_urlsafe(32)
@@ -33,8 +33,8 @@ def token_for_a_port() -> str:
 
 
 def is_let_in(request: Request, token: str) -> bool:
-    """Whether a request is a launch with the token, and not one that anybody is answered. Unanswerable for any other request, Stranger for a
-    launch with another token."""
+    """Whether a request is a launch with the token, rather than one that is answered without it. Unanswerable for
+    any other request, Stranger for a launch with another token."""
     if request.command in BEFORE:
         return False
     if request.command not in OPENING:

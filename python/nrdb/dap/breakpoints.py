@@ -1,4 +1,4 @@
-"""What is answered of breakpoints: at lines, of kinds of steps, of cells, and of what has gone wrong."""
+"""Requests about breakpoints: at lines, kinds of steps, functions and cells, and at what went wrong."""
 
 from netrev_words.plain import plain
 from netrev_words.vocabulary import KINDS
@@ -11,7 +11,7 @@ from .numbering import Numbering
 from .target import Target
 from .wishes import Unset, Wish, cell_wish, kind_wish, positions_of, wish_of
 
-MOST_TARGETS = 1_000  # lines that are looked through for those with a step
+MOST_TARGETS = 1_000  # lines that are searched for steps
 
 
 def set_lines(target: Target, numbering: Numbering, request: Request) -> Body:
@@ -27,7 +27,7 @@ def set_lines(target: Target, numbering: Numbering, request: Request) -> Body:
 
 
 def of_steps(target: Target, path: str, wishes: list[Wish | Unset]) -> list[Body]:
-    """Replaces the breakpoints before steps; the protocol's answer for each. Log messages use no marks."""
+    """Replaces the breakpoints before steps; the protocol's answer for each. Log messages use no marks of netrev."""
     session = target.debuggee.session
     target.logpoints.clear(path)
     told = [
@@ -41,7 +41,7 @@ def of_steps(target: Target, path: str, wishes: list[Wish | Unset]) -> list[Body
 
 
 def in_the_program(target: Target, numbering: Numbering, path: str, asked: list[Body]) -> list[Body]:
-    """Breakpoints in a file of the program's."""
+    """Breakpoints in a file of the program."""
     if not target.debuggee.recording.lines:
         return [{"verified": False, "message": texts.NO_LINES} for _ in asked]
     target.go_lines.clear(path)
@@ -76,12 +76,12 @@ def set_functions(target: Target, _: Numbering, request: Request) -> Body:
 
 
 def is_function(asked: Body) -> bool:
-    """Whether a breakpoint may be of a function, and is of no kind of step."""
+    """Whether a breakpoint can be at a function because its name isn't a kind of step."""
     return isinstance(asked.get("name"), str) and asked["name"] not in KINDS
 
 
 def data_info(target: Target, _: Numbering, request: Request) -> Body:
-    """Whether a name is a cell that can be watched."""
+    """Whether a name is a cell that can be watched, as the protocol's answer."""
     name = request.text("name")
     if target.looks.value(name) is None:
         return {"dataId": None, "description": texts.NOT_A_CELL.format(name=plain(name))}
@@ -106,7 +106,7 @@ def set_data(target: Target, _: Numbering, request: Request) -> Body:
 
 
 def set_filters(target: Target, _: Numbering, request: Request) -> Body:
-    """What has gone wrong before which the session stops."""
+    """Sets the exception filters, before whose steps the session stops."""
     names = request.arguments.get("filters") or []
     if not isinstance(names, list) or not all(isinstance(name, str) for name in names):
         raise Unanswerable(texts.FILTERS)
@@ -114,7 +114,7 @@ def set_filters(target: Target, _: Numbering, request: Request) -> Body:
 
 
 def exception_info(target: Target, _: Numbering, __: Request) -> Body:
-    """What has gone wrong here."""
+    """The description of what went wrong at the position."""
     wrong = target.filters.at(target.debuggee.position)
     if not wrong:
         raise Unanswerable(texts.NO_EXCEPTION)
@@ -123,7 +123,7 @@ def exception_info(target: Target, _: Numbering, __: Request) -> Body:
 
 
 def locations(target: Target, numbering: Numbering, request: Request) -> Body:
-    """The lines with a step, of those of the recording that are asked for; none of another source."""
+    """Those of the requested lines of the recording that have a step; none for another source."""
     first = numbering.asked(request, "line")
     last = numbering.asked(request, "endLine") if "endLine" in request.arguments else first
     if not is_the_recording(target, request):

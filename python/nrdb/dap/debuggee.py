@@ -1,4 +1,4 @@
-"""The recording that an editor debugs: its session, and what belongs to a position."""
+"""The recording that an editor debugs: its session, and the facts about a position."""
 
 from contextlib import contextmanager
 from pathlib import Path
@@ -23,7 +23,7 @@ from ..collecting import Collecting
 from .messages import Unanswerable
 
 FAR = 10_000  # steps
-Maker = Optional[int]  # of a step: the number of a goroutine, or None for the network and the clock
+Maker = Optional[int]  # the maker of a step: the number of a goroutine, or None for the network and the clock
 
 
 class Debuggee:
@@ -83,11 +83,11 @@ class Debuggee:
             return False
 
     def numbers(self, of: Of) -> list[str]:
-        """The numbers of what is made at the position."""
+        """The numbers of the objects that exist at the position."""
         return [str(number) for number in range(self.session.world().made(of))]
 
     def say_nothing_yet(self) -> None:
-        """Throws away what was said and wasn't shown."""
+        """Drops output that wasn't shown."""
         self.printer.take()
 
     def others_moved(self) -> Optional[int]:
@@ -129,7 +129,7 @@ def debuggee(
 def begun(
     program: str, path: str, recording: Recording, netrev: Netrev, printer: Collecting, interrupts: Interrupts
 ) -> Iterator[Session]:
-    """A session that has begun, while it lasts."""
+    """A session that has begun, closed at the end of the context."""
     scout = Scout(lambda: Own(program, path, interrupts))
     recording.changes = recorded = ArrivingChanges(program, path, interrupts, printer.note)
     recording.suspects = suspects = SuspectList(program, path, interrupts)

@@ -1,4 +1,4 @@
-"""The editor's exception filters: steps at which to stop, since something went wrong there."""
+"""The editor's exception filters: steps before which to stop, because something went wrong there."""
 
 from bisect import bisect_left, bisect_right
 from enum import Enum
@@ -52,7 +52,7 @@ class Failure(NamedTuple):
 
 
 class Filters:
-    """The filters that are set. The rules run over the recording when the first one is."""
+    """The filters that are set. The rules run when the first filter is set."""
 
     def __init__(self, recording: Recording):
         self._recording = recording
@@ -72,7 +72,7 @@ class Filters:
 
     @cached_property
     def _all(self) -> dict[Filter, list[Failure]]:
-        """What went wrong, by the filters, in the order of the steps."""
+        """Everything that went wrong, by filter, in the order of the steps."""
         shown = [one for one in suspects_of(self._recording).suspects if one.is_shown]
         failed = [call for call in book_of(self._recording).calls if call.last and call.outcome.is_error]
         found: dict[Filter, list[Failure]] = {one: [] for one in Filter}
@@ -87,11 +87,11 @@ class Filters:
         return sorted({wrong.step - 1 for one in self._set for wrong in self._all[one]})
 
     def nearest(self, position: int, forwards: bool) -> Optional[int]:
-        """The nearest position that way at which to stop."""
+        """The nearest position in that direction at which to stop."""
         positions = self._positions()
         at = bisect_right(positions, position) if forwards else bisect_left(positions, position) - 1
         return positions[at] if 0 <= at < len(positions) else None
 
     def at(self, position: int) -> list[Failure]:
-        """What goes wrong by the next step, by the filters that are set."""
+        """What goes wrong at the next step, for the filters that are set."""
         return [wrong for one in Filter if one in self._set for wrong in self._all[one] if wrong.step == position + 1]

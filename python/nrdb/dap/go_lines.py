@@ -21,7 +21,8 @@ FUNCTIONS = "functions"  # instead of a file
 
 
 class Hits:
-    """A breakpoint: its number, the positions at which it is reached, rising, and what is wanted of it."""
+    """A breakpoint: its number, the positions at which it is reached, rising, and its condition, hit count and
+    message."""
 
     def __init__(self, number: int, session: Session, reached: Sequence[int], wish: Wish):
         self.number = number
@@ -29,7 +30,7 @@ class Hits:
 
     @cached_property
     def positions(self) -> list[int]:
-        """The positions that it stops at, rising."""
+        """The positions at which it stops, rising."""
         return self._wish.stops(self._session, self._reached)
 
 
@@ -42,7 +43,7 @@ class GoLines:
         self._given = FIRST
 
     def lines(self, path: str) -> dict[int, list[int]]:
-        """Of each line of a file the positions at which a goroutine comes there."""
+        """The positions at which a goroutine comes to each line of a file."""
         try:
             wanted = Path(path).resolve()
         except (OSError, RuntimeError, ValueError):  # (no path, or one in a circle)
@@ -50,7 +51,7 @@ class GoLines:
         return places_of(self._debuggee.recording).lines_of(lambda file: self._roots.is_at(file, wanted))
 
     def clear(self, path: str) -> None:
-        """Takes those of a file away."""
+        """Removes the breakpoints of a file."""
         self._of[path] = []
         self._logpoints.clear(path)
 
@@ -70,7 +71,7 @@ class GoLines:
             return refused(str(why))
 
     def set_function(self, name: str, wish: "Wish | Unset") -> Optional[Body]:
-        """Sets one at a function; None if no step comes from a function of that name."""
+        """Sets a breakpoint at a function; None if no step comes from a function of that name."""
         place = places_of(self._debuggee.recording).place(name)
         return self._set(FUNCTIONS, place.positions, wish) if place else None
 
@@ -84,17 +85,17 @@ class GoLines:
         return {"id": self._given, "verified": True}
 
     def nearest(self, position: int, forwards: bool) -> Optional[int]:
-        """The nearest position that way at which to stop."""
+        """The nearest position in that direction at which to stop."""
         found = [near(hits.positions, position, forwards) for many in self._of.values() for hits in many]
         return (min if forwards else max)((one for one in found if one is not None), default=None)
 
     def at(self, position: int) -> Sequence[int]:
-        """The numbers of those that stop at a position."""
+        """The numbers of the breakpoints that stop at a position."""
         every = [hits for many in self._of.values() for hits in many]
         return [one.number for one in every if is_in(one.positions, position)]
 
 
 def near(rising: Sequence[int], position: int, forwards: bool) -> Optional[int]:
-    """The nearest of these positions that way."""
+    """The nearest of these positions in that direction."""
     at = bisect_right(rising, position) if forwards else bisect_left(rising, position) - 1
     return rising[at] if 0 <= at < len(rising) else None

@@ -11,13 +11,13 @@ from .admission import Stranger, is_let_in
 from .capabilities import CAPABILITIES
 from .messages import Malformed, Request, Unanswerable, Wire
 
-IN_TIME = 10.0  # seconds in which an editor at the port has to be launched
-MOST = 64  # connections that may be without the token at once: for one more the oldest is ended
-MOST_BYTES = 65_536  # that a connection may send before it has named the token
+IN_TIME = 10.0  # seconds within which an editor at the port has to send a launch
+MOST = 64  # connections without the token that may exist at once: one more ends the oldest
+MOST_BYTES = 65_536  # bytes that a connection may send before it has named the token
 
 
 class Connection:
-    """A connection, and what its editor has asked for so far."""
+    """A connection, and the requests of its editor so far."""
 
     def __init__(self, connected: socket.socket, token: str):
         self._connected, self._token, self._opened = connected, token, ExitStack()
@@ -31,7 +31,8 @@ class Connection:
         self.launch: Optional[Request] = None
 
     def admitted(self) -> bool:
-        """Answers what anybody is answered, until the launch with the token came; False if the connection ends before."""
+        """Answers the requests that need no token, until a launch with the token came; False if the connection ends
+        before."""
         while (request := self.wire.request()) is not None:
             try:
                 if is_let_in(request, self._token):
@@ -77,7 +78,7 @@ class Handshakes:
         while True:
             try:
                 connected, _ = self._listening.accept()
-            except OSError:  # it was reset, or nothing is listened for any more
+            except OSError:  # the connection was reset, or the port was closed
                 if self._listening.fileno() < 0:
                     return
                 continue
@@ -99,7 +100,9 @@ class Handshakes:
     def _shake(self, connection: Connection) -> None:
         """Begins a connection, in a thread of its own."""
         is_admitted = False
-        with suppress(Malformed, OSError, ValueError):  # (the other end has gone, or what it sent is no message)
+        with suppress(
+            Malformed, OSError, ValueError
+        ):  # (the other end has gone, or sent something that isn't a message)
             is_admitted = connection.admitted()
         is_admitted = self._ended(connection) and is_admitted
         if is_admitted:
@@ -108,7 +111,7 @@ class Handshakes:
             connection.close()
 
     def _ended(self, connection: Connection) -> bool:
-        """Whether a connection's beginning hadn't been ended before."""
+        """Marks a connection's handshake as ended; whether it wasn't before."""
         with self._lock:
             late = self._begun.pop(connection, None)
         if late:

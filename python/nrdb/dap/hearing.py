@@ -1,5 +1,5 @@
-"""Hears an editor while a request is worked on. A thread reads the messages, so `pause`, `cancel` and an end are heard
-at once: they stop the work, which goes on in the main thread, by a signal to it."""
+"""Reads an editor's messages while a request is worked on. A thread reads them, so `pause`, `cancel` and a
+disconnect take effect at once: they stop the work, which runs in the main thread, by a signal."""
 
 import signal
 import threading
@@ -13,11 +13,11 @@ from .messages import Malformed, Request, Wire
 
 ENDING = ("disconnect", "terminate")
 CANCEL, PAUSE = "cancel", "pause"
-# What a pause stops: moves, and what was typed in the console.
+# What a pause stops: moves, and lines typed in the console.
 MOVES = ("continue", "reverseContinue", "next", "stepIn", "stepBack", "stepOut", "goto", "restart", "configurationDone")
 PAUSED = (*MOVES, "evaluate")
 SIGNAL = signal.SIGUSR1
-MOST_HELD = 2**22  # bytes of requests that wait for their turn: a sender of more is read on when there are fewer
+MOST_HELD = 2**22  # bytes of requests that may wait: beyond that, reading pauses
 
 
 class Source(Protocol):
@@ -28,17 +28,17 @@ class Source(Protocol):
 
     @contextmanager
     def work(self, request: Request, interrupts: Interrupts) -> Iterator[None]:
-        """Within, this request is worked on."""
+        """Context in which this request is worked on."""
 
     def ends(self, request: Request) -> bool:
-        """Whether a request isn't to be begun, since the editor ends the session, or has cancelled it."""
+        """Whether a request must not be started, because the editor ends the session or has cancelled it."""
 
     def close(self) -> None:
-        """No more requests are asked for."""
+        """No more requests are needed."""
 
 
 class Reading:
-    """Requests are read one by one, each when the one before is answered: nothing is heard between."""
+    """Reads a request when the one before is answered, and nothing in between."""
 
     def __init__(self, wire: Wire):
         self.request = wire.request
@@ -55,13 +55,13 @@ class Reading:
 
 
 class Hearing:
-    """Requests are read by a thread. All but that belongs to the main thread."""
+    """Reads requests in a thread. Everything else here runs in the main thread."""
 
     def __init__(self, wire: Wire):
         self._wire = wire
         self._came: "SimpleQueue[tuple[Request | Exception | None, int]]" = SimpleQueue()
         self._room, self._held, self._is_over = Condition(), 0, False
-        self._urgent: list[Request] = []  # those that were heard, and whose turn hasn't come yet
+        self._urgent: list[Request] = []  # requests that arrived and wait for their turn
         self._at_work: Optional[Request] = None
         self._interrupts = Interrupts()
         self._is_told = False
@@ -81,8 +81,8 @@ class Hearing:
 
     @contextmanager
     def work(self, request: Request, interrupts: Interrupts) -> Iterator[None]:
-        """Within, this request is worked on, and what is heard stops it by these interrupts: a pause and a cancel as Ctrl-C does, an end
-        by giving the session up."""
+        """Context in which this request is worked on. A message may stop it through these interrupts: a pause and a
+        cancel act as Ctrl-C, a disconnect gives the session up."""
         interrupts.clear()
         self._interrupts, self._is_told = interrupts, False
         try:
@@ -102,7 +102,8 @@ class Hearing:
             self._room.notify()
 
     def _look(self) -> None:
-        """Stops the work if a message was heard that does so. The signal calls it too, at any point of the work."""
+        """Stops the work if a message that does so has arrived. The signal handler calls it too, at any point of
+        the work."""
         request = self._at_work
         if request is None or request.command in ENDING:
             return
@@ -115,7 +116,7 @@ class Hearing:
             self._interrupts.came()
 
     def _read(self) -> None:
-        """Reads, in the thread, until the editor has gone or says that it goes."""
+        """Reads, in the thread, until the editor has gone or disconnects."""
         came: Request | Exception | None
         while not self._is_over:
             before = self._wire.received
@@ -130,8 +131,8 @@ class Hearing:
                 return
 
     def _hand_on(self, came: Request | Exception | None, size: int) -> None:
-        """Passes on a message of this many bytes when there is room for it; and tells the main thread at once if it is
-        urgent."""
+        """Passes on a message of this many bytes when the queue has room, and signals the main thread at once if it
+        is urgent."""
         is_urgent = isinstance(came, Request) and came.command in (*ENDING, CANCEL, PAUSE)
         if isinstance(came, Request) and is_urgent:
             self._urgent.append(came)
@@ -144,12 +145,12 @@ class Hearing:
 
 
 def stops(request: Request, heard: Request) -> bool:
-    """Whether what was heard stops the work on a request."""
+    """Whether an arrived message stops the work on a request."""
     return (heard.command == PAUSE and request.command in PAUSED) or is_cancelled_by(request, heard)
 
 
 def is_cancelled_by(request: Request, heard: Request) -> bool:
-    """Whether what was heard cancels a request, by its number or by its progress."""
+    """Whether an arrived message cancels a request, by its number or by its progress."""
     if heard.command != CANCEL:
         return False
     named = heard.arguments.get("requestId"), heard.arguments.get("progressId")

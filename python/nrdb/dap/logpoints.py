@@ -8,11 +8,11 @@ from .messages import Body
 from .wishes import HERE, IN_BRACES, Wish
 
 FIRST = 2_000_000  # the numbers of such breakpoints, above those of all others
-MOST = 1_000  # messages that a move tells
+MOST = 1_000  # messages that a move prints
 
 
 class LogPoint(NamedTuple):
-    """A breakpoint that tells: its message, and the positions at which it does, rising."""
+    """A breakpoint with a message: the message, and the positions at which it is printed, rising."""
 
     message: str
     positions: list[int]
@@ -27,11 +27,11 @@ class LogPoints:
         self._given = FIRST
 
     def clear(self, path: str) -> None:
-        """Takes those of a file away."""
+        """Removes the log messages of a file."""
         self._of[path] = []
 
     def set(self, path: str, positions: Sequence[int], wish: Wish) -> Body:
-        """Sets one that is reached at these positions; returns the protocol's object for it."""
+        """Sets a log message that is reached at these positions; returns the protocol's object for it."""
         self._given += 1
         self._of.setdefault(path, []).append(LogPoint(wish.message, wish.stops(self._session, positions)))
         return {"id": self._given, "verified": True}
@@ -48,7 +48,7 @@ class LogPoints:
             yield f"and {len(hits) - MOST} messages more"
 
     def _filled(self, message: str, position: int) -> str:
-        """A message with the values of what it names in braces."""
+        """A message with values in place of the names in braces."""
         return IN_BRACES.sub(lambda found: self._value(found[1].strip(), position), message)
 
     def _value(self, named: str, position: int) -> str:

@@ -22,8 +22,8 @@ from .messages import Body, Unanswerable
 from .roots import Roots
 
 NETWORK = 65_536  # the thread's number; a goroutine's is at most 4,096
-GOIDS = 10**6  # the numbers of threads above it are of goroutines without steps, by Go's own numbers
-IN_QUEUES = ("acquiring", "queued", "relock", "owing")  # whose number is a socket's
+GOIDS = 10**6  # thread numbers above this one are of goroutines without steps, by Go's own numbers
+IN_QUEUES = ("acquiring", "queued", "relock", "owing")  # cells whose number is a socket's
 
 
 def thread_of(maker: Maker) -> int:
@@ -52,13 +52,13 @@ class Frame:
 
 @dataclass(frozen=True)
 class Cells:
-    """Cells of one thing: the whole machine, a goroutine, a socket or a descriptor."""
+    """Cells of one object: the whole machine, a goroutine, a socket or a descriptor."""
 
     of: Of
     number: int = 0
 
     def names(self) -> list[str]:
-        """The cells, as commands spell them."""
+        """The cells in the spelling of commands."""
         return [
             cell.name if self.of is Of.ALL else f"{cell.name} {self.number}"
             for cell in CELLS.values()
@@ -72,7 +72,7 @@ class Cells:
 
 @dataclass(frozen=True)
 class Every:
-    """All things of a sort."""
+    """All objects of a sort."""
 
     of: Of
 
@@ -81,13 +81,13 @@ Thing = Frame | Cells | Every
 
 
 def place_words(stack: Optional[Stack]) -> str:
-    """The program's place in a stack, as text."""
+    """The place of a stack in the program, as text."""
     own = stack.own() if stack else None
     return f" in {plain(own[0].function)} at {plain(own[0].place())}" if own else ""
 
 
 class Handles:
-    """Numbers for what the editor may ask about. They hold until the next move, and are never given again."""
+    """Numbers by which the editor names objects. They are valid until the next move, and never reused."""
 
     def __init__(self) -> None:
         self._things: dict[int, Thing] = {}
@@ -99,7 +99,7 @@ class Handles:
         return self._given
 
     def take(self, number: int) -> Thing:
-        """The thing with this number; Unanswerable if the number is from before a move."""
+        """The object with this number; Unanswerable if the number is from before a move."""
         if number not in self._things:
             raise Unanswerable(texts.OTHER_POSITION)
         return self._things[number]
@@ -121,8 +121,8 @@ class Looks:
         return self._debuggee.session.world()
 
     def threads(self) -> list[Body]:
-        """The goroutines that aren't gone, with what each does and the function and the line of the program that it is at, where these are known;
-        those without steps that wait; and the network with the clock."""
+        """The goroutines that aren't gone, each with what it does and its function and line of the program, if
+        known; waiting goroutines without steps; and the network with the clock."""
         world, recording = self._world, self._debuggee.recording
         statuses = world.of_each(range(world.made(Of.GOROUTINE)), "gor")
         there = [goroutine for goroutine, (status,) in statuses.items() if status != "gone"]
@@ -141,7 +141,7 @@ class Looks:
         return [*threads, {"id": NETWORK, "name": "network and clock"}]
 
     def _stacks(self, goroutines: Sequence[int]) -> dict[int, Stack]:
-        """Of each goroutine the stack of its last step."""
+        """The stack of each goroutine's last step."""
         recording = self._debuggee.recording
         steps = last_steps(recording, self._debuggee.position, goroutines)
         return {one: recording.lines.of(step) for one, step in steps.items()}
@@ -186,7 +186,7 @@ class Looks:
         return [*calls[own:], *others, *calls[:own]]
 
     def _step_frame(self, frame: Frame, is_next: bool) -> Body:
-        """The frame of a step, in the recording's text."""
+        """The frame of a step: its line in the recording."""
         step = self._debuggee.step(frame.step)
         line = step.line if step else self._debuggee.recording.header_line
         name = "no step yet" if step is None else f"{'about to' if is_next else 'last'}: {plain(str(step))}"
@@ -194,7 +194,7 @@ class Looks:
         return {"id": self.handles.give(frame), "name": name, "line": line, "column": 1, "source": source}
 
     def _call_frame(self, frame: Frame, call: Call) -> Body:
-        """The frame of a call of the program's, of a library's or of Go's."""
+        """The frame of a call in the program, a library or Go."""
         path = self._roots.path_of(call.file)
         where = {"path": str(path)} if path else {"origin": plain(call.file)}
         where |= {} if call.of == OF_THE_PROGRAM else {"presentationHint": "deemphasize"}
@@ -211,7 +211,7 @@ class Looks:
         return {"id": self.handles.give(frame), "name": words, "presentationHint": "label", "line": 0, "column": 0}
 
     def scopes(self, frame: int) -> list[Body]:
-        """What a frame has to do with, the machine, and all there is."""
+        """The scopes of a frame: its own objects, the machine, and everything."""
         thing = self.handles.take(frame)
         if not isinstance(thing, Frame):
             raise Unanswerable(texts.NOT_A_FRAME)
@@ -244,7 +244,7 @@ class Looks:
         return [Cells(of, number) for of, number in named if number is not None]
 
     def variables(self, reference: int) -> list[Body]:
-        """The variables of a scope, or of one of them."""
+        """The variables of a scope, or of a variable in it."""
         thing = self.handles.take(reference)
         if isinstance(thing, Cells):
             return self.cells(thing.names())
@@ -253,7 +253,7 @@ class Looks:
         raise Unanswerable(texts.NO_VARIABLE.format(reference=reference))
 
     def _every(self, of: Of) -> list[Body]:
-        """All things of a sort, each with its cells below it; goroutines have one cell."""
+        """All objects of a sort, each with its cells below it; goroutines have one cell."""
         world = self._world
         if of is Of.GOROUTINE:
             return self.cells([f"gor {number}" for number in range(world.made(of))])
@@ -272,7 +272,7 @@ class Looks:
         ]
 
     def cells(self, names: Sequence[str]) -> list[Body]:
-        """Cells with their values, and what these say in words."""
+        """Cells with their values and the meanings of these."""
         values = self._world.values(names)
         return [
             {"name": cell, "value": self._with_words(cell, value), "evaluateName": cell, "variablesReference": 0}
@@ -290,7 +290,7 @@ class Looks:
         return None if cell is None else str(self.cells([cell])[0]["value"])
 
     def meaning(self, text: str) -> Optional[str]:
-        """What a word of the recording means, as under the pointer: a cell's value, or a kind of step."""
+        """The meaning of a word of the recording under the mouse pointer: a cell's value, or a kind of step."""
         word = text.strip().strip('"')
         if word in KINDS:
             return f"{KINDS[word].usage}: {KINDS[word].says}"

@@ -14,7 +14,7 @@ def threads(target: Target, _: Numbering, __: Request) -> Body:
 
 
 def stack(target: Target, numbering: Numbering, request: Request) -> Body:
-    """The stack of one, or a part of it."""
+    """The stack of a thread, or a part of it."""
     frames = target.looks.frames_of(request.whole_number("threadId"))
     shown = page(request, frames, "startFrame", "levels")
     placed = [frame | ({"line": numbering.to(frame["line"])} if frame["line"] else {}) for frame in shown]
@@ -22,7 +22,7 @@ def stack(target: Target, numbering: Numbering, request: Request) -> Body:
 
 
 def scopes(target: Target, _: Numbering, request: Request) -> Body:
-    """What a frame has to do with."""
+    """The scopes of a frame."""
     return {"scopes": target.looks.scopes(request.whole_number("frameId"))}
 
 
@@ -41,7 +41,7 @@ def page(request: Request, rows: list[Body], first: str, count: str) -> list[Bod
 
 
 def value(target: Target, text: str, context: object) -> Body:
-    """The value of a cell; under the pointer the meaning of a kind of step too."""
+    """The value of a cell; under the mouse pointer also the meaning of a kind of step."""
     shown = (target.looks.meaning if context == "hover" else target.looks.value)(text)
     if shown is None:
         raise Unanswerable(texts.NOT_A_VALUE.format(text=text))
@@ -55,7 +55,7 @@ def read_memory(target: Target, _: Numbering, request: Request) -> Body:
 
 
 def completions(target: Target, numbering: Numbering, request: Request) -> Body:
-    """What a word in the console can be completed to."""
+    """The completions of a word in the console."""
     text, column = request.text("text"), request.whole_number("column")
     typed = text[: max(column - numbering.first, 0)]
     *before, last = typed.split(" ")
@@ -66,5 +66,5 @@ def completions(target: Target, numbering: Numbering, request: Request) -> Body:
 
 
 def refuse_change(_: Target, __: Numbering, ___: Request) -> Body:
-    """No value is set."""
+    """Refuses to set a value."""
     raise Unanswerable(texts.READ_ONLY)

@@ -1,4 +1,4 @@
-"""The breakpoints of an editor: marks of netrev's, by what they are wanted for, with conditions that nrdb holds them to."""
+"""The breakpoints of an editor as marks of netrev, with conditions that nrdb checks."""
 
 from enum import Enum
 from typing import Sequence
@@ -11,7 +11,7 @@ from .wishes import Unset, Wish, is_in, positions_of, refused
 
 
 class Sort(Enum):
-    """The sorts of breakpoints, by the reasons for which the protocol has an editor stopped."""
+    """The sorts of breakpoints, by the protocol's names for the reason of a stop."""
 
     LINE = "breakpoint"
     FUNCTION = "function breakpoint"
@@ -19,13 +19,13 @@ class Sort(Enum):
 
 
 class Marks:
-    """The marks of the editor's breakpoints. Marks that were typed in the console aren't changed."""
+    """The marks of the editor's breakpoints. Marks that were typed in the console stay as they are."""
 
     def __init__(self, session: Session):
         self._session = session
         self._numbers: dict[tuple[Sort, str], str] = {}
         self._wishes: dict[tuple[Sort, str], list[Wish]] = {}
-        self._counted: dict[Wish, list[int]] = {}  # where those stop whose times are counted
+        self._counted: dict[Wish, list[int]] = {}  # the positions at which breakpoints with a hit count stop
 
     def replace(self, sort: Sort, wishes: Sequence["Wish | Unset"]) -> list[Body]:
         """Replaces the breakpoints of a kind; the protocol's answer for each, in their order."""
@@ -39,7 +39,7 @@ class Marks:
         return [self._set(sort, wish) for wish in wishes]
 
     def _set(self, sort: Sort, wish: "Wish | Unset") -> Body:
-        """Sets one; returns the protocol's object for it."""
+        """Sets a breakpoint; returns the protocol's object for it."""
         try:
             if isinstance(wish, Unset):
                 raise wish
@@ -60,9 +60,9 @@ class Marks:
         return self._numbers[sort, wish.what]
 
     def holding(self, numbers: Sequence[str]) -> list[str]:
-        """Those of the marks that hit here whose conditions hold, or which have none."""
+        """Those of the marks that hit here which have no condition, or one that holds."""
         marks = {number: mark for mark, number in self._numbers.items()}
-        met = self._session.holding(numbers)  # by conditions that were typed in the console
+        met = self._session.holding(numbers)  # conditions that were typed in the console
         return [number for number in met if number not in marks or self._holds(marks[number])]
 
     def _holds(self, mark: tuple[Sort, str]) -> bool:
@@ -77,6 +77,6 @@ class Marks:
         return is_in(self._counted[wish], self._session.stands().position)
 
     def reason(self, number: str) -> str:
-        """For what reason an editor is stopped by a mark."""
+        """The protocol's reason for a stop at a mark."""
         sorts = {number: sort for (sort, _), number in self._numbers.items()}
         return sorts.get(number, Sort.LINE).value

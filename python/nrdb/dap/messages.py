@@ -7,9 +7,9 @@ from typing import Any, BinaryIO, Optional
 
 from ..messages import editors as texts
 
-LONGEST = 16 * 2**20  # bytes of a message
+LONGEST = 16 * 2**20  # the most bytes of a message
 LONGEST_HEADER = 1_024
-HEADERS = (b"content-length", b"content-type")  # all that the protocol has
+HEADERS = (b"content-length", b"content-type")  # the header lines of the protocol
 
 Body = dict[str, Any]
 
@@ -23,7 +23,7 @@ class EditorGone(OSError):
 
 
 class Unanswerable(Exception):
-    """A request that can't be done: why, as the editor shows it."""
+    """A request that can't be answered, with the reason that the editor shows."""
 
 
 @dataclass(frozen=True)
@@ -35,14 +35,14 @@ class Request:
     arguments: Body = field(default_factory=dict)
 
     def text(self, name: str) -> str:
-        """The argument of that name, which has to be a text."""
+        """The argument of that name, which must be a string."""
         value = self.arguments.get(name)
         if not isinstance(value, str):
             raise Unanswerable(texts.STRING.format(command=self.command, name=name))
         return value
 
     def whole_number(self, name: str) -> int:
-        """The argument of that name, which has to be a whole number."""
+        """The argument of that name, which must be a whole number."""
         value = self.arguments.get(name)
         if not isinstance(value, int) or isinstance(value, bool):
             raise Unanswerable(texts.INTEGER.format(command=self.command, name=name))
@@ -61,10 +61,10 @@ class Wire:
 
     def __init__(self, reader: BinaryIO, writer: BinaryIO, most: Optional[int] = None):
         self._reader, self._writer = reader, writer
-        self.most = most  # bytes that may come in all, headers too
+        self.most = most  # the most bytes that may come in all, headers included
         self._came = 0
         self._sent, self._lock = 0, Lock()
-        self.received = 0  # bytes of all messages that came
+        self.received = 0  # the bytes of all messages so far
 
     def request(self) -> Optional[Request]:
         """The next request; None if the editor has gone. Messages of other types are skipped."""
@@ -81,8 +81,8 @@ class Wire:
                 return _request(message)
 
     def _length(self) -> Optional[int]:
-        """The length in the header; None at the end of the input. Any other line than the protocol's ends it, because a browser
-        that posts for a web page begins with one."""
+        """The length in the header; None at the end of the input. Any line that isn't the protocol's ends it,
+        because a request of a browser for a web page begins with one."""
         found: dict[bytes, bytes] = {}
         while (line := self._reader.readline(LONGEST_HEADER)) not in (b"\r\n", b"\n"):
             if not line:
@@ -102,17 +102,17 @@ class Wire:
         return int(length)
 
     def respond(self, request: Request, body: Body) -> None:
-        """Says that a request was done."""
+        """Answers a request that was done."""
         self._send("response", request_seq=request.number, command=request.command, success=True, body=body)
 
     def refuse(self, request: Request, why: str) -> None:
-        """Says that a request wasn't done, and why."""
+        """Answers a request that wasn't done, with the reason."""
         error = {"id": 1, "format": why.replace("{", "(").replace("}", ")"), "showUser": True}
         said = {"success": False, "message": why, "body": {"error": error}}
         self._send("response", request_seq=request.number, command=request.command, **said)
 
     def event(self, name: str, **body: Any) -> None:
-        """Tells that something happened."""
+        """Sends an event."""
         self._send("event", event=name, body=body)
 
     def _send(self, sort: str, **message: Any) -> None:
@@ -127,7 +127,7 @@ class Wire:
 
 
 def _object(data: bytes) -> Body:
-    """The JSON object that these bytes are."""
+    """The JSON object in these bytes."""
     try:
         message = json.loads(data)
     except (ValueError, RecursionError):

@@ -15,9 +15,9 @@ from .logpoints import LogPoints
 from .marks import Marks
 from .messages import Unanswerable
 
-PIECE = 100_000  # steps that netrev goes through at a stretch: between two it is looked whether a pause came
+PIECE = 100_000  # steps that netrev goes through at once; after each batch a pause is checked
 AT_THE_END = "the recording's end"
-MOST_STEPS = 20_000  # of a recording of which an editor gets the root
+MOST_STEPS = 20_000  # steps of the longest recording for which a stop at the end names what all goroutines wait for
 
 
 class Stop(NamedTuple):
@@ -37,8 +37,8 @@ def text_of(stop: Stop, recording: Recording) -> str:
 
 
 class Moves:
-    """Moves of a session. They pass marks whose conditions don't hold. A pause stops a move where netrev is. `tells` gets the
-    progress of a long move."""
+    """Moves of a session. They pass marks whose conditions don't hold. A pause stops a move where netrev is.
+    `tells` gets the progress of a long move."""
 
     def __init__(
         self,
@@ -54,14 +54,14 @@ class Moves:
         self.tells: Callable[[int, int], None] = lambda position, length: None
 
     def step(self, line: str) -> Stop:
-        """One step, either way: `stepi` or `reverse-stepi`."""
+        """One step in either direction: `stepi` or `reverse-stepi`."""
         self._face_forwards()
         reply = self._session.ask(line)
         move = move_of(line, reply)
         return self._arrived(line, reply, move, [], self._end_or("step", move))
 
     def goto(self, position: int, reason: str = "goto") -> Stop:
-        """To a position."""
+        """Goes to a position."""
         why = Stop(reason, AT_THE_END if position == self._debuggee.length else f"at {position}")
         if position == self._debuggee.position:
             return why
@@ -72,7 +72,7 @@ class Moves:
         return self._arrived(f"goto {position}", reply, move_of("goto", reply), [], why)
 
     def next_of(self, maker: Maker) -> Stop:
-        """To before the next step of a goroutine, or of the network, but the one that it is about to make."""
+        """Goes to before the next step of a goroutine, or of the network, after the one that it is about to make."""
         numbers = range(self._debuggee.position + 2, self._debuggee.length + 1)
         try:
             with self._interrupts.at_once():
@@ -94,7 +94,8 @@ class Moves:
         return self.run(True, goal.position)
 
     def run(self, forwards: bool, target: Optional[int] = None) -> Stop:
-        """That way to the nearest position at which a mark hits or a filter stops, or to the target; else to the end."""
+        """Goes to the nearest position in that direction at which a mark hits or a filter stops, or to the target;
+        else to the end."""
         begun = self._debuggee.position
         stood = self._session.netrev.marks()
         try:
@@ -120,8 +121,8 @@ class Moves:
                 return self._arrived(line, reply, move._replace(marks=tuple(hit)), stood, why)
 
     def _searched(self, line: str, forwards: bool, bound: Optional[int]) -> tuple[str, Move]:
-        """netrev's reply to a search, and the move. The search is made in pieces, each to a mark of its own, which no
-        move names; raises Interrupted if a pause comes between two."""
+        """netrev's reply to a search, and the move. The search is made in pieces, each up to a mark of its own,
+        which no reply names; raises Interrupted if a pause comes between two."""
         here = self._session.stands().position
         while True:
             self._interrupts.check()
@@ -132,7 +133,7 @@ class Moves:
             made = None if is_last else MARK.fullmatch(self._session.ask(f"tbreak @{edge + 1}"))
             reply = self._session.ask(line)
             move = move_of(line, reply)
-            if made is None:  # (or 64 marks stand)
+            if made is None:  # (or 64 marks exist)
                 return reply, move
             if made[1] not in move.marks:
                 self._session.ask(f"delete {made[1]}")
@@ -142,7 +143,7 @@ class Moves:
             self.tells(here, self._debuggee.length)
 
     def _go(self, position: int) -> str:
-        """netrev's reply to the move to a position, which is made in pieces too."""
+        """netrev's reply to the move to a position, also made in pieces."""
         here = self._session.stands().position
         while abs(position - here) > PIECE:
             self._interrupts.check()
@@ -153,7 +154,7 @@ class Moves:
         return self._session.go(position)
 
     def _paused(self, stood: Sequence[Listed]) -> Stop:
-        """Stopped since a pause came."""
+        """A stop because of a pause."""
         position = self._session.stands().position
         if position == self._debuggee.position:
             return Stop("pause", f"at {position}")
@@ -171,7 +172,7 @@ class Moves:
         return (min if forwards else max)(bounds, default=None)
 
     def _stop_at(self, bound: int, target: Optional[int]) -> Stop:
-        """Back to the position that the move went past."""
+        """Goes back to the position that the move went past."""
         reply = self._session.go(bound)
         move = move_of("goto", reply)
         return self._arrived(f"goto {bound}", reply, move, [], self._why([], move, target))
@@ -190,13 +191,13 @@ class Moves:
         return self._end_or("step", move)
 
     def _end_or(self, reason: str, move: Move) -> Stop:
-        """Stopped at an end of the recording, or for this reason."""
+        """A stop at an end of the recording, or for this reason."""
         if not move.is_end:
             return Stop(reason, f"at {move.position}")
         return Stop("pause", AT_THE_END if move.position else "the recording's start")
 
     def _face_forwards(self) -> None:
-        """The editor has names of its own for the two ways, whatever was typed in the console."""
+        """Sets the direction to forwards: the editor has its own names for both, whatever was typed in the console."""
         if self._session.stands().direction == "reverse":
             self._session.ask("set exec-direction forward")
 

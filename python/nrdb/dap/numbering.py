@@ -1,4 +1,4 @@
-"""Lines of a recording as the editor counts them: from 1, or from 0 if it says so."""
+"""Line numbers as the editor counts: from 1, or from 0 if it asks for that."""
 
 from typing import NamedTuple
 

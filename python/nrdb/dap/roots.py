@@ -1,4 +1,4 @@
-"""Finds the files that NAME.where names: in the folder of the program's source, and Go's own in that of Go."""
+"""Finds the files that NAME.where names: in the folder of the program's source, or in Go's for Go's own files."""
 
 import os
 from pathlib import Path
@@ -8,7 +8,7 @@ SOURCES_OF_GO = "src"  # in the folder of a release of Go
 
 
 class Roots(NamedTuple):
-    """The folder that the program's files are named from, and that of Go, if known."""
+    """The folder that the program's file names start from, and that of Go, if known."""
 
     program: Path
     go: Optional[Path] = None
@@ -18,7 +18,7 @@ class Roots(NamedTuple):
         return next((path for path in self._places(file) if os.path.isfile(path)), None)
 
     def is_at(self, file: str, wanted: Path) -> bool:
-        """Whether a file, as the recorder names it, is the one of this path, which leads there whole."""
+        """Whether a file that the recorder named is the one at this path."""
         if any(whole(path) == wanted for path in self._places(file)):
             return True
         return self.go is None and str(wanted).endswith(f"/{SOURCES_OF_GO}/{file}")

@@ -1,5 +1,5 @@
-"""Editors are served over the standard streams, or at a port of the loopback: one after the other, each from the launch on that names the
-token."""
+"""Serves editors over the standard streams, or at a port of the loopback, one after the other, each after a launch
+that names the token."""
 
 import os
 import socket
@@ -43,13 +43,13 @@ def serve_streams(program: str) -> int:
     """Serves an editor over standard input and output; the exit status."""
     reader = open(
         os.dup(sys.stdin.fileno()), "rb"
-    )  # (a thread may still read from it at the end, which sys.stdin's own doesn't bear)
+    )  # (a thread may still read from it at the end, which sys.stdin's own file doesn't allow)
     return serve(Wire(reader, sys.stdout.buffer), program)
 
 
 def serve_port(program: str, port: int) -> int:
-    """Serves editors at a port of the loopback, one after the other, until it is interrupted; the exit status. Port 0 is any
-    that is free; which one it is is printed, with the token that an editor has to name."""
+    """Serves editors at a port of the loopback, one after the other, until it is interrupted; the exit status. Port
+    0 is any free port. The port is printed, with the token that an editor has to name."""
     try:
         token = token_for_a_port()
     except NoToken as why:
@@ -73,7 +73,7 @@ def serve_port(program: str, port: int) -> int:
 
 
 def serve_connection(connection: Connection, program: str) -> None:
-    """Serves the editor of a connection, for as long as it is there."""
+    """Serves the editor of a connection until it disconnects."""
     begun = [request for request in (connection.initialize, connection.launch) if request]
     with suppress(OSError), closing(connection):
         serve(connection.wire, program, begun)

@@ -1,4 +1,4 @@
-"""What is debugged, with all that an editor has set and may ask."""
+"""The debugged recording with everything that an editor has set and may request."""
 
 from dataclasses import dataclass
 from pathlib import Path
@@ -20,15 +20,15 @@ from .roots import Roots
 
 SOURCES = ("recording", "go")
 AT_END, AT_START = "end", "start"
-PROPERTIES = ("program", "stopAt", "source", "sourceRoot", "goRoot", TOKEN)  # that a launch has
+PROPERTIES = ("program", "stopAt", "source", "sourceRoot", "goRoot", TOKEN)  # the arguments of a launch
 OF_ATTACH = ("program", "address", "source", "sourceRoot", "goRoot", TOKEN)
 
 
 @dataclass(frozen=True)
 class Launch:
-    """What a launch asks for: the recording, where to stop first, whether the program's lines are shown before the recording's,
-    and the folders of the program's source and of Go. An attach has the address of a session that is shared, too, and no place to
-    stop at."""
+    """The arguments of a launch: the recording, where to stop first, whether the program's lines are shown before
+    the recording's, and the folders of the program's source and of Go. An attach also has the address of a
+    shared session, and no place to stop at."""
 
     recording: str
     stop_at: Optional[int | str]
@@ -57,7 +57,8 @@ class Launch:
 
     @staticmethod
     def _shown(given: dict[str, Any]) -> tuple[bool, Optional[str], Optional[str]]:
-        """What launches and attaches both say: whether the program's lines come first, and the two folders."""
+        """The arguments that launches and attaches share: whether the program's lines come first, and the two
+        folders."""
         source = given.get("source", SOURCES[0])
         if source not in SOURCES:
             raise Unanswerable(texts.SOURCE)
@@ -82,7 +83,7 @@ def _text(given: dict[str, Any], name: str) -> Optional[str]:
 
 
 class Target:
-    """A debuggee, its marks, filters, moves and looks, and why it was stopped last."""
+    """A debuggee, its marks, filters, moves and looks, and the reason of the last stop."""
 
     def __init__(self, debuggee: Debuggee, launch: Launch, interrupts: Interrupts):
         self.debuggee = debuggee

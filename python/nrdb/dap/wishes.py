@@ -15,15 +15,15 @@ from .messages import Body
 
 HIT_COUNT = re.compile(r"(==?|>=?|<=?|%)?\s*(\d{1,9})")
 IN_BRACES = re.compile(r"\{([^{}]*)\}")
-HERE = "position"  # in braces, beside the cells
+HERE = "position"  # a name in braces, besides the cells
 
 
 class Unset(Exception):
-    """A breakpoint that can't be set: why."""
+    """A breakpoint that can't be set: the reason."""
 
 
 def condition_of(text: str) -> Condition:
-    """The condition that a text spells; Unset if it spells none."""
+    """The condition in a text; Unset if the text is none."""
     condition = Condition.of(text.split())
     if condition is None:
         raise Unset(texts.NOT_A_CONDITION.format(text=text))
@@ -31,14 +31,14 @@ def condition_of(text: str) -> Condition:
 
 
 class HitCount(NamedTuple):
-    """The times that a breakpoint stops of those that it is reached, counted from the recording's start."""
+    """Which of the times that a breakpoint is reached it stops, counted from the recording's start."""
 
     relation: str
     number: int
 
     @classmethod
     def of(cls, text: str) -> "HitCount":
-        """The times that a text spells: 3 or == 3, >= 3, < 3, and % 3 for each third."""
+        """The hit count in a text: 3 or == 3, >= 3, < 3, and % 3 for each third."""
         found = HIT_COUNT.fullmatch(text.strip())
         number = number_of(found[2]) if found else None
         if found is None or number is None or (found[1] == "%" and not number):
@@ -46,7 +46,7 @@ class HitCount(NamedTuple):
         return cls((found[1] or "=").replace("==", "="), number)
 
     def holds(self, count: int) -> bool:
-        """Whether it stops the time of that number, from 1."""
+        """Whether it stops at the Nth time, counted from 1."""
         number = self.number
         return {
             "=": count == number, ">": count > number, ">=": count >= number, "<": count < number, "<=": count <= number,
@@ -65,7 +65,7 @@ class Wish:
     message: str = ""
 
     def stops(self, session: Session, positions: Sequence[int]) -> list[int]:
-        """Those of the positions at which it is reached, rising, at which it stops, or tells its message."""
+        """The positions, of those at which it is reached, at which it stops or prints its message, rising."""
         condition, times = self.condition, self.times
         met = [one for one in positions if condition is None or session.holds(condition, one)]
         return [one for count, one in enumerate(met, 1) if times is None or times.holds(count)]
@@ -87,7 +87,7 @@ def is_in(rising: Sequence[int], position: int) -> bool:
 
 
 def wish_of(what: str, asked: Body) -> "Wish | Unset":
-    """The wish for a mark, with the condition, the times and the message that the editor names, if it names them."""
+    """The request for a mark, with the editor's condition, hit count and message, if given."""
     condition, times, message = (_text_of(asked, name) for name in ("condition", "hitCondition", "logMessage"))
     try:
         for named in IN_BRACES.findall(message):
@@ -107,7 +107,7 @@ def _text_of(asked: Body, name: str) -> str:
 
 
 def kind_wish(asked: Body) -> "Wish | Unset":
-    """The wish for a breakpoint at each step of a kind."""
+    """The request for a breakpoint at each step of a kind."""
     name = asked.get("name")
     if isinstance(name, str) and name in KINDS:
         return wish_of(name, asked)
@@ -115,7 +115,7 @@ def kind_wish(asked: Body) -> "Wish | Unset":
 
 
 def cell_wish(asked: Body) -> "Wish | Unset":
-    """The wish for a breakpoint at each change of a cell."""
+    """The request for a breakpoint at each change of a cell."""
     identity = asked.get("dataId")
     cell = cell_of(str(identity).split())
     return wish_of(cell, asked) if cell else Unset(texts.NOT_A_CELL.format(name=identity))

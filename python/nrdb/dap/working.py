@@ -8,8 +8,8 @@ from ..messages import editors as texts
 from .hearing import MOVES, progress_of
 from .messages import Body, Request, Wire
 
-LATE = 0.3  # seconds after which a request takes long
-AGAIN = 0.5  # seconds between two words of how far it is
+LATE = 0.3  # seconds after which a request counts as long
+AGAIN = 0.5  # seconds between two progress reports
 TITLES = {"launch": texts.READING, "attach": texts.JOINING, "evaluate": "nrdb answers"}
 
 
@@ -25,7 +25,7 @@ class Work:
         Thread(target=self._tell, daemon=True).start()
 
     def tells(self, position: int, length: int) -> None:
-        """The work has come so far. This only remembers it: it may be stopped anywhere."""
+        """Records the progress of the work, and does nothing else, because it may be stopped anywhere."""
         self._position, self._length = position, length
 
     def responds(self, body: Body) -> None:
@@ -49,7 +49,7 @@ class Work:
             return self._is_answered
 
     def _tell(self) -> None:
-        """Tells the editor, in the thread, that the work takes long, and how far it is."""
+        """Reports to the editor, in the thread, that the work takes long, and its progress."""
         if self._done.wait(LATE):
             return
         with self._lock, suppress(OSError, ValueError):  # (the editor has gone; the reading thread finds that out)
@@ -78,5 +78,5 @@ class Work:
 
 
 def body_of_move(command: str) -> Body:
-    """What a move is answered."""
+    """The body of the response to a move."""
     return {"allThreadsContinued": True} if command == "continue" else {}

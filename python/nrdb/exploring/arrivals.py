@@ -1,5 +1,6 @@
-"""The times at which bytes came and went. A recorder of Go doesn't see them, and writes them just before the read or write that
-shows them, although the event that reported them came earlier. So in other schedules such bytes come with that event."""
+"""The times at which bytes came and went. A recorder of Go doesn't see them, and writes them just before the read
+or write that shows them, although the event that reported them came earlier. So in other schedules such bytes
+come with that event."""
 
 from dataclasses import replace
 from typing import NamedTuple, Optional
@@ -15,14 +16,14 @@ JUST_BEFORE = 0.4
 
 
 class Tries(NamedTuple):
-    """The tries of a socket's side, and those that found nothing, which the opening is too: numbers that rise."""
+    """The tries of a socket's side, and those that found nothing, including the opening: rising numbers."""
 
     all: list[int]
     in_vain: list[int]
 
 
 def with_events(script: Script) -> Script:
-    """The script, in which bytes that no later event reports come with the event before them."""
+    """The script, with bytes moved to the event before them if no later event reports them."""
     tries = _tries(script)
     network = {}
     for s, row in script.network.items():
@@ -53,7 +54,7 @@ def _note(script: Script, operation: Operation, found: dict[tuple[int, str], Tri
 
 
 def _due(item: Item, told: list[Event], tries: Optional[Tries]) -> float:
-    """When it is due: just before the first event since the last try in vain, if a try comes before the next event."""
+    """The due time: just before the first event since the last failed try, if a try comes before the next event."""
     if tries is None:
         return item.due
     number, side = item.event.number, SIDE_OF[item.event.kind]

@@ -1,5 +1,5 @@
-"""The machine's state while a schedule is played, and what steps have made of it. A step that finds all that it looks at as it was
-in the recorded run, or in a schedule before, makes the same of it again: so the model is asked for those alone that are new."""
+"""The machine's state during a schedule, with a cache of the effects of steps. A step that reads the same values as
+in the recorded run, or in an earlier schedule, has the same effect, so only new steps are given to the model."""
 
 from typing import Any, NamedTuple, Optional
 
@@ -9,15 +9,15 @@ from netrev_words.recording import Limits, Step
 
 from .runs import Made
 
-Looked = tuple[Any, ...]  # a step, and all that it looks at
+Looked = tuple[Any, ...]  # a step, and all values that it reads
 MOST_KEPT = 20_000
 
-# the place at which a kind of step names a goroutine, a socket or a descriptor; OWN: the goroutine's status does
+# the argument by which a kind of step names a goroutine, a socket or a descriptor; OWN: the goroutine's status names it
 OWN, NONE = 0, -1
 SOCKETS = ("sysread", "syswrite", "closewrite", "incref", "increfclose", "decref", "rwlock", "rwunlock")
 DESCRIPTORS = ("pollreset", "waitbegin", "setdeadline", "evict")
 WAITS = ("blockarm", "blockcheck", "parkcommit", "blockswap", "waitcheck")
-# what a step of each kind looks at: the places of goroutine, socket and descriptor
+# what a step of each kind reads: the arguments with goroutine, socket and descriptor
 LOOKS: dict[str, tuple[int, int, int]] = {
     "exit": (1, NONE, NONE),
     **{kind: (1, 2, NONE) for kind in SOCKETS},
@@ -27,14 +27,14 @@ LOOKS: dict[str, tuple[int, int, int]] = {
     **{kind: (NONE, 1, NONE) for kind in ("arrive", "peerclose", "drain")},
     "pollevent": (NONE, NONE, 1),
 }
-ALONE = ("pollreset", "waitbegin")  # which may find no goroutine inside the wait
-TIMED = ("setdeadline", "evict")  # which look at the clock and at timers
-OF_TIMERS = {"next_number", "timers"}  # what those may make anew
+ALONE = ("pollreset", "waitbegin")  # kinds that may find no goroutine inside the wait
+TIMED = ("setdeadline", "evict")  # kinds that read the clock and timers
+OF_TIMERS = {"next_number", "timers"}  # the objects that those may create
 
 
 class Effect(NamedTuple):
-    """A step that was made: what it looked at, what it put at places of goroutines, sockets and descriptors, what it made of the timers,
-    and how many more are parked."""
+    """The effect of a step: the values that it read, the values that it gave goroutines, sockets and descriptors,
+    its changes of the timers, and by how much the number of parked goroutines changed."""
 
     looked: Looked
     made: Made
@@ -44,15 +44,15 @@ class Effect(NamedTuple):
 
 
 class Board(Machine):
-    """The state. It is changed in place, and reads as a World does."""
+    """The state. It is changed in place, and has the attributes of a World."""
 
     __slots__ = ("is_recorded", "recorded", "further")
 
     def __init__(self, limits: Limits, is_recorded: bool) -> None:
         super().__init__(limits)
-        self.is_recorded = is_recorded  # whether it is the recorded run that is played: what its steps make is kept
-        self.recorded: dict[int, Effect] = {}  # of the recorded run's steps, by their numbers
-        self.further: dict[Looked, Effect] = {}  # of others, by what they look at
+        self.is_recorded = is_recorded  # whether this is the recorded run, whose effects are cached by number
+        self.recorded: dict[int, Effect] = {}  # effects of the recorded run's steps, by their numbers
+        self.further: dict[Looked, Effect] = {}  # effects of other steps, by the values that they read
 
     def copy(self) -> "Board":
         made = super().copy()
@@ -64,7 +64,7 @@ class Board(Machine):
         return all(getattr(self, name) == getattr(other, name) for name in STATE)
 
     def make(self, step: Step, number: int) -> Made:
-        """Makes a step, which has that number in the recording or else 0."""
+        """Makes a step, whose number in the recording is given, or 0."""
         looked, effect = self._looked(step), self.recorded.get(number)
         if looked is None:
             return Made(step, self.step(step), number)
@@ -76,7 +76,7 @@ class Board(Machine):
         return effect.made if effect.made.number == number else Made(step, effect.made.answer, number)
 
     def _for_the_first_time(self, step: Step, number: int, looked: Looked) -> Made:
-        """Makes a step that is new here."""
+        """Makes a step whose effect isn't cached."""
         before = self.waiters
         made = Made(step, self.step(step), number)
         effect = self._effect(looked, made, before)
@@ -87,7 +87,7 @@ class Board(Machine):
         return made
 
     def _looked(self, step: Step) -> Optional[Looked]:
-        """Everything that a step reads; None if it reads more than is kept here."""
+        """All values that a step reads; None if it reads something that the cache doesn't cover."""
         looks = LOOKS.get(step[0])
         if looks is None:
             return None
@@ -106,7 +106,8 @@ class Board(Machine):
         return step, status, self.descs[d]
 
     def _effect(self, looked: Looked, made: Made, waiters: int) -> Optional[Effect]:
-        """What the last step read and changed; None if it changed something that isn't kept, or that it didn't read."""
+        """What the last step read and changed; None if it changed something that the cache doesn't cover, or that
+        it didn't read."""
         changed = {(of, place): old for of, place, old in reversed(self.changes)}
         wholes = {of for of, place in changed if place == WHOLE} - {"waiters"}
         if None in changed.values() or not wholes <= (OF_TIMERS if made.step[0] in TIMED else set()):
@@ -124,6 +125,6 @@ class Board(Machine):
 
 
 def _named(step: Step, at: int, status: Optional[Status]) -> int:
-    """What a step names at a place, or its goroutine's status."""
+    """The number that a step has as an argument, or its goroutine's status."""
     named: Any = step[at] if at != OWN else status[1] if status else -1
     return int(named)

@@ -46,8 +46,8 @@ class Explored(NamedTuple):
 
 
 def explored(session: Session, most: int = MOST, is_of_failures: bool = False) -> Explored:
-    """Plays schedules near the recorded one, and writes those that end with a suspect, or else those in which a call fails that went
-    well."""
+    """Runs schedules near the recorded one, and writes those that end with a suspect, or else those in which a call
+    fails that succeeded."""
     recording = session.text()
     if recording.length > MOST_STEPS:
         raise Misused(messages.TOO_LONG.format(most=MOST_STEPS))
@@ -76,7 +76,7 @@ def explored(session: Session, most: int = MOST, is_of_failures: bool = False) -
 
 
 class Progress:
-    """A line on a terminal that says how far it is."""
+    """A line on a terminal with the progress."""
 
     def __init__(self, exploring: Exploring, most: int, check: Callable[[], None]) -> None:
         self.exploring, self.most, self.check = exploring, most, check
@@ -97,13 +97,13 @@ class Progress:
         self._width = len(text)
 
     def end(self) -> None:
-        """Takes the line away."""
+        """Removes the line."""
         if self._width:
             self._show("")
 
 
 class Keeping:
-    """Writes the recordings of what was found into the folder where nrdb runs, and tells of each."""
+    """Writes the recordings of findings into the current folder, and reports each."""
 
     def __init__(self, session: Session, telling: Telling) -> None:
         self.session, self.telling = session, telling

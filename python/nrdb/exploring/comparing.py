@@ -10,18 +10,18 @@ from .control import Numbers
 
 
 class Numbered(NamedTuple):
-    """A state, and the numbers in it."""
+    """A state, with the numbers of its objects."""
 
     board: Board
     numbers: Numbers
 
     def are_the_same(self, other: "Numbered") -> bool:
-        """Whether all has the same numbers."""
+        """Whether all objects have the same numbers."""
         mine, its = self.numbers, other.numbers
         return mine.sockets == its.sockets and mine.descriptors == its.descriptors
 
     def status(self, status: Status) -> Status:
-        """A status with a socket of the recording, or a use of a descriptor, instead of its number."""
+        """A status that names a socket of the recording, or a use of a descriptor, instead of a number."""
         if len(status) < 2:
             return status
         of_socket, of_descriptor = self.numbers.named()
@@ -29,7 +29,7 @@ class Numbered(NamedTuple):
         return status[0], which.get(status[1], -1), *status[2:]
 
     def timer(self, timer: Timer) -> tuple[int, int, str, str, bool]:
-        """A timer, and whether it is of its descriptor's last setting."""
+        """A timer, and whether it belongs to its descriptor's last setting."""
         own = self.board.descs[timer.desc].sequences[SIDES.index(timer.side)]
         use = self.numbers.named()[1].get(timer.desc, -1)
         return timer.when, use, timer.side, timer.function, timer.sequence == own
@@ -68,7 +68,7 @@ def _have_alike_sockets(one: Numbered, other: Numbered) -> bool:
 
 
 def _is_dead(socket: Socket) -> bool:
-    """Whether no goroutine can do anything with it any more."""
+    """Whether no goroutine can do anything with a socket any more."""
     return socket.lock.closed and not socket.lock.references and not any(socket.queues)
 
 
@@ -82,5 +82,5 @@ def _have_alike_descriptors(one: Numbered, other: Numbered) -> bool:
 
 
 def _desc(desc: Desc) -> Desc:
-    """All but what it has from earlier uses."""
+    """A descriptor without the values from its earlier uses."""
     return desc._replace(sequences=(), fdseq=0, socket=0)

@@ -1,5 +1,5 @@
-"""The control flow of a goroutine's calls: the step that it makes next, by its operation and its status, and the place
-at which it goes on, by the machine's answer."""
+"""The control flow of a goroutine's calls: the next step, from its operation and its status, and the place where it
+continues, from the machine's answer."""
 
 from bisect import bisect_right
 from typing import NamedTuple, Optional
@@ -14,16 +14,16 @@ from .scripts import Operation
 NEVER = float("inf")
 GOROUTINE, CLOCK, MADE, NETWORK = range(4)  # the actor
 
-About = tuple[bool, int]  # whether it is a socket, and which; else which use of a descriptor
+About = tuple[bool, int]  # whether it is a socket, and which; otherwise which use of a descriptor
 
 
 class Place(NamedTuple):
-    """The place of a goroutine: its operation, the number of that one's recorded steps that it has made, how far it is
-    in what the operation tries, and whether it waits, or has to destroy."""
+    """The place of a goroutine: its operation, how many recorded steps of it the goroutine has made, how far the
+    operation's tries are, and whether it waits, or has to destroy the descriptor."""
 
     operation: int = 0
     made: int = 0
-    tries: int = 0  # of a read: those that got all; of a write: its bytes
+    tries: int = 0  # for a read, the tries that got everything; for a write, its bytes
     waits: int = 0  # how often it has begun to wait
     is_waiting: bool = False
     destroys: int = -1  # the use whose descriptor it has to free
@@ -36,7 +36,7 @@ def number_of(operation: Operation, place: Place, kind: str) -> int:
 
 
 def next_number(operations: list[Operation], place: Place) -> float:
-    """The number of the next step of the recording that a goroutine has still to make."""
+    """The number of the next recorded step that a goroutine must still make."""
     made = place.made
     for at in range(place.operation, len(operations)):
         if made < len(operations[at].steps):
@@ -46,7 +46,7 @@ def next_number(operations: list[Operation], place: Place) -> float:
 
 
 class Stream:
-    """What a write writes: at each of its bytes the tries that were made there."""
+    """The bytes of a write: at each of them, the tries that were made there."""
 
     def __init__(self, operation: Operation) -> None:
         self.tries: dict[int, list[bytes]] = {}
@@ -60,7 +60,7 @@ class Stream:
         self._starts = sorted(self.tries)
 
     def at(self, place: int, turn: int) -> bytes:
-        """What is tried at that byte, the next time."""
+        """The next try at that byte."""
         if tries := self.tries.get(place):
             return tries[min(turn, len(tries) - 1)]
         following = bisect_right(self._starts, place)
@@ -68,7 +68,7 @@ class Stream:
 
 
 class NotMade(Exception):
-    """What a step is about isn't there yet: another goroutine has still to make it."""
+    """The object of a step doesn't exist yet: another goroutine must make it first."""
 
 
 class Numbers:
@@ -89,19 +89,19 @@ class Numbers:
         return made
 
     def named(self) -> tuple[dict[int, int], dict[int, int]]:
-        """Which socket of the recording, and which use of a descriptor, each number is."""
+        """The socket of the recording, and the use of a descriptor, that each number stands for."""
         if self._named is None:
             of_socket = {number: socket for socket, number in self.sockets.items()}
             self._named = of_socket, {self.descriptors[use]: use for use in self.use_of.values()}
         return self._named
 
     def has_socket(self, socket: int, number: int) -> None:
-        """A socket of the recording is made, under this number."""
+        """A socket of the recording gets this number."""
         self.sockets[socket] = number
         self._named = None
 
     def see(self, step: Step, answer: Answer, operation: Operation, board: Board) -> None:
-        """What a goroutine has made or freed by a step."""
+        """Records what a goroutine made or freed by a step."""
         if step[0] == "sockopen":
             self.has_socket(operation.socket, answer[1])
         elif step[0] == "pollopen":
@@ -157,7 +157,7 @@ def next_step(
 
 
 def _about(sort: Sort, operation: Operation) -> Optional[About]:
-    """What the first step of this sort names."""
+    """The object that the first step of this sort names."""
     of = NAMES[sort].of
     return (True, operation.socket) if of == "s" else (False, operation.use) if of == "d" else None
 

@@ -1,5 +1,6 @@
-"""Calls that fail: in the recording one went well, and in a schedule it ends with a fault, since a deadline has passed or a close came
-first. What its goroutine does then isn't known, so such a schedule ends with that call."""
+"""Calls that fail: a call that succeeded in the recording ends with an error in a schedule, because a deadline has
+passed or a close came first. What its goroutine does afterwards isn't known, so such a schedule ends with that
+call."""
 
 from bisect import bisect_left
 from enum import Enum
@@ -14,7 +15,7 @@ FAILS = "a call that fails"
 
 
 class Why(Enum):
-    """What a call fails by."""
+    """The reasons why a call fails."""
 
     CLOSED = "its socket is closed first"
     TIMED_OUT = "its deadline passes first"
@@ -28,9 +29,11 @@ FAULTS: dict[str, dict[tuple[Any, ...], Why]] = {
     "syswrite": {("pipe",): Why.BROKEN},
     **{kind: CHECKED for kind in ("pollreset", "waitbegin", "waitcheck")},
 }
-OVER = ("rwunlock", "pollclose")  # with such a step a call ends that has failed
+OVER = ("rwunlock", "pollclose")  # steps with which a failed call ends
 
-Watched = dict[tuple[int, int], int]  # of a goroutine and an operation of its, at which one its call begins
+Watched = dict[
+    tuple[int, int], int
+]  # for a goroutine and one of its operations, the operation at which its call begins
 
 
 class Failed(NamedTuple):
@@ -51,12 +54,12 @@ class Reason(NamedTuple):
 
 
 def fault_of(made: Made) -> Optional[Why]:
-    """What a call fails by with this step."""
+    """Why a call fails at this step."""
     return FAULTS.get(made.step[0], {}).get(made.answer)
 
 
 def watched(script: Script) -> Watched:
-    """The operations of those calls that lock a side of a socket and went well in the recording."""
+    """The operations of calls that lock a side of a socket and succeeded in the recording."""
     return {
         (g, at): begins
         for g, operations in enumerate(script.goroutines)
@@ -67,7 +70,7 @@ def watched(script: Script) -> Watched:
 
 
 def went_well(script: Script, call: list[Operation]) -> bool:
-    """Whether a call has all its steps in the recording, and none has a fault or found the end."""
+    """Whether a call has all its steps in the recording, and none failed or found the end of the stream."""
     if len(call) < 2 or not (call[0].steps and call[-1].steps):
         return False
     steps = [pair for operation in call for pair in zip(operation.kinds, operation.steps)]
@@ -110,7 +113,7 @@ def _of_socket(script: Script, sort: Sort) -> dict[int, list[tuple[int, Operatio
 
 
 def _is_of_an_earlier_call(number: int, sets: list[Operation], ends: set[int]) -> bool:
-    """Whether the last deadline that was set before is one to come, under which another call had ended well."""
+    """Whether the last deadline that was set before is in the future, and an earlier call had ended well under it."""
     last = bisect_left([one.steps[0] for one in sets], number) - 1
     if last < 0 or sets[last].values[0] <= 0:
         return False
@@ -119,7 +122,7 @@ def _is_of_an_earlier_call(number: int, sets: list[Operation], ends: set[int]) -
 
 
 def ends_of(script: Script) -> dict[tuple[int, str], set[int]]:
-    """The last steps of those calls that went well, by socket and side."""
+    """The last steps of the calls that succeeded, by socket and side."""
     found: dict[tuple[int, str], set[int]] = {}
     for g, begins in {(g, begins) for (g, _), begins in script.watched.items()}:
         end = script.goroutines[g][script.goroutines[g][begins].on_failure - 1]
@@ -128,8 +131,8 @@ def ends_of(script: Script) -> dict[tuple[int, str], set[int]]:
 
 
 def reason_of(script: Script, failed: Failed, steps: list[Made]) -> Optional[Reason]:
-    """The reason for which a call failed in a schedule. None if it isn't worth reporting: a future deadline that was set for this
-    call alone, because the recorded order has that too if the bytes come late."""
+    """The reason why a call failed in a schedule; None if it isn't worth reporting: a future deadline that was set
+    for this call alone, which also passes in the recorded order if the bytes come late."""
     if failed.why is Why.BROKEN:
         return Reason(failed.step, 0)
     call = script.goroutines[failed.goroutine][failed.begins]
@@ -145,8 +148,8 @@ def reason_of(script: Script, failed: Failed, steps: list[Made]) -> Optional[Rea
 
 
 def stays_of(script: Script, failed: Failed, reason: Reason, steps: list[Made]) -> tuple[int, ...]:
-    """The steps of a schedule that tell of a call that fails: what it fails by, the end of the last call that went well under that
-    deadline, and its failure."""
+    """The steps of a schedule that explain a failed call: the cause, the end of the last call that succeeded under
+    that deadline, and the failure."""
     call = script.goroutines[failed.goroutine][failed.begins]
     ends = ends_of(script).get((call.socket, call.side), set()) if reason.served else set()
     well = [at for at in range(reason.step + 1, failed.step) if steps[at - 1].number in ends]
@@ -154,7 +157,7 @@ def stays_of(script: Script, failed: Failed, reason: Reason, steps: list[Made]) 
 
 
 def _numbers(script: Script, sort: Sort, call: Operation) -> set[int]:
-    """The steps that set a deadline, or close a socket, by which a call may fail."""
+    """The steps that set a deadline or close a socket, so that a call may fail."""
     return {
         operation.steps[0]
         for _, operation in _of_socket(script, sort).get(call.socket, [])

@@ -1,4 +1,4 @@
-"""Plays schedules, and keeps of those that end with a suspect, or with a call that hangs, one for each rule and place."""
+"""Runs schedules, and keeps those that end with a suspect or with a call that hangs, one for each rule and place."""
 
 from bisect import bisect_left, bisect_right
 from collections import Counter
@@ -21,8 +21,8 @@ from .runs import Delay, Impossible, Made
 from .schedules import Schedule, schedules, single_delays
 from .scripts import Script
 
-COPIES, MOST_COPIES = 200, 2_000  # of the recorded run, from which schedules go on
-APART = 5  # steps between two copies, as long as there aren't more of them
+COPIES, MOST_COPIES = 200, 2_000  # copies of the recorded run, from which schedules continue
+APART = 5  # steps between two copies, unless that makes more copies than allowed
 LONGER = 4  # how much longer than the recording a schedule may be
 HANG = "a call that hangs"
 ORDERED = (LOST_WAKE_UP, TAKEN_BACK, LEFT_BEHIND, WRITE_AFTER_SHUT)  # what an order decides
@@ -45,39 +45,39 @@ class Played(NamedTuple):
 
 
 class Finding(NamedTuple):
-    """What a schedule ends with: a suspect, a goroutine that hangs, or a call that fails."""
+    """A schedule's result: a suspect, a goroutine that hangs, or a call that fails."""
 
     key: Key
     suspect: Optional[Suspect]
-    hangs: int  # the goroutine, -1 where none does
+    hangs: int  # the goroutine, -1 for none
     schedule: Schedule
     played: Played
-    reason: Optional[Reason] = None  # of a call that fails
+    reason: Optional[Reason] = None  # for a call that fails
 
 
 class Exploring:
-    """The schedules that were played so far, and what was found."""
+    """The schedules that were run so far, and the findings."""
 
     def __init__(self, script: Script, line_of: Callable[[int], str]) -> None:
         self.script, self.line_of = with_events(replace(script, limits=_wide(script.limits))), line_of
         self.found: dict[Key, Finding] = {}
-        self.times: Counter[Key] = Counter()  # how many schedules end with each
+        self.times: Counter[Key] = Counter()  # how many schedules end with each finding
         self.played = self.left = 0  # schedules in all, and those in which a step doesn't apply
-        self.taken_over = 0  # shares of processes that ended before they were done
+        self.taken_over = 0  # shares of processes that ended too early
         self._most = LONGER * script.length + 200
         self._copies: list[Player] = []
         self._times: list[int] = []  # of the copies
         self.delays = single_delays(self.script)
         if self.script.watched:
             self.delays = list(dict.fromkeys([*failing_delays(self.script), *self.delays]))
-        self.seed = 0  # the last that drew a schedule
+        self.seed = 0  # the last seed that gave a schedule
         self.recorded = self._play_recorded()
         self._parked = {g for g, status in enumerate(self.recorded.world.goroutines) if status[0] == "parked"}
         self.known = {finding.key for finding in self._findings(Schedule((), 0), self.recorded)}
         self.known |= {(FAILS, self._place(g, begins), why) for g, begins, why in faults_of(self.script)}
 
     def _play_recorded(self) -> Played:
-        """Plays the recorded schedule, and keeps copies on the way."""
+        """Runs the recorded schedule, and keeps copies on the way."""
         player = Player(self.script)
         length = self.script.length
         every = max(length // MOST_COPIES, min(length // COPIES, APART), 1)
@@ -101,7 +101,7 @@ class Exploring:
             tell()
 
     def play(self, schedule: Schedule) -> set[Key]:
-        """Plays a schedule, and keeps what it ends with; the keys of that."""
+        """Runs a schedule, and keeps its findings; returns their keys."""
         self.played += 1
         self.seed = max(self.seed, schedule.seed)
         try:
@@ -119,11 +119,11 @@ class Exploring:
         return {finding.key for finding in findings}
 
     def keep(self, key: Key, schedule: Schedule) -> None:
-        """Keeps what another process has found in a schedule."""
+        """Keeps what another process found in a schedule."""
         self.found.update((finding.key, finding) for finding in self._ends(schedule) if finding.key == key)
 
     def least(self, finding: Finding) -> Finding:
-        """A finding without the delays that it doesn't need."""
+        """A finding without unnecessary delays."""
         delays = finding.schedule.delays
         for left_out in delays if len(delays) > 1 else ():
             schedule = finding.schedule._replace(delays=tuple(delay for delay in delays if delay != left_out))
@@ -133,7 +133,7 @@ class Exploring:
         return finding
 
     def _ends(self, schedule: Schedule) -> list[Finding]:
-        """What a schedule ends with."""
+        """The findings of a schedule."""
         try:
             played = self.ends_of(schedule.delays)
         except Impossible:
@@ -163,10 +163,10 @@ class Exploring:
         recorded = self.recorded
         return Played(steps, recorded.world, recorded.places, recorded.sockets, player.has_news)
 
-    # ---- what it ends with
+    # ---- the findings of a schedule
 
     def _is_otherwise(self, played: Played) -> bool:
-        """Whether it may end with something else than the recorded run."""
+        """Whether it may end differently from the recorded run."""
         parked = {g for g, status in enumerate(played.world.goroutines) if status[0] == "parked"}
         return played.has_news or bool(parked - self._parked)
 
@@ -186,7 +186,7 @@ class Exploring:
                 yield Finding((HANG, self.line_of(number) or (g, operation.socket)), None, g, schedule, played)
 
     def _failure(self, schedule: Schedule, played: Played) -> Iterator[Finding]:
-        """The first call that fails, if that is something to tell."""
+        """The first call that fails, if it is worth reporting."""
         failed = played.failed
         if failed and (reason := reason_of(self.script, failed, played.steps)):
             key = FAILS, self._place(failed.goroutine, failed.begins), failed.why

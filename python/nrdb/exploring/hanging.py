@@ -48,7 +48,8 @@ def _sets(script: Script, operation: Operation) -> list[int]:
 
 
 def moved_by(script: Script, g: int, place: Place, steps: list[Made]) -> tuple[int, int]:
-    """Of a goroutine that hangs: which of these steps set the deadline that ended its call in the recording, and which moved it."""
+    """For a goroutine that hangs: which of these steps set the deadline that ended its call in the recording, and
+    which moved it."""
     ended, sets = ended_by(script, g, place), set(_sets(script, script.goroutines[g][place.operation]))
     set_at = next(at for at, made in enumerate(steps, 1) if made.number == ended)
     return set_at, max(at for at, made in enumerate(steps, 1) if made.number in sets)

@@ -12,11 +12,11 @@ from .taking_apart import goroutines_of
 
 CLOCK = ("tick", "pop", "fire")
 RAW = ("internal/poll.(*FD).RawRead", "internal/poll.(*FD).RawWrite")
-CAUSES = ("syswrite", "closewrite", "pollopen", "evict", "pollclose")  # what the network may answer
+CAUSES = ("syswrite", "closewrite", "pollopen", "evict", "pollclose")  # the answers that the network may give
 
 
 def script_of(recording: Recording) -> Script:
-    """The script of a recording, which has to have answers."""
+    """The script of a recording, which must have answers."""
     events = Events(recording)
     limits = Limits(*(recording.limits[key] for key in Limits._fields))
     seen: dict[int, int] = {}

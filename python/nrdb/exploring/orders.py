@@ -1,5 +1,6 @@
-"""What comes first in every schedule: the steps that must precede a goroutine's steps, as the recorder saw the program order them,
-and the steps that the network may react to. Both are stored for operations: one begins after another one has ended."""
+"""The orders that every schedule keeps: the steps that must precede a goroutine's steps, as the recorder saw the
+program order them, and the steps that the network may react to. Both are stored for operations: one begins after
+another one has ended."""
 
 from typing import NamedTuple, Optional, Sequence
 
@@ -7,18 +8,18 @@ from .control import GOROUTINE, NETWORK, NEVER, Place
 from .scripts import Cause, Operation, Order
 
 Pairs = Sequence[tuple[int, int]]
-Key = tuple[float, int]  # when something is due, and which of those at that time it is
+Key = tuple[float, int]  # a due time, and the place among those of the same time
 
 
 class Where(NamedTuple):
-    """Whose step a number is, and in which operation."""
+    """The owner of a step, and the operation that it belongs to."""
 
     goroutine: int
     operation: int
 
 
 def places_of(goroutines: list[list[Operation]]) -> dict[int, Where]:
-    """Where each recorded step of a goroutine's is."""
+    """The owner and operation of each recorded step of a goroutine."""
     return {
         number: Where(g, at)
         for g, operations in enumerate(goroutines)
@@ -48,8 +49,8 @@ class Waiting:
         self.first: list[int] = []  # goroutines
         self.network: list[int] = []  # sockets, after those
         self.later: list[tuple[int, int]] = []  # after both, by actor and number
-        self.until = NEVER  # the first of its operations after which one of the goroutines goes on
-        self.again: Optional[Key] = None  # when the network would look again
+        self.until = NEVER  # its first operation after which one of the goroutines continues
+        self.again: Optional[Key] = None  # when the network checks again
 
     def copy(self) -> "Waiting":
         made = Waiting()
@@ -58,7 +59,7 @@ class Waiting:
         return made
 
     def add(self, actor: int, which: int) -> None:
-        """One more waits."""
+        """Adds one that waits."""
         is_behind = self.later or (self.network if actor == GOROUTINE and self.again is None else ())
         if is_behind or (actor != GOROUTINE and self.again is not None):
             self.later.append((actor, which))
@@ -68,7 +69,7 @@ class Waiting:
             self.network.append(which)
 
     def settle(self, now: Key) -> None:
-        """The network has looked again before that."""
+        """The network has checked again before that."""
         if self.again is not None and self.again < now:
             self.again = None
             if self.later:
@@ -76,7 +77,7 @@ class Waiting:
                 self.network = []
 
     def look_again(self, due: Key) -> int:
-        """All look again, in vain; how many of the network's do so when they are due, from then on."""
+        """All check again without success; how many of the network's do so when they are due, from then on."""
         for actor, which in self.later:
             (self.first if actor == GOROUTINE else self.network).append(which)
         self.later = []
@@ -92,7 +93,7 @@ class Waiting:
         return bool(self.network) or any(actor != GOROUTINE for actor, _ in self.later)
 
     def row(self) -> list[tuple[int, int]]:
-        """All but those that look again when they are due."""
+        """All except those that check again when they are due."""
         network = self.network if self.again is None else []
         return [*((GOROUTINE, g) for g in self.first), *((NETWORK, s) for s in network), *self.later]
 
@@ -102,7 +103,7 @@ class Passing:
 
     def __init__(self, orders: Optional[list[list[Order]]], causes: list[Cause], places: list[Place]) -> None:
         self.orders, self.causes, self.places = orders, causes, places
-        self.passed = [0] * len(places)  # for each goroutine the number of its orders that are met
+        self.passed = [0] * len(places)  # for each goroutine, how many of its orders are met
         self.caused = 0  # how many causes are over
         self.waiting: dict[int, Waiting] = {}
 
@@ -141,7 +142,7 @@ class Passing:
         return None
 
     def wait(self, g: int, actor: int, which: int, now: Key) -> None:
-        """One waits for a goroutine to go on."""
+        """Records that one waits for a goroutine to continue."""
         waiting = self.waiting.get(g)
         if waiting is None:
             waiting = self.waiting[g] = Waiting()
@@ -160,7 +161,7 @@ class Passing:
         return not (waiting.again is not None and waiting.later) and self.holds_network_back(g)
 
     def holds_network_back(self, g: int) -> bool:
-        """Whether what the network waits for is a goroutine's to make, still."""
+        """Whether a goroutine must still make what the network waits for."""
         if self.caused >= len(self.causes):
             return False
         cause, place = self.causes[self.caused], self.places[g]
@@ -172,7 +173,7 @@ class Passing:
         return self.orders[g][self.passed[g]].until
 
     def settle(self) -> None:
-        """All that was due has looked again."""
+        """Everything that was due has checked again."""
         for waiting in self.waiting.values():
             waiting.settle((NEVER, 0))
 

@@ -14,14 +14,14 @@ MOST_TRIES = 200
 
 
 class Others:
-    """How far each of them is."""
+    """The progress of each of them."""
 
     def __init__(self, script: Script) -> None:
         self.script = script
         self.places: dict[tuple[int, int], int] = defaultdict(int)
         self.told: set[int] = set()  # the events that came, by their numbers in the recording
-        self.fresh: dict[tuple[int, str], bool] = {}  # of a socket's number and side: something came without an event
-        self.closed: set[int] = set()  # sockets, by number, in which no goroutine begins to wait any more
+        self.fresh: dict[tuple[int, str], bool] = {}  # for a socket's number and side: something came without an event
+        self.closed: set[int] = set()  # numbers of sockets in which no goroutine begins to wait any more
         self.tries: dict[int, int] = {}
 
     def copy(self) -> "Others":
@@ -31,11 +31,11 @@ class Others:
         return made
 
     def is_as(self, other: "Others") -> bool:
-        """Whether both are as far."""
+        """Whether both have made the same progress."""
         return self._untold() == other._untold() and self.places == other.places
 
     def is_the_same_as(self, other: "Others") -> bool:
-        """Whether both go on in the very same way."""
+        """Whether both continue in exactly the same way."""
         mine = self.places, self.told, self.fresh, self.closed, self.tries
         return mine == (other.places, other.told, other.fresh, other.closed, other.tries)
 
@@ -54,18 +54,18 @@ class Others:
                 yield actor, which, row[0].due
 
     def next(self, actor: int, which: int) -> Optional[Item]:
-        """What one of them does next."""
+        """The next action of one of them."""
         row, at = self._row(actor, which), self.places[actor, which]
         return row[at] if at < len(row) else None
 
     def done(self, actor: int, which: int, item: Item) -> None:
-        """It has done that."""
+        """Records that the action is done."""
         if item.event.kind == "pollevent":
             self.told.add(item.event.number)
         self.places[actor, which] += 1
 
     def see(self, step: Step, board: Board) -> None:
-        """After each step: the bytes that came and that no event has reported yet."""
+        """Called after each step: records bytes that came and that no event has reported yet."""
         kind = step[0]
         if kind in ("arrive", "peerclose"):
             self.fresh[step[1], "r"] = True
@@ -133,14 +133,14 @@ class Others:
         return [(kind, s, *value)]
 
     def _again(self, item: Item) -> Optional[list[Step]]:
-        """There is no room, or there are too few bytes: the action waits, and is left out if that doesn't change."""
+        """Without room or with too few bytes, the action waits, and is dropped if that doesn't change."""
         number = item.event.number
         self.tries[number] = self.tries.get(number, 0) + 1
         return None if self.tries[number] < MOST_TRIES else []
 
     @staticmethod
     def passed(board: Board, step: Step) -> list[Step]:
-        """The steps before the deadline of a step's descriptor passes: the clock goes on, and timers go off."""
+        """The steps before the deadline of a step's descriptor passes: the clock advances, and timers go off."""
         if step[0] != "pollreset":
             return []
         own = (timer.when for timer in board.timers if timer.desc == step[2] and step[3] in timer.covers)
@@ -149,7 +149,7 @@ class Others:
         return [("tick", max(due, board.clock)), *[("pop",)] * going, *[("fire", 0)] * going] if going else []
 
     def left(self, board: Board, numbers: Numbers) -> Iterator[Step]:
-        """The steps that remain if no goroutine goes on: due timers, and events for what came."""
+        """The steps that remain if no goroutine continues: due timers, and events for what came."""
         if board.firings:
             yield "fire", 0
         if board.timers and board.timers[0].when <= board.clock:

@@ -17,14 +17,14 @@ from .scripts import Script
 from .standing import Standing, Turn
 
 WAKING = frozenset(("pollevent", "setdeadline", "evict", "fire", "release"))
-NEWS = (("code", 2), ("pipe",))  # a time ran out, a pipe is broken
+NEWS = (("code", 2), ("pipe",))  # a timeout, a broken pipe
 MAKING = frozenset(("spawn", "sockopen", "pollopen"))
-UNLIKE = MAKING | {"pollclose"}  # kinds of steps by which numbers come and go
-SEEN = frozenset(("arrive", "peerclose", "drain", "increfclose", "pollevent"))  # (what the others look at)
+UNLIKE = MAKING | {"pollclose"}  # kinds of steps that make or free a number
+SEEN = frozenset(("arrive", "peerclose", "drain", "increfclose", "pollevent"))  # (what `Others.see` needs)
 
 
 class Player(Standing):
-    """A script that is played under delays."""
+    """Runs a script under delays."""
 
     def __init__(self, script: Script, delays: tuple[Delay, ...] = ()) -> None:
         super().__init__(script, delays)
@@ -46,7 +46,7 @@ class Player(Standing):
         self.passing.settle()
 
     def end(self, most: int) -> None:
-        """Plays all there is, and then timers that are due and what the poller has still to tell, as long as anybody goes on."""
+        """Runs the rest, and then due timers and pending events, as long as a goroutine continues."""
         while True:
             self.run(NEVER, most)
             step = next(self.others.left(self.board, self.numbers), None)
@@ -57,7 +57,8 @@ class Player(Standing):
     # ---- goroutines
 
     def _needs_no_wait(self, g: int) -> bool:
-        """Whether what a goroutine is about to wait for has come already, so that its call goes on without a wait. It does then."""
+        """Whether a goroutine's event has come already, so that its call continues without a wait, which it then
+        does."""
         place = self.places[g]
         operation = self.script.goroutines[g][place.operation]
         if operation.sort is not Sort.WAIT or place.is_waiting or operation.is_raw:
@@ -90,7 +91,7 @@ class Player(Standing):
         self.following[g], self.coming[g] = step, number
         due = float(number)
         if not number and g not in self.off and next_number(operations, place) == NEVER:
-            due = self.script.length + 1.0  # what it did then isn't recorded, since the recording ended
+            due = self.script.length + 1.0  # what it did then isn't recorded, because the recording ended
         elif number in self.until:
             due = max(due, self.until[number])
             self.held[g] = due
@@ -149,7 +150,7 @@ class Player(Standing):
             self._push_goroutine(g)
 
     def _note(self, g: int, place: Place, answer: Answer, status: Status) -> None:
-        """Keeps a goroutine's turn in the recorded run, if it is one that others may take again."""
+        """Stores a goroutine's turn in the recorded run, if other schedules may take the same turn."""
         number, step, behind_it = self.steps[-1].number, self.steps[-1].step, self.places[g]
         if step[0] in UNLIKE or answer == ("last",) or place.destroys >= 0 or behind_it.destroys >= 0:
             return
@@ -175,7 +176,8 @@ class Player(Standing):
         self._push(due, GOROUTINE, g)
 
     def _let_its_deadline_pass(self, g: int) -> None:
-        """The clock goes on to the deadline of what a goroutine is about to do, if it has one, and timers go off."""
+        """Advances the clock to the deadline that applies to a goroutine's next step, if any, so that timers go
+        off."""
         for step in self.others.passed(self.board, self.following[g]):
             self._apply(step, 0)
 
@@ -210,7 +212,7 @@ class Player(Standing):
             rest.until = min(rest.until, until)
 
     def _network_looks(self, waiting: Waiting, rest: Waiting, in_vain: bool) -> None:
-        """The network looks again, when it is due."""
+        """The network checks again, when it is due."""
         if in_vain and waiting.network:
             rest.network, rest.again = waiting.network, waiting.again
             self._count += rest.look_again((self.now, self._count + 1))
@@ -234,7 +236,7 @@ class Player(Standing):
     # ---- steps
 
     def _apply(self, step: Step, number: int) -> Answer:
-        """Makes a step, and wakes the goroutines that it wakes."""
+        """Makes a step, and schedules the goroutines that it wakes."""
         try:
             made = self.board.make(step, number)
         except Refused as refused:

@@ -1,4 +1,4 @@
-"""What a run under a schedule has: delays, and steps that were made."""
+"""The delays and the steps of a run under a schedule."""
 
 from typing import NamedTuple
 

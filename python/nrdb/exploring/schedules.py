@@ -1,5 +1,5 @@
-"""The schedules that are tried: the recorded one with a few delays. A goroutine pauses until another one has made a step about the
-same part of the same socket; first each delay alone, then two and three of them, drawn by a seed."""
+"""The schedules to try: the recorded one with a few delays. A goroutine pauses until another one has made a step
+about the same part of the same socket; first each delay alone, then two and three of them, drawn by a seed."""
 
 import random
 from bisect import bisect_left, bisect_right
@@ -11,8 +11,8 @@ from netrev_calls.flow import Sort
 from .runs import Delay
 from .scripts import Operation, Script
 
-NEAR = 4  # steps of others about the same thing, until which one pauses
-AROUND = 40  # steps, within which several delays are drawn
+NEAR = 4  # steps of others about the same thing that a pause may wait for
+AROUND = 40  # steps within which several delays are drawn
 IN_VAIN = 2_000  # seeds without a new schedule after which the search ends
 LOCK, WAIT, BYTES = "lock", "wait", "bytes"  # the things of a socket that a step is about
 OF_THING = {
@@ -25,7 +25,7 @@ OF_THING = {
 }
 THING_OF = {kind: thing for thing, kinds in OF_THING.items() for kind in kinds}
 SIDE_OF = {"arrive": "r", "peerclose": "r", "sysread": "r", "drain": "w", "syswrite": "w", "closewrite": "w"}
-# of two steps about a wait one must be such: a waiting goroutine lets no other in
+# of two steps about a wait, one must be such a step, because no other goroutine enters meanwhile
 TO_OTHERS = frozenset(("setdeadline", "evict", "pollevent", "fire"))
 
 Thing = tuple[int, str, str]  # a socket, which thing of it, and the side
@@ -54,7 +54,7 @@ class Touched(NamedTuple):
     kind: str
 
     def matters_to(self, other: "Touched") -> bool:
-        """Whether it is another's, so that the order of both may decide something."""
+        """Whether the step is another goroutine's, so that the order of both may matter."""
         if self.who == other.who:
             return False
         return THING_OF[self.kind] != WAIT or self.kind in TO_OTHERS or other.kind in TO_OTHERS
@@ -83,7 +83,7 @@ def touched(script: Script) -> dict[Thing, list[Touched]]:
 
 
 def single_delays(script: Script) -> list[Delay]:
-    """All delays of one step until one of others, the nearest first."""
+    """All single delays of a step until a step of others, the nearest first."""
     by_distance: list[set[Delay]] = [set() for _ in range(NEAR)]
     for steps in touched(script).values():
         for at, one in enumerate(steps):
@@ -95,7 +95,8 @@ def single_delays(script: Script) -> list[Delay]:
 
 
 def _late_delays(script: Script) -> Iterator[Delay]:
-    """Delays of a call until its deadline has passed, which was set for both sides before the other side's was moved alone."""
+    """Delays of a call until its deadline has passed, if it was set for both sides before the other side's was
+    moved alone."""
     sets = sorted(_of_sort(script, Sort.SET))
     for number, reset in sorted(_of_sort(script, Sort.RESET)):
         before = [(at, one) for at, one in sets if at < number and one.use == reset.use]

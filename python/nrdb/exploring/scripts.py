@@ -1,6 +1,6 @@
-"""What each goroutine, the network and the clock did in a recording, without the order: a script. A goroutine's script is a row of
-operations, which make up its calls; the goroutine continues with another operation than the next one if the machine answers
-differently."""
+"""A script: what each goroutine, the network and the clock did in a recording, without the order. A goroutine's
+script is a list of operations, the parts of its calls. If the machine answers differently, the goroutine
+continues with another operation than the next one."""
 
 from dataclasses import dataclass, field
 from typing import Any, NamedTuple, Optional
@@ -13,8 +13,7 @@ from ..reducing.events import Event, Timer
 
 @dataclass
 class Operation:
-    """A part of a call: what it is about, its recorded steps, and the place at which its goroutine goes on if it
-    fails."""
+    """A part of a call: its object, its recorded steps, and the place where its goroutine continues if it fails."""
 
     sort: Sort
     socket: int
@@ -25,10 +24,10 @@ class Operation:
     kinds: list[str] = field(default_factory=list)
     moved: list[int] = field(default_factory=list)  # bytes, by each try of a write
     on_failure: int = 0
-    cause: Optional[int] = None  # the step of the event that ended a wait after which nothing was read or written
-    is_brief: bool = False  # such a wait that took a readiness which was there
-    is_raw: bool = False  # whether it waits is for a function of the program's to say, which RawConn was given
-    ends_unread: bool = False  # after its last wait nothing was tried that is a step
+    cause: Optional[int] = None  # the step of the event that ended a wait which no read or write followed
+    is_brief: bool = False  # such a wait that found its readiness already set
+    is_raw: bool = False  # whether it waits is decided by a function of the program, which was passed to RawConn
+    ends_unread: bool = False  # after its last wait no step shows a try
 
 
 class Item(NamedTuple):
@@ -40,7 +39,7 @@ class Item(NamedTuple):
 
 
 class Order(NamedTuple):
-    """A goroutine's operation begins when another's one is over."""
+    """A goroutine's operation begins after another's has ended."""
 
     operation: int
     other: int
@@ -59,8 +58,8 @@ class Cause(NamedTuple):
 
 @dataclass
 class Script:
-    """The operations of each goroutine; what the network did to each socket; timers and the clock; and what was made by nobody
-    that is known, as goroutines. Numbers are those of the recording, but for descriptors: of these there are uses."""
+    """The operations of each goroutine; the actions of the network at each socket; timers and the clock; and the
+    steps of unknown goroutines. Numbers are those of the recording, except that uses stand for descriptors."""
 
     limits: Limits
     length: int
@@ -72,6 +71,6 @@ class Script:
     ordinals: list[int]  # which use of its descriptor each is, from 0
     causes: list[Cause]
     answers: list[tuple[Any, ...]]
-    orders: Optional[list[list[Order]]] = None  # of each goroutine, if the recorder saw what the program orders
+    orders: Optional[list[list[Order]]] = None  # for each goroutine, if the recorder saw what the program orders
     # the places at which calls may fail: the operations of those that succeeded, by goroutine, and the place where each call begins
     watched: dict[tuple[int, int], int] = field(default_factory=dict)

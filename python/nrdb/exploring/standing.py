@@ -1,5 +1,5 @@
-"""The state of a script that runs: the machine's state, the place of each goroutine in its calls, and what is due when. It can be
-copied, and compared with another one."""
+"""The state of a running script: the machine's state, the place of each goroutine in its calls, and the due times.
+It can be copied, and compared with another one."""
 
 from heapq import heapify, heappush
 from typing import NamedTuple, Optional, TypeVar
@@ -22,8 +22,8 @@ Itself = TypeVar("Itself", bound="Standing")
 
 
 class Turn(NamedTuple):
-    """A goroutine's turn in the recorded run: its place before, its answer, and its status and place afterwards; its next step, if
-    that was scheduled at its time at once, with the number of the step's object, and the object."""
+    """A goroutine's turn in the recorded run: its place before, its answer, and its status and place afterwards;
+    its next step, if that was scheduled at once, with the number of the step's object, and the object."""
 
     place: Place
     answer: Answer
@@ -43,21 +43,21 @@ class Standing:
         self.script = script
         self.until = {delay.before: delay.until + 0.5 for delay in delays}
         self.board = Board(script.limits, not delays)
-        self.turns: dict[int, Turn] = {}  # of the recorded run, by the numbers of their steps
+        self.turns: dict[int, Turn] = {}  # turns of the recorded run, by the numbers of their steps
         self.numbers = Numbers()
-        self.before = 0  # steps of the player that it is a copy of
+        self.before = 0  # steps that the copied player had made
         self.steps: list[Made] = []  # those after them
         self.places = [Place() for _ in script.goroutines]
         self.passing = Passing(script.orders, script.causes, self.places)
-        self.following: dict[int, Step] = {}  # for a goroutine that is put where it is due, its step
+        self.following: dict[int, Step] = {}  # for a goroutine that is scheduled, its step
         self.coming = [0] * len(script.goroutines)  # the number of that in the recording, or 0
         self.off: set[int] = set()  # the actors that have made steps that the recording doesn't have
         self.has_news = False  # the recording had none
-        self.failed: Optional[Failed] = None  # the first of the calls that are watched
-        self.is_over = False  # that call has ended
+        self.failed: Optional[Failed] = None  # the first watched call that failed
+        self.is_over = False  # whether that call has ended
         self.held: dict[int, float] = {}  # the actors that pause, and until when
         self.asleep: set[int] = set()
-        self.lacking: list[tuple[int, int]] = []  # the actors that wait for a step that isn't made
+        self.lacking: list[tuple[int, int]] = []  # the actors that wait for another's step
         self.others = Others(script)
         self.now = 0.0
         self._heap: list[Due] = []
@@ -66,7 +66,7 @@ class Standing:
         self._streams: dict[tuple[int, int], Stream] = {}
 
     def copy(self: Itself, delays: tuple[Delay, ...]) -> Itself:
-        """It as it is, to go on from here under other delays."""
+        """A copy of the state, to continue from here under other delays."""
         made = object.__new__(type(self))
         made.__dict__.update(self.__dict__)
         made.until = {delay.before: delay.until + 0.5 for delay in delays}
@@ -80,7 +80,7 @@ class Standing:
         return made
 
     def _hold(self) -> None:
-        """A goroutine that pauses before its next step is due later."""
+        """Makes a goroutine that pauses before its next step due later."""
         for at, (due, count, actor, g) in enumerate(self._heap):
             if actor == GOROUTINE and (until := self.until.get(self.coming[g])):
                 self.held[g] = max(due, until)
@@ -99,7 +99,8 @@ class Standing:
         )
 
     def is_the_same_as(self, other: "Standing") -> bool:
-        """Whether all that it goes on by is the other's, to the last number: so both make the very same steps from here on."""
+        """Whether everything that decides its continuation equals the other's, down to the numbers: so both make
+        exactly the same steps from here on."""
         return (
             self.places == other.places
             and self.board.is_as(other.board)
@@ -114,7 +115,7 @@ class Standing:
         )
 
     def _watch(self, g: int, place: Place) -> None:
-        """Notes the first call that fails of those that are watched, and when it has ended."""
+        """Records the first watched call that fails, and its end."""
         made = self.steps[-1]
         begins = self.script.watched.get((g, place.operation))
         if self.failed is None and begins is not None and (why := fault_of(made)):
@@ -123,11 +124,11 @@ class Standing:
             self.is_over = made.step[0] in OVER or made.answer == ("no",)
 
     def made(self) -> int:
-        """How many steps were made."""
+        """The number of steps made."""
         return self.before + len(self.steps)
 
     def _all_due(self) -> list[tuple[float, int, int]]:
-        """What is due, in its order."""
+        """Everything that is due, in order."""
         if self._in_order is None:
             self._in_order = sorted((due, actor, which) for due, _, actor, which in self._heap)
         return self._in_order

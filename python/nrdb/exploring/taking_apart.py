@@ -1,4 +1,4 @@
-"""Takes the steps of each goroutine apart into operations, by the control flow of Go's calls."""
+"""Divides the steps of each goroutine into operations, by the control flow of Go's calls."""
 
 from typing import Any, Optional
 
@@ -8,12 +8,12 @@ from netrev_words.vocabulary import KINDS
 from ..reducing.events import Event, Events
 from .scripts import Operation
 
-ROOM = 4_096  # bytes that a read asks for, where none is known
-OF_EACH = ("g", "s", "d", "side", "mode")  # the arguments that an operation has apart from its values
+ROOM = 4_096  # bytes that a read asks for, if that is unknown
+OF_EACH = ("g", "s", "d", "side", "mode")  # the arguments of an operation besides its values
 
 
 class TakenApart:
-    """A goroutine's operations, as its steps are seen one after the other."""
+    """A goroutine's operations, built from its steps one after the other."""
 
     def __init__(self, events: Events, asked: dict[int, int], told: dict[tuple[int, str], int]) -> None:
         self.events, self.asked, self.told = events, asked, told
@@ -31,7 +31,7 @@ class TakenApart:
         return self.operations[-1] if self.operations else None
 
     def _begins(self, event: Event) -> Operation:
-        """An operation begins with this step, which names what it is about."""
+        """An operation begins with this step, which names its object."""
         arguments = dict(zip(KINDS[event.kind].arguments, event.arguments))
         socket, use = self.events.socket_of(event), arguments.get("d", -1)
         values = tuple(value for form, value in arguments.items() if form not in OF_EACH)
@@ -44,7 +44,7 @@ class TakenApart:
         return operation
 
     def _goes_on(self, event: Event) -> None:
-        """The last operation has this step too."""
+        """The last operation includes this step."""
         assert self.last
         self.last.steps.append(event.number)
         self.last.kinds.append(event.kind)
@@ -64,11 +64,12 @@ class TakenApart:
             last.ends_unread = True  # until it tries again
 
     def _supposed(self, sort: Sort, socket: int, use: int = -1, side: str = "", *values: Any) -> None:
-        """An operation that the recording doesn't show, since the call ended before it."""
+        """An operation that the recording doesn't show, because the call ended before it."""
         self.operations.append(Operation(sort, socket, use, side, values))
 
     def _supposed_try(self, socket: int, use: int, side: str) -> None:
-        """What a call would have tried that found its descriptor closing, or its deadline passed."""
+        """The tries that a call would have made if its descriptor hadn't been closing, or its deadline hadn't
+        passed."""
         if socket not in self.asked:
             self._supposed(Sort.WAIT, socket, use, side)
         elif side == "r":
@@ -198,7 +199,7 @@ def goroutines_of(events: Events, count: int) -> list[list[Operation]]:
 
 
 def _rests(events: Events, count: int) -> list[bool]:
-    """Of each goroutine whether it is at rest at the end."""
+    """Whether each goroutine is at rest at the end."""
     rests = [True] * count
     for event, rest in zip(events.all, events.rests):
         if event.named("g") is not None:
@@ -207,7 +208,7 @@ def _rests(events: Events, count: int) -> list[bool]:
 
 
 def _finish(operations: list[Operation], is_at_rest: bool) -> None:
-    """Completes the call in which a goroutine is at the end, and says where each operation leads that fails."""
+    """Completes the call that a goroutine is in at the end, and sets where each failing operation leads."""
     open_ones: list[int] = []
     for at, operation in enumerate(operations):
         if operation.sort in (Sort.LOCK, Sort.REFER, Sort.CLOSE):

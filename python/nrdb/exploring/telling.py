@@ -1,4 +1,4 @@
-"""What was found, in words of calls."""
+"""Findings as text, in terms of calls."""
 
 from typing import Optional
 
@@ -21,13 +21,13 @@ LEFT_UNKNOWN = "a lock that was free, an atomic"  # whether the recorder saw the
 
 
 class Telling:
-    """Tells of findings in the words of the recorded run."""
+    """Describes findings in terms of the recorded run."""
 
     def __init__(self, recording: Recording, book: Book, script: Script) -> None:
         self.recording, self.book, self.script = recording, book, script
 
     def delay(self, delay: Delay) -> str:
-        """A delay in words: the goroutine, the place, and the end."""
+        """A delay as text: the goroutine, the place, and the end."""
         kind, g = self._step(delay.before)
         call = self.call_of(g, delay.before)
         in_call, before = (f", in {self._named(call)},", kind) if call else ("", kind)
@@ -72,7 +72,7 @@ class Telling:
         return f"{call.name} on socket {call.socket}"
 
     def finding(self, at: int, finding: Finding, times: int, file: str) -> list[str]:
-        """The lines of a finding that is in a file, without netrev's."""
+        """The lines about a finding that was written to a file, without netrev's."""
         lines = [f"{at}. {self._head(finding, file)}"]
         delays = finding.schedule.delays
         for one in delays:
@@ -101,7 +101,7 @@ class Telling:
         return f"{finding.key[0]}, in {file}: {named}{ended} hangs: {says}"
 
     def _fails(self, failed: Failed, reason: Reason, finding: Finding) -> str:
-        """Which call fails, and by what."""
+        """Which call fails, and why."""
         first = self.script.goroutines[failed.goroutine][failed.begins]
         call = self.call_of(failed.goroutine, first.steps[0])
         named = self._named(call) if call else f"a call on socket {first.socket}"

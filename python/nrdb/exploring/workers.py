@@ -1,5 +1,5 @@
-"""Plays schedules on all processors. Each of several processes plays its share and reports its findings; the result is
-that of one process."""
+"""Runs schedules on all processors. Each of several processes runs its share and reports its findings; the result
+is that of one process."""
 
 import os
 import pickle
@@ -23,7 +23,7 @@ CODE = f"import sys; sys.path[:0] = {sys.path!r}; from nrdb.exploring.workers im
 
 
 class Best(NamedTuple):
-    """The simplest schedule that ends with something, which one of all it is, and which was the first."""
+    """The simplest schedule with a finding, its index among all, and the index of the first."""
 
     measure: tuple[int, int]
     at: int
@@ -46,7 +46,7 @@ class Told(NamedTuple):
 
 
 class Share(NamedTuple):
-    """What a process is to do: every so manieth schedule, from this one on."""
+    """The share of a process: every Nth schedule, from this one on."""
 
     script: Script
     lines: Lines
@@ -69,14 +69,14 @@ def processors() -> int:
 
 
 def play_all(exploring: Exploring, share: Share, tell: Callable[[], None]) -> None:
-    """Plays so many schedules, on as many processors as there are if that is worth it; `tell` is called now and then. What a process
-    leaves that ends before it has played its share, as by the system where memory runs out, is played here."""
+    """Runs so many schedules, on as many processors as exist if that is worth it; `tell` is called now and then.
+    The rest of a share whose process ends early, such as for lack of memory, runs here."""
     if share.of < 2 or share.script.length * share.most < WORTH_IT:
         exploring.run(share.most, tell)
         return
     best: dict[Key, Best] = {}
     with ExitStack() as stack:
-        stack.callback(_keep, exploring, best)  # (also where Ctrl-C ends it)
+        stack.callback(_keep, exploring, best)  # (also if Ctrl-C ends it)
         selector = stack.enter_context(DefaultSelector())
         workings = [stack.enter_context(Working()) for _ in range(share.of)]
         for which, working in enumerate(workings):
@@ -95,14 +95,14 @@ def play_all(exploring: Exploring, share: Share, tell: Callable[[], None]) -> No
 
 
 def _keep(exploring: Exploring, best: dict[Key, Best]) -> None:
-    """Plays the simplest schedule of each finding again."""
+    """Runs the simplest schedule of each finding again."""
     exploring.found.clear()
     for key, one in sorted(best.items(), key=lambda item: item[1].first):
         exploring.keep(key, one.schedule)
 
 
 class Working:
-    """A process that plays a share, until it is left."""
+    """A process that runs a share, until it is dropped."""
 
     def __init__(self) -> None:
         words = [sys.executable, "-c", CODE]
@@ -113,7 +113,7 @@ class Working:
         self.has_told_all = False
 
     def give(self, share: Share) -> None:
-        """Gives it its share, when all have been started."""
+        """Sends the process its share, after all have been started."""
         self.share = share
         with suppress(BrokenPipeError), self.given as to:
             to.write(pickle.dumps(share))
@@ -146,7 +146,7 @@ class Working:
         self.process.wait()
 
 
-# ---- in such a process
+# ---- in the worker process
 
 
 def work() -> None:
@@ -159,7 +159,7 @@ def work() -> None:
 
 
 def tell_of(share: Share, to: IO[bytes]) -> None:
-    """Plays a share, and tells what is found."""
+    """Runs a share, and reports the findings."""
     exploring = Exploring(share.script, share.lines.words)
     following = time.monotonic() + SECONDS
     best: dict[Key, Best] = {}
@@ -171,7 +171,7 @@ def tell_of(share: Share, to: IO[bytes]) -> None:
 
 
 def _say(to: IO[bytes], exploring: Exploring, best: dict[Key, Best], is_all: bool) -> None:
-    """Tells what was found since."""
+    """Reports the findings since the last report."""
     told = Told(is_all, exploring.played, exploring.left, exploring.seed, dict(exploring.times), dict(best))
     data = pickle.dumps(told)
     to.write(len(data).to_bytes(LENGTH, "big") + data)

@@ -1,5 +1,5 @@
-"""The breaks at places of the program. They are nrdb's own, and take none of netrev's marks: a move that netrev makes past one goes
-back to it."""
+"""The breaks at places of the program. They are nrdb's own, and use none of netrev's marks: after a move of netrev
+past one, nrdb goes back to it."""
 
 import re
 from bisect import bisect_left, bisect_right
@@ -9,7 +9,7 @@ from typing import Callable, Optional
 from ..recording import Recording
 from .index import Place, is_place
 
-LETTER = "p"  # before the numbers of such breaks, which netrev's have none of
+LETTER = "p"  # the prefix of their numbers, which netrev's don't have
 NUMBER = re.compile(rf"{LETTER}\d+")
 
 
@@ -22,7 +22,7 @@ class Break:
     is_temporary: bool
 
     def words(self) -> str:
-        """It as `info breakpoints` has it."""
+        """The break as `info breakpoints` prints it."""
         once = ", once" if self.is_temporary else ""
         return f"{self.number} at {self.place.spelled}: {len(self.place.positions)} of the recording's positions{once}"
 
@@ -44,12 +44,12 @@ class Breaks:
         return made
 
     def nearest(self, position: int, forwards: bool) -> Optional[int]:
-        """The nearest position that way at which one of them stops."""
+        """The nearest position in that direction at which one of them stops."""
         near = [one for mark in self.standing.values() if (one := self._next(mark, position, forwards)) is not None]
         return (min if forwards else max)(near, default=None)
 
     def _next(self, mark: Break, position: int, forwards: bool) -> Optional[int]:
-        """The next position that way at which a break stops."""
+        """The next position in that direction at which a break stops."""
         near = beyond(mark.place, position, forwards)
         while near is not None and not self.is_met(mark.number, near):
             near = beyond(mark.place, near, forwards)
@@ -70,7 +70,7 @@ class Breaks:
 
 
 def names_a_place(recording: Optional[Recording], words: list[str]) -> bool:
-    """Whether a command of netrev's names a place of the program, or a break at one, or all marks: then nrdb answers."""
+    """Whether a command of netrev names a place of the program, or a break at one, or all marks: then nrdb answers."""
     name, *rest = words
     if name in ("break", "tbreak"):
         return is_place(recording, rest)
@@ -78,7 +78,7 @@ def names_a_place(recording: Optional[Recording], words: list[str]) -> bool:
 
 
 def beyond(place: Place, position: int, forwards: bool) -> Optional[int]:
-    """The first position of a place that way from a position."""
+    """The first position of a place in that direction from a position."""
     rows = place.positions
     at = bisect_right(rows, position) if forwards else bisect_left(rows, position) - 1
     return rows[at] if 0 <= at < len(rows) else None

@@ -14,7 +14,7 @@ from ..where import Call, Stack
 OF_A_LINE = re.compile(r"(.+):(\d{1,9})\Z")
 Key = TypeVar("Key", bound=Hashable)
 POINTER = re.compile(r"\(\*([^()]*)\)")  # a pointer receiver
-MOST_NEAR = 5  # lines that are named where none is meant
+MOST_NEAR = 5  # lines that are named if the requested one has no step
 
 
 class Place(NamedTuple):
@@ -40,7 +40,7 @@ class Places:
         return Place(spelled, positions) if positions else None
 
     def lines_of(self, is_meant: Callable[[str], bool]) -> dict[int, list[int]]:
-        """Of each line of the files that are meant the positions at which a goroutine comes there."""
+        """For each line of the named files, the positions at which a goroutine comes there."""
         return self._positions(lambda stack: {call.line for call in stack.calls if is_meant(call.file)})
 
     def near(self, spelled: str) -> list[str]:

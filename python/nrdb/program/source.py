@@ -16,7 +16,7 @@ def source_of(file: str, beside: str) -> Path:
 
 
 def text_round(recording: Recording, path: Path, line: int) -> list[str]:
-    """The lines round that one, which is marked; and whether the file has changed since it was recorded."""
+    """The lines around that one, which is marked; and whether the file has changed since it was recorded."""
     lines = lines_of(path)
     if lines is None:
         return []

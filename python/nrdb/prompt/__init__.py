@@ -1,1 +1,1 @@
-"""The prompt: what nrdb answers to each of its commands, and the terminal that they are typed at."""
+"""The prompt: nrdb's answers to its commands, and the terminal."""

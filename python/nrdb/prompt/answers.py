@@ -29,7 +29,7 @@ UNITS = {"ns": 1, "us": 1_000, "ms": 1_000_000, "s": 1_000_000_000}
 
 
 def taken_number(name: str, words: list[str]) -> int:
-    """The one number that a command takes."""
+    """The number that is a command's only argument."""
     number = number_of(words[0]) if len(words) == 1 else None
     if number is None:
         raise Misused(messages.NUMBER.format(usage=usage(name)))
@@ -141,7 +141,8 @@ def answer_goto(session: Session, words: list[str]) -> None:
 
 
 def taken_position(session: Session, words: list[str]) -> int:
-    """The position that `goto` names: a number, the start, the end, or the last one at which the clock isn't after a time."""
+    """The position that `goto` names: a number, the start, the end, or the last one at which the clock isn't past a
+    time."""
     word = words[0] if len(words) == 1 else ""
     if word in ("start", "end"):
         return session.length if word == "end" else 0
@@ -154,7 +155,7 @@ def taken_position(session: Session, words: list[str]) -> int:
 
 
 def taken_conditions(name: str, words: list[str]) -> dict[str, str]:
-    """The cells that the words name, each with the value that it is to have."""
+    """The cells that the words name, each with the required value."""
     cell, rest = taken_cell(name, words)
     ends = (
         at for at, word in enumerate(rest) if word in ("&&", "and") and rest[at + 1 : at + 2] and rest[at + 1] in CELLS

@@ -1,4 +1,4 @@
-"""What nrdb answers of calls and of what happened here, a function for each of its commands, as in `answers.py`."""
+"""Answers about calls and about what happened here, a function for each command, as in `answers.py`."""
 
 from typing import Optional
 
@@ -24,12 +24,12 @@ from ..shapes import MOVED, move_of
 
 
 def usage(name: str) -> str:
-    """How a command is called."""
+    """The usage of a command."""
     return f"{COMMANDS[name].usage}: {COMMANDS[name].says}"
 
 
 def taken_most(name: str, words: list[str]) -> Optional[int]:
-    """How many rows at most: those that are shown by itself, a number from 1, or all, which is None."""
+    """The most rows: the default, a number from 1, or all, which is None."""
     most = None if words == ["all"] else number_of(words[0]) if len(words) == 1 else MOST
     if len(words) > 1 or most == 0 or (most is None and words != ["all"]):
         is_topic = name not in COMMANDS
@@ -98,7 +98,8 @@ def answer_commands(session: Session, words: list[str]) -> None:
 
 
 def answer_condition(session: Session, words: list[str]) -> None:
-    """Gives a mark a condition, or takes it away. Without a number it is the mark that was set last, as `save breakpoints` writes it."""
+    """Gives a mark a condition, or removes it. Without a number it is the mark that was set last, as `save
+    breakpoints` writes it."""
     marks = {mark.number: mark.sort for mark in session.netrev.marks()}
     standing = [*marks, *session.breaks.standing]
     is_named = bool(words) and words[0] in standing

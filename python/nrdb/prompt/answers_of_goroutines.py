@@ -1,5 +1,5 @@
-"""Commands about the session's position and one goroutine: `goroutine N` shows its stack and the source, which `where`, `frame`,
-`up` and `down` use then."""
+"""Commands about the session's position and one goroutine: `goroutine N` shows its stack and the source, which
+`where`, `frame`, `up` and `down` use afterwards."""
 
 from typing import Optional
 
@@ -54,7 +54,7 @@ def named(words: list[str]) -> Optional[Name]:
 
 
 def of_step(session: Session, position: int) -> Optional[Name]:
-    """The goroutine of the last step that one made."""
+    """The goroutine of the last step that a goroutine made."""
     if not position:
         return None
     maker = session.text().step(position).argument("g")

@@ -27,7 +27,7 @@ def place_of(session: Session, spelled: str) -> Place:
 
 
 def of_place(name: str, otherwise: Answering) -> Answering:
-    """The answer of a command that takes a place too."""
+    """The answer of a command that also accepts a place."""
 
     def answer(session: Session, words: list[str]) -> Optional[bool]:
         return (OF_PLACES[name] if is_place(session.recording, words) else otherwise)(session, words)
@@ -54,7 +54,7 @@ def answer_delete(session: Session, words: list[str]) -> None:
 
 
 def delete_all(session: Session) -> None:
-    """Deletes netrev's marks and the breaks at places of the program, and says which they were."""
+    """Deletes netrev's marks and the breaks at places of the program, and lists them."""
     gone = []
     for mark in session.netrev.marks():
         if not session.ask(f"delete {mark.number}").startswith("fault"):
@@ -97,7 +97,7 @@ def row_of(recording: Recording, position: int) -> Row:
 
 
 def answer_list(session: Session, words: list[str]) -> None:
-    """The source around a line, or around the first line of a function that the recording has."""
+    """The source around a line, or around the first recorded line of a function."""
     if found := OF_A_LINE.fullmatch(words[0]):
         return show_source(session, found[1], int(found[2]))
     calls = [call for call in calls_of(session.text()) if is_function(call, words[0])]
@@ -128,7 +128,7 @@ def stack_at(session: Session) -> Stack:
 
 
 def frame_by(move: int) -> Answering:
-    """The answer of `frame [N]`, `up` and `down`: a call of the stack, and the source round it."""
+    """The answer of `frame [N]`, `up` and `down`: a call of the stack, and the source around it."""
 
     def answer(session: Session, words: list[str]) -> None:
         stack = stack_at(session)
@@ -152,7 +152,7 @@ def own_frame(stack: Stack) -> int:
 
 
 def show_frame(session: Session, stack: Stack, wanted: Optional[int]) -> None:
-    """Chooses a frame, the program's own if none is named, and shows it with the source round it."""
+    """Chooses a frame, the program's own by default, and shows it with the source around it."""
     session.frame = own_frame(stack) if wanted is None else wanted
     call = stack.calls[session.frame]
     session.printer.note(f"frame {session.frame}: {call.function} at {call.place()}")

@@ -1,4 +1,4 @@
-"""What a word at the prompt can be completed to: commands, topics, kinds, cells, and the numbers that are in use."""
+"""The completions of a word at the prompt: commands, topics, kinds, cells, and numbers in use."""
 
 from typing import Callable, Optional
 
@@ -23,8 +23,8 @@ VALUES = {"gor": STATUSES, "rg": ["nil", "ready", "wait"], "wg": ["nil", "ready"
 
 
 def completions(line: str, session: Session) -> list[str]:
-    """The completions of the last word of a line, which may have other commands before it, separated by `;`. While netrev answers,
-    it can't be asked."""
+    """The completions of the last word of a line, which may have other commands before it, separated by `;`. While
+    netrev answers, no numbers are offered."""
     words = line.rpartition(";")[2].split(" ")
     *before, last = words
     found = candidates(

@@ -1,4 +1,5 @@
-"""The pager: if the output is longer than the screen, it waits for a key, as GDB does. `pagination off` turns it off."""
+"""The pager: if the output is longer than the screen, it waits for a key, as GDB does. `pagination off` turns it
+off."""
 
 import io
 import os
@@ -6,12 +7,12 @@ import signal
 from typing import Callable, TextIO
 
 MORE = "--return for more, q to leave out the rest, c to go on without stopping--"
-LEAST = 4  # lines of a screen that is worth stopping at
+LEAST = 4  # lines of the smallest screen at which the pager stops
 
 
 class Paged(io.TextIOBase):
-    """Writes to a terminal, a screen at a time. Text that is skipped is skipped up to the next answer: nothing that is
-    in progress is stopped by it."""
+    """Writes to a terminal, one screen at a time. `q` skips the rest of an answer, but doesn't stop the work that
+    is in progress."""
 
     def __init__(self, out: TextIO, answer: Callable[[], str], is_on: Callable[[], bool]):
         self._out, self._answer, self._is_on = out, answer, is_on
@@ -39,7 +40,7 @@ class Paged(io.TextIOBase):
             self._lines += 1 + max(len(line) - 2, 0) // max(columns, 1)
 
     def _ask(self) -> None:
-        """Waits for a word. Ctrl-C says q."""
+        """Waits for a key. Ctrl-C counts as q."""
         self._out.flush()
         before = signal.signal(signal.SIGINT, signal.default_int_handler)
         try:

@@ -22,7 +22,7 @@ def answer_save(session: Session, words: list[str]) -> None:
 
 
 def lines_of_marks(session: Session) -> Iterator[str]:
-    """The lines that set them."""
+    """The lines that set the marks again."""
     for mark in session.netrev.marks():
         yield f"{mark.sort} {mark.what}"
         yield from condition_line(session, mark.number)

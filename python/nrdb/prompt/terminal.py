@@ -1,4 +1,4 @@
-"""The prompt: line editing, a history that is kept in a file, completion, and an empty line that repeats a step."""
+"""The prompt: line editing, a history file, completion, and an empty line that repeats a step."""
 
 import os
 import sys
@@ -21,7 +21,7 @@ from ..shapes import Strange
 
 try:
     import readline
-except ImportError:  # a Python without it has no line editing
+except ImportError:  # a Python without readline has no line editing
     readline = None  # type: ignore[assignment]
 
 PROMPT, TAKING = "(netrev) ", "> "  # the second for the lines of `commands`
@@ -36,7 +36,7 @@ def history_file() -> Path:
 
 
 class Terminal:
-    """Reads lines from a person, until one ends the session."""
+    """The history file: NETREV_HISTORY, or .netrev_history in the home folder."""
 
     def __init__(self, session: Session):
         self.session = session
@@ -57,7 +57,7 @@ class Terminal:
             self._save()
 
     def _open(self) -> None:
-        """Prints what failed or hangs in the whole recording, at whatever position."""
+        """Prints what failed or hangs in the whole recording, at any position."""
         recording = self.session.recording
         if recording is None or recording.length > MOST_STEPS:
             return
@@ -67,7 +67,7 @@ class Terminal:
             with self.session.interrupts.held():
                 lines = opening_words(recording)
         except (Interrupted, Lost, Mismatched, NoRecording, Strange):
-            return  # (a command that needs it says why)
+            return  # (a command that needs them reports the reason)
         if lines:
             self.session.printer.note("\n".join(lines))
 

@@ -1,5 +1,6 @@
-"""A recording's steps with what they name: a goroutine and a socket by its number, a descriptor by its use, since its number is
-used again, and a timer by the use and the side that it is for. So a step keeps its meaning if others are left out."""
+"""A recording's steps with the objects that they name: a goroutine and a socket by number, a descriptor by its use,
+because its number is reused, and a timer by the use and the side. So a step keeps its meaning if other steps are
+removed."""
 
 from functools import partial
 from typing import Any, NamedTuple, Optional
@@ -12,7 +13,7 @@ from ..recording import Recording
 from ..timers import timers_of
 
 Timer = tuple[int, str]  # the use of a descriptor, and the side
-NUMBERED = ("spawn", "sockopen", "pollopen")  # whose answer is the number of what is made
+NUMBERED = ("spawn", "sockopen", "pollopen")  # kinds whose answer is the number of a new object
 
 
 class Event(NamedTuple):
@@ -27,13 +28,13 @@ class Event(NamedTuple):
     behind: int = 0
 
     def named(self, form: str) -> Optional[int]:
-        """The goroutine, socket or use that it names."""
+        """The goroutine, socket or use that an event names."""
         forms = KINDS[self.kind].arguments
         return self.arguments[forms.index(form)] if form in forms else None
 
 
 class Rest(NamedTuple):
-    """For the goroutine of a step, after it: whether it is idle or gone, and how many references it holds."""
+    """The state of a step's goroutine after it: whether it is idle or gone, and how many references it holds."""
 
     is_at_rest: bool
     holds: int
@@ -48,13 +49,13 @@ class Use(NamedTuple):
 
 
 class Events:
-    """The events of a recording, which has to have answers."""
+    """The events of a recording, which must have answers."""
 
     def __init__(self, recording: Recording) -> None:
         self.all: list[Event] = []
         self.rests: list[Rest] = []
         self.uses: list[Use] = []
-        self._of: dict[int, int] = {}  # of each descriptor its last use
+        self._of: dict[int, int] = {}  # the last use of each descriptor
         self._firings: list[Timer] = []
         notes = Notes(recording, {kind: partial(self._rests, kind) for kind in KINDS})
         timers = timers_of(recording)
@@ -71,14 +72,14 @@ class Events:
         return found[-1] if found else None
 
     def socket_of(self, event: Event) -> Optional[int]:
-        """The socket that an event is about, by itself or by its descriptor or timer."""
+        """The socket of an event, named by itself or by its descriptor or timer."""
         if (socket := event.named("s")) is not None:
             return socket
         use = event.timer[0] if event.timer else event.named("d")
         return None if use is None else self.uses[use].socket
 
     def _rests(self, kind: str, notes: Notes, *arguments: Any) -> Look:
-        """The function that stores what is needed about the goroutine of a step."""
+        """The function that stores the facts about the goroutine of a step."""
         if kind not in OF_A_GOROUTINE:
             return lambda step: self.rests.append(Rest(True, 0))
         goroutine = notes.goroutine(arguments[0])

@@ -1,5 +1,5 @@
-"""A report in Markdown of a recording in which no rule finds a suspect: what all wait for, or why calls failed, the tree of those that wait, and
-the stacks and calls of those that it is about. Nothing is left out of the recording."""
+"""A report in Markdown of a recording without suspects: what all goroutines wait for, or why calls failed, the tree
+of the goroutines that wait, and their stacks and calls. The recording isn't reduced."""
 
 from pathlib import Path
 from typing import NamedTuple, Optional
@@ -23,12 +23,12 @@ from ..where import OF_THE_PROGRAM, stack_lines
 from .report import code, shell_words, shown
 from .writing import answered_by
 
-MOST_DRAWN = 2_000  # steps of a recording that is drawn
+MOST_DRAWN = 2_000  # steps of the longest recording that is drawn
 MOST_GOROUTINES, MOST_CALLS = 4, 5
 
 
 class Story(NamedTuple):
-    """What a report is about: its title, sentences, the tree, the goroutines, and what to type next."""
+    """The contents of a report: its title, sentences, the tree, the goroutines, and the command to type next."""
 
     title: str
     says: list[str]
@@ -62,7 +62,7 @@ def story_of(session: Session) -> Optional[Story]:
 
 
 def hang_report(session: Session, story: Story, picture: Path) -> tuple[str, str]:
-    """The report, and its picture; an empty one if the recording is long."""
+    """The report, and its picture; no picture if the recording is long."""
     recording, file = session.text(), file_word(Path(session.path).name)
     _, checked = answered_by(session.program, "check", recording.data)
     drawn = drawing(recording, next(causes_data(recording), None)) if recording.length <= MOST_DRAWN else ""

@@ -1,5 +1,5 @@
 """Replays some of a recording's units with the machine's model, each step with new numbers. A unit with a step that
-doesn't apply, or answers differently, is omitted too."""
+doesn't apply, or answers differently, is removed too."""
 
 from bisect import bisect_left
 from typing import Any, Callable, Iterable, Optional
@@ -13,7 +13,7 @@ from .events import NUMBERED, Event, Events, Timer
 from .units import Needs, Unit
 
 MADE = {"spawn": "g", "sockopen": "s", "pollopen": "d"}
-COPIES = 2_000  # worlds that are kept, to go back to
+COPIES = 2_000  # copies of the world to return to
 DONE = ("done",)
 
 Step = tuple[Any, ...]
@@ -27,7 +27,7 @@ class Player:
         self.needs = Needs(events, units)
         self.owner = {place: at for at, unit in enumerate(units) for place in unit.events}
         self.played = 0  # steps in all
-        self.chosen: list[int] = []  # the events that are played
+        self.chosen: list[int] = []  # the events that were replayed
         self.steps: list[tuple[Step, Answer]] = []
         self.numbers: dict[str, dict[int, int]] = {"g": {0: 0}, "s": {}, "d": {}}
         self.firings: list[Timer] = []
@@ -38,7 +38,7 @@ class Player:
         self.world = World(limits)
 
     def _identities(self) -> dict[int, int]:
-        """Of each event that makes something, which goroutine, socket or use that is."""
+        """For each event that makes an object, the goroutine, socket or use."""
         counts = {"spawn": 1, "sockopen": 0, "pollopen": 0}
         found = {}
         for place, event in enumerate(self.events.all):
@@ -48,7 +48,7 @@ class Player:
         return found
 
     def settle(self, kept: Iterable[int]) -> set[int]:
-        """Plays these units, and of them leaves out those that no longer go; those that are played."""
+        """Replays these units without those that no longer apply; returns the replayed ones."""
         left = set(kept)
         wanted = sorted(place for unit in left for place in self.units[unit].events)
         at = self._common(wanted)
@@ -71,7 +71,7 @@ class Player:
         return left
 
     def _common(self, wanted: list[int]) -> int:
-        """How many events at the beginning are those that are played."""
+        """The number of first events that were replayed already."""
         at = 0
         for one, other in zip(self.chosen, wanted):
             if one != other:

@@ -1,4 +1,4 @@
-"""Reduces the recording of a session to what still shows a target, and says what was left out."""
+"""Reduces the recording of a session to what still shows a target, and reports what was removed."""
 
 from collections import Counter
 from fnmatch import fnmatchcase
@@ -33,8 +33,8 @@ class Wanted(NamedTuple):
 
 
 class Reduced(NamedTuple):
-    """A reduced recording: its steps' numbers in the recording, how many units of each sort were left out, and whether more
-    might have been."""
+    """A reduced recording: its steps' numbers in the recording, how many units of each sort were removed, and
+    whether more might have been."""
 
     path: str
     numbers: list[int]
@@ -42,7 +42,7 @@ class Reduced(NamedTuple):
     is_done: bool
 
     def words(self, steps: int) -> str:
-        """What it is, and what was left out."""
+        """The size of the result, and what was removed, as text."""
         said = [f"{self.left_out[sort]} {sort.value[self.left_out[sort] != 1]}" for sort in Sort if self.left_out[sort]]
         left = f"left out {', '.join(said)}" if said else "nothing could be left out"
         more = "" if self.is_done else "; stopped early, so reduce what is left once more"
@@ -50,7 +50,7 @@ class Reduced(NamedTuple):
 
 
 class Reducing(NamedTuple):
-    """What is reduced: a recording and its file, netrev's program, and what looks whether Ctrl-C came."""
+    """The input of a reduction: a recording and its file, netrev's program, and the check for Ctrl-C."""
 
     recording: Recording
     path: str
@@ -59,7 +59,7 @@ class Reducing(NamedTuple):
 
 
 def reduced(session: Session, path: str, wanted: Wanted) -> Reduced:
-    """Writes the reduced recording to the path, with its NAME.where; Misused if the target doesn't show."""
+    """Writes the reduced recording to the path, with its NAME.where; raises Misused if the target doesn't show."""
     spare(path, session.path)
     return reduced_of(Reducing(session.text(), session.path, session.program, session.interrupts.check), path, wanted)
 
@@ -108,7 +108,7 @@ def _target(events: Events, recording: Recording, wanted: Wanted) -> Target:
 
 
 def wanted_by(session: Session, words: list[str]) -> Wanted:
-    """The target that the words after the file name."""
+    """The target that the words after the file name describe."""
     length = session.text().length
     if not words:
         return Wanted(1, "", "", length)
@@ -122,8 +122,8 @@ def wanted_by(session: Session, words: list[str]) -> Wanted:
 
 
 def _last_with(session: Session, cell: str, value: str) -> int:
-    """The session's position, if the cell has such a value there, else the last one of the recording at which it has. What isn't
-    there has none."""
+    """The session's position, if the cell has such a value there, else the last position at which it has. A missing
+    object has no value."""
     changes, length = session.changes(), session.text().length
 
     def is_wanted(shown: str) -> bool:

@@ -1,4 +1,4 @@
-"""A report in Markdown: what shows, what netrev answers, and the steps of the reduced recording side by side."""
+"""A report in Markdown: the target, netrev's answers, and the steps of the reduced recording side by side."""
 
 import re
 import shlex
@@ -24,22 +24,22 @@ from ..timeline.stories import suspects_data
 from .reduced import Reduced, Wanted
 from .writing import answered_by
 
-MEANS = re.compile(r"([\\`*_{}\[\]<>|#&~])")  # what Markdown takes for its own
+MEANS = re.compile(r"([\\`*_{}\[\]<>|#&~])")  # characters with a meaning in Markdown
 MOST_COLUMNS = 6
 
 
 def shown(text: str) -> str:
-    """Text of others as Markdown shows it."""
+    """Text from outside, escaped for Markdown."""
     return MEANS.sub(r"\\\1", plain(text))
 
 
 def shell_words(*words: str) -> str:
-    """A command line as its reader can type it."""
+    """A command line that its reader can type."""
     return plain(shlex.join(words))
 
 
 def code(text: str) -> str:
-    """Text as a span of code, between more backticks than it has in a row."""
+    """Text as a span of code, between more backticks than it contains in a row."""
     fence = "`" * (1 + max(map(len, re.findall("`+", text)), default=0))
     return f"{fence}{plain(text)}{fence}" if len(fence) == 1 else f"{fence} {plain(text)} {fence}"
 

@@ -1,5 +1,5 @@
-"""Leaves out units as long as the target shows: first all but those round it, then whole goroutines, sockets and runs of units,
-half of them at a time and then fewer."""
+"""Removes units as long as the target shows: first all but those near it, then whole goroutines, sockets and runs
+of units, half of them at a time and then fewer."""
 
 from typing import Iterable, Iterator, Optional
 
@@ -8,16 +8,16 @@ from .playing import Player
 from .targets import Target
 from .units import Sort, Unit
 
-WINDOWS = (64, 512, 4_096)  # steps round what happens
-MOST_PLAYED = 600_000  # steps, after which what is found counts
+WINDOWS = (64, 512, 4_096)  # steps around the target
+MOST_PLAYED = 600_000  # replayed steps after which the best result counts
 
 
 class NotReproduced(Exception):
-    """The target doesn't show although the whole recording is played."""
+    """The target doesn't show even if the whole recording is replayed."""
 
 
 class Shrinking:
-    """The units that are kept, fewer and fewer."""
+    """The remaining units, which become fewer."""
 
     def __init__(self, player: Player, events: Events, units: list[Unit], target: Target) -> None:
         self.player, self.events, self.units, self.target = player, events, units, target
@@ -26,11 +26,11 @@ class Shrinking:
 
     @property
     def is_done(self) -> bool:
-        """Whether as many steps were played as may be."""
+        """Whether the budget of replayed steps is used up."""
         return self.player.played >= self._budget
 
     def run(self) -> set[int]:
-        """The units that remain: none of them can be left out, or the budget is used up."""
+        """The units that remain: none of them can be removed, or the budget is used up."""
         for candidate in self._beginnings():
             if (settled := self._showing(candidate)) is not None:
                 self.kept = settled
@@ -47,12 +47,13 @@ class Shrinking:
         return self.kept
 
     def _showing(self, candidate: Iterable[int]) -> Optional[set[int]]:
-        """What remains of these units after a replay, if the target still shows."""
+        """The units that remain after a replay, if the target still shows."""
         settled = self.player.settle(candidate)
         return settled if self.target.shows(self.player) else None
 
     def _thin(self, candidates: Iterable[int]) -> bool:
-        """Leaves out what it can of the candidates, the last ones first: all at once, then halves and so on. Whether any."""
+        """Removes as many candidates as possible, the last ones first: all at once, then halves and so on. Whether
+        any was removed."""
         left = sorted(candidates, key=lambda unit: self.units[unit].events[0], reverse=True)
         size, has_changed = len(left), False
         while size and not self.is_done:
@@ -80,8 +81,8 @@ class Shrinking:
         return found
 
     def _beginnings(self) -> Iterator[set[int]]:
-        """Units to begin with, few ones first: those of the target's socket and goroutine that are near what happens; all of
-        them; those of all goroutines that use the socket; and all that there are."""
+        """Sets of units to begin with, small ones first: those of the target's socket and goroutine that are near
+        the target; all of them; those of all goroutines that use the socket; and all units."""
         near = self._about({self.target.socket}, {self.target.goroutine})
         users = {event.named("g") for event in self.events.all if self.events.socket_of(event) == self.target.socket}
         wide = self._about({self.target.socket}, users)
@@ -94,7 +95,7 @@ class Shrinking:
         yield {unit for unit in range(len(self.units)) if self._is_before_end(unit)}
 
     def _about(self, sockets: set[Optional[int]], goroutines: set[Optional[int]]) -> set[int]:
-        """The units about these, and all ticks."""
+        """The units about these objects, and all ticks."""
         found = set()
         for place, event in enumerate(self.events.all):
             is_about = event.kind == "tick" or self.events.socket_of(event) in sockets - {None}
@@ -115,5 +116,5 @@ class Shrinking:
         }
 
     def _whole(self, units: set[int]) -> set[int]:
-        """The units with all that they need."""
+        """The units with all units that they need."""
         return self.player.needs.with_needed(units)

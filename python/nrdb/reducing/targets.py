@@ -1,4 +1,4 @@
-"""What still has to show in a reduced recording: a suspect, a cell with a value at the end, or some steps."""
+"""What must still show in a reduced recording: a suspect, a cell with a value at the end, or some steps."""
 
 from abc import ABC, abstractmethod
 from fnmatch import fnmatchcase
@@ -19,7 +19,7 @@ LETTER = {Of.GOROUTINE: "g", Of.SOCKET: "s", Of.DESCRIPTOR: "d"}
 
 
 class Target(ABC):
-    """What has to show: about which goroutine, socket and use, and at which steps it happens."""
+    """What must show, with its goroutine, socket and use, and the steps at which it happens."""
 
     goroutine: Optional[int] = None
     socket: Optional[int] = None
@@ -33,7 +33,7 @@ class Target(ABC):
 
 
 class SuspectTarget(Target):
-    """A suspect: the same rule about the same, of no less weight and no lower rank."""
+    """A suspect: the same rule about the same objects, of no less weight and no lower rank."""
 
     def __init__(self, events: Events, suspect: Suspect, rank: int) -> None:
         self.suspect, self.rank = suspect, rank
@@ -55,7 +55,7 @@ class SuspectTarget(Target):
 
 
 class CellTarget(Target):
-    """A cell that has a value after a step, the last one that is kept. Numbers in the value are those of the recording."""
+    """A cell that has a value after the last remaining step. Numbers in the value are those of the recording."""
 
     def __init__(self, events: Events, cell: str, wanted: str, position: int) -> None:
         name, *number = cell.split()
@@ -73,7 +73,7 @@ class CellTarget(Target):
 
     def shows(self, player: Player) -> bool:
         number = None
-        if self.which is None and self.of is not Of.ALL:  # a use of a descriptor that isn't made
+        if self.which is None and self.of is not Of.ALL:  # a use of a descriptor that doesn't exist
             return False
         if self.which is not None:
             number = player.numbers[LETTER[self.of]].get(self.which)
@@ -83,7 +83,7 @@ class CellTarget(Target):
         return fnmatchcase(value, self.wanted) or fnmatchcase(in_words(self.name, value), self.wanted)
 
     def _told(self, player: Player, value: str) -> str:
-        """A value with the numbers that the recording has."""
+        """A value with the recording's numbers."""
         if self.name in ("rg", "wg") and value.startswith("g"):
             return f"g{_back(player.numbers['g'], int(value[1:]))}"
         words = value.split()
@@ -97,7 +97,7 @@ class CellTarget(Target):
 
 
 class HangTarget(CellTarget):
-    """A goroutine that is parked at the end without a deadline, after some steps that must stay."""
+    """A goroutine that is parked at the end without a deadline, after some steps that must remain."""
 
     def __init__(self, events: Events, g: int, steps: Sequence[int], position: int) -> None:
         super().__init__(events, f"gor {g}", "parked *", position)
@@ -113,7 +113,7 @@ class HangTarget(CellTarget):
 
 
 class StepsTarget(Target):
-    """Steps that have to stay, as they answered: a call that fails, and what it fails by."""
+    """Steps that must remain with their answers: a call that fails, and the cause."""
 
     def __init__(self, events: Events, steps: Sequence[int]) -> None:
         self.steps, self.until = list(steps), len(events.all)
@@ -125,5 +125,5 @@ class StepsTarget(Target):
 
 
 def _back(numbers: dict[int, int], number: int) -> int:
-    """Which one has this number, the last where several had it."""
+    """The object with this number, the last one if several had it."""
     return max(which for which, its in numbers.items() if its == number)

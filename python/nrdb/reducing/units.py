@@ -1,5 +1,5 @@
-"""Units: steps that are left out together. A goroutine's call, from rest to rest; bytes that come or go, with their event; a
-timer that starts, with the run of its function; and each other step alone."""
+"""Units: steps that are removed together. A goroutine's call, from rest to rest; bytes that come or go, with their
+event; a timer that starts, with the run of its function; and each other step alone."""
 
 from enum import Enum
 from typing import Iterable, NamedTuple, Optional
@@ -13,7 +13,7 @@ SIDE_OF = {"arrive": "r", "peerclose": "r", "drain": "w"}
 
 
 class Sort(Enum):
-    """What a unit is, in words for one and for several."""
+    """The sorts of units, with a text for one and for several."""
 
     CALL = "call", "calls"
     GOROUTINE = "goroutine", "goroutines"
@@ -24,7 +24,7 @@ class Sort(Enum):
 
 
 class Unit(NamedTuple):
-    """The events that go together, by their places in the list of all, which rise."""
+    """Events that belong together, by their rising indices in the list of all events."""
 
     sort: Sort
     events: list[int]
@@ -61,10 +61,10 @@ def _frees(events: Events, calls: Optional[list[Unit]], event: Event) -> bool:
 
 
 def _others(events: Events) -> list[Unit]:
-    """The units of the network, of timers and of what is made."""
+    """The units of the network, of timers and of new objects."""
     units: list[Unit] = []
     came: dict[tuple[int, str], list[int]] = {}
-    firings: list[Unit] = []  # those that wait to be run, as the machine has them in a row
+    firings: list[Unit] = []  # the firings that wait to run, in the machine's order
     for place, event in enumerate(events.all):
         if event.kind in SIDE_OF:
             came.setdefault((event.arguments[0], SIDE_OF[event.kind]), []).append(place)
@@ -86,15 +86,15 @@ def _others(events: Events) -> list[Unit]:
 
 
 class Needs:
-    """Which units name what others make, so that they go with them."""
+    """The dependencies of units: a unit that names another's object depends on it."""
 
     def __init__(self, events: Events, units: list[Unit]) -> None:
         maker: dict[tuple[str, int], int] = {}
         counts = {"spawn": 1, "sockopen": 0, "pollopen": 0}
         forms = {"spawn": "g", "sockopen": "s", "pollopen": "d"}
         owner = {place: at for at, unit in enumerate(units) for place in unit.events}
-        self.by: list[set[int]] = [set() for _ in units]  # those that need a unit
-        self.of: list[set[int]] = [set() for _ in units]  # those that a unit needs
+        self.by: list[set[int]] = [set() for _ in units]  # units that need a unit
+        self.of: list[set[int]] = [set() for _ in units]  # units that a unit needs
         for place, event in enumerate(events.all):
             unit = owner[place]
             if event.kind in counts:
@@ -108,11 +108,11 @@ class Needs:
                     self.of[unit].add(made_by)
 
     def with_needed(self, units: Iterable[int]) -> set[int]:
-        """The units with all that they need."""
+        """The units with all units that they need."""
         return _closure(units, self.of)
 
     def with_needing(self, units: Iterable[int]) -> set[int]:
-        """The units with all that need them."""
+        """The units with all units that need them."""
         return _closure(units, self.by)
 
 

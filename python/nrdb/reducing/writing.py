@@ -20,7 +20,7 @@ from .playing import Player
 
 
 def answered_by(program: str, command: str, data: bytes) -> tuple[int, bytes]:
-    """netrev's exit status and what it prints, of `netrev COMMAND` on a file with these data."""
+    """netrev's exit status and output, of `netrev COMMAND` on a file with these data."""
     handle, path = tempfile.mkstemp(suffix=".jsonl")
     try:
         with open(handle, "wb") as file:
@@ -42,7 +42,7 @@ def taken(program: str, player: Player, has_answers: bool) -> bytes:
 
 
 def text_of(world: World, buf: int, steps: Sequence[tuple[Step, Answer]], has_answers: bool) -> bytes:
-    """The text of steps that led to this state. The limits are those that it needs."""
+    """The text of steps that led to this state, with the limits that it needs."""
     gor, sock, desc = (max(len(made), 1) for made in (world.goroutines, world.sockets, world.descs))
     limits = Limits(gor, sock, desc, buf)
     header = {"netrev": 2 if has_answers or _needs_answers(steps) else 1, **limits._asdict()}
@@ -52,7 +52,7 @@ def text_of(world: World, buf: int, steps: Sequence[tuple[Step, Answer]], has_an
 
 
 def _needs_answers(steps: Sequence[tuple[Step, Answer]]) -> bool:
-    """Whether a step exists that only recordings of version 2 have."""
+    """Whether a step occurs that only recordings of version 2 have."""
     return any(step[0] == "closewrite" for step, _ in steps)
 
 

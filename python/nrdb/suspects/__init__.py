@@ -1,3 +1,3 @@
-"""`info suspects`: what rules find in a whole recording that isn't as it should be, the worst first. The rules and what they
-reckon with are nrdb's own, unproved; beside each suspect stands what netrev printed: its own lines of it (`netrev suspects`), and its answers at
+"""`info suspects`: the findings of rules in a whole recording, the worst first. The rules and their facts are
+nrdb's own, unproved; each suspect comes with netrev's own lines about it (`netrev suspects`), and its answers at
 the positions in question."""

@@ -9,7 +9,7 @@ from .run import Run
 
 
 class Waiting(NamedTuple):
-    """A goroutine that is parked for reading, since which step, what lies there in words, and the step at which that came."""
+    """A goroutine that is parked for reading: since which step, what came as text, and the step at which that came."""
 
     goroutine: int
     use: Use
@@ -19,7 +19,7 @@ class Waiting(NamedTuple):
 
     @property
     def begins(self) -> str:
-        """It in words."""
+        """The beginning of a sentence about it."""
         return f"goroutine {self.goroutine} is parked for reading since step {self.since}, {self.lies}"
 
     @property
@@ -41,7 +41,7 @@ class Waiting(NamedTuple):
 
 
 def waiting_for_what_came(run: Run) -> Iterator[Waiting]:
-    """All of them."""
+    """All goroutines that wait for something that has come."""
     notes = run.notes
     for g, (d, side) in run.statuses("parked"):
         use = notes.use_of[int(d)]

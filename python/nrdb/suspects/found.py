@@ -6,9 +6,9 @@ from typing import NamedTuple, Optional
 
 
 class Weight(IntEnum):
-    """How much speaks for a suspect. Those below SHOWN are counted and not shown."""
+    """The weight of a suspect. Suspects below SHOWN are counted and not shown."""
 
-    CERTAIN = 95  # someone hangs or leaks for it, and nothing else explains that
+    CERTAIN = 95  # a goroutine hangs or a reference leaks because of it, and nothing else explains that
     STRONG = 85
     LIKELY = 60
     POSSIBLE = 40
@@ -38,15 +38,15 @@ class Suspect:
     goroutine: Optional[int] = None
     descriptor: Optional[int] = None
     socket: Optional[int] = None
-    listed: list[str] = field(default_factory=list)  # the lines of `netrev suspects` that say so
+    listed: list[str] = field(default_factory=list)  # the lines of `netrev suspects` about it
     evidence: list[Evidence] = field(default_factory=list)
     looks: list[str] = field(default_factory=list)
-    steps: list[int] = field(default_factory=list)  # those that it tells of, in the order of the story
-    rule: str = ""  # by the name that it is shown under
+    steps: list[int] = field(default_factory=list)  # the steps that it names, in the order of events
+    rule: str = ""  # by the rule's name
 
     @property
     def is_shown(self) -> bool:
-        """Whether enough speaks for it."""
+        """Whether its weight is enough to be shown."""
         return self.weight >= Weight.SHOWN
 
     @property

@@ -1,4 +1,4 @@
-"""What is kept in the end: references that their holders don't give up, since they are gone, have stopped, or have gone on."""
+"""References that are still held at the end: their holders are gone, have stopped, or have gone on to other work."""
 
 from typing import Iterator, NamedTuple
 
@@ -9,12 +9,12 @@ from ..words import SIDES as NAMES
 from .found import Evidence, Suspect, Weight
 from .run import TWICE, Run
 
-BRIEF = 20  # a reference that is held for so few steps says nothing
+BRIEF = 20  # a reference that was held for so few steps proves nothing
 
 
 class Kept(NamedTuple):
-    """A reference of a socket that is held in the end: whether its holder is gone, or idle, how long that has paused for too long, and
-    for how long it is held for too long."""
+    """A reference of a socket that is held at the end: whether its holder is gone or idle, how long it has paused
+    if that is too long, and how long it has held the reference if that is too long."""
 
     socket: int
     hold: Hold
@@ -23,7 +23,7 @@ class Kept(NamedTuple):
     age: str
 
     def is_unevicted(self, run: Run) -> bool:
-        """Whether it is of a close that hasn't evicted its descriptor."""
+        """Whether it belongs to a close that hasn't evicted its descriptor."""
         is_of_close = self.hold.kind == "increfclose" and self.socket not in run.notes.evicted
         return not self.is_gone and is_of_close and bool(self.pause or self.age)
 
@@ -50,7 +50,7 @@ class Kept(NamedTuple):
 
 
 def kept(run: Run) -> Iterator[Kept]:
-    """All of them. A goroutine that sleeps for a lock is reported by another rule."""
+    """All references that are held at the end. A goroutine that sleeps for a lock is reported by another rule."""
     asleep = {(int(s), side) for _, (s, side) in run.statuses("queued")}
     for s in sorted(run.notes.holds):
         for hold in run.notes.holds[s]:

@@ -1,4 +1,5 @@
-"""The rules, found by looking into their folders. A module's docstring is `Name: definition`, and `rule` finds what is like that."""
+"""Loads the rules from their folders. A module's docstring is `Name: definition`, and its `rule` returns the
+suspects."""
 
 from importlib import import_module
 from pkgutil import iter_modules
@@ -11,14 +12,14 @@ from .run import Run
 
 
 class Rule(NamedTuple):
-    """A rule: the name that it is shown under, its definition, and what finds such suspects."""
+    """A rule: its name, its definition, and the function that finds its suspects."""
 
     name: str
     definition: str
     find: Callable[[Run], Iterator[Suspect]]
 
     def suspects(self, run: Run) -> Iterator[Suspect]:
-        """What it finds in a run."""
+        """The suspects that the rule finds in a run."""
         for suspect in self.find(run):
             suspect.rule = self.name
             yield suspect

@@ -19,13 +19,13 @@ class Ranked(NamedTuple):
 
 
 def suspects_of(recording: Recording) -> Ranked:
-    """What the rules find that look at cells: all but those of calls."""
+    """The suspects of the rules about cells, which are all but those about calls."""
     prepare(recording)
     return by_cells(Run(Notes(recording)))
 
 
 def all_suspects_of(recording: Recording) -> Ranked:
-    """What all rules find: those of calls come last."""
+    """The suspects of all rules; those about calls come last."""
     prepare(recording)
     run = Run(book_of(recording).notes)
     ranked = by_cells(run)
@@ -33,7 +33,7 @@ def all_suspects_of(recording: Recording) -> Ranked:
 
 
 def prepare(recording: Recording) -> None:
-    """Starts netrev's own list, if netrev is asked for one."""
+    """Starts netrev's own list, if it is used."""
     if recording.suspects:
         recording.suspects.prepare()
 
@@ -43,12 +43,12 @@ def by_cells(run: Run) -> Ranked:
 
 
 def found(rules: Iterable[Rule], run: Run) -> list[Suspect]:
-    """What rules find in a run."""
+    """The suspects that rules find in a run."""
     return [suspect for rule in rules for suspect in rule.suspects(run)]
 
 
 def one_of_each(suspects: list[Suspect]) -> list[Suspect]:
-    """Of those that have one subject the worst, which says how many are like it; the worst of all first."""
+    """The worst suspect of each subject, with the number of others like it; the worst of all first."""
     kept: dict[tuple[object, ...], list[Suspect]] = {}
     for suspect in sorted(suspects, key=lambda one: (-one.weight, one.step)):
         kept.setdefault(suspect.subject, []).append(suspect)

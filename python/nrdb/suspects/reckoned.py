@@ -1,5 +1,6 @@
-"""The facts of `netrev suspects` by nrdb's own notes: of steps that are only played (`explore`, `reduce`), and with an older netrev. They have no
-lines. (Of references and of what was taken back the rules have all that they need in the notes.)"""
+"""The facts of `netrev suspects` from nrdb's own notes, for candidates of `explore` and `reduce`, and for an older
+netrev. They have no lines of netrev. (For references and deadlines that were taken back the rules use the notes
+themselves.)"""
 
 from typing import Iterator, Optional
 
@@ -10,7 +11,7 @@ from ..suspect_list import Listed, LostWakeUp, OfDeadline
 
 
 def by_the_notes(notes: Notes) -> Listed:
-    """All of them."""
+    """All facts."""
     facts = Listed()
     facts.lost_wake_ups += lost_wake_ups(notes)
     facts.passed_deadlines += passed_deadlines(notes)

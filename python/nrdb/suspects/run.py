@@ -1,4 +1,5 @@
-"""What rules look at: a recording's changes, the notes beside them, and Go's calls; with what several rules ask of these."""
+"""A recorded run for the rules: a recording's changes, notes and Go's calls, with the facts that several rules
+need."""
 
 from bisect import bisect_right
 from collections import defaultdict
@@ -16,13 +17,13 @@ from ..notes import Notes
 from ..suspect_list import Listed
 from .reckoned import by_the_notes
 
-SIDES = {"Read": "r", "Write": "w"}  # of the calls that a deadline ends
-SHORT = 10  # a pause of so few steps says nothing, however long others were
-TWICE = 2  # longer than the longest that ended, by which a pause or a hold is too long
+SIDES = {"Read": "r", "Write": "w"}  # for calls that a deadline ends
+SHORT = 10  # a pause of so few steps proves nothing, however long others were
+TWICE = 2  # the factor over the longest ended pause or hold from which on one is too long
 
 
 class Run:
-    """A recorded run, as rules look at it."""
+    """A recorded run, as the rules need it."""
 
     def __init__(self, notes: Notes) -> None:
         self.notes, self.changes, self.recording = notes, notes.changes, notes.recording
@@ -30,7 +31,7 @@ class Run:
 
     @cached_property
     def facts(self) -> Listed:
-        """The list of `netrev suspects`, or the same from the notes, if there is no netrev or only an older one."""
+        """The list of `netrev suspects`, or the same facts from the notes, if netrev is missing or older."""
         listed = self.recording.suspects.of(self.end) if self.recording.suspects else None
         return listed or by_the_notes(self.notes)
 
@@ -52,12 +53,12 @@ class Run:
         return uses
 
     def use_at(self, d: int, step: int) -> Use:
-        """The use of a descriptor that a step is of."""
+        """The use of a descriptor to which a step belongs."""
         uses = self._uses[d]
         return uses[bisect_right(uses, step, key=lambda use: use.opened) - 1]
 
     def number(self, cell: str, position: int) -> int:
-        """What a cell shows that holds a number."""
+        """The value of a cell that holds a number."""
         return int(self.changes.value(cell, position))
 
     def status(self, g: int, position: int) -> list[str]:

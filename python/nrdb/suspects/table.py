@@ -30,15 +30,15 @@ def shown_of(ranked: Ranked) -> list[Suspect]:
 
 
 def is_by_go(recording: Recording, timeout: Timeout) -> bool:
-    """Whether Go's own code ended a wait of its own by a deadline in the past, as net/http ends the read between two requests: for the
-    program that is no timeout."""
+    """Whether Go's own code ended a wait of its own by a deadline in the past, as net/http ends the read between
+    two requests: the program sees no timeout then."""
     calls = recording.lines.of(timeout.step).calls
     return timeout.passing.kind == "setdeadline" and bool(calls) and all(call.of == OF_GO for call in calls)
 
 
 def _rows(scout: Scout, recording: Recording, at: int, suspect: Suspect) -> list[Row]:
-    """A suspect's rows: its sentence, netrev's lines and answers, where these aren't what the rule expects, the program's lines, and the
-    command to type next. Only what netrev printed follows `netrev:`."""
+    """A suspect's rows: its sentence, netrev's lines and answers, a note if an answer isn't what the rule expects,
+    the program's lines, and the command to type next. Only netrev's output follows `netrev:`."""
     answers, doubts = _evidence(scout, suspect)
     evidence = [*suspect.listed, *answers]
     lines = _lines(recording, suspect)
@@ -79,7 +79,7 @@ def _lines(recording: Recording, suspect: Suspect) -> list[str]:
 
 
 def _rest(shown: int, others: int, timeouts: list[Timeout]) -> str:
-    """What else there is to say."""
+    """The remaining notes."""
     rest = [] if shown else ["no suspect"]
     if others:
         rest.append(f"{others} of little weight left out")

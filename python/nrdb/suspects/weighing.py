@@ -1,5 +1,5 @@
-"""The weight of a suspect by what became of its goroutine: whether it hangs because of it, a call ended because of it, or it is in
-a call of Go's own."""
+"""The weight of a suspect, from the fate of its goroutine: whether it hangs because of it, a call ended because of
+it, or it is in a call of Go's own."""
 
 from netrev_machine.machine import INSIDE
 
@@ -9,7 +9,7 @@ from .found import HANGS, STILL_THERE, TIMED_OUT, WENT_ON, Suspect, Weight
 from .run import Run
 
 METHODS = ("Read", "Pread", "ReadFrom", "ReadMsg", "Write", "Pwrite", "WriteTo", "WriteMsg", "Writev", "Accept")
-# Go's own calls that hold a lock over a system call, those that hold a reference alone, and those in which a function of the program's
+# Go's own calls that hold a lock over a system call, those that hold only a reference, and those in which a function of the program
 # runs meanwhile
 OF_GO = frozenset(
     (*(f"internal/poll.(*FD).{name}" for name in METHODS), "internal/poll.SendFile", "internal/poll.Splice")
@@ -19,20 +19,21 @@ CONTROLS = frozenset(
 )
 OF_THE_PROGRAM = frozenset(f"internal/poll.(*FD).Raw{name}" for name in ("Read", "Write", "Control"))
 ACCEPT = "internal/poll.(*FD).Accept"
-UNSHOWN = OF_THE_PROGRAM | {ACCEPT}  # those whose tries aren't in a recording, or not all
+UNSHOWN = OF_THE_PROGRAM | {ACCEPT}  # calls whose tries aren't in a recording, or not all
 
 
 def of_a_holder(run: Run, suspect: Suspect) -> Suspect:
-    """The weight by the holder of a lock or a reference: doubtful if Go's own call gives it back after its system call."""
+    """The weight from the holder of a lock or a reference: doubtful if Go's own call gives it back after its system
+    call."""
     if is_in_a_system_call(run, suspect):
         suspect.weight = Weight.DOUBTFUL
     return suspect
 
 
 def is_in_a_system_call(run: Run, suspect: Suspect) -> bool:
-    """Whether the recording ended while who holds a lock or a reference was in a call of Go's own, which gives it up behind its system call: by the
-    program's lines, it took the lock in that call and has left it at no step since. Where no lines are known, its last step was the
-    `pollreset`, behind which Go's own calls try."""
+    """Whether the recording ended while the holder of a lock or a reference was in a call of Go's own, which gives
+    it up after its system call: by the program's lines, the holder took the lock in that call and has not left
+    the call since. Without lines, its last step was the `pollreset`, after which Go's own calls try."""
     g, recording = suspect.goroutine, run.recording
     if g is None:
         return False
@@ -56,7 +57,8 @@ def is_accepting(recording: Recording, suspect: Suspect) -> bool:
 
 
 def is_without_tries(recording: Recording, suspect: Suspect) -> bool:
-    """Whether a goroutine waits in a call whose tries no step shows: a function of the program's makes them, or they are Accept's."""
+    """Whether a goroutine waits in a call whose tries no step shows: a function of the program makes them, or they
+    are Accept's."""
     return call_of_poll(recording, suspect.steps[-1]) in UNSHOWN
 
 
@@ -67,7 +69,7 @@ def call_of_poll(recording: Recording, step: int) -> str:
 
 
 def of_a_goroutine(run: Run, suspect: Suspect) -> Suspect:
-    """Of a goroutine that was woken for nothing, or not at all: whether it hangs for it."""
+    """For a goroutine that was woken for nothing, or not at all: whether it hangs because of that."""
     g, d = suspect.goroutine, suspect.descriptor
     if g is None or d is None:
         return suspect
@@ -94,7 +96,7 @@ def hangs(run: Run, g: int, d: int) -> str:
 
 
 def of_a_deadline(run: Run, passed: OfDeadline, suspect: Suspect) -> Suspect:
-    """Of a deadline that passed: whether a call ended with that timeout."""
+    """For a deadline that passed: whether a call ended with that timeout."""
     due = passed.descriptor, passed.side, passed.setting
     for timeout in run.facts.timeouts.values():
         if (timeout.descriptor, timeout.side, timeout.setting) == due:

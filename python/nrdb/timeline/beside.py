@@ -1,4 +1,5 @@
-"""What a trace has beside statuses and steps: Go's calls, the deadlines, the clock, and what went wrong, from where the recording begins."""
+"""The events of a trace besides statuses and steps: Go's calls, the deadlines, the clock, and what went wrong, from
+where the recording begins."""
 
 from itertools import chain
 from typing import Iterator
@@ -22,7 +23,7 @@ Changed = list[tuple[int, str]]  # the steps that change a cell, with its value 
 
 
 def beside(recording: Recording, changes: RecordedChanges, scout: Scout) -> Iterator[str]:
-    """All of it, each event as JSON."""
+    """All these events, each as JSON."""
     suspects, causes = stories_data(scout, recording)
     begins = begins_at(recording)
     changed = by_cell(searched(changes, DEADLINES_AND_CLOCK))
@@ -48,7 +49,7 @@ def call_events(recording: Recording) -> Iterator[str]:
             continue
         begin, until = max(call.first - 1, begins), call.last or recording.length + 1
         name, line = telling.of(call)
-        # (put together as text, as there may be some hundred thousand)
+        # (concatenated as text, because there may be hundreds of thousands)
         yield (
             f'{{"ph":"X","pid":{GOROUTINES},"tid":{call.goroutine},"ts":{begin},"dur":{until - begin},"name":{name},"cat":"call",'
             f'"args":{{"waited":{call.waited},"slept_ns":{call.slept},"line":{line}}}}}'
@@ -56,11 +57,11 @@ def call_events(recording: Recording) -> Iterator[str]:
 
 
 class Telling:
-    """Calls in words, as JSON; equal texts are stored once."""
+    """Calls as text, in JSON; equal texts are stored once."""
 
     def __init__(self, recording: Recording) -> None:
         self._recording = recording
-        self._names: dict[tuple[str, int], str] = {}  # of calls, by their stacks
+        self._names: dict[tuple[str, int], str] = {}  # lines of calls, by their stacks
         self._lines: dict[int, str] = {}  # of stacks
         self._texts: dict[str, str] = {}  # the name of a call with its result
 
@@ -110,7 +111,8 @@ def clock_events(ticks: Changed) -> Iterator[str]:
 
 
 def story_events(story: Data, begins: int = 0) -> Iterator[Event]:
-    """A mark through all rows at each step of a story, numbered. One before the recording's begin is at that."""
+    """A mark through all rows at each step of a story, numbered. A step before the recording's beginning is marked
+    there."""
     says = {"says": plain(story["says"]), "lines": [plain(line) for line in story["lines"]]}
     for number, step in enumerate(story["steps"], 1):
         step, name = max(step, begins), f"{number}. {story['rule']}"

@@ -17,13 +17,13 @@ from ..recording import Recording
 from ..where import OF_THE_PROGRAM, Stack
 from .runs import Window
 
-Data = dict[str, Any]  # what the page's script reads
+Data = dict[str, Any]  # the names that the page's script reads
 WRAPPER = re.compile(r"\.(gowrap|deferwrap)\d*$")
-DONE, FAILED, HANGS, OPEN, LISTENS = range(5)  # what is drawn of a call
+DONE, FAILED, HANGS, OPEN, LISTENS = range(5)  # the states of a drawn call
 
 
 class Texts(dict[str, int]):
-    """Texts, each once, by their places in the order in which they came."""
+    """Texts, each stored once, by their indices in the order in which they came."""
 
     def __missing__(self, text: str) -> int:
         number = self[text] = len(self)
@@ -31,7 +31,7 @@ class Texts(dict[str, int]):
 
 
 def state_of(index: Index, call: Call) -> int:
-    """Which of these a call is. An end by Go's own code is no failure of the program's."""
+    """The state of a call. A call that Go's own code ended didn't fail for the program."""
     if call.last:
         return FAILED if call.outcome.is_error and not is_by_go(index.recording, call) else DONE
     if index.is_listening(call):
@@ -50,7 +50,7 @@ WIDTHS = (
     ("H", 2, 2**16),
     ("I", 4, 2**32),
     ("d", 8, inf),
-)  # kinds of arrays, the bytes of a number, and the first one too great
+)  # kinds of arrays, the bytes of a number, and the first number that is too large
 COLUMNS = ("g", "s", "first", "long", "name", "came", "line", "state", "stack", "waited", "slept")
 
 
@@ -76,8 +76,8 @@ def calls_data(recording: Recording, window: Window) -> Data:
 
 
 def packed(column: list[int]) -> Any:
-    """A column of natural numbers as the page takes it: its one value, or the bytes of all in base64, with how many each has. Beyond 32 bits
-    they are numbers as the page's script has them, of 64 bits with a fraction."""
+    """A column of natural numbers for the page: its one value, or the bytes of all in base64, with the size of
+    each. Numbers beyond 32 bits are the script's floating-point numbers of 64 bits."""
     most = max(column)
     if most == min(column):
         return most
@@ -89,7 +89,7 @@ def packed(column: list[int]) -> Any:
 
 
 class Telling:
-    """The texts of calls beside their numbers: name, result, line and stack, each as an index of `texts`; and the state."""
+    """The texts of calls: name, result, line and stack, each as an index of `texts`; and the state."""
 
     def __init__(self, recording: Recording) -> None:
         self.texts = Texts({"": 0})
@@ -131,7 +131,7 @@ class Telling:
         return self._lines[stack]
 
     def _calls_of(self, stack: int) -> int:
-        """The place of the text of a stack's calls of the program."""
+        """The index of the text with a stack's calls of the program."""
         if stack not in self._stacks:
             self._stacks[stack] = self.texts[program_calls(self._recording.lines.stacks[stack])]
         return self._stacks[stack]
@@ -143,8 +143,8 @@ def program_calls(stack: Stack) -> str:
 
 
 def names_data(recording: Recording, window: Window) -> dict[int, str]:
-    """What each goroutine of the window runs: the outermost function of the program in any of its calls, otherwise the outermost
-    function."""
+    """The function that each goroutine of the window runs: the outermost function of the program in any of its
+    calls, otherwise the outermost function."""
     names: dict[int, str] = {}
     own: set[int] = set()
     for call in shown_calls(recording, window) if recording.lines else ():
@@ -158,7 +158,7 @@ def names_data(recording: Recording, window: Window) -> dict[int, str]:
 
 
 def runs_in(stack: Stack, of: Optional[str] = None) -> Optional[str]:
-    """The outermost function in a stack, or the outermost of the program, without what the compiler wraps a `go` or a
-    `defer` in."""
+    """The outermost function in a stack, or the outermost of the program, without the compiler's wrapper of a `go`
+    or a `defer`."""
     functions = (call.function for call in reversed(stack.calls) if of in (None, call.of))
     return next((one for one in functions if not WRAPPER.search(one)), None)

@@ -1,5 +1,6 @@
-"""The timeline's picture of a short recording as SVG, made without a browser: the calls on their connections, where goroutines sleep in them, the
-deadlines, and the numbered steps of a story. What it shows is the recording's steps, what each changed, and nrdb's reckoning."""
+"""The timeline's picture of a short recording as SVG, made without a browser: the calls on their connections, where
+goroutines sleep in them, the deadlines, and the numbered steps of a story. It shows the recording's steps, their
+changes, and nrdb's analysis."""
 
 import textwrap
 from html import escape
@@ -16,7 +17,7 @@ from .calls import DONE, FAILED, HANGS, LISTENS, OPEN, Data, names_data, state_o
 from .runs import Window
 from .story import Connections
 
-WIDE, LEFT, HIGH, EDGE = 1000, 190, 20, 24  # pixels: of all, of the labels, of a row, at the right
+WIDE, LEFT, HIGH, EDGE = 1000, 190, 20, 24  # pixels: of the picture, of the labels, of a row, and at the right
 LETTER = 6.1  # pixels of a letter, about
 LINE = 140  # letters of a line of the sentence
 CLASS = {DONE: "done", FAILED: "failed", HANGS: "hangs", OPEN: "open", LISTENS: "listens"}
@@ -43,7 +44,7 @@ def drawing(recording: Recording, story: Optional[Data]) -> str:
 
 
 class Drawing:
-    """A picture that is being drawn."""
+    """A picture in progress."""
 
     def __init__(self, recording: Recording, story: Optional[Data]) -> None:
         self._recording, self._story = recording, story
@@ -54,7 +55,7 @@ class Drawing:
         self._y = 0
 
     def text(self) -> str:
-        """All of it."""
+        """The whole picture."""
         says = f"{self._story['rule']}: {self._story['says']}" if self._story else f"{self._recording.length} steps"
         for at, line in enumerate(textwrap.wrap(plain(says), LINE)):
             self._write(12, 14 + 16 * at, line, "bad" if not at else "")
@@ -79,7 +80,7 @@ class Drawing:
         self._parts.append(f'<text x="{x}" y="{y}"{named}>{escape(plain(text))}</text>')
 
     def _bar(self, begin: float, end: float, y: float, high: float, kind: str) -> None:
-        wide = round(max(self._x(end) - self._x(begin) - 1, 1), 2)  # (two that follow one another stay two)
+        wide = round(max(self._x(end) - self._x(begin) - 1, 1), 2)  # (two adjacent ones stay separate)
         self._parts.append(f'<rect class="{kind}" x="{self._x(begin)}" y="{y}" width="{wide}" height="{high}"/>')
 
     def _ruler(self, y: int) -> None:
@@ -130,11 +131,11 @@ class Drawing:
         words = " · ".join(filter(None, (name_of(self._recording, call), came, line)))
         if shown := fitted(words, wide - 8):
             self._write(self._x(call.first - 1) + 4, self._y + HIGH / 2, shown, "on" if state == FAILED else "")
-        elif state in (HANGS, FAILED):  # (before the bar, which has no room for them)
+        elif state in (HANGS, FAILED):  # (before the bar, which is too short for them)
             self._write(self._x(call.first - 1) - 4, self._y + HIGH / 2, words, "before")
 
     def _sleeps(self, call: Call, end: int) -> Iterator[tuple[int, int]]:
-        """From which position to which its goroutine is parked or queued in a call."""
+        """The positions between which its goroutine is parked or queued in a call."""
         changes = self._changes.changes_of(f"gor {call.goroutine}")
         for (begin, status), (until, _) in zip(changes, [*changes[1:], (self._recording.length + 1, "")]):
             if status.startswith(("parked", "queued")) and call.first <= begin < end:
@@ -173,6 +174,6 @@ class Drawing:
 
 
 def fitted(text: str, wide: float) -> str:
-    """The beginning of a text that fits; empty if that is too short."""
+    """The beginning of a text that fits; empty if that would be too short."""
     letters = int(wide / LETTER)
     return text if len(text) <= letters else f"{text[: letters - 1]}…" if letters > 3 else ""

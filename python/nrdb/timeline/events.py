@@ -1,4 +1,4 @@
-"""Events of a trace, as Chrome and Perfetto read them."""
+"""Events of a trace, in the format of Chrome and Perfetto."""
 
 import json
 from typing import Any

@@ -57,7 +57,7 @@ def write_timeline(session: Session, path: str, first: Optional[int] = None, las
 
 
 def told_at_the_terminal(text: str) -> None:
-    """Says on a line of the terminal, which is written over, how far this is; nothing where errors go elsewhere."""
+    """Prints the progress on a line of the terminal, which is overwritten; nothing if errors go elsewhere."""
     if sys.stderr.isatty():
         sys.stderr.write(f"\r\x1b[K{text}")
         sys.stderr.flush()
@@ -77,13 +77,13 @@ def read_part(name: str) -> str:
 
 
 def plain_json(value: Any) -> str:
-    """The value in JSON, each text in it fit to be shown."""
+    """The value in JSON, with each text in it escaped."""
     told = of_json(value)
     return of_json(plainly(value)) if "\\" in told else told  # (JSON has an escape for a text that isn't plain)
 
 
 def plainly(value: Any) -> Any:
-    """The value, each text in it fit to be shown."""
+    """The value, with each text in it escaped."""
     if isinstance(value, str):
         return plain(value)
     if isinstance(value, dict):

@@ -1,4 +1,5 @@
-"""What a page shows: of the whole run the calls and what went wrong, and of a part of it each cell's values, as netrev has them."""
+"""The contents of a page: the calls and failures of the whole run, and netrev's values of each cell for a part of
+it."""
 
 from pathlib import Path
 from typing import Any, Callable, NamedTuple, Optional
@@ -20,7 +21,7 @@ from .story import MOST_TIMES, Connections, lines_data, marks_of, ticks_of, time
 from .waits import requests_data, waits_data
 
 MOST = 20_000  # steps of a part
-AT_ONCE = 8_000  # steps of a longer recording's part, unless a part is named
+AT_ONCE = 8_000  # steps of the part of a longer recording, unless a part is named
 STAGES = (
     "netrev tells what each step changed",
     "the rules look for suspects, and who waits for whom",
@@ -43,12 +44,12 @@ class Shown(NamedTuple):
 
     @classmethod
     def by(cls, session: Session, tell: Callable[[str], None]) -> "Shown":
-        """What a session's page is made of."""
+        """The data for a session's page."""
         looks, changes, marks = session.looks(), session.changes(), session.netrev.marks()
         return cls(session.text(), session.path, looks, changes, session.stands().position, marks, tell)
 
     def begins(self, stage: int) -> None:
-        """Tells which stage begins."""
+        """Reports which stage begins."""
         self.tell(f"the picture, {stage + 1} of {len(STAGES)}: {STAGES[stage]}")
 
 
@@ -79,9 +80,9 @@ def part_about(position: int, length: int) -> Window:
 
 
 def whole_of(shown: Shown) -> Data:
-    """What is shown of the whole run: the calls, the waits outside of the poller, the clock and what went wrong."""
+    """The data of the whole run: the calls, the waits outside of the poller, the clock and what went wrong."""
     shown.begins(0)
-    recording, every = shown.recording, Window(0, shown.changes.length)  # (which waits for all that netrev tells)
+    recording, every = shown.recording, Window(0, shown.changes.length)  # (which waits for all output of netrev)
     shown.begins(1)
     suspects, causes = stories_data(shown.scout, recording)
     shown.begins(2)
@@ -126,7 +127,7 @@ def part_of(shown: Shown, window: Window) -> Data:
 
 
 def steps_of(recording: Recording, window: Window) -> list[str]:
-    """The steps that lead to each position, and the one after the last; empty if there is none."""
+    """The steps that lead to each position, and the one after the last; empty if none does."""
     behind = -1 if recording.has_answers else None
 
     def text_of(values: list[Any]) -> str:
@@ -137,7 +138,7 @@ def steps_of(recording: Recording, window: Window) -> list[str]:
 
 
 def rows_of(runs: Runs) -> list[Data]:
-    """The rows that have shades: a name, the cell that it shows, and the shade of each of its runs."""
+    """The rows with shades: a name, the cell of the row, and the shade of each of its runs."""
     rows = []
     for cell, run in runs.items():
         name, _, number = cell.partition(" ")
@@ -149,7 +150,7 @@ def rows_of(runs: Runs) -> list[Data]:
 
 
 def words_of(runs: Runs) -> dict[str, dict[str, str]]:
-    """The words of the values of cells that have such, by the cell's name."""
+    """The meanings of the values of cells that have one, by the cell's name."""
     shown: dict[str, dict[str, None]] = {}
     for cell, run in runs.items():
         if (name := cell.split()[0]) in CELLS:

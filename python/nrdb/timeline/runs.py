@@ -13,8 +13,8 @@ from ..scout import Scout
 from ..session import Misused
 from ..world import COUNTED_BY, made_at
 
-Runs = dict[str, list[tuple[int, str]]]  # of each cell the positions at which it has another value, with that value
-COMPARED = 16  # positions at which all cells are asked
+Runs = dict[str, list[tuple[int, str]]]  # for each cell the positions at which its value changes, with the new value
+COMPARED = 16  # positions at which all cells are compared
 QUEUES = ("rq", "wq")
 NAMES = {of: [cell.name for cell in CELLS.values() if cell.of is of] for of in Of}
 NAMES[Of.SOCKET] += QUEUES
@@ -28,13 +28,13 @@ class Window:
     last: int
 
     def compared(self) -> list[int]:
-        """The positions at which all cells are asked: the last one, and others at like distances."""
+        """The positions at which all cells are compared: the last one, and others at equal distances."""
         every = max((self.last - self.first) // COMPARED, 1)
         return [*range(self.first, self.last, every), self.last]
 
 
 def runs_of(scout: Scout, changes: RecordedChanges, window: Window) -> tuple[Runs, int]:
-    """The runs of all cells and queues, and at how many positions netrev was asked for all of them."""
+    """The runs of all cells and queues, and at how many positions they were compared with netrev's answers."""
     cells = scout.look(window.last, cells_made)
     start = dict(zip(cells, shown_of(scout, cells, window.first)))
     queues = Queues(start)
@@ -56,13 +56,14 @@ def cells_made(netrev: Netrev) -> list[str]:
 
 
 def shown_of(scout: Scout, cells: Iterable[str], position: int) -> list[str]:
-    """What netrev shows of these cells and queues at a position."""
+    """netrev's values of these cells and queues at a position."""
     looks = [f"dump {cell}" if cell.startswith(QUEUES) else f"print {cell}" for cell in cells]
     return scout.look(position, lambda netrev: netrev.looks(looks))
 
 
 class Queues:
-    """The queues, by the statuses of the goroutines in them: a new goroutine is last. They begin as netrev shows them."""
+    """The queues, from the statuses of the goroutines in them: a new goroutine is last. They begin with netrev's
+    values."""
 
     def __init__(self, start: dict[str, str]) -> None:
         self._statuses = {cell: value for cell, value in start.items() if cell.startswith("gor ")}
@@ -70,7 +71,7 @@ class Queues:
         self._standing = {queue: value.split() if value != "-" else [] for queue, value in queues.items()}
 
     def shown(self, queue: str) -> str:
-        """A queue as netrev shows it."""
+        """A queue in netrev's form."""
         standing = self._standing.get(queue)
         return "absent" if standing is None else " ".join(standing) or "-"
 
@@ -87,7 +88,7 @@ class Queues:
         return ((queue, self.shown(queue)) for queue in touched)
 
     def _moved(self, cell: str, status: str) -> Iterator[str]:
-        """The queues that a goroutine leaves or comes to by its new status."""
+        """The queues that a goroutine leaves or joins by its new status."""
         before, self._statuses[cell] = self._statuses.get(cell, ""), status
         if before.startswith("queued "):
             self._standing[_queue(before)].remove(cell[4:])

@@ -1,5 +1,5 @@
-"""Changes of a few kinds of cells, for callers that need no others: netrev's lines are searched for them, and no other line is
-parsed."""
+"""Changes of a few kinds of cells, for callers that need no others: netrev's lines are searched for them, and other
+lines aren't parsed."""
 
 import re
 from typing import Iterator
@@ -11,7 +11,7 @@ Lines = Iterator[tuple[str, str, str]]
 
 def spelled(cells: str) -> re.Pattern[str]:
     """A line with the value of such a cell after a step: a number or words without escapes."""
-    # (what begins with a letter of its own, the line feed before, is searched nearly twice as fast as what begins with a line)
+    # (a pattern that begins with a literal, the line feed before, is searched nearly twice as fast as one that begins with ^)
     return re.compile(rf"\n(\d+) ({cells}) = ([\w -]+)$", re.MULTILINE | re.ASCII)
 
 

@@ -1,5 +1,5 @@
-"""The steps of a short recording as a sequence diagram in Mermaid's words, as forges draw it: goroutines, sockets and the network, with a
-message for each step."""
+"""The steps of a short recording as a sequence diagram in Mermaid, which forges draw: goroutines, sockets and the
+network, with a message for each step."""
 
 from typing import Iterator, Optional
 
@@ -10,9 +10,9 @@ from ..recording import Recording, Step
 from .calls import Data, names_data
 from .runs import Window
 
-MOST = 200  # steps, above which it is unreadable
+MOST = 200  # steps above which the diagram is unreadable
 NETWORK = "net"
-PLAIN = frozenset(" .,-_/*()'+=")  # beside letters and digits; Mermaid reads no other as it stands
+PLAIN = frozenset(" .,-_/*()'+=")  # allowed besides letters and digits; Mermaid interprets all others
 
 
 def sequence(recording: Recording, story: Optional[Data]) -> str:
@@ -23,7 +23,7 @@ def sequence(recording: Recording, story: Optional[Data]) -> str:
 
 
 def spelled(text: str) -> str:
-    """A text of others as Mermaid shows it: each letter that means something there is written as a number."""
+    """Text from outside, escaped for Mermaid: each character with a meaning there is written as a number."""
     return "".join(one if one.isalnum() or one in PLAIN else f"#{ord(one)};" for one in plain(text))
 
 
@@ -47,6 +47,6 @@ def _lines(recording: Recording, story: Optional[Data]) -> Iterator[str]:
 
 
 def _told(step: Step, recording: Recording) -> str:
-    """A step in words, with its line if that is known."""
+    """A step as text, with its line if that is known."""
     place = recording.lines.of(step.number).own()
     return str(step) + (f" ({place[0].place()})" if place else "")

@@ -10,7 +10,7 @@ from ..words import LockWord
 
 @dataclass(frozen=True)
 class Shade:
-    """A colour on a light ground, one on a dark ground, what it says, and the rows that have it."""
+    """A colour on a light background, one on a dark background, the meaning, and the rows that have it."""
 
     light: str
     dark: str

@@ -1,5 +1,5 @@
-"""The page's data beside the cells: the owners of descriptors and goroutines, wake-ups, marks, and the program's lines. They are
-nrdb's own, unproved."""
+"""The page's data besides the cells: the owners of descriptors and goroutines, wake-ups, marks, and the program's
+lines. They are nrdb's own, unproved."""
 
 from typing import Any
 
@@ -19,7 +19,7 @@ MOST_TIMES = 4_000
 WAKES = {
     "parked": ("swapping", "desc"),
     "queued": ("acquiring", "sock"),
-}  # what the woken goroutine does then, and its line
+}  # what the woken goroutine does next, and its line
 
 
 class Connections:
@@ -77,7 +77,8 @@ def wakes_of(recording: Recording, runs: Runs) -> list[list[Any]]:
 
 
 def lines_data(recording: Recording, window: Window) -> Data:
-    """The program's lines: each once, and of each step from the first position on which that is; nothing without lines."""
+    """The program's lines: each once, and for each step from the first position on the index of its line; nothing
+    without lines."""
     if not recording.lines:
         return {}
     texts: dict[str, int] = {"": 0}
@@ -101,8 +102,8 @@ def marks_of(listed: list[Listed], recording: Recording, window: Window, runs: R
 
 
 def ticks_of(changes: RecordedChanges) -> list[list[int]]:
-    """The steps at which the clock went on, each with its time; if there are too many, some at regular distances, with
-    the last."""
+    """The steps at which the clock advanced, each with its time; if they are too many, some at regular distances,
+    with the last."""
     ticks = changes.changes_of("clock")
     every = -(-len(ticks) // MOST_TICKS) or 1
     shown = [*ticks[::every], *(ticks[-1:] if (len(ticks) - 1) % every else [])]

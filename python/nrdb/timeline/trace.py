@@ -1,9 +1,11 @@
-"""The run as Chrome's trace events in JSON, for Perfetto: a thread for each goroutine, with slices for its calls, in them for its statuses and
-for its steps, and flows from what woke a goroutine to where it goes on; deadlines, the clock, and what went wrong. A step takes a microsecond.
-A recording that begins in the middle of a run is traced from there: the steps before lead to the state there, and weren't the program's.
+"""The run as Chrome's trace events in JSON, for Perfetto: a thread for each goroutine, with slices for its calls,
+statuses and steps, and flows from the step that woke a goroutine to its next status; deadlines, the clock, and
+what went wrong. A step takes a microsecond. If a recording begins in the middle of a run, the trace begins there
+too.
 
-The statuses, deadlines and the clock are what netrev says that each step changed; it is asked for the statuses of all goroutines at some
-positions besides. Calls and suspects are nrdb's own."""
+The statuses, deadlines and the clock are from netrev's list of changes; at some positions netrev's statuses of all
+goroutines are compared. Calls and suspects are nrdb's own.
+"""
 
 import gzip
 import io
@@ -31,12 +33,12 @@ from .runs import Window
 from .searched import STATUSES, STATUSES_AND_CLOCK, searched
 
 COMPARED = 64  # positions
-POLLER, TIMERS, CLOCK = range(3)  # threads of the second, before the sockets
+POLLER, TIMERS, CLOCK = range(3)  # threads of the second process, before the sockets
 SOCKETS = 10  # the number of the first socket's thread
 BY_A_GOROUTINE = frozenset(OF_A_GOROUTINE)
 QUIET = frozenset(("idle", "gone"))
 AT_ONCE = 1_024  # events that are written together
-END = (str(2**64), "", "")  # what comes after the last change
+END = (str(2**64), "", "")  # the entry after the last change
 
 Statuses = dict[int, str]  # of goroutines
 
@@ -56,7 +58,7 @@ def write_trace(session: Session, path: str) -> str:
 
 @contextmanager
 def packed(path: str, recording: str) -> Iterator[IO[str]]:
-    """A file to be written, compressed with gzip if its name says so."""
+    """A file to write, compressed with gzip if its name ends so."""
     if not path.endswith(".gz"):
         with writing(path, recording) as file:
             yield file
@@ -67,12 +69,12 @@ def packed(path: str, recording: str) -> Iterator[IO[str]]:
 
 
 def together(events: Iterator[str]) -> Iterator[list[str]]:
-    """Events as they come, many at a time."""
+    """Events in groups of many."""
     return iter(lambda: list(islice(events, AT_ONCE)), [])
 
 
 def write_events(file: IO[str], events: Iterator[list[str]]) -> None:
-    """Writes events as they come, many at a time."""
+    """Writes events in groups of many."""
     file.write('{"displayTimeUnit":"ns","traceEvents":[')
     before = "\n"
     for some in events:
@@ -102,7 +104,7 @@ def _compared(scout: Scout, recording: Recording, changes: RecordedChanges) -> i
 
 
 class Tracing:
-    """Follows the recording, and tells the events of the trace, each as JSON."""
+    """Follows the recording, and yields the events of the trace, each as JSON."""
 
     def __init__(self, recording: Recording, changes: RecordedChanges) -> None:
         self.recording, self.changes = recording, changes
@@ -110,14 +112,14 @@ class Tracing:
         self.slices = self.flows = 0
         self._has_answers = recording.has_answers
         self._statuses: Statuses = {}
-        self._since: dict[int, int] = {}  # of each goroutine that does something, since when
+        self._since: dict[int, int] = {}  # for each goroutine that does something, since when
 
     def events(self, name: str, check: Callable[[], None]) -> Iterator[str]:
         """All events, one after the other."""
         return chain.from_iterable(self.events_together(name, check))
 
     def events_together(self, name: str, check: Callable[[], None]) -> Iterator[list[str]]:
-        """All events, many at a time: names first, then slices and flows as steps come. Each time it calls `check`."""
+        """All events in groups: names first, then slices and flows step by step. Each time it calls `check`."""
         yield list(map(of_json, self._names(name)))
         rows = zip(self.recording.rows(self._told), told_lines(self.recording.lines, self.recording.length))
         steps = islice(rows, self.begins, None)
@@ -133,7 +135,7 @@ class Tracing:
             check()
             events: list[str] = []
             for number, ((mine, where, begin, what), line) in enumerate(islice(steps, AT_ONCE), first):
-                # (a million of these: so the text is put together here, and its parts are made once of lines that are alike)
+                # (there are a million of these, so the text is concatenated here, and its parts are made once for similar lines)
                 step = str(number)
                 events.append(f"{begin}{before}{what}{step}{clock}{line}")
                 if number == upcoming:
@@ -179,7 +181,7 @@ class Tracing:
         yield 0, {}, ""
 
     def _is_led_to(self, statuses: Statuses) -> None:
-        """Takes statuses of a step before the first that is traced: they begin there."""
+        """Takes statuses of a step before the first traced one: they begin there."""
         self._statuses |= statuses
         for g, status in statuses.items():
             if status in QUIET:
@@ -196,7 +198,7 @@ class Tracing:
             if g not in known:
                 known[g] = value_at_start(f"gor {g}")
         if len(order) > 1:
-            # (a sleeping goroutine is woken by another, of two at a descriptor the reader first)
+            # (a sleeping goroutine is woken by another one; of two at a descriptor, the reader first)
             order.sort(key=lambda g: (g == mine, known[g].split()[-1]))
         for g in order:
             before, now = known[g], statuses[g]
@@ -215,7 +217,7 @@ class Tracing:
         return f'{{"ph":"X","pid":{GOROUTINES},"tid":{g},"ts":{since},"dur":{until - since},"name":"{words}","cat":"status"}}'
 
     def _flow(self, number: int, where: str, woken: int, events: list[str]) -> None:
-        """From the step that wakes to the status in which the woken one goes on."""
+        """The flow from the step that wakes a goroutine to the status in which that one continues."""
         self.flows += 1
         about = f'"id":{self.flows},"name":"wakes","cat":"wake"'
         events.append(f'{{"ph":"s",{where},"ts":{number - 1},{about}}}')

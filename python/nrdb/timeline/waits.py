@@ -14,10 +14,11 @@ MOST_ROWS, MOST_WAITS = 200, 20_000  # goroutines without steps that have a row,
 
 
 def waits_data(recording: Recording) -> Data:
-    """The waits of a recording: `rows`, each with its goroutine, behind which step it begins and up to which it lasts (0: it doesn't end),
-    and what the goroutine does, its line and its stack, as places in `texts`. A goroutine without steps is in `others`, by Go's name of it
-    with what it runs, and has the number -1 less its place there. `left_out` are goroutines and waits for which a page has no room: the
-    waits that don't end come first, then the newest."""
+    """The waits of a recording: `rows`, each with its goroutine, the step after which it begins and the one up to
+    which it lasts (0: it doesn't end), and what the goroutine does, its line and its stack, as indices of
+    `texts`. A goroutine without steps is in `others`, by Go's number with the function that it runs, and has the
+    number -1 minus its index there. `left_out` are goroutines and waits that don't fit on a page: the waits that
+    don't end come first, then the newest."""
     waits, texts = waits_of(recording), Texts({"": 0})
     shown = {name: list(filter(is_long, some)) for name, some in waits.of.items()}
     others = [name for name, some in shown.items() if some and name.is_goid]
@@ -43,7 +44,7 @@ def waits_data(recording: Recording) -> Data:
 
 
 def requests_data(recording: Recording) -> dict[int, list[str]]:
-    """Of each socket on which net/http's client wrote requests the lines of these, each once."""
+    """For each socket on which net/http's client wrote requests, the lines of these, each once."""
     found: dict[int, dict[str, None]] = {}
     for request in requests_of(index_of(recording)):
         found.setdefault(request.socket, {})[place_in(request.stack).strip().removeprefix("at ")] = None

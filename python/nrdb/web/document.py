@@ -1,4 +1,4 @@
-"""The page: one file with its own style and its own script, and the policy by which a browser takes no other."""
+"""The page: one file with its own style and script, and the policy by which a browser accepts no others."""
 
 import base64
 import hashlib
@@ -31,5 +31,5 @@ def document() -> Document:
 
 
 def hashed(text: str) -> str:
-    """What the policy calls an element by that has this text."""
+    """The hash by which the policy names an element with this text."""
     return f"'sha256-{base64.b64encode(hashlib.sha256(text.encode('utf-8')).digest()).decode('ascii')}'"

@@ -1,5 +1,5 @@
-"""Draws the picture in a process of its own, with a netrev of its own, so that lines are answered meanwhile: first the
-whole run with a part, and then whatever part a browser shows."""
+"""Draws the picture in a process of its own, with a netrev of its own, so that lines are answered meanwhile: first
+the whole run with a part, and then any part that a browser requests."""
 
 import json
 import subprocess
@@ -28,7 +28,7 @@ from .serving import Unavailable
 CODE = f"import sys; sys.path[:0] = {sys.path!r}; from nrdb.web.painting import paint; paint(*sys.argv[1:])"
 MOST_WAITING = 16
 MOST_KEPT = 6  # parts
-TELLS, FAILS = b"T", b"F"  # what a line of the process is that is no picture: how far it is, or why there is none
+TELLS, FAILS = b"T", b"F"  # the kinds of lines of the process that aren't pictures: progress, or an error
 
 Wanted = Optional[Window]  # None: the whole run, with the part that it begins with
 
@@ -45,7 +45,7 @@ class Painter:
         self._thread: Optional[Thread] = None
 
     def ask(self, window: Wanted) -> "Future[bytes]":
-        """The picture, as JSON; Unavailable if there is none."""
+        """The picture, as JSON; raises Unavailable if none can be made."""
         wanted: "Future[bytes]" = Future()
         try:
             self._wanted.put_nowait((window, wanted))
@@ -65,7 +65,7 @@ class Painter:
     def _run(self) -> None:
         while True:
             window, wanted = self._wanted.get()
-            if not wanted.set_running_or_notify_cancel():  # (the browser that asked has gone)
+            if not wanted.set_running_or_notify_cancel():  # (the browser that requested it has gone)
                 continue
             try:
                 wanted.set_result(self._picture(window))
@@ -73,7 +73,7 @@ class Painter:
                 wanted.set_exception(why)
 
     def _picture(self, window: Wanted) -> bytes:
-        """A picture, of those that were made or by the process."""
+        """A picture, from the cache or from the process."""
         if window in self._made:
             self._made.move_to_end(window)
             return self._made[window]
@@ -103,11 +103,11 @@ class Painter:
         return line
 
 
-# ---- in such a process
+# ---- in the painter's process
 
 
 def paint(program: str, path: str) -> None:
-    """Makes the pictures that lines of the input ask for, each a line of the output, until the input ends."""
+    """Makes the pictures that lines of the input request, each a line of the output, until the input ends."""
     interrupts = Interrupts()
     scout = Scout(lambda: Own(program, path, interrupts))
     changes = ArrivingChanges(program, path, interrupts, lambda _: None)
@@ -130,7 +130,7 @@ def paint(program: str, path: str) -> None:
 
 
 def answer(shown: Shown, line: str) -> None:
-    """Makes the picture that a line asks for, or reports why it can't."""
+    """Makes the picture that a line requests, or reports why it can't."""
     wanted = json.loads(line)
     try:
         data = collected(shown) if wanted is None else part_of(shown, Window(*wanted))
@@ -141,6 +141,6 @@ def answer(shown: Shown, line: str) -> None:
 
 
 def say(sort: bytes, text: str) -> None:
-    """Says a line that is no picture."""
+    """Writes a line that isn't a picture."""
     sys.stdout.write(f"{sort.decode()}{json.dumps(text)}\n")
     sys.stdout.flush()

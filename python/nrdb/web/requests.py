@@ -1,4 +1,5 @@
-"""Checks requests: a request is one of six, comes from this machine's own page, and has the token; all others are rejected."""
+"""Checks requests: a request must be one of six, come from this machine's own page, and have the token; all others
+are rejected."""
 
 import hmac
 import re
@@ -8,11 +9,11 @@ from typing import Mapping
 
 from ..messages import browsers as texts
 
-LONGEST_LINE = 256  # bytes of a line, as netrev takes it
+LONGEST_LINE = 256  # bytes of a line, as netrev accepts it
 TOKEN, BROWSER, POSITIONS = "netrev-token", "netrev-browser", "netrev-positions"  # headers that the page's script sends
 PAGE, EVENTS, TIMELINE, PART, LINE, COMPLETE = "/", "/events", "/timeline", "/part", "/line", "/complete"
 METHODS = {PAGE: "GET", EVENTS: "GET", TIMELINE: "GET", PART: "GET", LINE: "POST", COMPLETE: "POST"}
-BY_ADDRESS = (PAGE, EVENTS)  # which have the token in the address: nothing that asks for them can set a header
+BY_ADDRESS = (PAGE, EVENTS)  # requests with the token in the address, because the browser can't set a header for them
 
 FIRST_LINE = re.compile(r"([A-Z]{1,20}) (/[!-~]*) HTTP/1\.[01]")
 HEADER = re.compile(r"([!#$%&'*+.^_`|~0-9A-Za-z-]+):[ \t]*([^\x00-\x08\x0a-\x1f\x7f]*)")
@@ -21,7 +22,7 @@ FROM_TO = re.compile(r"(\d{1,18})-(\d{1,18})")
 
 
 class Rejected(Exception):
-    """A request that is refused: the status, and why."""
+    """A rejected request: the status, and the reason."""
 
     def __init__(self, status: HTTPStatus, why: str):
         super().__init__(why)
@@ -30,7 +31,7 @@ class Rejected(Exception):
 
 @dataclass(frozen=True)
 class Request:
-    """A request's method, its path and query as they came, and its headers by their names in lower case."""
+    """A request's method, its path and query, and its headers by their names in lower case."""
 
     method: str
     path: str
@@ -39,8 +40,8 @@ class Request:
 
     @classmethod
     def of(cls, head: bytes) -> "Request":
-        """The request in the bytes up to the empty line; Rejected if there is none. A header must not occur twice, because two
-        parsers could choose different ones."""
+        """The request in the bytes up to the empty line; raises Rejected if it is malformed. A header must not
+        occur twice, because two parsers could choose different ones."""
         first, *lines = head.decode("latin-1").removesuffix("\r\n\r\n").split("\r\n")
         asked = FIRST_LINE.fullmatch(first)
         found = [HEADER.fullmatch(line) for line in lines]
@@ -51,7 +52,7 @@ class Request:
         return cls(asked[1], path, query, headers)
 
     def length(self) -> int:
-        """The length of its body; Rejected if it is missing or too large."""
+        """The length of its body; raises Rejected if it is missing or too large."""
         said = self.headers.get("content-length", "" if self.method == "POST" else "0")
         if "transfer-encoding" in self.headers or not said:
             raise Rejected(HTTPStatus.LENGTH_REQUIRED, texts.NO_LENGTH)
@@ -63,14 +64,14 @@ class Request:
 
 
 class Gate:
-    """Lets those in that came by the address which nrdb printed."""
+    """Admits requests for the address that nrdb printed."""
 
     def __init__(self, port: int, token: str):
         self._hosts = [f"{name}:{port}" for name in ("127.0.0.1", "localhost")]
         self._token = token.encode("ascii")
 
     def check(self, request: Request) -> None:
-        """Rejected if the request isn't one of those that are answered."""
+        """Raises Rejected unless the request is one of those that are answered."""
         if request.headers.get("host") not in self._hosts:
             raise Rejected(HTTPStatus.FORBIDDEN, texts.OTHER_HOST)
         if request.headers.get("origin", f"http://{self._hosts[0]}") not in [f"http://{host}" for host in self._hosts]:
@@ -96,7 +97,7 @@ class Gate:
 
 
 def line_of(body: bytes) -> str:
-    """The line in a body; Rejected if it isn't exactly one line."""
+    """The line in a body; raises Rejected if it isn't exactly one line."""
     try:
         line = body.decode("utf-8")
     except UnicodeDecodeError:
@@ -107,7 +108,7 @@ def line_of(body: bytes) -> str:
 
 
 def positions_of(request: Request) -> tuple[int, int]:
-    """The first and the last position of the requested part; Rejected if they aren't named."""
+    """The first and the last position of the requested part; raises Rejected if they are missing."""
     named = FROM_TO.fullmatch(request.headers.get(POSITIONS, ""))
     if named is None:
         raise Rejected(HTTPStatus.BAD_REQUEST, texts.BAD_PART)

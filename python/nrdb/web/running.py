@@ -1,5 +1,5 @@
-"""Runs the page's session in the calling thread: answers lines one after the other, looks for moves of others, and reports while
-netrev is gone."""
+"""Runs the page's session in the calling thread: answers lines one after the other, checks for moves of others, and
+reports while netrev is gone."""
 
 import json
 import queue
@@ -29,8 +29,8 @@ from .streams import Streams
 
 DONE, FAILED = 0, 3
 MOST_WAITING = 32  # lines that wait for those before them
-EVERY = 1.0  # second, after which it is looked again what others did
-LATEST = 30.0  # seconds between two tries to find netrev again; the first are shorter
+EVERY = 1.0  # seconds between two checks for moves of others
+LATEST = 30.0  # seconds between two attempts to reconnect to netrev; the first are shorter
 GONE = "netrev has ended"
 Opening = Callable[[Printer], Netrev]
 
@@ -67,7 +67,7 @@ def serve_page(session: Session, port: int, opened: Opening) -> int:
 
 
 class Running:
-    """The lines that wait, and the session that answers them."""
+    """The queued lines, and the session that answers them."""
 
     def __init__(self, session: Shared, opened: Opening, streams: Streams, painter: Optional[Painter]):
         self.session, self._painter = session, painter
@@ -79,13 +79,13 @@ class Running:
     # --- for the server's thread
 
     def post(self, who: str, line: str) -> None:
-        """Takes a line, which is answered by events; Unavailable if netrev is gone, or too many lines wait."""
+        """Queues a line, which is answered by events; raises Unavailable if netrev is gone, or too many lines wait."""
         if self._gone:
             raise Unavailable(self._gone)
         self._take(lambda: self._answer(who, line))
 
     def complete(self, line: str) -> "Future[bytes]":
-        """What the last word of a line that is being typed can become, as JSON; Unavailable where too many lines wait."""
+        """The completions of the last word of a line, as JSON; raises Unavailable if too many lines wait."""
         wanted: "Future[bytes]" = Future()
 
         def answer() -> None:
@@ -99,11 +99,11 @@ class Running:
         return wanted
 
     def timeline(self) -> "Future[bytes]":
-        """The timeline's data, as JSON; Unavailable if there is none."""
+        """The timeline's data, as JSON; raises Unavailable if it doesn't exist."""
         return self._picture(None)
 
     def part(self, first: int, last: int) -> "Future[bytes]":
-        """The data of these positions, as JSON; Unavailable if there is none."""
+        """The data of these positions, as JSON; raises Unavailable if they don't exist."""
         if not 0 <= first <= last <= min(self.session.length, first + MOST):
             raise Unavailable(texts.PART_IS_LARGE.format(most=MOST, length=self.session.length))
         return self._picture(Window(first, last))
@@ -119,7 +119,7 @@ class Running:
         except queue.Full:
             raise Unavailable(texts.TOO_MANY_LINES.format(most=MOST_WAITING)) from None
 
-    # --- for the session's
+    # --- for the session's thread
 
     def run(self) -> None:
         """Answers requests, until Ctrl-C."""
@@ -128,7 +128,7 @@ class Running:
             self.turn()
 
     def turn(self) -> None:
-        """Answers the next line. If none comes for a while, looks for moves of others, if a browser wants to know."""
+        """Answers the next line. If none comes for a while, checks for moves of others, if a browser listens."""
         try:
             work = self._work.get(timeout=EVERY)
         except queue.Empty:
@@ -138,7 +138,7 @@ class Running:
         work()
 
     def _answer(self, who: str, line: str) -> None:
-        """Answers a line, or tells that it isn't answered."""
+        """Answers a line, or reports that it isn't answered."""
         self._streams.tell("line", who=who, line=line)
         if not self._gone:
             self._guarded(lambda: self.session.run_for(who, line))
@@ -148,14 +148,14 @@ class Running:
             self._streams.tell("answered", who=who, line=line)
 
     def _look(self) -> None:
-        """Looks for moves of others; if netrev is gone, whether it is back."""
+        """Checks for moves of others; if netrev is gone, whether it is back."""
         if not self._gone:
             self._guarded(self.session.look_round)
         elif time.monotonic() >= self._next_try:
             self._try_again()
 
     def _guarded(self, does: Callable[[], None]) -> None:
-        """Does something with netrev, which may be gone before the end."""
+        """Does something with netrev, which may end meanwhile."""
         try:
             does()
         except NoRecording as wrong:
@@ -168,14 +168,14 @@ class Running:
             self.session.printer.note(unexpected(error))
 
     def _lose(self, why: str) -> None:
-        """From now on netrev is gone."""
+        """Records that netrev is gone."""
         self.session.netrev.drop()
         self._gone = texts.NETREV_IS_GONE.format(why=why)
         self._next_try = time.monotonic() + self._pause
         self._streams.tell("netrev", there=False, says=self._gone)
 
     def _try_again(self) -> None:
-        """Goes on with another netrev, if one can be had."""
+        """Continues with another netrev, if one can be started or reached."""
         self._pause = min(2 * self._pause, LATEST)
         self._next_try = time.monotonic() + self._pause
         try:

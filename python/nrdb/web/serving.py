@@ -1,5 +1,5 @@
-"""The page's server: it listens at the loopback alone, in a thread of its own, and answers six requests. It does nothing by itself
-with the session, which is asked by the thread that runs it."""
+"""The page's server: it listens on the loopback only, in a thread of its own, and answers six requests. It passes
+everything about the session to the thread that runs it."""
 
 import asyncio
 import socket
@@ -17,34 +17,34 @@ from .wire import EVENT_STREAM, JSON, LONGEST_HEAD, Wire
 
 LOOPBACK = "127.0.0.1"
 MOST_CONNECTIONS = 64
-PULSE = 15.0  # seconds after which a browser is sent something, so that one that is gone is found out
-LAST, ENDING = 0.02, 4.0  # seconds, in which connections come that were taken already; that the end may take
+PULSE = 15.0  # seconds after which a browser is sent something, to detect that it has gone
+LAST, ENDING = 0.02, 4.0  # seconds for connections that were accepted already to arrive; seconds for the end
 BEGINNING = b"retry: 1000\n\n"
 UNAVAILABLE = HTTPStatus.SERVICE_UNAVAILABLE
 
 
 class Unavailable(Exception):
-    """What was asked for can't be had now: why."""
+    """The requested data aren't available now: the reason."""
 
 
 class Runner(Protocol):
     """Runs the session. Each call returns at once."""
 
     def post(self, who: str, line: str) -> None:
-        """Takes a line, which is answered by events; Unavailable if that isn't possible."""
+        """Queues a line, which is answered by events; raises Unavailable if that isn't possible."""
 
     def complete(self, line: str) -> "Future[bytes]":
-        """The completions of the last word of a line, as JSON; Unavailable if there are none."""
+        """The completions of the last word of a line, as JSON; raises Unavailable if none can be found."""
 
     def timeline(self) -> "Future[bytes]":
-        """The timeline's data, as JSON; Unavailable if there is none."""
+        """The timeline's data, as JSON; raises Unavailable if it doesn't exist."""
 
     def part(self, first: int, last: int) -> "Future[bytes]":
-        """The data of these positions, as JSON; Unavailable if there is none."""
+        """The data of these positions, as JSON; raises Unavailable if they don't exist."""
 
 
 def listening(port: int) -> socket.socket:
-    """A socket that listens on a port of 127.0.0.1, or on any free one for port 0; an OSError if that fails."""
+    """A socket that listens on a port of 127.0.0.1, or on any free one for port 0; raises an OSError if that fails."""
     made = socket.socket()
     try:
         made.setsockopt(socket.SOL_SOCKET, socket.SO_REUSEADDR, 1)
@@ -66,7 +66,7 @@ class Server:
         self._socket, self._gate, self._document = at, gate, document
         self._streams, self._session = streams, session
         self._open: dict[asyncio.Task[None], asyncio.StreamWriter] = {}
-        self._asking: dict[asyncio.Task[None], None] = {}  # whose requests haven't come whole, the oldest first
+        self._asking: dict[asyncio.Task[None], None] = {}  # connections whose requests are incomplete, the oldest first
         self._closing: dict[asyncio.Task[None], None] = {}  # that were answered
         self._ready = threading.Event()
         self._thread = threading.Thread(target=lambda: asyncio.run(self._serve()), daemon=True)
@@ -77,7 +77,7 @@ class Server:
         self._ready.wait()
 
     def stop(self) -> None:
-        """Ends all connections, and serves no more. Whatever happens to them, it doesn't take long."""
+        """Ends all connections, and stops serving. It takes no longer than a fixed time."""
         self._loop.call_soon_threadsafe(self._ended.set)
         self._thread.join(ENDING)
 
@@ -87,7 +87,9 @@ class Server:
         server = await asyncio.start_server(self._accept, sock=self._socket, limit=LONGEST_HEAD)
         self._ready.set()
         await self._ended.wait()
-        self._loop.remove_reader(self._socket)  # (closed at once, the server would lose those that it has just taken)
+        self._loop.remove_reader(
+            self._socket
+        )  # (closed at once, the server would lose connections that it has just accepted)
         await asyncio.sleep(LAST)
         server.close()
         limit = self._loop.time() + ENDING / 2
@@ -110,13 +112,13 @@ class Server:
         task.add_done_callback(self._leave)
 
     def _leave(self, task: "asyncio.Task[None]") -> None:
-        """A connection is done with."""
+        """Removes a connection that has ended."""
         self._asking.pop(task, None)
         self._closing.pop(task, None)
         self._open.pop(task).transport.abort()
 
     async def _connected(self, wire: Wire, is_full: bool) -> None:
-        """Answers a connection's request, or says why not."""
+        """Answers a connection's request, or rejects it with the reason."""
         task = asyncio.current_task()
         assert task
         with suppress(ConnectionError, EOFError):
@@ -137,7 +139,7 @@ class Server:
         await wire.close()
 
     async def _answer(self, wire: Wire, request: Request, body: bytes) -> None:
-        """Answers a request that is let in."""
+        """Answers an admitted request."""
         if request.path == PAGE:
             await wire.answer(HTTPStatus.OK, self._document.data, "text/html; charset=utf-8")
         elif request.path == EVENTS:
@@ -166,4 +168,4 @@ class Server:
                 await wire.send(stream.take() or b":\n\n")
         finally:
             gone.cancel()
-            await asyncio.wait({gone})  # (two may not read at a time)
+            await asyncio.wait({gone})  # (two must not read at the same time)

@@ -1,5 +1,6 @@
-"""The session that the page's browsers share: nrdb's own, which also reports which browser moved and to which position. netrev
-reports nothing about other fronts but the position, so their moves are noticed at the next look."""
+"""The session that the page's browsers share: nrdb's own, which also reports which browser moved and to which
+position. netrev reports nothing about other fronts but the position, so their moves are noticed at the next
+check."""
 
 from dataclasses import dataclass, field, fields
 from typing import Any, Optional, Protocol, Sequence
@@ -21,11 +22,11 @@ class Telling(Protocol):
     """Receives events."""
 
     def tell(self, event: str, **values: Any) -> None:
-        """Tells an event of that name with these values."""
+        """Sends an event of that name with these values."""
 
 
 def refusing(why: str) -> Answering:
-    """The answer of a command that the page doesn't have."""
+    """The answer to a command that the page doesn't allow."""
 
     def answer(session: Session, words: list[str]) -> None:
         raise Misused(why)
@@ -43,7 +44,7 @@ OF_THE_PAGE = {
 
 
 class Saying(Collecting):
-    """Tells what nrdb prints, as text, by events."""
+    """Sends nrdb's output, as text, in events."""
 
     def __init__(self, streams: Telling):
         super().__init__()
@@ -80,7 +81,7 @@ class Shared(Session):
 
     streams: Telling = field(kw_only=True)
     who: str = ""
-    part: str = ""  # of a line, which is being answered
+    part: str = ""  # the author of the line that is being answered
     told: Optional[Position] = None
     told_marks: Optional[list[Listed]] = None
 
@@ -114,8 +115,8 @@ class Shared(Session):
         self.look_round()
 
     def look_round(self) -> None:
-        """Reads the session's position and marks. If the position has changed, another user has moved the session. If netrev has no
-        memory for the query, the next look notices it."""
+        """Reads the session's position and marks. If the position has changed, another user has moved the session.
+        If netrev has no memory for the query, the next check notices it."""
         try:
             now = self.stands()
             marks = self.netrev.marks()
@@ -139,7 +140,7 @@ class Shared(Session):
         self.look_round()
 
     def _tell_move(self, who: str, line: Optional[str], position: int) -> None:
-        """Tells of a move, if it is one."""
+        """Reports a move, if it is one."""
         if position == self.stood:
             return
         self.streams.tell("moved", who=who, line=line, **{"from": self.stood, "to": position})

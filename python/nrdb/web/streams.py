@@ -13,15 +13,15 @@ from ..timeline.page import plain_json
 from .requests import Rejected
 
 MOST_STREAMS = 16
-MOST_KEPT, KEPT_BYTES = 400, 2**20  # events that a later browser is sent, and their bytes
-WAITING_BYTES = 8 * 2**20  # that may wait for a browser that is slow
-STATES = ("stands", "marks", "netrev", "picture")  # of which the last one says how things are
+MOST_KEPT, KEPT_BYTES = 400, 2**20  # events that a later browser gets, and their bytes
+WAITING_BYTES = 8 * 2**20  # bytes that may wait for a slow browser
+STATES = ("stands", "marks", "netrev", "picture")  # events of which only the last one matters
 
 Event = dict[str, Any]
 
 
 def message(event: Event) -> bytes:
-    """An event as it is sent. Each text in it is made fit to be shown."""
+    """An event in the form that is sent, with each text in it escaped."""
     return f"data: {plain_json(event)}\n\n".encode("ascii")
 
 
@@ -37,7 +37,7 @@ class Stream:
 
     @property
     def name(self) -> str:
-        """What it is called."""
+        """The name of the browser."""
         return f"browser {self.number}"
 
     def put(self, data: bytes) -> None:
@@ -79,11 +79,11 @@ class Streams:
         self._soon = lambda event: loop.call_soon_threadsafe(self._tell, event)
 
     def tell(self, event: str, **values: Any) -> None:
-        """Tells all browsers of an event. Any thread may call it."""
+        """Sends an event to all browsers. Any thread may call it."""
         self._soon({"event": event, **values})
 
     def listening(self) -> int:
-        """How many browsers listen."""
+        """The number of browsers that listen."""
         return len(self._streams)
 
     def name_of(self, number: str) -> str:
@@ -93,7 +93,7 @@ class Streams:
 
     @contextmanager
     def joined(self) -> Iterator[Stream]:
-        """A browser's stream, for as long as it listens; Rejected if there are too many."""
+        """A browser's stream, for as long as it listens; raises Rejected if there are too many."""
         if len(self._streams) >= MOST_STREAMS:
             raise Rejected(HTTPStatus.SERVICE_UNAVAILABLE, texts.TOO_MANY_BROWSERS.format(most=MOST_STREAMS))
         stream = Stream(next(self._numbers))

@@ -7,8 +7,8 @@ from http import HTTPStatus
 from ..messages import browsers as texts
 from .requests import Request, Rejected
 
-LONGEST_HEAD = 8_192  # bytes up to a body
-IN_TIME = 5.0  # seconds that a request may take to come whole, and a part of an answer to be taken
+LONGEST_HEAD = 8_192  # the most bytes before a body
+IN_TIME = 5.0  # seconds for a request to arrive completely, and for a part of an answer to be accepted
 TAKEN_STILL, STILL = 65_536, 0.3  # bytes that are read after an answer, and seconds for all of them
 PLAIN, JSON, EVENT_STREAM = "text/plain; charset=utf-8", "application/json", "text/event-stream"
 ALWAYS = {
@@ -30,7 +30,8 @@ class Wire:
         self._headers = ALWAYS | {"Content-Security-Policy": policy}
 
     async def head(self) -> Request:
-        """The request, up to its body. Rejected if it doesn't arrive completely in time; EOFError if nothing arrives."""
+        """The request, up to its body; raises Rejected if it doesn't arrive completely in time, EOFError if nothing
+        arrives."""
         try:
             head = await asyncio.wait_for(self._reader.readuntil(b"\r\n\r\n"), IN_TIME)
         except asyncio.LimitOverrunError:

@@ -1,1 +1,2 @@
-"""The rules that look at cells and at notes: each a file with its definition in words, and `rule`, which finds what is like that."""
+"""The rules about cells and notes: each is a file with its definition as the docstring, and `rule`, which returns
+the suspects."""

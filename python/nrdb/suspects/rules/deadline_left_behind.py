@@ -10,7 +10,7 @@ from ..found import Evidence, Suspect, Weight
 from ..run import Run
 from ..weighing import of_a_deadline
 
-HABIT = 2  # settings of one side alone, from which on a goroutine is used to it
+HABIT = 2  # settings of one side alone after which a goroutine counts as doing that regularly
 
 
 def rule(run: Run) -> Iterator[Suspect]:
@@ -44,7 +44,8 @@ def left_behind(run: Run, passed: OfDeadline, moved: By) -> Optional[Suspect]:
 
 
 def before_the_recording(run: Run, passed: OfDeadline, use: Use) -> Optional[Suspect]:
-    """The suspect of a deadline that a recording has at its begin, if only the other side's was moved since, and more than once."""
+    """The suspect of a deadline that existed when the recording began, if only the other side's was moved since,
+    and more than once."""
     prelude, other = run.recording.lines.prelude, "w" if passed.side == "r" else "r"
     since = [one for one in use.settings if prelude < one.step < passed.step]
     if len(since) < HABIT or any(one.mode != other for one in since):

@@ -8,7 +8,7 @@ from ..found import Evidence, Suspect, Weight
 from ..run import Run
 from ..weighing import of_a_goroutine
 
-NOT_LOOKED = ("armed", "parking", "swapping", "checking")  # inside a wait, and what woke it isn't looked at yet
+NOT_LOOKED = ("armed", "parking", "swapping", "checking")  # inside a wait, before the check why it was woken
 
 
 def rule(run: Run) -> Iterator[Suspect]:

@@ -44,7 +44,7 @@ def is_parked(run: Run, suspect: Suspect) -> bool:
 
 
 def has_lines(run: Run, suspect: Suspect, lost: LostWakeUp) -> None:
-    """netrev's lines of a lost wake-up: that one, and that what came is still unread."""
+    """netrev's lines about a lost wake-up: the wake-up itself, and that bytes are still unread."""
     suspect.has_line(lost.line)
     suspect.has_line(run.asleep(lost.goroutine, lost.descriptor, lost.side))
 
@@ -83,7 +83,7 @@ def taken_and_parked(run: Run, lost: LostWakeUp) -> Suspect:
 
 
 def waits_behind_a_throw(use: Use) -> Iterator[tuple[Taking, Wait]]:
-    """The waits for reading whose goroutine threw a readiness away and hasn't read or written since."""
+    """The waits for reading whose goroutine discarded a readiness and hasn't read or written since."""
     thrown, at = use.thrown, 0
     for wait in use.waits[AT["r"]]:
         while at < len(thrown) and thrown[at].step < wait.step:

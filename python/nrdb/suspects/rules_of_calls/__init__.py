@@ -1,1 +1,2 @@
-"""The rules about Go's calls and about NAME.where: they come after the others, and an uncertain finding says perhaps."""
+"""The rules about Go's calls and about NAME.where: they come after the others, and an uncertain finding begins with
+"perhaps"."""

@@ -12,13 +12,13 @@ SINCE = 50
 
 
 def rule(run: Run) -> Iterator[Suspect]:
-    for cause in left_open(run.calls):  # (if the recording says which sockets are one connection's ends)
+    for cause in left_open(run.calls):  # (if the recording says which sockets are two ends of a connection)
         if run.end - cause.steps[-1] >= SINCE:
             yield suspect_of(run.end, cause)
 
 
 def beheaded(says: str) -> str:
-    """A sentence as a clause."""
+    """A sentence as a clause, with a lower-case first letter."""
     return (says.replace("Its", "its", 1) if says.startswith("Its ") else says).removesuffix(".")
 
 
