@@ -14,7 +14,7 @@ class Certainty(IntEnum):
 
     PERHAPS = 1  # from stacks alone
     LIKELY = 2  # it did so before
-    KNOWN = 3  # it has it, from the recording's steps
+    KNOWN = 3  # it has it, as the recording's steps show
 
 
 class Need(NamedTuple):

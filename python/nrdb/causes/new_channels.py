@@ -17,7 +17,7 @@ def made_since(recording: Recording, wait: Waiting) -> int:
     of its Write since, if that isn't in a loop; else 0."""
     own = wait.stack.own()
     if recording.lines.made or not own or own[0].of != OF_THE_PROGRAM or len(wait.objects) != 1 or wait.name.is_goid:
-        return 0  # (if the recorder saw channels being made, an address that is used again is another channel)
+        return 0  # (if the recorder saw channels being made, a reused address is another channel)
     text = text_at(recording, own[0])
     name = TAKES.search(text) or PUTS.search(text)
     lines = source_of(recording, own[0].file)

@@ -1,4 +1,5 @@
-"""The files of a package of the program, and the types of its expressions as far as they are plain: receivers, parameters, and fields of structs."""
+"""The files of a package of the program, and the types of its expressions, if these are simple: receivers,
+parameters, and fields of structs."""
 
 import os
 import re

@@ -1,4 +1,4 @@
-"""Sentences in the present turned into the past, for what was so at a step."""
+"""Turns sentences in the present tense into the past tense, for a state at an earlier step."""
 
 import re
 

@@ -1,5 +1,6 @@
-"""Replies of which perhaps a part is missing: a Read got something of an answer and waits for more, while the goroutine
-that wrote it reads on. From the program's source: the loop that writes the reply, and its paths that write nothing."""
+"""Replies that are perhaps incomplete: a Read got something of an answer and waits for more, while the goroutine
+that wrote it reads on. From the program's source: the loop that writes the reply, and its paths that write
+nothing."""
 
 import re
 from typing import Iterator, NamedTuple

@@ -1,5 +1,5 @@
-"""What a failed call lacked besides what ended it: a call whose descriptor was closed, a Read under a deadline that
-others had kept, and a Read that met no end of the stream."""
+"""What a failed call lacked besides the cause of its end: a call whose descriptor was closed, a Read under a
+deadline that others had met, and a Read that met no end of the stream."""
 
 import re
 from typing import Optional

@@ -16,7 +16,7 @@ from .needs import Needs
 from .waiters import Waiter, waiters_at
 from .words import name_of, place_in
 
-# What a goroutine waits for that may have nothing to do.
+# Waits that may be normal because there is nothing to do.
 QUIET = ("a select", "a value from a channel", "a condition", "a select without cases")
 
 

@@ -21,7 +21,7 @@ ENDED = {
     Outcome.EOF: "met the end of the stream",
 }
 POLL = "internal/poll.(*FD)."
-# The names by which programs call Go's own functions, if they differ from those of internal/poll.
+# Go's own functions by the names that programs use, if they differ from those of internal/poll.
 NAMES = {
     "Accept": "Accept",
     "ReadFrom": "Read",
@@ -128,7 +128,8 @@ def place_of_step(recording: Recording, step: int, goroutine: Optional[int] = No
 
 
 def since_begin(recording: Recording, opened: int = 0) -> str:
-    """What is added to words about all that was done to something that was there after a step: ` since the recording begins`, if it was there before."""
+    """The addition to a sentence about everything since a step: ` since the recording begins`, if the object
+    existed before."""
     return " since the recording begins" if opened <= begins_at(recording) > 0 else ""
 
 
