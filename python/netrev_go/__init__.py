@@ -1,1 +1,2 @@
-"""netrev-go: records a Go program as it is, and makes recordings of its log (docs/internals/INSTRUMENTING.md). None of it is proved."""
+"""netrev-go: records a Go program unchanged, and makes recordings of its log (docs/internals/INSTRUMENTING.md). It
+is unproved."""

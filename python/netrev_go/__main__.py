@@ -1,4 +1,4 @@
-"""python3 python netrev_go .."""
+"""Runs netrev-go: python3 python netrev_go .."""
 
 from netrev_words.leaving import ended_by
 

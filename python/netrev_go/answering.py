@@ -1,4 +1,4 @@
-"""What a point says: which sides it is of, and which of Go's answers it has."""
+"""The meaning of a point: its sides, and Go's answer."""
 
 from __future__ import annotations
 
@@ -12,11 +12,11 @@ UNLOCKING = {int(Kind.DECREF), int(Kind.RW_UNLOCK)}
 
 
 class Unconvertible(Exception):
-    """The log is of something that a recording can't tell."""
+    """The log contains something that a recording can't express."""
 
 
 def parts(count: int, most: int) -> list[int]:
-    """A number of bytes in parts that a step can move: mostly all of them are one."""
+    """A number of bytes, split into parts that a step can move: mostly one part."""
     if 0 < count <= most:
         return [count]
     return [most] * (count // most) + ([count % most] if count % most else [])
@@ -38,7 +38,7 @@ def side_of(point: Point) -> str:
 
 
 def lock_answer(kind: int, was_closed: bool, bits: int) -> str:
-    """What Go's function returned: the log has its own expression for it, and that a closed word was found."""
+    """The answer of Go's function, from the value in the log, or that the word was closed."""
     if kind in UNLOCKING:
         return "last" if bits & 2 else "notlast"
     if was_closed:
@@ -47,8 +47,8 @@ def lock_answer(kind: int, was_closed: bool, bits: int) -> str:
 
 
 def can_answer(socket: Socket, point: Point) -> bool:
-    """Whether the machine has an answer for what a read or a write came to. It has none for most errors, none for an EPIPE
-    that the other end brought about, and none for an output that was filled by bytes that aren't recorded."""
+    """Whether the machine has an answer for the result of a read or a write. It has none for most errors, none for
+    an EPIPE that the other end caused, and none for an output that was filled by bytes that aren't recorded."""
     if point.b > 0:
         return True
     if point.c == AGAIN:

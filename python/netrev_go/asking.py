@@ -1,4 +1,5 @@
-"""What netrev and nrdb say about a recording: whether netrev accepts it, the values at its end, the suspects and the causes."""
+"""Asks netrev and nrdb about a recording: whether netrev accepts it, the values at its end, the suspects and the
+causes."""
 
 from __future__ import annotations
 
@@ -16,10 +17,11 @@ from . import messages
 
 PACKAGES = pathlib.Path(__file__).resolve().parents[1]
 ASKED = "info suspects"
+# seconds for the suspects, and for the causes, as long as a busy machine may need
 PATIENCE, OF_CAUSES = (
     60,
     600,
-)  # seconds: for the suspects, and for the causes, which a busy machine may take so long for
+)
 AT_REST = ("idle", "gone", "absent")
 PRINTED = re.compile(r"(gor|lock) (\d+) = (.*)")
 
@@ -51,7 +53,7 @@ def at_the_end(netrev: str, recording: pathlib.Path, steps: int, cells: list[str
 
 
 def suspects(netrev: str, recording: pathlib.Path) -> list[str]:
-    """nrdb's suspects at the end, line by line; empty if nrdb can't be started. Late if it takes too long."""
+    """nrdb's suspects at the end, line by line; empty if nrdb can't be started. Raises Late if it takes too long."""
     words = [sys.executable, str(PACKAGES), "nrdb", "--batch", "-ex", "continue", "-ex", ASKED, file_word(recording)]
     try:
         run = subprocess.run(
@@ -66,7 +68,7 @@ def suspects(netrev: str, recording: pathlib.Path) -> list[str]:
 
 
 class Asked:
-    """A program that answers while something else is done: from the beginning of a `with` on, at most until its end."""
+    """A program that runs in the background, from the beginning of a `with` to its end at most."""
 
     def __init__(self, words: list[str], **environment: str) -> None:
         self._words, self._environment = words, os.environ | environment
@@ -84,7 +86,8 @@ class Asked:
         return self
 
     def answer(self, seconds: float | None = None) -> tuple[int, str, str]:
-        """Its status and what it printed on both outputs, after its end. An OSError if it couldn't be started."""
+        """Its status and what it printed on both outputs, after its end; raises an OSError if it couldn't be
+        started."""
         if self._process is None:
             raise self._fault or OSError("it wasn't started")
         printed, errors = self._process.communicate(timeout=seconds)
@@ -103,8 +106,8 @@ class Check(Asked):
         super().__init__([netrev, "check", file_word(recording)])
 
     def outcome(self) -> tuple[bool, str]:
-        """Whether netrev accepts the recording, and its output. An OSError if it was killed, as by a system that is short of memory: that says nothing
-        of the recording."""
+        """Whether netrev accepts the recording, and its output; raises an OSError if it was killed, such as for
+        lack of memory: that says nothing about the recording."""
         status, printed, errors = self.answer()
         if status < 0:
             raise OSError(0, messages.ENDED_BY_A_SIGNAL.format(signal=signal.Signals(-status).name))
@@ -112,14 +115,14 @@ class Check(Asked):
 
 
 class Causes(Asked):
-    """Why calls failed and hang in a program that failed, by nrdb, which asks netrev what the steps changed, and reckons that itself if
-    netrev doesn't say it soon."""
+    """Why calls failed and hang in a program that failed, by nrdb, which gets the changes of the steps from netrev,
+    or computes them itself if netrev takes long."""
 
     def __init__(self, netrev: str, recording: pathlib.Path) -> None:
         super().__init__([sys.executable, str(PACKAGES), "nrdb.causes", file_word(recording)], NETREV=netrev)
 
     def lines(self) -> list[str]:
-        """What nrdb says; nothing if nothing is known. Late if it takes too long."""
+        """nrdb's output; nothing if nothing is known. Raises Late if it takes too long."""
         try:
             status, printed, _ = self.answer(OF_CAUSES)
         except subprocess.TimeoutExpired:
@@ -135,6 +138,6 @@ def hanging(values: dict[tuple[str, int], str]) -> dict[int, str]:
 
 
 def never_closed(values: dict[tuple[str, int], str]) -> dict[int, int]:
-    """The sockets that are closed with references left, and how many those are."""
+    """The closed sockets with references left, and how many those are."""
     words = {number: int(word) for (cell, number), word in values.items() if cell == "lock" and word.isdigit()}
     return {number: word >> 3 & 2**20 - 1 for number, word in words.items() if word & 1 and word >> 3 & 2**20 - 1}

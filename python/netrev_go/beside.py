@@ -11,7 +11,7 @@ from .sockets import AGAIN
 from .answering import BROKEN_PIPE
 from .waits import Wait
 
-# Errors that end a call of the program's. After others Go tries again in another way, as when a file can't be spliced.
+# Errors that end a call of the program. After others Go tries again in another way, such as when a file can't be spliced.
 OF_CONNECTIONS = frozenset(
     (
         errno.EPIPE, errno.ECONNRESET, errno.ECONNABORTED, errno.ECONNREFUSED, errno.ETIMEDOUT, errno.EHOSTUNREACH,
@@ -20,12 +20,12 @@ OF_CONNECTIONS = frozenset(
 )  # fmt: skip
 
 
-OF_DATAGRAMS, GOES_TO, OF_UNIX = 1, 2, 3  # what a point NAMED is, as go/log/poll.go has it
+OF_DATAGRAMS, GOES_TO, OF_UNIX = 1, 2, 3  # sorts of a point NAMED, as in go/log/poll.go
 OF_IPV4, LOOPBACK, UNSPECIFIED = 1, 3, 4  # sorts of addresses there
 
 
 def address_words(packed: int) -> str:
-    """An address and its port in words; empty for none. Of one of IPv6 only a number is known."""
+    """An address and its port as text; empty for none. For an IPv6 address only a number is known."""
     sort, address, port = packed >> 56, packed >> 16 & 2**40 - 1, packed & 65_535
     if sort == OF_IPV4:
         return f"{'.'.join(str(address >> shift & 255) for shift in (24, 16, 8, 0))}:{port}"
@@ -42,20 +42,16 @@ class Beside:
     errors: list[tuple[int, str]] = field(default_factory=list)
     waits: list[Wait] = field(default_factory=list)  # outside of the poller
     ends: list[tuple[int, int, int]] = field(default_factory=list)  # sockets with the numbers of both ends' names
-    addresses: list[tuple[int, str, str]] = field(
-        default_factory=list
-    )  # of sockets for datagrams, and to which they are connected
+    # for datagram sockets their addresses, and those that they are connected to
+    addresses: list[tuple[int, str, str]] = field(default_factory=list)
     sent: list[tuple[int, str]] = field(default_factory=list)  # the steps after which datagrams went to addresses
-    sizes: list[tuple[int, int]] = field(
-        default_factory=list
-    )  # the steps after which bytes were read or written that count as fewer, with their number
-    _unix: dict[int, tuple[list[tuple[int, int]], list[tuple[int, int]]]] = field(
-        default_factory=dict
-    )  # of each path the sockets that were accepted and dialed there, with the goroutines that did
+    # the steps after which bytes were read or written that count fewer, with their number
+    sizes: list[tuple[int, int]] = field(default_factory=list)
+    # for each path the sockets that were accepted and dialed there, with the goroutines that did so
+    _unix: dict[int, tuple[list[tuple[int, int]], list[tuple[int, int]]]] = field(default_factory=dict)
     _names: dict[int, int] = field(default_factory=dict)  # the numbers of names
-    _ends: dict[tuple[int, int], list[int]] = field(
-        default_factory=dict
-    )  # sockets by names, whose other end isn't met yet
+    # sockets by names, whose other end isn't known yet
+    _ends: dict[tuple[int, int], list[int]] = field(default_factory=dict)
 
     def named(self, socket: int, point: Point, step: int = 0) -> None:
         """A socket's own name and that of the other end; the newest of several. For a datagram socket, its addresses, and the step
@@ -91,7 +87,7 @@ class Beside:
                 self.peers += [(one, other) for (one, _), (other, _) in zip(dialed, accepted)]
 
     def failed(self, step: int, point: Point) -> None:
-        """A read or a write that has no step, since the machine has no such answer."""
+        """A read or a write without a step, because the machine has no such answer."""
         if not step or point.c == AGAIN:
             return
         number = errno.EPIPE if point.kind == Kind.WRITE and point.c == BROKEN_PIPE else -point.b

@@ -14,13 +14,14 @@ from .trying import ready
 
 
 def environment(is_of_others: bool, **settings: str) -> dict[str, str]:
-    """Other projects are found by GOPATH. Go's own tests are built as in a module: else newer releases have old defaults."""
+    """The environment for building: other projects are found by GOPATH. Go's own tests are built as in a module,
+    because newer releases have old defaults otherwise."""
     found = {"GO111MODULE": "off", "GOPATH": str(DEBIAN)} if is_of_others else {"GO111MODULE": "", "GOWORK": "off"}
     return os.environ | found | {"GOFLAGS": "", "GOTOOLCHAIN": "local"} | settings
 
 
 def ran(go: Go, words: list[str], program: pathlib.Path, what: str, is_of_others: bool) -> bool:
-    """Whether `go WORDS WHAT` builds a program that records."""
+    """Runs `go WORDS WHAT` to build a program that records; whether that succeeded."""
     command = [go.program, *words, "-overlay", str(ready(go)), "-o", str(program), what]
     settings = environment(is_of_others)
     run = subprocess.run(command, cwd=program.parent, env=settings, capture_output=True, text=True, check=False)

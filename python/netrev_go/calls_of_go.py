@@ -16,7 +16,7 @@ from .toolchain import Go, Trouble, find_go, points_program
 
 
 class Row(NamedTuple):
-    """Calls with the same steps, these steps, and what they leave out."""
+    """Calls with the same steps, these steps, and what isn't recorded."""
 
     calls: str
     steps: str

@@ -27,7 +27,7 @@ from .trying import ready
 from .watching import snapshot, watch
 
 
-KNOWN: list[object] = []  # of the log that is converted; of the last one to the end, as to give it back takes long
+KNOWN: list[object] = []  # of the last log that is converted, kept to the end, because freeing it takes long
 
 
 def flags(go: Go, words: list[str]) -> list[str]:
@@ -39,7 +39,8 @@ def flags(go: Go, words: list[str]) -> list[str]:
 
 
 def record(options: argparse.Namespace, go: Go) -> int:
-    """Runs Go's command, and makes recordings of what ran. The status is Go's own, unless another one is asked for."""
+    """Runs Go's command, and makes recordings of what ran. The status is Go's own, unless an option asks for
+    another."""
     words = options.words_of_go
     once = ["-count=1"] if options.command == "test" else []
     command = [go.program, options.command, *behind_the_folder(words, [*flags(go, words), *once])]
@@ -66,7 +67,7 @@ def record(options: argparse.Namespace, go: Go) -> int:
 
 
 def status_of(status: int, is_suspected: bool, is_unrecorded: bool) -> int:
-    """Go's own status first."""
+    """The exit status: Go's own, unless it is 0."""
     if status:
         return status
     return Status.SUSPECTED if is_suspected else Status.UNRECORDED if is_unrecorded else Status.DONE
@@ -77,7 +78,7 @@ def wish_of(options: argparse.Namespace) -> Wish:
 
 
 def go_if_any() -> Go | None:
-    """The installed Go; without one a recording has no lines."""
+    """The installed Go; without one a recording has no source lines."""
     try:
         return find_go()
     except Trouble:
@@ -85,7 +86,7 @@ def go_if_any() -> Go | None:
 
 
 def convert_one(options: argparse.Namespace) -> int:
-    """Makes recordings of logs. One that can't be made takes nothing from the others."""
+    """Makes recordings of logs. A log that can't be converted doesn't affect the others."""
     logs = [pathlib.Path(word) for word in options.words_of_go]
     written = len(logs)  # the place of the log that a process writes
     if options.pid is not None:

@@ -1,4 +1,4 @@
-"""Compares a recording with the machine: each answer, and Go's own lock words. netrev is asked, or the model in Python."""
+"""Compares a recording with the machine: each answer, and Go's own lock words, by netrev or by the model in Python."""
 
 from __future__ import annotations
 
@@ -12,7 +12,7 @@ from netrev_machine.replaying import positions
 from netrev_words.jsontext import Doubtful
 from netrev_words.reading import Fault, read_text
 
-# A session has room for 65,536 commands that move, so longer recordings are asked for in several.
+# A session has room for 65,536 commands that move, so a longer recording needs several sessions.
 AT_ONCE = 30_000
 
 DIFFERS = "a lock word differs"
@@ -60,7 +60,7 @@ def differing(netrev: str, recording: pathlib.Path) -> tuple[int, list[str]]:
 
 
 def by_the_model(recording: pathlib.Path) -> tuple[bool, str]:
-    """Whether the model takes the recording with all its answers and lock words, and what it says."""
+    """Whether the model accepts the recording with all its answers and lock words, and its message."""
     words: dict[int, list[Word]] = defaultdict(list)
     for word in read_words(recording.with_suffix(".words")):
         words[word[0]].append(word)

@@ -1,7 +1,7 @@
-"""Makes the steps of a recording of version 2 from points. The recorded answers are Go's, as far as Go has one.
-
-Go doesn't see what the other end does. So bytes arrive just before the read that gets them, and are zeros; they are drained
-just before the write that they make room for; and a socket's output is just so large that it was full where Go found it so."""
+"""Makes the steps of a version 2 recording from points. The recorded answers are Go's, as far as Go has one. Go
+doesn't see what the other end does, so bytes arrive just before the read that gets them, and are zeros; they are
+drained just before the write that they make room for; and a socket's output is just large enough that it was
+full when Go found it so."""
 
 from __future__ import annotations
 
@@ -28,7 +28,7 @@ from .zeros import Line, arrival, drained, put_line, written
 CURRENT_READ, STALE = 1, 4
 EVENT_ERROR, EVENT_STALE = 1, 2
 GREATEST = 2**63 - 1
-SOONEST = 3  # nanoseconds from now that a deadline may be, as the steps that lead to others let two go by
+SOONEST = 3  # nanoseconds to the latest possible deadline, because the steps that lead to others let two pass
 READ, FIRE = int(Kind.READ), int(Kind.FIRE)
 
 # The bytes that arrive before, the goroutine's own line and its number, and the stack of its call.
@@ -42,7 +42,7 @@ class Converter:
         self, points: list[tuple[Point, Socket]], begin: int, ends: list[tuple[int, int]] | None = None
     ) -> None:
         self.points = points
-        self._ends = ends or []  # of goroutines whose numbers are used again, the last one first
+        self._ends = ends or []  # free numbers of goroutines, the last one first
         self._unused: deque[int] = deque()
         self.taken: list[tuple[int, int, int]] = []  # numbers that several goroutines had: after which step, and which
         self._taken_over: set[int] = set()  # these numbers
@@ -73,7 +73,7 @@ class Converter:
         lines, stacks, made, ended = self.lines, self.stacks, self.made, self.ended
         last_steps = self.last_steps
         others, known = self._others(), dict[tuple[object, ...], Repeated]()
-        # (there may be a million points: repeated lines are put together once, and no function is called for them again)
+        # (there may be a million points: repeated lines are formatted once, and need no function call afterwards)
         for point, socket in self.points:
             number, kind, identity, _, a, b, c, _, stack = point
             said: tuple[object, ...]
@@ -93,7 +93,7 @@ class Converter:
             if before:
                 lines.append(before)
                 stacks.append(0)
-            if stack:  # (as `of` has it)
+            if stack:  # (the same as in `of`)
                 call[0] = stack
             else:
                 stack = call[0]
@@ -114,7 +114,7 @@ class Converter:
         return self.calls.setdefault((identity, socket), [0])
 
     def _others(self) -> dict[int, Callable[[Point, Socket], None]]:
-        """What makes the steps of points that aren't one repeated line."""
+        """The functions that make the steps of points that aren't one repeated line."""
         return {
             Kind.INIT: self.socket_opens, Kind.READ: self.read, Kind.WRITE: self.write, Kind.CLOSE_WRITE: self.close_write,
             Kind.OPEN: self.open, Kind.CLOSE: self.close, Kind.PARK: self.park, Kind.SET_DEADLINE: self.set_deadline,
@@ -123,7 +123,7 @@ class Converter:
         }  # fmt: skip
 
     def made_of(self) -> dict[int, int]:
-        """How many steps were made of each socket, by its opening."""
+        """How many steps were made at each socket, by its opening."""
         counts: dict[int, int] = defaultdict(int)
         for (_, socket), before, behind in zip(self.points, chain((0,), self.ended), self.ended):
             counts[socket.opening] += behind - before
@@ -135,12 +135,13 @@ class Converter:
         return self.ended[place - 1] if place else 0
 
     def step(self, text: Line) -> None:
-        """A step of no goroutine's."""
+        """Adds a step of no goroutine."""
         self.lines.append(text)
         self.stacks.append(0)
 
     def of(self, g: int, socket: Socket, stack: int, text: Line) -> None:
-        """A step of a goroutine at a socket. If its point has no stack, the step has that of the goroutine's last call there."""
+        """Adds a step of a goroutine at a socket. If its point has no stack, the step has that of the goroutine's
+        last call there."""
         call = self.call(self.names[g], socket)
         if stack:
             call[0] = stack
@@ -153,7 +154,7 @@ class Converter:
         self.made.append((self._number, self.names[g], step))
 
     def goroutine(self, identity: int) -> int:
-        """A goroutine's number; one that wasn't met before is spawned, or takes the number of one that has ended."""
+        """A goroutine's number; a new goroutine is spawned, or takes the number of one that has ended."""
         number = self.goroutines.get(identity)
         if number is None:
             number = self.goroutines[identity] = self._unused_number(identity)
@@ -192,7 +193,7 @@ class Converter:
         self.of(g, socket, point.stack, f'["sockopen",{BUFFER},{socket.capacity()},["number",{socket.number}]]')
 
     def read(self, point: Point, socket: Socket) -> None:
-        """A read that gets nothing, or many bytes. (Of a few bytes it is repeated.)"""
+        """A read that gets nothing, or many bytes. (One of a few bytes is a repeated line.)"""
         g = self.goroutine(point.goroutine)
         if not can_answer(socket, point):
             return self.beside.failed(self.last_steps[g], point)
@@ -244,8 +245,8 @@ class Converter:
         self.of(g, socket, 0, f'["parkcommit",{g},"{"yes" if point.b else "no"}"]')
 
     def event(self, point: Point, socket: Socket) -> None:
-        """An event that was fetched before the descriptor was closed comes too late: Go says so if its events have tags, and
-        ignores it for a free descriptor otherwise."""
+        """An event that was fetched before the descriptor was closed comes too late: Go reports that if its events
+        have tags, and ignores it for a free descriptor otherwise."""
         is_stale = point.b & EVENT_STALE if point.c else not socket.is_open
         answer = "stale" if is_stale else "done"
         tag, error = socket.tag, point.b & EVENT_ERROR
@@ -258,7 +259,7 @@ class Converter:
         self.of(g, socket, point.stack, f'["pollopen",{g},{socket.number},["number",{socket.descriptor}]]')
 
     def takes_descriptor(self, socket: Socket) -> tuple[int, int]:
-        """Opens a descriptor for a socket, and says what its sequences are then."""
+        """Opens a descriptor for a socket, and records its sequences then."""
         if self.free:
             socket.descriptor = self.free.pop()
         else:
@@ -284,7 +285,7 @@ class Converter:
         self.of(g, socket, point.stack, f'["evict",{g},{socket.descriptor},"done"]')
 
     def set_deadline(self, point: Point, socket: Socket) -> None:
-        """The deadline is just Go's, also where another processor had read a later time before this one's point."""
+        """The deadline is exactly Go's, even if another processor had read a later time before this one's point."""
         _, _, identity, _, _, time, _, passed, stack = point
         g, mode, number = self.goroutine(identity), mode_of(point), socket.descriptor
         now = passed - self.begin
@@ -336,7 +337,8 @@ class Converter:
         self.beside.named(socket.number, point, self.last_steps[self.goroutine(point.goroutine)] if point.c else 0)
 
     def noted(self, point: Point, socket: Socket) -> None:
-        """The steps that lead to a socket that was noted. The clock goes on to the first note, but past no deadline that is to be set."""
+        """The steps that lead to a noted socket. The clock advances to the first note, but past no deadline that is
+        still to be set."""
         if not self.clock:
             sockets = {socket for one, socket in self.points if one.kind == Kind.NOTED}
             dues = [due - SOONEST for socket in sockets if socket.note for due in socket.note.deadlines if due > 0]
@@ -344,7 +346,7 @@ class Converter:
         lead(self, socket)
 
     def noted_name(self, point: Point, socket: Socket) -> None:
-        if point.c != OF_UNIX:  # (their ends are paired by which goroutine they are of)
+        if point.c != OF_UNIX:  # (their ends are paired by their goroutines)
             self.beside.named(socket.number, point)
 
     def header(self) -> str:

@@ -1,4 +1,4 @@
-"""From a log to a recording with its lines, and to the report about it."""
+"""Makes a recording of a log with its lines, and the report about it."""
 
 from __future__ import annotations
 
@@ -32,18 +32,18 @@ PROCESS = re.compile(r"(\.\d+){1,2}(\.snapshot)?\Z")
 
 @dataclass(frozen=True)
 class Wish:
-    """What is to be made of a log."""
+    """The requested recording of a log."""
 
     sockets: int = MOST_SOCKETS
     megabytes: int = MOST_MEGABYTES
     words: bool = False
     all_bytes: bool = False
-    failed: bool = False  # Go's command ended with a status other than 0, or a call hangs: the causes are wanted first
-    first: int = 0  # the address of the lock word of a socket that comes before all others, if there isn't room for all
+    failed: bool = False  # Go's command ended with a status other than 0, or a call hangs: the causes come first
+    first: int = 0  # the address of the lock word of a socket that is kept before all others, if they don't all fit
 
 
 def program_of(log: pathlib.Path, key: str) -> pathlib.Path:
-    """The copy of the program that lies beside its log."""
+    """The copy of the program beside its log."""
     return log.with_name(PROCESS.sub("", log.name) + ".program." + key)
 
 
@@ -58,7 +58,7 @@ class Outcome:
 
 @dataclass
 class ReadLog:
-    """A log that is read once, of whose tests recordings are made."""
+    """A log that is read once, for recordings of its tests."""
 
     path: pathlib.Path
     log: Log
@@ -74,9 +74,9 @@ def convert(
     hear: Hear = unheard,
     is_written: bool = False,
 ) -> Outcome:
-    """Makes the recording NAME from a log, and NAME.where beside it if Go is there to find lines. `known` keeps the data, because
-    freeing it takes long. `hear` gets the lines of the report as soon as they are known. A log that a program writes meanwhile is
-    copied first."""
+    """Makes the recording NAME from a log, and NAME.where beside it if Go is installed to find lines. `known` keeps
+    the data, because freeing it takes long. `hear` gets the lines of the report as soon as they are known. A log
+    that a program is still writing is copied first."""
     try:
         return converted(ReadLog(log, read_log(log, is_written), of_log(log)), name, go, wish, known=known, hear=hear)
     except NoLog as fault:

@@ -33,7 +33,7 @@ from .trying import ready
 HERE = pathlib.Path(__file__).resolve().parents[2]
 OVERLAY = "from netrev_go.toolchain import find_go; from netrev_go.trying import ready; print(ready(find_go()))"
 
-# What is set for each way; None is without the overlay.
+# The settings of each way; None is without the overlay.
 WAYS: dict[str, dict[str, str] | None] = {
     "without the overlay": None,
     "with it, no log": {},
@@ -42,7 +42,7 @@ WAYS: dict[str, dict[str, str] | None] = {
     "with a log and lines": {"NETREV_LINES": "1", "NETREV_ORDERS": "0"},
     "with all three": {"NETREV_LINES": "1", "NETREV_ORDERS": "1"},
 }
-# The ways of a server: whether it has the overlay, whether there is a log, and how it traces itself.
+# The ways of a server: whether it has the overlay, whether it has a log, and how it traces itself.
 SERVED = {
     "without the overlay": (False, False, ""),
     "with it, no log": (True, False, ""),
@@ -50,11 +50,11 @@ SERVED = {
     "runtime/trace": (False, False, "trace"),
     "FlightRecorder": (False, False, "flight"),
 }
-FLIGHT_RECORDER = (1, 25)  # the release that has it first
+FLIGHT_RECORDER = (1, 25)  # the first release that has it
 CONNECTIONS = (20, 200)
 REQUESTS, WARMING = 10_000, 10  # and of so many requests one more before, as samples/served has it
 ROUND_POINTS, DEADLINE_POINTS = 8, 3
-# samples/cost measures these after the calls of the poller. Each is a round:
+# samples/cost measures these after the calls of the poller, each as a round:
 ROUNDS = (
     "buffer",  # a value into a buffer, and out of it
     "no buffer",  # a value from one goroutine to another and back, by channels without a buffer: two waits
@@ -83,7 +83,7 @@ def overlay_by(recorder: pathlib.Path, go: Go) -> str:
 
 
 def sources_of(go: Go, name: str) -> list[pathlib.Path]:
-    """The files of a sample. Go builds all that are listed, whatever they say for which release they are."""
+    """The files of a sample. Go builds all listed files, whatever their build constraints."""
     has_recorder = tuple(map(int, release_of(go.version)[0].split("."))) >= FLIGHT_RECORDER
     of_others = "before.go" if has_recorder else "flight.go"
     return sorted(path for path in (SAMPLES / name).glob("*.go") if path.name != of_others)
@@ -103,7 +103,7 @@ def built_both(go: Go, name: str, folder: pathlib.Path, overlay: str) -> tuple[p
 
 
 def ran(programs: tuple[pathlib.Path, pathlib.Path], way: str, logs: pathlib.Path, *words: str) -> list[str]:
-    """What a program prints, run in one of the ways."""
+    """The output of a program that runs in one of the ways."""
     settings = {"GOMAXPROCS": "1" if not words else "4"} | (WAYS[way] or {})
     if WAYS[way]:
         settings["NETREV_LOG"] = str(logs / "log")
@@ -180,7 +180,7 @@ class Served:
         words: list[str | pathlib.Path] = [self.programs[has_overlay], str(connections), str(self.requests)]
         words += [trace] if trace else []
         run = subprocess.run(words, env=settings, capture_output=True, text=True, check=False)
-        if trace == "flight" and run.returncode == 3:  # this Go has none
+        if trace == "flight" and run.returncode == 3:  # this Go doesn't have it
             return
         run.check_returncode()
         took, traced = map(int, run.stdout.split())
@@ -215,7 +215,8 @@ def loads() -> str:
 def measured_by(
     recorder: pathlib.Path, name: str, go: Go, folder: pathlib.Path, requests: int, is_before: bool
 ) -> Measured | Served:
-    """The samples, built with the overlay of a clone's recorder. Of a server by the recorder before only that is measured which differs."""
+    """The samples, built with the overlay of a clone's recorder. For a server with the earlier recorder only what
+    differs is measured."""
     folder.mkdir(parents=True)
     overlay = overlay_by(recorder, go)
     if requests:
@@ -228,7 +229,7 @@ def measured_by(
 def all_measured(
     releases: list[str], before: pathlib.Path | None, folder: pathlib.Path, requests: int
 ) -> list[Measured | Served]:
-    """The samples of each release, by this recorder and by the one before."""
+    """The samples of each release, with this recorder and with the earlier one."""
     measured: list[Measured | Served] = []
     for release in releases or [""]:
         go = chosen(release)

@@ -1,4 +1,4 @@
-"""`netrev-go doctor`: what is here, what is missing, and whether the installed Go can be recorded."""
+"""`netrev-go doctor`: reports which requirements are met, and whether the installed Go can be recorded."""
 
 from __future__ import annotations
 
@@ -32,7 +32,7 @@ def doctor() -> int:
 
 
 def rules_fit(go: Go) -> bool:
-    """Prints how each rule fits, and which calls of Go's no rule knows."""
+    """Prints how each rule fits, and which of Go's calls no rule knows."""
     fits, rules = fit(go)
     for rule in rules:
         print(f"  {rule}")
@@ -49,7 +49,7 @@ def rules_fit(go: Go) -> bool:
 
 
 def has_room() -> bool:
-    """Whether there is room for logs."""
+    """Whether the logs have room."""
     try:
         folder = logs_folder(MOST_POINTS)
     except Trouble as trouble:
@@ -61,7 +61,7 @@ def has_room() -> bool:
 
 
 def can_write() -> bool:
-    """Whether overlays can be kept."""
+    """Whether overlays can be stored."""
     try:
         cache().mkdir(parents=True, exist_ok=True)
         with tempfile.TemporaryFile(dir=cache()):
@@ -83,7 +83,7 @@ def reads_lines(go: Go) -> str:
 
 
 def tries_well(go: Go) -> bool:
-    """Whether the changed files are compiled, and a trial program is recorded as it should be."""
+    """Whether the changed files compile, and a trial program is recorded correctly."""
     try:
         overlay(go)
     except Trouble as trouble:

@@ -13,11 +13,11 @@ import sys
 from . import messages
 from .toolchain import Go, Trouble, cache, find_go
 
-# Outside of the repository: a release has links in it, which `rt ci` takes in no tree.
+# Outside of the repository, because a release contains links, which `rt ci` doesn't accept in a tree.
 FETCHED = cache() / "releases"
 KEYS = "/usr/share/keyrings/debian-archive-keyring.gpg"
 MIRROR = "http://deb.debian.org/debian"
-# Which suite of Debian's has which release.
+# The suite of Debian that has each release.
 SUITES = {
     "1.19": "bookworm",
     "1.21": "bookworm-backports",
@@ -39,7 +39,7 @@ def is_whole(commands: pathlib.Path) -> bool:
 
 
 def here(release: str) -> pathlib.Path | None:
-    """The folder of a release's `go`: the installed one with its sources, else one that was fetched."""
+    """The folder of a release's `go`: the installed one with its sources, else a fetched one."""
     there = (below(pathlib.Path("/"), release), below(FETCHED / release, release))
     return next((commands for commands in there if is_whole(commands)), None)
 
@@ -61,7 +61,7 @@ def commands_of(release: str) -> pathlib.Path:
 
 
 def chosen(release: str) -> Go:
-    """The Go of a release, which is the first on the PATH from then on; without one the `go` that is on the PATH."""
+    """The Go of a release, which is the first on the PATH from then on; without a release, the `go` on the PATH."""
     if release:
         os.environ["PATH"] = f"{commands_of(release)}:{os.environ['PATH']}"
         os.environ["GOTOOLCHAIN"] = "local"
@@ -69,7 +69,7 @@ def chosen(release: str) -> Go:
 
 
 def run(words: list[str | pathlib.Path], folder: pathlib.Path, **settings: str) -> None:
-    """A command that has to go well."""
+    """Runs a command that must succeed."""
     try:
         done = subprocess.run(
             words, cwd=folder, env=os.environ | settings, capture_output=True, text=True, errors="replace", check=False

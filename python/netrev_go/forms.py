@@ -1,5 +1,5 @@
-"""The result of each test, for machines: a line of JSON, GitHub's annotations, JUnit's XML. docs/reference/OPTIONS.md
-has tables of them."""
+"""The result of each test, for machines: a line of JSON, GitHub's annotations, JUnit's XML
+(docs/reference/OPTIONS.md)."""
 
 from __future__ import annotations
 
@@ -13,7 +13,7 @@ from netrev_words.plain import plain
 
 from .ran import Ran, Went
 
-# A file's name begins at the beginning of a word: else a long word would be searched from each of its letters.
+# A file's name begins at the beginning of a word; otherwise a long word would be searched from each of its letters.
 LINE = re.compile(r"(?<![\w./@+~-])([\w./@+~-]+\.go):(\d+)\b")
 WORST = (Went.FAILED, Went.UNFINISHED, Went.PASSED, Went.SKIPPED)
 
@@ -48,7 +48,7 @@ class Told:
     says: list[str] = field(default_factory=list)
 
     def add(self, test: Ran) -> None:
-        """One more run."""
+        """Adds a run."""
         self.runs += 1
         self.failed += test.is_red()
         self.seconds = round(self.seconds + test.seconds(), 6)
@@ -60,7 +60,7 @@ class Told:
         return self.failed > 0
 
     def outcome(self) -> str:
-        """How it ended: `failed`, or `failed in 1 of 3 runs`."""
+        """The test's outcome: `failed`, or `failed in 1 of 3 runs`."""
         return f"{self.status} in {self.failed} of {self.runs} runs" if self.runs > 1 else self.status
 
     def place(self) -> tuple[str, int] | None:
@@ -70,7 +70,7 @@ class Told:
         return (self.causes[0].file, self.causes[0].line) if self.causes else None
 
     def say(self, lines: list[str]) -> None:
-        """Adds the lines of its recording's report."""
+        """Adds the lines of the report on its recording."""
         self.says = lines
         self.suspects = suspects_in(lines)
         self.causes = causes_in(lines)
@@ -102,12 +102,12 @@ def of_data(text: str) -> str:
 
 
 def of_property(text: str) -> str:
-    """A text as GitHub takes it for a property."""
+    """A text in the form that GitHub expects in a property."""
     return of_data(text).replace(":", "%3A").replace(",", "%2C")
 
 
 def annotation(one: Told) -> str:
-    """GitHub's for a test that failed."""
+    """GitHub's annotation for a test that failed."""
     title = f"title={of_property(plain(f'{one.package} {one.test}'))}"
     words = [one.outcome(), *one.says]
     place = one.place()

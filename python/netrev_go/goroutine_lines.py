@@ -17,16 +17,16 @@ from .goroutines import (
 )  # fmt: skip
 from .lines import OF_GO, OF_THE_PROGRAM, Calls
 
-MOST = 2**16  # waits, uses of channels, timers, and goroutines
-OTHERS = 4  # of which a quarter at most are over when the log ends
+MOST = 2**16  # limits for waits, uses of channels, timers, and goroutines
+OTHERS = 4  # the most of these that are over when the log ends: a quarter
 REASONS = (
     "", "a value from a channel", "room in a channel", "a select", "a condition", "time.Sleep", "a mutex", "a read lock", "a write lock",
     "a WaitGroup", "a semaphore", "a nil channel", "a select without cases",
 )  # fmt: skip
 FOR = {VALUE: "value", ROOM: "room"}
 CHANNEL = "channel"
-HELD = "held"  # the line of locked mutexes, which says something without a row too: that none is known
-TIMED_OUT, CANCELLED = -1, -2  # why a connect failed, if for no error of the system's
+HELD = "held"  # the line of locked mutexes, which has a meaning without a row too: none is locked
+TIMED_OUT, CANCELLED = -1, -2  # why a connect failed, if not by an error of the system
 SORTS = {
     MUTEX: "mutex", READ_LOCK: "RWMutex", WRITE_LOCK: "RWMutex", WAIT_GROUP: "WaitGroup", CONDITION: "condition",
     SEMAPHORE: "semaphore",
@@ -34,7 +34,7 @@ SORTS = {
 # The offset of a semaphore from its object's address, in all releases of Go that are recorded.
 OF_A_MUTEX, OF_WRITERS, OF_READERS = 4, 8, 12
 OFFSETS = {MUTEX: OF_A_MUTEX, READ_LOCK: OF_READERS, WRITE_LOCK: OF_WRITERS, WAIT_GROUP: OF_A_WAIT_GROUP}
-# The function of package sync by which a wait is known, the first one in the stack: an RWMutex has a mutex.
+# The functions of package sync that identify a wait, the first one in the stack: an RWMutex contains a mutex.
 FUNCTIONS = (
     ("sync.(*RWMutex).RLock", READ_LOCK), ("sync.(*RWMutex).Lock", WRITE_LOCK), ("sync.(*WaitGroup).Wait", WAIT_GROUP),
     ("sync.(*Mutex)", MUTEX),
@@ -71,8 +71,8 @@ def semaphore_at(what: int, found: int, calls: Calls | None) -> int:
 
 @dataclass
 class Kept:
-    """What is kept: waits, uses, timers, connects that failed, the mutexes that are locked (None: not known), and how many waits were left out, by
-    what for, stack, and whether they have ended."""
+    """The data to keep: waits, uses, timers, connects that failed, the locked mutexes (None: not known), and how
+    many waits were left out, by reason, stack, and whether they have ended."""
 
     parks: list[Park] = field(default_factory=list)
     uses: list[tuple[Used, Span]] = field(default_factory=list)
@@ -83,7 +83,8 @@ class Kept:
 
 
 def newest(waits: list[bool], most: int) -> Iterator[bool]:
-    """The entries of a list that are kept: first those that still wait, then a quarter as many of the others, the newest ones."""
+    """The entries of a list to keep: first those that still wait, then a quarter as many of the others, the newest
+    ones."""
     waiting = sum(waits)
     too_many, others = max(waiting - most, 0), len(waits) - waiting
     too_old = others - max(min(most - waiting, most // OTHERS, others), 0)
@@ -97,8 +98,8 @@ def newest(waits: list[bool], most: int) -> Iterator[bool]:
 
 
 def kept(found: Goroutines, numbers: dict[int, int], calls: dict[int, Calls], most: int = MOST) -> Kept:
-    """What is kept of all goroutines: actions of recorded goroutines, and actions with a line of the program on their stack or in a
-    goroutine that the program started. If no lines are known, everything."""
+    """The data to keep of all goroutines: actions of recorded goroutines, and actions with a line of the program on
+    their stack or in a goroutine that the program started. If no lines are known, everything."""
     of_program = {
         key
         for key, known in calls.items()
@@ -158,7 +159,7 @@ class Objects:
 
     def number(self, address: int, sort: str) -> int:
         known = self._sorts.setdefault(address, sort)
-        if known != sort and sort == "RWMutex":  # whose mutex was met first
+        if known != sort and sort == "RWMutex":  # its inner mutex was found first
             self._sorts[address] = sort
         return self.numbers.setdefault(address, len(self.numbers) + 1)
 
@@ -171,11 +172,11 @@ class Objects:
 
 @dataclass
 class Everybody:
-    """All goroutines as the file has them."""
+    """All goroutines in the form of the file."""
 
     found: Goroutines
     kept: Kept
-    numbers: dict[int, int]  # the recording's, by Go's
+    numbers: dict[int, int]  # the recording's numbers, by Go's
     last_stacks: dict[int, int]  # of the recording's goroutines, by Go's names
 
     def lines(
@@ -233,7 +234,7 @@ class Everybody:
 
     @staticmethod
     def park(park: Park, calls: Calls | None, objects: Objects, stack: int) -> tuple[object, ...]:
-        """A wait as the file has it."""
+        """A wait in the form of the file."""
         found = waited_for(park.what, calls)
         back = semaphore_at(park.what, found, calls)
         sort = SORTS.get(found, CHANNEL)
@@ -241,8 +242,8 @@ class Everybody:
         return (*park[:5], REASONS[found], stack, park.by, at, *([park.due] if park.due else []))
 
     def goroutines(self, most: int) -> dict[int, int]:
-        """Go's numbers of the goroutines in the file, each with a stack (0 if unknown): those of the recording, and those that
-        wait, used a channel, made a timer or woke others; the newest if there isn't room for all."""
+        """Go's numbers of the goroutines in the file, each with a stack (0 if unknown): those of the recording, and
+        those that wait, used a channel, made a timer or woke others; the newest if they don't all fit."""
         stacks: dict[int, int] = dict(self.last_stacks)
         for park in self.kept.parks:
             if not stacks.get(park.goroutine):
@@ -262,7 +263,7 @@ class Everybody:
         return {goid: stacks[goid] for goid in compress(in_order, choice)}
 
     def goroutine(self, goid: int, made: int) -> tuple[object, ...]:
-        """A goroutine as the file has it."""
+        """A goroutine in the form of the file."""
         maker, first, begin = self.found.born.get(goid, (0, UNENDED, UNENDED))
         last, end = self.found.ended.get(goid, (UNENDED, UNENDED))
         return goid, self.numbers.get(goid, -1), made, maker, first, last, begin, end

@@ -1,5 +1,6 @@
-"""All goroutines of a log, also those that never use a socket: where and at what each waits outside the poller, which goroutine
-started it, when it ends, and what it did at channels. They have Go's own numbers here, as in its stack dumps."""
+"""All goroutines of a log, including those without sockets: where and at what each waits outside the poller, which
+goroutine started it, when it ends, and what it did at channels. They have Go's own numbers here, as in its stack
+dumps."""
 
 from __future__ import annotations
 
@@ -23,18 +24,18 @@ PARKS, GOES_ON, CASES, HANDED, ENDS, TIMER, GROUP, STOPPED, MAKES, DIAL_FAILED =
 )  # fmt: skip
 CONCERNED = ORDERING | WAITING
 BY_GO = 1  # of a point READY: made by a `go` statement
-GIVES, TAKES = 1, 2  # of a point MET: which way the value goes; 0 in logs of before
+GIVES, TAKES = 1, 2  # for a point MET: the direction of the value; 0 in older logs
 PUT, TOOK, CLOSES, ENDED = "put", "took", "closed", "ended"
 ADDED, DONE = "added", "done"  # at a WaitGroup
 OF_A_WAIT_GROUP = 8  # the offset of a WaitGroup's semaphore from its address, in all releases of Go that are recorded
 NEVER = -1  # of a stopped timer, instead of the time at which it goes off
 OF_KIND = {SENT: PUT, RECEIVED: TOOK, CLOSED: CLOSES, FOUND_CLOSED: ENDED}
-# What a goroutine waits for, as go/log/orders.go has it: the lowest byte of a point's word.
+# The reasons of waits, as in go/log/orders.go: the lowest byte of a point's word.
 (
     OTHER, VALUE, ROOM, SELECT, CONDITION, SLEEP, MUTEX, READ_LOCK, WRITE_LOCK, WAIT_GROUP, SEMAPHORE, NIL_CHANNEL, NO_CASES,
 ) = range(13)  # fmt: skip
 UNENDED = -1
-GENERATION = 48  # the bit of a channel's key from which on it counts how many were made at its address
+GENERATION = 48  # the bit of a channel's key from which on it counts the channels at its address
 BEHIND = 2**64, 0, 0  # a step after the last point
 
 
@@ -82,7 +83,7 @@ class Timer(NamedTuple):
 
 
 class Used(NamedTuple):
-    """What a goroutine did at a channel or at a WaitGroup's semaphore from one stack."""
+    """What a goroutine did from one stack at a channel or at a WaitGroup's semaphore."""
 
     address: int
     goroutine: int
@@ -91,7 +92,7 @@ class Used(NamedTuple):
 
 
 class Span(NamedTuple):
-    """How often, and the first time and the last one, by steps and by the clock."""
+    """A count, and the first and the last time, by steps and by the clock."""
 
     often: int
     first: int
@@ -135,11 +136,12 @@ class FailedDial(NamedTuple):
 
 @dataclass
 class Goroutines:
-    """What a log has of all goroutines. Waits have the order in which they begin. A channel is known by its address; one that was made at an
-    address of an older one, by a key of its own. `held` is None if the log doesn't say which mutexes are locked."""
+    """The log's facts about all goroutines. Waits have the order in which they begin. A channel is known by its
+    address; one that was made at an older one's address, by a key of its own. `held` is None if the log doesn't
+    say which mutexes are locked."""
 
     parks: list[Park] = field(default_factory=list)
-    finished: list[int] = field(default_factory=list)  # the places of those that ended, in the order of their ends
+    finished: list[int] = field(default_factory=list)  # the indices of those that ended, in the order of their ends
     born: dict[int, Born] = field(default_factory=dict)
     ended: dict[int, tuple[int, int]] = field(default_factory=dict)  # after which step, and when
     uses: dict[Used, Span] = field(default_factory=dict)
@@ -150,13 +152,13 @@ class Goroutines:
     held: list[Held] | None = None
 
     def stacks(self) -> set[int]:
-        """Those of waits, uses, timers, channels, connects that failed and locked mutexes."""
+        """The stacks of waits, uses, timers, channels, connects that failed and locked mutexes."""
         waiting = {park.stack for park in self.parks} | {use.stack for use in self.uses}
         making = {timer.stack for timer in self.timers} | {making.stack for making in self.made.values()}
         return waiting | making | {dial.stack for dial in self.dials} | {held.stack for held in self.held or ()}
 
     def during(self, begin: int, end: int | None) -> Goroutines:
-        """Those waits and uses that overlap a time, and the timers that were made by its end."""
+        """The waits and uses that overlap a time, and the timers that were made before its end."""
 
         def overlaps(first: int, last: int) -> bool:
             return (end is None or first <= end) and (last == UNENDED or last >= begin)
@@ -173,7 +175,7 @@ class Goroutines:
         return waiting | timing | {use.goroutine for use in self.uses} | {dial.goroutine for dial in self.dials}
 
     def without(self, others: Container[int]) -> Goroutines:
-        """What all but these goroutines did."""
+        """The facts about all but these goroutines."""
         parks = [park for park in self.parks if park.goroutine not in others]
         uses = {use: span for use, span in self.uses.items() if use.goroutine not in others}
         timers = [timer for timer in self.timers if timer.goroutine not in others]
@@ -182,7 +184,8 @@ class Goroutines:
 
 
 def objects_of(what: int, at: int, b: int, c: int) -> tuple[At, ...]:
-    """The objects of a point PARKS or CASES: one, or up to three channels of a select, with two bits for each of how it is used."""
+    """The objects of a point PARKS or CASES: one, or up to three channels of a select, each with two bits for its
+    use."""
     if not at:
         return ()
     use = what & 255
@@ -208,7 +211,7 @@ class Begun(NamedTuple):
 
 
 class Passing:
-    """Goes over a log's points, and knows at each how many steps were made. (There may be half a million points.)"""
+    """Reads a log's points, with the number of steps made before each. (There may be half a million points.)"""
 
     def __init__(self, begin: int) -> None:
         self.found = Goroutines()
@@ -221,9 +224,9 @@ class Passing:
         self._keys: dict[int, int] = {}  # of channels that were made at an address, the last one's
 
     def point(self, point: Point, step: int) -> None:
-        """The next point, before which `step` is the last that was made."""
+        """Processes the next point; `step` is the last step before it."""
         _, kind, g, at, a, b, c, clock, stack = point
-        time = max(clock - self._begin, 0)  # (logs of before have no times)
+        time = max(clock - self._begin, 0)  # (older logs have no times)
         channel = self._keys.get(at, at)
         if kind == READY:
             if b != BY_GO:
@@ -282,7 +285,7 @@ class Passing:
         )
 
     def _parks(self, point: Point, step: int, time: int) -> None:
-        """A goroutine begins to wait. One that waits already does so to the end: its log was damaged."""
+        """A goroutine begins to wait. If it waits already, its log was damaged, and the wait lasts to the end."""
         _, _, g, at, a, b, c, _, stack = point
         what = a & 255
         self._ready.pop(g, None)
@@ -298,7 +301,7 @@ class Passing:
         self.parks.append(None)
 
     def _ends(self, g: int, begun: Begun, step: int, time: int) -> None:
-        """A goroutine goes on."""
+        """A goroutine continues."""
         self.parks[begun.place] = self._park(g, begun, step, time, self._ready.pop(g, 0))
         self.found.finished.append(begun.place)
 
@@ -308,12 +311,12 @@ class Passing:
         return Park(g, first, step, begin, time, what, stack, by, objects, due)
 
     def _met(self, point: Point, step: int, time: int) -> None:
-        """A value goes from one goroutine to another, which waits for that."""
+        """A value passes from one goroutine to another that waits for it."""
         _, kind, g, at, other, b, _, _, stack = point
         at = self._keys.get(at, at)
         self._ready[other] = g
         way = b if kind == MET else GIVES
-        if way != GIVES and way != TAKES:  # of a log of before
+        if way != GIVES and way != TAKES:  # in an older log
             what = self._parked[other].what if other in self._parked else OTHER
             way = {VALUE: GIVES, ROOM: TAKES}.get(what, 0)
         self.found.rooms[at] = b if kind == HANDED else 0
@@ -323,7 +326,7 @@ class Passing:
             self._used(at, other, others, 0, step, time)
 
     def _used(self, at: int, g: int, what: str, stack: int, step: int, time: int, often: int = 1) -> None:
-        """A goroutine did something at a channel or a WaitGroup. One that waits has the stack of its wait."""
+        """A goroutine did something at a channel or a WaitGroup. If it waits, it has the stack of its wait."""
         if not stack and g in self._parked:
             stack = self._parked[g].stack
         use = at, g, what, stack
@@ -338,7 +341,8 @@ class Passing:
 def goroutines_of(
     points: Iterable[Point], steps: list[Made], begin: int, holders: list[Holder] | None = None
 ) -> Goroutines:
-    """All goroutines of the points that are concerned, and of the mutexes that are locked. `steps` has the steps of each point, in the points' order."""
+    """All goroutines of the points about them, and of the locked mutexes. `steps` has the steps of each point, in
+    the points' order."""
     passing = Passing(begin)
     pass_point = passing.point
     following = iter((*steps, BEHIND))

@@ -24,8 +24,8 @@ from .toolchain import Go
 
 
 def say(lines: list[str], stream: TextIO | None = None) -> None:
-    """Prints these lines to standard error, because standard output belongs to Go and the program, or to another stream. If
-    printing fails, later lines are dropped and everything else goes on."""
+    """Prints these lines to standard error, because standard output belongs to Go and the program, or to another
+    stream. If printing fails, later lines are dropped and everything else continues."""
     to = stream or sys.stderr
     try:
         print("\n".join(lines), file=to, flush=True)
@@ -38,21 +38,21 @@ def say(lines: list[str], stream: TextIO | None = None) -> None:
 
 
 class Saying:
-    """Prints the facts of a recording below a heading, as soon as they are known."""
+    """Prints the facts about a recording below a heading, as soon as they are known."""
 
     def __init__(self, head: list[str], indent: str = "", stream: TextIO | None = None) -> None:
         self._head, self._indent, self._stream = head, indent, stream
-        self._count = 0  # of the lines that were said
+        self._count = 0  # how many lines were printed
 
     def hear(self, lines: list[str]) -> None:
-        """Says these lines, the next ones."""
+        """Prints the next lines."""
         if lines:
             say([*self._head, *(self._indent + line for line in lines)], self._stream)
             self._head = []
             self._count += len(lines)
 
     def rest(self, lines: list[str]) -> None:
-        """Of all lines, says those that weren't said yet."""
+        """Prints those of all lines that weren't printed yet."""
         self.hear(lines[self._count :])
 
 
@@ -62,13 +62,13 @@ def complain(text: str) -> None:
 
 
 def convert_hint(folder: pathlib.Path, logs: list[pathlib.Path]) -> str:
-    """How recordings are made of logs that were kept."""
+    """The hint how to convert logs that were kept."""
     again = shlex.quote(str(logs[0])) if len(logs) == 1 else f"{shlex.quote(str(folder))}/{LOGS}"
     return messages.NOTHING_IS_LOST.format(netrev_go=command("netrev-go"), logs=again)
 
 
 def unwritten(name: pathlib.Path, fault: OSError) -> str:
-    """Why a recording isn't there."""
+    """The reason why a recording is missing."""
     return f"{fault.filename or name}: {fault.strerror or fault}"
 
 
@@ -92,7 +92,7 @@ def report_unrecorded(folder: pathlib.Path) -> bool:
 
 
 def leave(folder: pathlib.Path, keep: bool, is_whole: bool, running: list[pathlib.Path]) -> None:
-    """Removes a run's logs, unless they are wanted, a recording of one is missing, or these programs run on."""
+    """Removes a run's logs, unless the user wants them, a recording is missing, or these programs still run."""
     logs = logs_in(folder)
     if keep or logs and not is_whole:
         release(folder)
@@ -117,11 +117,11 @@ class Making:
     def __init__(self, folder: pathlib.Path, base: pathlib.Path, go: Go | None, wish: Wish, count: int = 0) -> None:
         self._folder, self._base, self._go, self._wish = folder, base, go, wish
         self._times = 0
-        self._is_whole = False  # whether nothing that was run would be lost with the logs
+        self._is_whole = False  # whether the logs can be removed without loss
         self._running: list[pathlib.Path] = []
-        self.count = count  # of the recordings of this name so far
+        self.count = count  # how many recordings have this name so far
         self.all_taken = False
-        self.trouble = False  # whether one couldn't be written
+        self.trouble = False  # whether a recording couldn't be written
         self.suspected = False
 
     def so_far(self) -> None:
@@ -146,7 +146,8 @@ class Making:
         leave(self._folder, keep, self._is_whole, self._running)
 
     def _make(self, base: pathlib.Path, wish: Wish, count: int) -> tuple[bool, int]:
-        """A recording of each log in which sockets were opened: whether all are taken, and how many there are of this name."""
+        """Makes a recording of each log in which sockets were opened; whether netrev accepts all, and how many have
+        this name."""
         ok, before, without = True, count, 0
         for log in logs_in(self._folder):
             name, saying = numbered(base, count + 1), Saying([])

@@ -1,4 +1,4 @@
-"""Puts the steps that lead to a noted socket into a recording, with the numbers that the recording has."""
+"""Adds the steps that lead to a noted socket to a recording, with the recording's numbers."""
 
 from __future__ import annotations
 
@@ -27,7 +27,7 @@ class NotLed(Exception):
 
 
 def lead(converter: Converter, socket: Socket) -> None:
-    """Makes the steps that lead to a socket as it was noted."""
+    """Makes the steps that lead to the noted state of a socket."""
     soon = converter.clock
     for step in socket.leads:
         g = converter.goroutine(step.goroutine)
@@ -55,12 +55,12 @@ def lead(converter: Converter, socket: Socket) -> None:
 
 
 def answer_of(step: Lead) -> object:
-    """The answer as a recording has it."""
+    """The answer in the form of a recording."""
     return step.answer[0] if len(step.answer) == 1 else list(step.answer)
 
 
 def put(converter: Converter, socket: Socket, step: Lead, g: int, line: Line) -> None:
-    """A step of a goroutine's, with the stack that it had; no order of the program's is of it."""
+    """Adds a step of a goroutine, with its stack; it takes part in no order of the program."""
     converter.lines.append(line)
     converter.stacks.append(step.stack)
     converter.last_steps[g] = len(converter.lines)
@@ -69,7 +69,7 @@ def put(converter: Converter, socket: Socket, step: Lead, g: int, line: Line) ->
 
 
 def set_deadline(converter: Converter, socket: Socket, step: Lead, g: int) -> int:
-    """Sets a deadline that was noted, or one that passes soon; the time at which it passes."""
+    """Sets a noted deadline, or one that passes soon; returns the time at which it passes."""
     mode, deadline = step.arguments
     if step.kind == "soon":
         time = deadline

@@ -13,13 +13,13 @@ ENDS = int(Kind.ENDS)
 
 @dataclass
 class Lifetimes:
-    """Of goroutines the points at which they begin to make steps, and those at which they end, by Go's names."""
+    """For each goroutine the points at which it begins to make steps and at which it ends, by Go's numbers."""
 
     began: dict[int, int] = field(default_factory=dict)
     ended: dict[int, int] = field(default_factory=dict)
 
     def most(self, goroutines: Iterable[int]) -> int:
-        """How many of these goroutines there are at once, at most."""
+        """The greatest number of these goroutines at one time."""
         moments = []
         for goroutine in goroutines:
             moments.append((self.began.get(goroutine, 0), 1))

@@ -1,5 +1,5 @@
-"""The program that reads lines of source, Go's own `addr2line`. Up to Go 1.24 it comes with Go. Later releases build it when it is first
-asked for, so netrev-go builds it once for each release, before the first recording, and keeps it."""
+"""The program that reads source lines, Go's own `addr2line`. Up to Go 1.24 it comes with Go. Later releases build
+it on first use, so netrev-go builds it once for each release, before the first recording, and keeps it."""
 
 from __future__ import annotations
 
@@ -28,7 +28,7 @@ def kept(go: Go) -> pathlib.Path:
 
 
 def line_reader(go: Go) -> list[str]:
-    """The command that reads lines: Go's own, or the one that was built; else Go builds it now."""
+    """The command that reads lines: Go's own, or the one that was built; otherwise Go builds it now."""
     for path in (shipped(go), kept(go)):
         if path.exists():
             return [str(path)]
@@ -36,7 +36,7 @@ def line_reader(go: Go) -> list[str]:
 
 
 def build_line_reader(go: Go) -> pathlib.Path:
-    """The program, built if it isn't here; Trouble if Go can't build it."""
+    """The program, built if it is missing; raises Trouble if Go can't build it."""
     if shipped(go).exists():
         return shipped(go)
     made = kept(go)
@@ -56,6 +56,6 @@ def build_line_reader(go: Go) -> pathlib.Path:
 
 
 def prepare_line_reader(go: Go) -> None:
-    """Builds the program if it isn't here. Without it Go builds one when lines are read."""
+    """Builds the program if it is missing. Otherwise Go builds one each time lines are read."""
     with contextlib.suppress(Trouble):
         build_line_reader(go)

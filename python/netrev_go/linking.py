@@ -1,5 +1,5 @@
-"""Repeated test runs aren't linked again: the linker's output is kept under the ID that Go gives it, which depends on
-everything that it is made from, and copied instead of linking. Everything else, and the output, stays Go's."""
+"""Repeated test runs aren't linked again: the linker's output is stored under the ID that Go gives it, which
+depends on all its inputs, and copied instead of linking. Everything else, and the output, stays Go's."""
 
 from __future__ import annotations
 
@@ -11,9 +11,10 @@ from collections.abc import Iterator
 
 from .toolchain import Go
 
-PART = 4  # the greatest part of the free room that is used
-FLAGS = ("toolexec", "x", "n")  # with these each run links: the first is the user's own, the others print each command
-# Go runs each tool by it:  sh keep FOLDER KILOBYTES TOOL WORDS
+PART = 4  # the greatest part of the free space that is used
+# flags with which each run links: the first is the user's own, the others print each command
+FLAGS = ("toolexec", "x", "n")
+# Go runs each tool through it:  sh keep FOLDER KILOBYTES TOOL WORDS
 KEEP = r"""kept=$1 most=$2
 shift 2
 case ${1##*/} in link) ;; *) exec "$@" ;; esac
@@ -33,7 +34,7 @@ cp "$out" "$name-$$" && mv "$name-$$" "$name" || rm -f "$name-$$"
 
 
 def is_in_the_way(word: str) -> bool:
-    """Whether with this word of Go's nothing is kept."""
+    """Whether this flag of Go turns the store off."""
     name = word.partition("=")[0]
     return name.startswith("-") and name.lstrip("-") in FLAGS
 

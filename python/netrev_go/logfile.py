@@ -44,7 +44,7 @@ OF_KINDS = bytes(KINDS)
 
 
 class NoLog(Exception):
-    """The file isn't a log, or has nothing of one."""
+    """The file isn't a log, or contains nothing."""
 
 
 class Header:

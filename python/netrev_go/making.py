@@ -1,4 +1,4 @@
-"""A recording of a log: the sockets that fit, the steps, and what is left out."""
+"""Makes the recording of a log: the sockets that fit, the steps, and notes about what is left out."""
 
 from __future__ import annotations
 
@@ -31,11 +31,11 @@ from .waits import waits_of
 from .zeros import Line
 
 
-LockWord = tuple[int, int, int]  # after which step, of which socket, and the word
+LockWord = tuple[int, int, int]  # the step before, the socket, and the word
 
 
 class Nothing(Exception):
-    """The log has nothing that a recording could be made of."""
+    """The log contains nothing that a recording could be made of."""
 
 
 class NoSocket(Nothing):
@@ -44,7 +44,7 @@ class NoSocket(Nothing):
 
 @dataclass
 class Recording:
-    """A recording that isn't written yet."""
+    """A recording that hasn't been written yet."""
 
     header: str
     lines: list[Line]
@@ -62,11 +62,11 @@ class Recording:
     ended: list[int] = field(default_factory=list)  # the number of steps after each point
     everybody: Goroutines = field(default_factory=Goroutines)  # also goroutines without a step
     numbers: dict[int, int] = field(default_factory=dict)  # the recording's goroutines, by Go's names
-    prelude: int = 0  # this many steps lead to the state in which it begins
-    has_tags: bool = False  # Go's events have tags, which it compares with the descriptor's use
+    prelude: int = 0  # how many steps lead to the state in which it begins
+    has_tags: bool = False  # Go's events have tags, which Go compares with the descriptor's use
     taken: list[tuple[int, int, int]] = field(
         default_factory=list
-    )  # numbers that another goroutine took, after which step, and which
+    )  # numbers that another goroutine took: after which step, and which
 
     @cached_property
     def words(self) -> list[LockWord]:
@@ -75,7 +75,7 @@ class Recording:
 
     @cached_property
     def olds(self) -> list[int]:
-        """And what each of them was before."""
+        """The value of each of them before."""
         return [point.a for point, _, _ in self._locks()]
 
     def _locks(self) -> Iterator[tuple[Point, Socket, int]]:
@@ -96,8 +96,8 @@ def make(
     part: Part | None = None,
     first: int = 0,
 ) -> Recording:
-    """The recording of a log's newest sockets, at most this many, whose bytes take at most this many megabytes of text;
-    or of a given part of them. A socket whose lock word has the address `first` comes before all others."""
+    """The recording of a log's newest sockets, at most this many, whose bytes take at most this many megabytes of
+    text; or of a given part of them. A socket whose lock word has the address `first` is kept before all others."""
     window = window_of(log, all_bytes)
     found = window.found
     notes = [*log.notes, *window.notes]
@@ -138,7 +138,7 @@ def make(
 
 @dataclass
 class Window:
-    """The points of a recording: all that a log has of sockets, or from where those were noted that were open."""
+    """The points of a recording: all points of sockets, or those from the first whole notes on."""
 
     found: Owned
     end: int = 0  # the number of the last point of these notes; 0 if there are none
@@ -158,20 +158,20 @@ def window_of(log: Log, all_bytes: bool) -> Window:
 
 
 def lacks(why: str, number: int) -> str:
-    """The message about sockets that were open before the recording begins, and that it lacks."""
+    """The message about sockets that were open before the recording begins, and are missing from it."""
     which = "that was open before is" if number == 1 else "that were open before are"
     return f"{counted(number, 'socket')} {which} left out: {why}"
 
 
 def owners_of(converter: Converter) -> tuple[dict[int, int], dict[int, int]]:
-    """The recording's goroutines by Go's names, for each number the last one that had it; and the step after which a
-    goroutine took its number."""
+    """The recording's goroutines by Go's numbers, for each number the last one that had it; and the step after
+    which a goroutine took its number."""
     numbers = {name: number for number, name in enumerate(converter.names) if name != NOBODY}
     return numbers, {name: step for _, step, name in converter.taken}
 
 
 class Fitted:
-    """As many sockets as fit; their steps are counted if they can't be estimated."""
+    """The sockets that fit; their steps are counted if they can't be estimated."""
 
     def __init__(self, found: Owned, wanted: list[Socket], ends: list[Point], first: int = 0) -> None:
         self.found = found
@@ -185,15 +185,15 @@ class Fitted:
 
     @cached_property
     def lifetimes(self) -> Lifetimes:
-        """When goroutines begin and end: it is asked for only where there are many."""
+        """When goroutines begin and end, computed only if they are many."""
         return lifetimes_of(self.found.used(), self.ends)
 
     def at_once(self, goroutines: set[int]) -> int:
-        """How many of these goroutines there are at once."""
+        """The greatest number of these goroutines at one time."""
         return self.lifetimes.most(goroutines)
 
     def converted(self, begin: int, most: int, megabytes: int) -> Converter:
-        """The converter of these sockets; Nothing if not even one fits."""
+        """The converter of these sockets; raises Nothing if not even one fits."""
         room, counted = MOST_STEPS, False
         while True:
             points = self.chosen(most, megabytes, room)
@@ -216,12 +216,12 @@ class Fitted:
             counted = True
 
     def restore(self) -> None:
-        """Takes away the marks that a converter leaves at sockets."""
+        """Removes the marks that a converter leaves at sockets."""
         for socket, before in zip(self.found.sockets, self.before):
             vars(socket).update(before)
 
     def chosen(self, most: int, megabytes: int, room: int) -> list[tuple[Point, Socket]]:
-        """The points of the sockets for which there may be room."""
+        """The points of the sockets that may fit."""
         wanted = [socket for socket in self.found.sockets if socket.opening in self.wanted]
         kept = chosen(wanted, most, megabytes, room, self.at_once, self.first)
         self.is_crowded = len(set().union(*(socket.goroutines for socket in kept))) > MOST_GOROUTINES
@@ -232,7 +232,7 @@ class Fitted:
 
 
 def write(recording: Recording, name: pathlib.Path) -> None:
-    """Writes the recording completely; an OSError that names the file if that fails."""
+    """Writes the recording completely; raises an OSError that names the file if that fails."""
     with whole(name) as file:
         file.write(recording.header + "\n")
         for first in range(0, len(recording.lines), AT_ONCE):
@@ -240,7 +240,7 @@ def write(recording: Recording, name: pathlib.Path) -> None:
 
 
 def write_words(recording: Recording, name: pathlib.Path) -> None:
-    """Go's lock words, a line of JSON for each: after which step, the cell, and the value."""
+    """Go's lock words, a line of JSON for each: the step before, the cell, and the value."""
     with whole(name) as file:
         for step, socket, word in recording.words:
             file.write(json.dumps([step, f"lock {socket}", str(word % 2**64)]) + "\n")

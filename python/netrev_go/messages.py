@@ -62,7 +62,7 @@ DISCARD = " (`rm -r {folder}` deletes the logs)"
 NONE_INTERRUPTED = "netrev-go: no run was interrupted"
 RECOVERED = "netrev-go: {recordings} of {runs} runs"
 
-# What is wrong with a log. The log's name comes before.
+# What is wrong with a log, after the log's name.
 TOO_SHORT = "too short for a log"
 NOT_A_LOG = "not a log of netrev-go"
 BAD_HEADER = "its header is damaged"
@@ -79,7 +79,7 @@ BAD_MODE = "point {point}: {mode} is neither reading nor writing"
 TWO_SIDES = "point {point}: one side was expected, and both were given"
 NO_TIMER = "point {point}: a deadline passed whose timer wasn't due"
 
-# What a recording lacks. These are printed in parentheses.
+# What a recording lacks, in parentheses.
 LOG_IS_FULL = "the log ran out of space and ends before the program did"
 NEWEST_POINTS = "the log keeps the newest {kept} points of {all}"
 LOG_IS_DAMAGED = "the log is cut short or damaged: {usable} of its {kept} points can be used"

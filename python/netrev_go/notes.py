@@ -1,5 +1,6 @@
-"""What the recorder noted of sockets that were open before the oldest point that the log kept: how the lock word and the descriptor of each
-were, which goroutines waited there in which of their steps, and which had it in use (go/log/notes.go writes these points)."""
+"""The recorder's notes of sockets that were open before the oldest point in the log: the state of the lock word and
+of the descriptor, the goroutines that waited there, each at its place of the wait, and those that were using it
+(go/log/notes.go writes these points)."""
 
 from __future__ import annotations
 
@@ -41,7 +42,7 @@ class Inside(NamedTuple):
 
 
 class Queued(NamedTuple):
-    """A goroutine that is queued for a lock, of which side (0 of reading, 1 of writing)."""
+    """A goroutine that is queued for a lock, and the side (0 for reading, 1 for writing)."""
 
     goroutine: int
     side: int
@@ -50,8 +51,8 @@ class Queued(NamedTuple):
 
 @dataclass
 class Note:
-    """A noted socket, and what later points say about it: which goroutine gives up a lock or a reference that it had
-    then."""
+    """A noted socket, and what later points show about it: which goroutine gives up a lock or a reference that it
+    had then."""
 
     number: int  # of the point
     word: int
@@ -59,16 +60,16 @@ class Note:
     tag: int = 0
     sequences: tuple[int, int] = (0, 0)
     deadlines: tuple[int, int] = (0, 0)  # by Go's clock
-    flags: int | None = None  # None until that point was met
+    flags: int | None = None  # None until that point comes
     inside: dict[int, Inside] = field(default_factory=dict)  # by side
     queued: list[Queued] = field(default_factory=list)
     holders: dict[int, int] = field(default_factory=dict)  # by side
-    references: Counter[int] = field(default_factory=Counter)  # of goroutines, apart from those of locks
+    references: Counter[int] = field(default_factory=Counter)  # references of goroutines besides those of locks
     evicter: int = 0
-    is_in_motion: bool = False  # a goroutine was on its way from one to the other that waits for its lock
+    is_in_motion: bool = False  # the lock was being passed from one goroutine to another that waits for it
 
     def add(self, point: Point) -> None:
-        """Takes what a further point of the note says."""
+        """Adds the facts in a further point of the note."""
         _, kind, goroutine, _, a, b, c, _, stack = point
         if kind == POLL:
             self.tag, self.sequences = a, (b, c)
@@ -88,7 +89,7 @@ class Note:
         return {*self.holders.values(), *self.references, self.evicter} - {0}
 
     def waits_to_write(self) -> bool:
-        """Whether a goroutine waits inside a write, and not for a connection, which it does without the lock."""
+        """Whether a goroutine waits inside a write, rather than for a connection, which it does without the lock."""
         return WRITING in self.inside and self.is_taken(WRITING)
 
     def field(self, place: tuple[int, int]) -> int:
@@ -112,7 +113,8 @@ def side_of(mode: int) -> int:
 
 
 class Debts:
-    """Finds which goroutines had locks and references of a socket as it was noted: those that give them up without having got them since."""
+    """Finds which goroutines had locks and references of a socket when it was noted: those that give them up
+    without having got them since."""
 
     def __init__(self, note: Note) -> None:
         self.note = note
@@ -123,7 +125,7 @@ class Debts:
         self.waits: set[int] = set()
 
     def point(self, point: Point) -> None:
-        """A later point of the socket."""
+        """Processes a later point of the socket."""
         note, (_, kind, g, _, old, new, bits, _, _) = self.note, point
         side = 0 if bits & 1 else 1
         if kind == RW_UNLOCK:

@@ -38,7 +38,7 @@ def failing_words(text: str) -> list[str]:
 
 
 def add_files(group: argparse._ArgumentGroup) -> None:
-    """The options of what is written."""
+    """Adds the options for output files."""
     group.add_argument(
         "-o", metavar="NAME", help="write NAME.jsonl and NAME.where; for tests, write below the folder NAME"
     )
@@ -46,12 +46,12 @@ def add_files(group: argparse._ArgumentGroup) -> None:
 
 
 def add_logs(group: argparse._ArgumentGroup) -> None:
-    """The option of the logs, which are removed otherwise."""
+    """Adds the option for logs, which are removed otherwise."""
     group.add_argument("--keep", action="store_true", help="keep the logs, and print their folder")
 
 
 def add_status(group: argparse._ArgumentGroup) -> None:
-    """The options of the exit status."""
+    """Adds the options for the exit status."""
     group.add_argument(
         "--fail-on", metavar="WHAT", type=failing_words,
         help="exit with 3 instead of 0 if there are `suspects`, or `possible` findings of --explore",
@@ -62,7 +62,7 @@ def add_status(group: argparse._ArgumentGroup) -> None:
 
 
 def add_run(group: argparse._ArgumentGroup) -> None:
-    """The options of how a program runs, and of what it records."""
+    """Adds the options for how a program runs, and what it records."""
     group.add_argument("-n", metavar="SECONDS", type=float, help="send SIGQUIT to a program that runs longer than this")
     group.add_argument("--procs", metavar="N", type=int, help="set GOMAXPROCS")
     group.add_argument(
@@ -76,7 +76,7 @@ def add_run(group: argparse._ArgumentGroup) -> None:
 
 
 def add_recording(group: argparse._ArgumentGroup) -> None:
-    """The options of what a recording has of a log."""
+    """Adds the options for the contents of a recording."""
     group.add_argument(
         "--sockets", metavar="N", type=int, default=MOST_SOCKETS,
         help="keep at most N sockets: those still open first, then the newest",
@@ -91,12 +91,12 @@ def add_recording(group: argparse._ArgumentGroup) -> None:
 
 
 def add_convert(group: argparse._ArgumentGroup) -> None:
-    """The options of `convert` alone."""
+    """Adds the options of `convert` alone."""
     group.add_argument("--pid", metavar="PID", type=int, help="convert the log of this process")
 
 
 def add_watch(group: argparse._ActionsContainer) -> None:
-    """The options of `watch` alone."""
+    """Adds the options of `watch` alone."""
     group.add_argument(
         "--stuck", metavar="TIME", type=seconds, default=5.0,
         help="make a recording when a call has waited so long, as 5s, 500ms or 2m (5s by default)",
@@ -105,7 +105,7 @@ def add_watch(group: argparse._ActionsContainer) -> None:
 
 
 def add_tests(group: argparse._ArgumentGroup) -> None:
-    """The options of `test` alone."""
+    """Adds the options of `test` alone."""
     group.add_argument("--all", action="store_true", help="keep a recording of each test, not only of failing tests")
     group.add_argument("--runs", metavar="N", type=int, help="run the tests N times")
     group.add_argument("--until-failure", action="store_true", help="run the tests again until one fails")
@@ -136,7 +136,7 @@ GROUPS: dict[str, tuple[str, OptionGroup]] = {
 
 
 class Parser(argparse.ArgumentParser):
-    """The parser of netrev-go's words, whose usage errors point to the help."""
+    """Parses netrev-go's command line; usage errors point to the help."""
 
     def error(self, message: str) -> NoReturn:
         what = messages.NO_COMMAND if message.startswith("the following arguments are required") else message
@@ -159,7 +159,7 @@ def parser() -> argparse.ArgumentParser:
 
 
 def of_a_process(options: argparse.Namespace) -> None:
-    """Takes the words of a command that is of a process: its number, and options of the command's own."""
+    """Parses the words of a command about a process: its number, and the command's own options."""
     made = Parser(usage=argparse.SUPPRESS, add_help=False)
     made.add_argument("pid", metavar="PID", type=int)
     if options.command == "watch":
@@ -182,7 +182,7 @@ def help_of(command: str) -> str:
 
 
 def asks_for_help(options: argparse.Namespace) -> bool:
-    """Whether a command's own help is wanted: `netrev-go run --help`."""
+    """Whether a command's own help is asked for: `netrev-go run --help`."""
     return options.words_of_go[:1] != [] and options.words_of_go[0] in HELP_WORDS
 
 
@@ -200,7 +200,7 @@ LIMITS = (
 
 
 def check(options: argparse.Namespace) -> None:
-    """Trouble where an option can't be what it is for."""
+    """Raises Trouble if an option has an unusable value."""
     for name, least, most in LIMITS:
         given = getattr(options, name)
         if given is not None and not least <= given <= most:

@@ -13,12 +13,12 @@ READY, SENT, RECEIVED, MET, CHANNEL_CLOSED, HANDED = map(
 )
 END = Point(2**63, 0, 0, 0, 0, 0, 0, 0, 0)  # after the last one
 
-Frontier = dict[int, int]  # the last steps, by goroutine, after which something comes
+Frontier = dict[int, int]  # the last steps, by goroutine, that precede others
 
 
 class Queue:
-    """The steps that precede each thing in a queue. The first ones may be unknown and are only counted, because a channel's
-    capacity isn't known."""
+    """The steps that precede each value in a queue. The first ones may be unknown and are only counted, because a
+    channel's capacity isn't known."""
 
     def __init__(self) -> None:
         self._unknown = 0
@@ -28,7 +28,7 @@ class Queue:
         return self._unknown + len(self._known)
 
     def fit(self, length: int) -> None:
-        """Has it this length from now on: another channel may have been at its address, or the log begins later."""
+        """Sets the length: another channel may have been at its address, or the log begins later."""
         while len(self._known) > length:
             self._known.popleft()
         self._unknown = length - len(self._known)
@@ -37,7 +37,7 @@ class Queue:
         self._known.append(frontier)
 
     def take(self) -> Frontier:
-        """The first one's, which leaves the queue."""
+        """Removes the first value; returns its steps."""
         if not self._unknown:
             return self._known.popleft()
         self._unknown -= 1
@@ -54,13 +54,13 @@ class Channel:
 
 
 class Orders:
-    """The orders so far. Goroutines are named as Go does it."""
+    """The orders so far. Goroutines have Go's numbers."""
 
     def __init__(self) -> None:
-        self.found: list[tuple[int, int]] = []  # of each the step that comes first, and the other
+        self.found: list[tuple[int, int]] = []  # for each order the step that comes first, and the other
         self.own: dict[int, int] = {}
-        self.behind: dict[int, Frontier] = defaultdict(dict)  # what a goroutine's next step comes after
-        self.known: dict[int, Frontier] = defaultdict(dict)  # that, and what its steps come after so far
+        self.behind: dict[int, Frontier] = defaultdict(dict)  # the steps that a goroutine's next step follows
+        self.known: dict[int, Frontier] = defaultdict(dict)  # the same for all its steps so far
         self.channels: dict[int, Channel] = defaultdict(Channel)
 
     def step(self, goroutine: int, number: int) -> None:
@@ -70,7 +70,7 @@ class Orders:
         self.own[goroutine] = number
 
     def point(self, point: Point) -> None:
-        """The program puts goroutines in order."""
+        """The program orders goroutines."""
         _, kind, g, at, a, b, _, _, _ = point
         if kind == READY or kind == HANDED:
             self._comes_behind(a, self._frontier(g))
@@ -86,7 +86,7 @@ class Orders:
             self._comes_behind(g, self.channels[at].closed)
 
     def _buffer(self, sends: bool, channel: Channel, goroutine: int, length: int, room: int) -> None:
-        """A value goes into a channel's buffer, or out of it."""
+        """A value enters a channel's buffer, or leaves it."""
         held = max(0, min(length, room))
         channel.values.fit(held)
         channel.places.fit(max(0, room) - held)
@@ -105,12 +105,12 @@ class Orders:
     def _comes_behind(self, goroutine: int, frontier: Frontier) -> None:
         known, behind = self.known[goroutine], self.behind[goroutine]
         latest = known.get
-        for other, number in frontier.items():  # (mostly all of it is known, and a log may have millions of these)
+        for other, number in frontier.items():  # (most of it is known, and a log may have millions of these)
             if number > latest(other, 0) and other != goroutine:
                 known[other] = behind[other] = number
 
 
-Made = tuple[int, int, int]  # a step of a goroutine's: the number of its point, the goroutine, and the step's number
+Made = tuple[int, int, int]  # a step of a goroutine: the number of its point, the goroutine, and the step's number
 
 
 def orders_of(points: Iterable[Point], steps: Iterable[Made]) -> list[tuple[int, int]]:
@@ -134,6 +134,6 @@ def orders_of(points: Iterable[Point], steps: Iterable[Made]) -> list[tuple[int,
 
 
 def parts(found: list[tuple[int, int]], size: int) -> Iterator[list[tuple[int, int]]]:
-    """The pairs, this many at a time; one part at least."""
+    """The pairs, this many at a time; at least one part."""
     for first in range(0, max(len(found), 1), size):
         yield found[first : first + size]

@@ -13,11 +13,11 @@ from .toolchain import Trouble
 
 RECORDING, LINES, WORDS = ".jsonl", ".where", ".words"
 LONGEST_ENDING = "-so-far-999.jsonl"
-TRIED = 65_536  # bytes that are written to see whether there is room
+TRIED = 65_536  # bytes that are written as a test whether the disk has room
 
 
 def base_name(given: str | None, otherwise: str = "recording") -> pathlib.Path:
-    """The beginning of a recording's name; Trouble if it can't be one."""
+    """The beginning of a recording's name; raises Trouble if it can't be one."""
     said = otherwise if given is None else given
     base = pathlib.Path(said.removesuffix(RECORDING))
     is_other = os.path.exists(base) and not (os.path.isfile(base) or os.path.isdir(base))  # a device, a pipe
@@ -32,7 +32,7 @@ def numbered(base: pathlib.Path, made: int) -> pathlib.Path:
 
 
 def look(base: pathlib.Path) -> None:
-    """Trouble if a recording can't be written there now."""
+    """Raises Trouble if a recording can't be written there now."""
     try:
         try_folder(base)
         with contextlib.suppress(FileNotFoundError):
@@ -48,7 +48,7 @@ def look(base: pathlib.Path) -> None:
 
 
 def try_folder(base: pathlib.Path) -> None:
-    """Writes a file into the folder of the recording, and takes it away again."""
+    """Writes a file into the folder of the recording, and removes it."""
     tried = beside(base)
     with tried.open("xb") as file:
         try:
@@ -59,7 +59,7 @@ def try_folder(base: pathlib.Path) -> None:
 
 
 def look_folder(base: pathlib.Path) -> None:
-    """Trouble where recordings can't be written into that folder, which may have to be made."""
+    """Raises Trouble if recordings can't be written into that folder, which may not exist yet."""
     try:
         if base.exists() and not base.is_dir():
             raise Trouble(messages.NOT_A_FOLDER.format(path=base))

@@ -1,4 +1,4 @@
-"""What a log has: points in the order of one counter, and the stacks from which they were passed."""
+"""The contents of a log: points in the order of one counter, and the stacks from which they were passed."""
 
 from __future__ import annotations
 

@@ -32,7 +32,7 @@ from .notes import (
     WAIT, WAITING, WRITING, Note,
 )  # fmt: skip
 
-NOBODY = 0  # the goroutine of steps of which it isn't known which goroutine made them
+NOBODY = 0  # the goroutine for steps that no known goroutine made
 BOTH = (READING, WRITING)
 SOON = (1, 2)  # nanoseconds
 PLACES = {
@@ -46,7 +46,7 @@ PLACES = {
 
 
 class Unreachable(Exception):
-    """The steps can't lead there; the message says why."""
+    """The steps can't lead there; the message is the reason."""
 
 
 class Lead(NamedTuple):
@@ -65,20 +65,20 @@ NOTHING_FOUND = ("code", 0)
 
 
 class Leading:
-    """Puts together the steps that lead to a note."""
+    """Builds the steps that lead to a note."""
 
     def __init__(self, note: Note, capacities: tuple[int, int], is_full: bool) -> None:
         self.note = note
         self.capacities = capacities
         self.is_full = is_full
         self.leads: list[Lead] = []
-        self.deadlines = [0, 0]  # as they are led to so far
+        self.deadlines = [0, 0]  # as the steps so far set them
 
     def add(self, kind: str, goroutine: int, *arguments: Any, answer: tuple[Any, ...] = DONE, stack: int = 0) -> None:
         self.leads.append(Lead(kind, goroutine, arguments, answer, stack))
 
     def all(self) -> list[Lead]:
-        """The steps; raises Unreachable if there are none."""
+        """The steps; raises Unreachable if none lead there."""
         note = self.note
         flags = note.flags
         if flags is None or any(one.place not in PLACES for one in note.inside.values()):
@@ -146,19 +146,19 @@ class Leading:
                 self.fill(holder, stack)
 
     def fill(self, goroutine: int, stack: int = 0) -> None:
-        """The output is as full as it can be, which a write finds."""
+        """Fills the output, which a later write finds full."""
         self.add("syswrite", goroutine, self.capacities[1], answer=("put", self.capacities[1]), stack=stack)
         if goroutine != NOBODY:
             self.add("syswrite", goroutine, 1, answer=("again",), stack=stack)
 
     def queue(self) -> None:
-        """Goroutines wait for a lock."""
+        """Puts goroutines into the queue for a lock."""
         for goroutine, side, stack in self.note.queued:
             self.add("rwlock", goroutine, SIDES[side], answer=WAITS, stack=stack)
             self.add("acquire", goroutine, answer=WAITS, stack=stack)
 
     def enter(self, side: int) -> None:
-        """A goroutine is inside the wait of a side; one that was woken parks first."""
+        """Puts a goroutine inside the wait of a side; one that was woken parks first."""
         if side not in self.note.inside:
             return
         goroutine, place, stack = self.note.inside[side]
@@ -170,7 +170,7 @@ class Leading:
                 self.add(kind, goroutine, answer=answer, stack=stack)
 
     def wake(self, side: int) -> None:
-        """A goroutine that was woken without readiness: by a deadline in the past, if not by the close."""
+        """Wakes a goroutine without readiness: by a deadline in the past, if not by the close."""
         inside, word = self.note.inside.get(side), self.note.word_of(side)
         is_woken = inside and (inside.place == CHECKING or inside.place != ENTERING and word == NIL)
         if is_woken and not (self.note.flags or 0) & CLOSING:
@@ -178,13 +178,13 @@ class Leading:
             self.deadlines[side] = -1
 
     def check(self, side: int) -> None:
-        """A goroutine that has taken the word, and checks why it was woken."""
+        """Lets a goroutine take the word, and check why it was woken."""
         inside = self.note.inside.get(side)
         if inside and inside.place == CHECKING:
             self.add("blockswap", inside.goroutine, answer=NO, stack=inside.stack)
 
     def passed(self) -> None:
-        """Deadlines that went off, and whose timers run still."""
+        """Deadlines that passed, and whose timers still run."""
         sides = [side for side in BOTH if self.note.deadlines[side] < 0 and self.note.runs(side)]
         for side, soon in zip(sides, SOON):
             self.add("soon", NOBODY, SIDES[side], soon)
@@ -215,7 +215,7 @@ class Leading:
 
 
 def spelled(lead: Lead, g: int, s: int, d: int, tag: int) -> tuple[Any, ...]:
-    """A step as the machine takes it, with the numbers that the recording has."""
+    """A step in the machine's form, with the recording's numbers."""
     known = {"g": g, "s": s, "d": d, "tag": tag}
     others = iter(lead.arguments)
     return (lead.kind, *(known[name] if name in known else next(others) for name in KINDS[lead.kind].arguments))
@@ -238,7 +238,7 @@ def by_the_model(note: Note, leads: list[Lead], begin: int, buffer: int) -> None
 
 
 def _steps(leads: list[Lead], numbers: dict[int, int], begin: int) -> Iterator[tuple[tuple[Any, ...], tuple[Any, ...]]]:
-    """The steps for the model, of the only socket that there is."""
+    """The steps for the model, for a single socket."""
     clock = 0
     for lead in leads:
         g = numbers.setdefault(lead.goroutine, len(numbers))
@@ -269,7 +269,7 @@ def relative(deadline: int, begin: int, clock: int) -> int:
 
 
 def _difference(note: Note, machine: Machine, numbers: dict[int, int], begin: int) -> str | None:
-    """What of the model's state isn't as it was noted, in the words of its cells."""
+    """The difference between the model's state and the note, as cells."""
     socket, descriptor, flags = machine.sockets[0], machine.descs[0], note.flags or 0
     words: dict[int, Any] = {NIL: "nil", READY: "ready", WAIT: "wait"}
     inside = {side: one._replace(goroutine=numbers[one.goroutine]) for side, one in note.inside.items()}
@@ -296,7 +296,7 @@ def _difference(note: Note, machine: Machine, numbers: dict[int, int], begin: in
 
 
 def led(note: Note, capacities: tuple[int, int], is_full: bool, begin: int) -> list[Lead]:
-    """The steps that lead to a note, run by the model; raises Unreachable if there are none."""
+    """The steps that lead to a note, run by the model; raises Unreachable if none do."""
     leads = Leading(note, capacities, is_full).all()
     by_the_model(note, leads, begin, max(capacities))
     return leads

@@ -1,4 +1,5 @@
-"""Which tests ran in a process, by the lines that it left beside its log: LOG.tests, which go/log/tests.go writes."""
+"""The tests that ran in a process, from the lines that it left beside its log: LOG.tests, which go/log/tests.go
+writes."""
 
 from __future__ import annotations
 
@@ -15,7 +16,7 @@ SECOND = 10**9
 
 
 class Went(Enum):
-    """How a test went. One that never ended ran when its process did."""
+    """The outcome of a test. One that never ended was running when its process ended."""
 
     PASSED = "passed"
     FAILED = "failed"
@@ -25,7 +26,7 @@ class Went(Enum):
 
 @dataclass(eq=False)
 class Ran:
-    """A test that ran: by which goroutine, and how many points of the log were passed before it began, failed first and ended."""
+    """A test that ran: its goroutine, and how many points were logged before it began, first failed and ended."""
 
     package: str
     name: str
@@ -33,12 +34,12 @@ class Ran:
     began: int
     began_at: int  # nanoseconds of the log's
     failed: int | None = None
-    place: tuple[str, int] | None = None  # the file and the line from which it was said to fail
+    place: tuple[str, int] | None = None  # the file and the line of its first failure
     ended: int | None = None
     ended_at: int | None = None
     skipped: bool = False
     bubbles: int = (
-        0  # of testing/synctest that it is in: package testing runs the function of one as a test of the same name
+        0  # the test of testing/synctest around it: package testing runs its function as a test of the same name
     )
 
     def went(self) -> Went:
@@ -69,7 +70,7 @@ class Tests:
     by_name: dict[str, Ran] = field(default_factory=dict)  # the last of each name
 
     def take(self, passed: int, goroutine: int, time: int, what: str, name: str) -> None:
-        """What a line says."""
+        """Processes a line."""
         if what == "package":
             self.package = name
         elif what == "runs" and name in self.by_name and self.by_name[name].ended is None:
@@ -92,7 +93,7 @@ class Tests:
             test.skipped = True
 
     def to_keep(self) -> list[Ran]:
-        """The red tests, without those that are red since a subtest of theirs is."""
+        """The failed tests, without those that failed because of a subtest."""
         red = [test for test in self.ran if test.is_red()]
         return [test for test in red if not any(other.is_below(test) for other in red)]
 
@@ -116,7 +117,7 @@ def forget(log: pathlib.Path) -> None:
 
 
 def of_log(log: pathlib.Path) -> Tests:
-    """The tests of the process that wrote this log. A line that is damaged says nothing."""
+    """The tests of the process that wrote this log. A damaged line is ignored."""
     tests = Tests()
     try:
         with log.with_name(log.name + ENDING).open("rb") as file:
@@ -135,7 +136,7 @@ def of_log(log: pathlib.Path) -> Tests:
 
 
 def written(file: BinaryIO) -> Iterator[bytes]:
-    """What was written into a file that is mapped: the rest of it is zeros, and mostly a hole."""
+    """The written part of a mapped file: the rest of it is zeros, and mostly a hole."""
     for _ in range(MOST_BYTES // PIECE):
         piece = file.read(PIECE)
         if piece == bytes(len(piece)):

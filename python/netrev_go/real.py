@@ -44,7 +44,7 @@ LOG_POINTS = 2**20
 
 
 def went(command: list[str], folder: pathlib.Path, settings: dict[str, str]) -> str:
-    """Runs one test, and says how it ended."""
+    """Runs one test, and returns how it ended."""
     try:
         run = subprocess.run(
             command, cwd=folder, env=settings, capture_output=True, text=True, errors="replace",
@@ -66,7 +66,7 @@ def recorded(log: pathlib.Path, result: Result, name: pathlib.Path) -> bool:
     except (NoLog, Nothing, Unconvertible) as fault:
         result.said = f"not made: {fault}"
         with log.open("rb") as file:
-            return any(file.read(8))  # else the process was killed before its log began
+            return any(file.read(8))  # otherwise the process was killed before its log began
     write(made, name)
     write_words(made, name.with_suffix(".words"))
     result.steps, result.words = len(made.lines), len(made.words)
@@ -92,7 +92,7 @@ def compared(netrev: str, result: Result) -> None:
 
 
 class Recorder:
-    """Records all runs that are wanted of one Go, until the time is over."""
+    """Records all requested runs of one Go, until the time is over."""
 
     def __init__(self, go: Go, name: str, options: argparse.Namespace) -> None:
         self.go, self.name, self.options = go, name, options
@@ -127,7 +127,7 @@ class Recorder:
         keep(self.results, self.out)
 
     def suite(self, suite: Suite) -> None:
-        """Each test of a package, in a process of its own; nothing of another project that isn't here."""
+        """Runs each test of a package, in a process of its own; nothing for another project that is missing."""
         folder = source_folder(self.go, suite)
         if not folder.is_dir():
             self.missing.append(suite.package)
@@ -149,7 +149,7 @@ class Recorder:
                 self.run([str(program), *flags], folder, result, suite.is_of_others)
 
     def sample(self, sample: Sample) -> None:
-        """A sample program's runs."""
+        """Runs a sample program."""
         program = built_sample(self.go, sample.source, self.programs)
         for processors in sample.processors if program else ():
             for at, words in enumerate(sample.runs, 1):
@@ -162,7 +162,7 @@ class Recorder:
         return any(re.search(word, name) for word in self.options.only.split(","))
 
     def all(self) -> None:
-        """What is wanted: the samples, and then the packages."""
+        """Runs everything that is requested: the samples, and then the packages."""
         small = self.options.small
         for sample in suites.SMALL_SAMPLES if small else suites.OF_SAMPLES:
             if self.is_wanted(f"samples/{sample.name}"):
@@ -179,7 +179,7 @@ class Recorder:
 
 
 def of_release(name: str, options: argparse.Namespace, netrev: str | None) -> list[Result]:
-    """The results of one Go: recorded, and compared if netrev is here."""
+    """The results of one Go: recorded, and compared if netrev is installed."""
     if options.check:
         results = read_results(options.out / (name or find_go().version))
     else:
@@ -217,7 +217,7 @@ def options_of(arguments: list[str] | None) -> argparse.Namespace:
 
 
 def names_for(options: argparse.Namespace) -> list[str]:
-    """The releases that are wanted; "" is the `go` on the PATH."""
+    """The requested releases; "" is the `go` on the PATH."""
     if not options.gate:
         return list(SUITES) if options.go == "all" else [options.go]
     options.small = True

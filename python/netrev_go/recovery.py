@@ -22,13 +22,13 @@ LONGEST_COMMAND = 60
 
 
 def named(run: LeftRun) -> str:
-    """A run in words, as short as a line needs."""
+    """A short description of a run."""
     words = plain(run.command)
     return f"`{words if len(words) <= LONGEST_COMMAND else words[:LONGEST_COMMAND] + '..'}` of {run.when()}"
 
 
 def offer() -> None:
-    """Says in one line that logs are left, if some are."""
+    """Prints one line if logs are left."""
     runs = left_runs()
     if not runs:
         return

@@ -1,5 +1,5 @@
-"""Lines for the points that are one step each, always the same for the same goroutine, point, socket and answer,
-whatever came before. Three of four points are of these."""
+"""Lines for the points that are exactly one step, which depends only on goroutine, point, socket and answer. Three
+of four points are of this sort."""
 
 from __future__ import annotations
 
@@ -31,7 +31,7 @@ def read_line(g: int, socket: int, asked: int, answer: str) -> str:
 
 
 def repeated_line(point: Point, g: int, socket: Socket) -> str:
-    """The line of a point of these, which the goroutine of this number passed at its socket."""
+    """The line of such a point, which the goroutine of this number passed at its socket."""
     kind = point.kind
     if kind in LOCK_STEPS:
         side = (',"r"' if point.c & 1 else ',"w"') if kind in SIDED else ""

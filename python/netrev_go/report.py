@@ -1,5 +1,6 @@
-"""The report on a recording: netrev's output, the goroutines that hang, since which step and at which line of the program, and the
-command to type next. Text of the program, such as names of functions and files, is printed through `plain`."""
+"""The report on a recording: netrev's output, the goroutines that hang, each with its step and line of the program,
+and the command to type next. Text of the program, such as names of functions and files, is printed through
+`plain`."""
 
 from __future__ import annotations
 
@@ -22,11 +23,11 @@ MOST_TOLD, MOST_SUSPECTS = 20, 12
 WAITS = {"r": "waits to read", "w": "waits to write"}
 LOCKS = {"r": "waits for the read lock", "w": "waits for the write lock"}
 AT_THE_LOCK = ("acquiring", "queued", "relock")
-Hear = Callable[[list[str]], None]  # what gets lines as soon as they are known
+Hear = Callable[[list[str]], None]  # receives lines as soon as they are known
 
 
 def unheard(lines: list[str]) -> None:
-    """Ignores the lines: the caller gets all of them at the end."""
+    """Ignores the lines; the caller gets all of them at the end."""
 
 
 def in_words(status: str) -> str:
@@ -55,7 +56,7 @@ def line_of(calls: Calls | None) -> tuple[str, str]:
 
 
 def is_of_go(calls: Calls | None) -> bool:
-    """Whether Go's own code alone waits there, in a goroutine that Go's own code started."""
+    """Whether only Go's own code waits there, in a goroutine that Go's own code started."""
     if calls is None or not calls.calls or own_line(calls):
         return False
     return calls.made is not None and calls.made.of == OF_GO
@@ -68,7 +69,7 @@ def told_of(g: int, status: str, since: str, calls: Calls | None) -> str:
 
 
 def since_words(recording: Recording, step: int) -> str:
-    """Since when a goroutine waits whose last step this is."""
+    """The text about how long a goroutine has waited whose last step this is."""
     return f"step {step}" if step > recording.prelude else "before the recording begins"
 
 
@@ -125,7 +126,7 @@ def suspect_lines(netrev: str, name: pathlib.Path) -> tuple[list[str], list[str]
 
 
 def last_line(name: pathlib.Path, why: list[str], found: list[str], nobody_waits: bool, failed: bool) -> list[str]:
-    """The line to type next, unless the causes named that."""
+    """The command to type next, unless the causes named it."""
     last = next_line(name, found, nobody_waits, failed)
     is_of_a_suspect = any(line.strip().startswith("next:") for line in found)
     already = [line.split() for line in why if line.startswith("next:")]
@@ -139,8 +140,8 @@ def report(
     failed: bool = False,
     hear: Hear = unheard,
 ) -> tuple[bool, list[str]]:
-    """Whether netrev takes the recording, and the lines that say what it has. `failed` is whether the program did. `hear` gets the
-    lines as soon as they are known: why calls failed and hang long before the suspects."""
+    """Whether netrev accepts the recording, and the lines about it. `failed` is whether the program did. `hear`
+    gets the lines as soon as they are known: why calls failed and hang long before the suspects."""
     lines: list[str] = []
 
     def say(more: list[str]) -> None:
@@ -161,7 +162,7 @@ def say_all(
     causes: Causes | None,
     say: Hear,
 ) -> bool:
-    """Says what a recording has, the causes first: netrev checks it meanwhile. Whether netrev takes it."""
+    """Prints the report, the causes first, while netrev checks the recording; whether netrev accepts it."""
     counts = f"{counted(recording.goroutines, 'goroutine')}, {counted(recording.sockets, 'socket')}"
     notes = [f"  ({note})" for note in recording.notes]
     netrev = netrev_program()
@@ -196,7 +197,7 @@ def say_end(
     netrev: str,
     say: Hear,
 ) -> dict[int, str]:
-    """Says which goroutines and sockets aren't at rest at the end, by netrev; the goroutines."""
+    """Prints the goroutines and sockets that aren't at rest at the end, from netrev; returns the goroutines."""
     cells = [f"gor {g}" for g in range(len(recording.last_steps))] + [f"lock {s}" for s in range(recording.sockets)]
     values = at_the_end(netrev, name, len(recording.lines), cells)
     waiting = hanging(values)

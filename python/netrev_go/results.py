@@ -1,4 +1,4 @@
-"""What became of each recorded test, and the tables of that."""
+"""The result of each recorded test, and the tables of results."""
 
 from __future__ import annotations
 
@@ -12,17 +12,17 @@ from netrev_words.plain import plain
 
 from .standing import Standing
 
-# Steps whose answer is nothing of Go's: made up, or numbers that the converter gives.
+# Steps whose answer isn't Go's: generated steps, or numbers that the converter gives.
 MADE_UP = frozenset(
     "arrive drain peerclose tick pop spawn sockopen pollopen setdeadline evict pollclose release closewrite".split()
 )
 EVENT = "pollevent"
-UNTAGGED = ("1.18", "1.19", "1.20")  # of these releases an event's answer is made up too
+UNTAGGED = ("1.18", "1.19", "1.20")  # releases for which an event's answer is generated too
 
 
 @dataclass
 class Result:
-    """What became of one log of a test."""
+    """The result of one log of a test."""
 
     release: str
     suite: str
@@ -31,7 +31,7 @@ class Result:
     went: str = ""  # how the test itself ended
     steps: int = 0
     words: int = 0
-    answers: int = 0  # that are values of Go's
+    answers: int = 0  # answers that are values of Go's
     events: int = 0
     stale: int = 0  # events
     said: str = ""
@@ -59,12 +59,12 @@ class Result:
 
 
 def say(text: str) -> None:
-    """Prints lines, escaping text of others."""
+    """Prints lines, with text from outside escaped."""
     print("\n".join(plain(line) for line in text.split("\n")), flush=True)
 
 
 def keep(results: list[Result], out: pathlib.Path) -> None:
-    """Leaves the results so far."""
+    """Writes the results so far."""
     (out / "results.jsonl").write_text("".join(json.dumps(asdict(result)) + "\n" for result in results))
 
 
@@ -83,7 +83,7 @@ OF_RELEASES = (
 
 
 def of_release(row: list[Result], stands: Standing | None) -> list[str]:
-    """The figures of a release: how it stood, the recordings of samples and of tests, and what became of them."""
+    """The figures of a release: its state, the recordings of samples and of tests, and their results."""
     samples = sum(result.suite.startswith("samples/") for result in row)
     return [*(stands.cells() if stands else "???"), f"{samples:,}", f"{len(row) - samples:,}", *counted(row)[1:]]
 
@@ -109,7 +109,7 @@ def rows(results: Iterable[Result], of_all: bool) -> list[tuple[str, list[Result
 
 
 def table(results: list[Result]) -> bool:
-    """Prints a row a suite, and says whether all is well."""
+    """Prints a row for each suite, and returns whether all is well."""
     say(f"| Go | Tests of | on | {' | '.join(HEADINGS)} |")
     say("|---|---|--:|" + "--:|" * len(HEADINGS))
     for name, row in rows(results, False):
@@ -124,7 +124,7 @@ def table(results: list[Result]) -> bool:
 
 
 def summary(results: list[Result], standings: Mapping[str, Standing | None]) -> None:
-    """Prints a row a release."""
+    """Prints a row for each release."""
     say(f"\n| Go | {' | '.join(OF_RELEASES)} |")
     say("|---|" + "--:|" * len(OF_RELEASES))
     for name, row in rows(results, True):

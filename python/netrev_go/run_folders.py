@@ -1,5 +1,5 @@
-"""The folder into which a run's programs write their logs: which netrev-go has it, which processes couldn't be recorded, and the
-folders that are left of a netrev-go that was killed."""
+"""The folder into which a run's programs write their logs: its owner, the processes that couldn't be recorded, and
+the folders that a killed netrev-go left."""
 
 from __future__ import annotations
 
@@ -25,7 +25,7 @@ from .running import PREFIX, logs_in, places, still_written
 from .toolchain import Trouble
 
 OWNER = (
-    "owner"  # a file that the netrev-go which has the folder keeps locked; the kernel unlocks it, however that one ends
+    "owner"  # a file that netrev-go keeps locked while it owns the folder; the kernel unlocks it however netrev-go ends
 )
 UNRECORDED = (
     "log.unrecorded"  # a folder in which each process that can't write a log leaves an empty file (go/log/runtime.go)
@@ -37,15 +37,15 @@ WHY = {
     errno.EEXIST: messages.TOO_MANY_PROGRAMS,
     errno.ENOMEM: messages.MEMORY_IS_LIMITED,
 }
-HELD: dict[pathlib.Path, TextIO] = {}  # the locked files of this netrev-go's folders
+HELD: dict[pathlib.Path, TextIO] = {}  # the lock files of this netrev-go's folders
 
 
 def claim(folder: pathlib.Path) -> pathlib.Path:
-    """Makes a new folder this netrev-go's, and fit for the programs of a run."""
+    """Makes this netrev-go the owner of a new folder, and prepares it for the programs of a run."""
     marks = folder / UNRECORDED
     try:
         marks.mkdir(0o700)
-        if os.geteuid() == 0:  # its programs may have children of other users: they leave a mark, and see nothing
+        if os.geteuid() == 0:  # its programs may have children of other users, which leave a mark and can read nothing
             folder.chmod(0o711)
             marks.chmod(0o1733)
         file = (folder / OWNER).open("x", encoding="utf-8", errors="surrogateescape")
@@ -100,13 +100,13 @@ class LeftRun:
 
 
 def left_runs() -> list[LeftRun]:
-    """The runs that are left, the oldest first: this user's, which no netrev-go has and no program writes any more."""
+    """The runs that are left, the oldest first: this user's, which no netrev-go owns and no program still writes."""
     folders = [folder for place in places() for folder in pathlib.Path(place).glob(PREFIX + "*")]
     return sorted(filter(None, map(left_run, folders)), key=lambda run: run.began)
 
 
 def left_run(folder: pathlib.Path) -> LeftRun | None:
-    """The run that is left in a folder, if one is."""
+    """The run that is left in a folder, if any."""
     try:
         if not (is_own(folder, stat.S_ISDIR) and is_own(folder / OWNER, stat.S_ISREG)):
             return None
@@ -120,13 +120,13 @@ def left_run(folder: pathlib.Path) -> LeftRun | None:
 
 
 def is_own(path: pathlib.Path, is_of_kind: Callable[[int], bool]) -> bool:
-    """Whether a path is this user's, is no link, and is of this kind."""
+    """Whether a path is this user's, isn't a link, and is of this kind."""
     status = path.lstat()
     return status.st_uid == os.geteuid() and is_of_kind(status.st_mode)
 
 
 def take_over(run: LeftRun) -> bool:
-    """Makes a left run this netrev-go's, unless another one was faster."""
+    """Makes this netrev-go the owner of a run that is left, unless another one was faster."""
     try:
         file = (run.folder / OWNER).open("r+", encoding="utf-8")
         fcntl.flock(file, fcntl.LOCK_EX | fcntl.LOCK_NB)

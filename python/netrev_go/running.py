@@ -1,4 +1,4 @@
-"""Runs Go on the user's program with the overlay, waits for its end or brings it about, and finds the logs that it left."""
+"""Runs Go on the user's program with the overlay, waits for its end or ends it, and finds the logs that it left."""
 
 from __future__ import annotations
 
@@ -27,7 +27,7 @@ LOGS = "log.[0-9]*"  # the same for a shell
 IN_MEMORY, PREFIX = "/dev/shm", "netrev-go-"
 GRACE, SHORT_GRACE = 3.0, 0.5
 LOOK = 0.05
-STARTING = 1.0  # seconds in which a program that was just started makes its log
+STARTING = 1.0  # seconds within which a program that was just started makes its log
 CANCELLING = (signal.SIGINT, signal.SIGTERM, signal.SIGQUIT, signal.SIGHUP)
 SIGNALS = (*CANCELLING, signal.SIGUSR1)
 FROM_THE_TERMINAL = 0x80  # the kernel's own si_code, SI_KERNEL
@@ -35,7 +35,7 @@ FROM_THE_TERMINAL = 0x80  # the kernel's own si_code, SI_KERNEL
 
 @dataclass(frozen=True)
 class Limits:
-    """How the program is to be run."""
+    """The limits of a run."""
 
     seconds: float | None = None
     processors: int | None = None
@@ -49,25 +49,25 @@ def limits_of(options: argparse.Namespace) -> Limits:
 
 
 def as_a_shell_has_it(status: int) -> int:
-    """The status of a command that ended with this one, or by this signal."""
+    """The exit status in a shell's form: the command's own, or for the signal that ended it."""
     return status if status >= 0 else 128 - status
 
 
 def behind_the_folder(words: list[str], more: list[str]) -> list[str]:
-    """Go's words with more flags before them, but after -C DIR, which Go wants first."""
+    """Go's command line with further flags at its beginning, but after -C DIR, which Go wants first."""
     name, is_set, _ = words[0].partition("=") if words else ("", "", "")
     length = (1 if is_set else 2) if name in ("-C", "--C") else 0
     return [*words[:length], *more, *words[length:]]
 
 
 def places() -> list[str]:
-    """Where logs may be: in the folder that NETREV_LOGS names; else in memory, and below TMPDIR."""
+    """The folders for logs: the one that NETREV_LOGS names; else in memory, and below TMPDIR."""
     given = os.environ.get("NETREV_LOGS")
     return [given] if given else [IN_MEMORY, tempfile.gettempdir()]
 
 
 def logs_folder(points: int) -> pathlib.Path:
-    """A new folder with room for a log, in memory if there is such a file system."""
+    """A new folder with room for a log, in memory if such a file system exists."""
     wanted = points * POINT_BYTES + STACK_BYTES + SPARE
     for place in places():
         if os.access(place, os.W_OK) and shutil.disk_usage(place).free >= wanted:
@@ -109,7 +109,7 @@ def stop_at_once() -> None:
 
 
 def environment(folder: pathlib.Path, limits: Limits, delays: int = 0) -> dict[str, str]:
-    """The environment in which programs record. `delays` is the seed of the recorder's own, 0 for none."""
+    """The environment in which programs record. `delays` is the seed of the recorder's delays, 0 for none."""
     settings = {"NETREV_LOG": str(folder / "log"), "NETREV_POINTS": str(limits.points)}
     if limits.processors:
         settings["GOMAXPROCS"] = str(limits.processors)
@@ -123,7 +123,7 @@ def environment(folder: pathlib.Path, limits: Limits, delays: int = 0) -> dict[s
 
 
 def writes(process: int, log: pathlib.Path) -> bool:
-    """Whether a process writes that log still: its number may be another's by now."""
+    """Whether the process still writes that log: its number may be another's by now."""
     try:
         return os.path.realpath(log) in pathlib.Path(f"/proc/{process}/maps").read_text(errors="replace")
     except OSError:
@@ -131,19 +131,20 @@ def writes(process: int, log: pathlib.Path) -> bool:
 
 
 def still_written(folder: pathlib.Path) -> list[pathlib.Path]:
-    """The logs of a folder whose processes run."""
+    """The logs of a folder whose processes still run."""
     return [log for log in logs_in(folder) if writes(process_of(log), log)]
 
 
 def send(log: pathlib.Path, number: signal.Signals) -> None:
-    """A signal to the process that writes a log, if it runs."""
+    """Sends a signal to the process that writes a log, if it runs."""
     if writes(process_of(log), log):
         with contextlib.suppress(ProcessLookupError):
             os.kill(process_of(log), number)
 
 
 class Runner:
-    """Go's command, and the programs that it starts. Signals wait until they are looked at, which the command's aren't."""
+    """Go's command, and the programs that it starts. Signals for netrev-go are queued until it checks them; those
+    for the command are not."""
 
     def __init__(self, command: list[str], folder: pathlib.Path, limits: Limits, delays: int = 0) -> None:
         self.folder, self.limits = folder, limits
@@ -155,7 +156,7 @@ class Runner:
         self.process = subprocess.Popen(command, env=environment(folder, limits, delays), preexec_fn=unblock_signals)
 
     def wait(self, so_far: Callable[[], None]) -> int:
-        """Go's exit status. `so_far` is called when a recording is asked for while the program runs."""
+        """Go's exit status. `so_far` is called when a recording is requested while the program runs."""
         while self.process.poll() is None:
             seen = signal.sigtimedwait(self._signals, LOOK)
             if seen is not None:
@@ -167,8 +168,8 @@ class Runner:
         return self.process.returncode
 
     def finish_first(self) -> None:
-        """From here on recordings are made of what ran, and Ctrl-C alone stops that. The other signals stay blocked, also in the programs
-        that make them."""
+        """From here on recordings are made of what ran, and only Ctrl-C stops that. The other signals stay blocked,
+        also in the programs that make them."""
         signal.signal(signal.SIGUSR1, signal.SIG_IGN)
         signal.signal(signal.SIGINT, signal.default_int_handler)
         signal.pthread_sigmask(signal.SIG_UNBLOCK, (signal.SIGINT, signal.SIGUSR1))
@@ -188,8 +189,8 @@ class Runner:
             self.pass_on(number)
 
     def pass_on(self, number: signal.Signals) -> None:
-        """Sends a signal to the programs, and to Go. SIGHUP would end Go, and a program may run on after it: Go gets it only while no
-        program runs."""
+        """Sends a signal to the programs, and to Go. SIGHUP would end Go, and a program may run on after it, so Go
+        gets it only if no program runs."""
         programs = still_written(self.folder)
         for log in programs:
             send(log, number)
@@ -203,7 +204,7 @@ class Runner:
             time.sleep(LOOK)
 
     def end_the_old(self, now: float, seconds: float) -> None:
-        """Ends each process whose log is so old: first by SIGQUIT, which a program may take for something else."""
+        """Ends each process whose log is older than the limit: first by SIGQUIT, which a program may handle."""
         for log in logs_in(self.folder):
             age = now - self.began.setdefault(log, now)
             if age >= seconds and log not in self.told:
@@ -214,7 +215,7 @@ class Runner:
 
 
 def is_leader() -> bool:
-    """Whether this process leads its session: a terminal that is closed tells the leader alone."""
+    """Whether this process leads its session: a closed terminal signals only the leader."""
     return os.getsid(0) == os.getpid()
 
 
@@ -232,7 +233,7 @@ def log_of_process(process: int) -> pathlib.Path:
 
 
 def mapped_log(process: int) -> pathlib.Path | None:
-    """The log that a process has in its memory."""
+    """The log that a process has mapped."""
     try:
         maps = pathlib.Path(f"/proc/{process}/maps").read_text(errors="replace")
     except OSError as fault:
@@ -245,7 +246,7 @@ def mapped_log(process: int) -> pathlib.Path | None:
 
 
 def has_begun(log: pathlib.Path) -> bool:
-    """Whether a log has its header. One that can't be read counts as begun: its reader says why."""
+    """Whether a log has its header. One that can't be read counts as begun: its reader reports the reason."""
     try:
         with log.open("rb") as file:
             return any(file.read(8))

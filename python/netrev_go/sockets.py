@@ -1,7 +1,8 @@
-"""Whose points these are, and which sockets a recording has room for.
+"""The socket of each point, and the sockets that fit into a recording.
 
-Steps of different sockets share nothing but the order of their goroutines, the clock and the list of firings. So the points of
-some sockets alone are a recording again. A socket is whole if the log has its opening, or a note of how it was: it is left out otherwise."""
+Steps of different sockets share only the order of their goroutines, the clock and the list of firings, so the
+points of some sockets are a recording too. A socket without its opening in the log and without a note is left out.
+"""
 
 from __future__ import annotations
 
@@ -19,21 +20,22 @@ OUTPUT = 4_096
 CLOSED = 1
 AGAIN = 1
 READ, WRITE, NAMED = int(Kind.READ), int(Kind.WRITE), int(Kind.NAMED)
-UNLIKE = {READ, WRITE, NAMED, NOTED, NOTED_NAMED}  # these aren't just one more step of their socket
+UNLIKE = {READ, WRITE, NAMED, NOTED, NOTED_NAMED}  # these are more than one step of their socket
 INIT, OPEN, OPEN_FAILED, CLOSE = int(Kind.INIT), int(Kind.OPEN), int(Kind.OPEN_FAILED), int(Kind.CLOSE)
 EVENT, FIRE = int(Kind.EVENT), int(Kind.FIRE)
-AT_USE = AT_A_SOCKET - AT_A_WORD - {INIT, OPEN, OPEN_FAILED, CLOSE, EVENT, FIRE}  # at the descriptor's newest use
+# points at the descriptor's newest use
+AT_USE = AT_A_SOCKET - AT_A_WORD - {INIT, OPEN, OPEN_FAILED, CLOSE, EVENT, FIRE}
 POINT, SOCKET = itemgetter(0), itemgetter(1)  # of a pair
 MOST_SOCKETS, MOST_GOROUTINES, MOST_STEPS = 256, 4_096, 1_000_000
 MEGABYTE, MOST_MEGABYTES = 2**20, 1_024  # text for the bytes that are moved
-STEPS_OF_A_NOTE = 32  # that lead to it, if no goroutine is queued for its locks
+STEPS_OF_A_NOTE = 32  # steps that lead to it, if no goroutine is queued for its locks
 LOW = 2**32 - 1
-FEW_BYTES = 64  # as which a read or a write counts that moved more, unless all are wanted
+FEW_BYTES = 64  # the most bytes that a read or a write counts, unless all are wanted
 
 
 @dataclass(eq=False)
 class Socket:
-    """A socket from its opening on: what the log has of it, and what the converter keeps of it."""
+    """A socket from its opening on: its data in the log, and the converter's data about it."""
 
     opening: int
     opener: int = 0  # the goroutine
@@ -41,10 +43,10 @@ class Socket:
     steps: int = 0  # at least
     text: int = 0  # characters for the bytes that it moves
     has_descriptor: bool = False
-    failed: bool = False  # the poller wouldn't have it, as a regular file
+    failed: bool = False  # the poller rejected it, as a regular file
     closed: bool = False  # the log has its end
-    sequences: tuple[int, int] = (0, 0)  # Go's, of reading and of writing, when it was opened
-    go_tag: int = 0  # the tag that Go's events of it have; 0 in releases that have none
+    sequences: tuple[int, int] = (0, 0)  # Go's sequences, of reading and of writing, when it was opened
+    go_tag: int = 0  # the tag of Go's events for it; 0 in releases without tags
     written: int = 0
     largest: int = OUTPUT
     full_at: int = 0
@@ -57,27 +59,27 @@ class Socket:
     peer_closed: bool = False
     shut: bool = False
     word: int = 0  # the address of its lock word
-    before: Socket | None = None  # that the same lock word was of when it was opened
-    note: Note | None = None  # how it was, of one whose opening isn't in the log
-    leads: list[Lead] = field(default_factory=list)  # the steps that lead to that
-    is_filled: bool = False  # a noted one whose output a write found full
-    whole: dict[int, int] = field(default_factory=dict)  # of points that count fewer bytes, how many they moved
+    before: Socket | None = None  # the socket that had the same lock word when it was opened
+    note: Note | None = None  # the note of its state, if its opening isn't in the log
+    leads: list[Lead] = field(default_factory=list)  # the steps that lead to that state
+    is_filled: bool = False  # a noted socket whose output a write found full
+    whole: dict[int, int] = field(default_factory=dict)  # how many bytes points moved that count fewer
 
     def capacity(self) -> int:
-        """The capacity of its output: so large that it was full when Go first found it so, else that of the largest
-        write."""
+        """The capacity of its output: so large that it was full when Go first found it full, else that of the
+        largest write."""
         return self.full_at or self.largest
 
 
 class Owners:
-    """Finds the socket that each point is of."""
+    """Finds the socket of each point."""
 
     def __init__(self) -> None:
         self.sockets: list[Socket] = []
         self.words: dict[int, Socket] = {}
         self.uses: dict[int, list[Socket]] = {}
         self.opening: dict[int, Socket] = {}
-        self.noted: dict[int, Socket] = {}  # by both addresses, those of which a note is under way
+        self.noted: dict[int, Socket] = {}  # by both addresses, sockets whose note is incomplete
 
     def of(self, point: Point) -> Socket | None:
         """The socket of the next point, if it is known."""
@@ -109,14 +111,14 @@ class Owners:
         return uses[-1]
 
     def not_opened(self, socket: Socket) -> Socket:
-        """The poller wouldn't have a socket: one that it has already, under the same lock word, goes on."""
+        """The poller rejected a socket: if it has one already, under the same lock word, that one continues."""
         socket.failed = True
         if socket.before and not socket.before.closed:
             self.words[socket.word] = socket.before
         return socket
 
     def note(self, point: Point) -> Socket | None:
-        """The socket of the first point of a note, if it isn't known already; and of its names."""
+        """The socket of the first point of a note, if it isn't known yet; and its names."""
         kind, at = point.kind, point.at
         if kind == NOTED:
             known = self.words.get(at)
@@ -142,7 +144,7 @@ class Owners:
     def at_a_word(self, point: Point) -> Socket | None:
         socket = self.words.get(point.at)
         if socket and socket.closed and point.kind in LOCKING and not point.a & CLOSED:
-            del self.words[point.at]  # the address is another's now, whose opening isn't in the log
+            del self.words[point.at]  # the address is now another's, whose opening isn't in the log
             return None
         return socket
 
@@ -159,7 +161,7 @@ class Owners:
         return socket
 
     def tagged(self, point: Point) -> Socket | None:
-        """The use of the descriptor that an event is of, by its tag."""
+        """The use of the descriptor that an event belongs to, by its tag."""
         return next((use for use in reversed(self.uses.get(point.at, ())) if use.go_tag == point.c), None)
 
     def fired(self, point: Point) -> Socket | None:
@@ -172,7 +174,7 @@ class Owners:
 
 
 def of_few(point: Point) -> Point:
-    """A read or a write as one of few bytes."""
+    """A read or a write, counted as one of few bytes."""
     number, kind, goroutine, at, asked, moved, failed, time, stack = point
     if kind == WRITE:
         asked = min(asked, FEW_BYTES)
@@ -180,7 +182,7 @@ def of_few(point: Point) -> Point:
 
 
 def count_bytes(socket: Socket, point: Point) -> None:
-    """Counts a read or a write at its socket: the text that it is, how large the output is, and of a read the steps."""
+    """Counts a read or a write at its socket: its text, the size of the output, and for a read the steps."""
     number, kind, _, _, asked, got, failed, _, _ = point
     got = max(got, 0)
     if kind == READ:
@@ -200,13 +202,13 @@ def count_bytes(socket: Socket, point: Point) -> None:
 
 
 def count_parts(points: list[tuple[Point, Socket]]) -> None:
-    """Counts the steps of writes, when it is known how large the outputs are: a write is in parts that one has room for."""
+    """Counts the steps of writes, when the sizes of the outputs are known: a write is split into parts that fit."""
     for point, socket in points:
         socket.steps += -(-max(point.b, 0) // min(socket.capacity(), BUFFER)) - 1
 
 
 def count_points(points: list[tuple[Point, Socket]]) -> None:
-    """Counts the points of each socket as a step each, and the goroutines that passed them."""
+    """Counts each point of a socket as a step, and the goroutines that passed them."""
     goroutines = map(GOROUTINE, map(POINT, points))
     for (goroutine, socket), steps in Counter(zip(goroutines, map(SOCKET, points))).items():
         socket.steps += steps
@@ -232,10 +234,10 @@ class Owned:
     points: list[tuple[Point, Socket]]
     sockets: list[Socket]
     unknown: int  # points of sockets whose opening isn't in the log
-    cut: int  # reads and writes that count as of fewer bytes
+    cut: int  # reads and writes that count as ones of fewer bytes
 
     def used(self) -> Iterator[tuple[int, int]]:
-        """Which goroutine made which point, in the points' order; of a note those that wait there."""
+        """The goroutine of each point, in the points' order; for a note those that wait there."""
         for point, socket in self.points:
             if point.kind == NOTED and socket.note:
                 for goroutine in socket.note.goroutines() | socket.note.known():
@@ -253,7 +255,7 @@ def owned(points: list[Point], all_bytes: bool = True) -> Owned:
     cut = 0
     for point in points:
         kind, at = point[1], point[3]
-        # (what `of` finds for nearly all points, as there may be a million)
+        # (the same as `of` for nearly all points, because there may be a million)
         socket = words.get(at) if kind in AT_A_WORD else used[-1] if kind in AT_USE and (used := uses.get(at)) else None
         if socket is None or socket.closed:
             socket = of(point)
@@ -283,7 +285,8 @@ def owned(points: list[Point], all_bytes: bool = True) -> Owned:
 
 
 def lead_to(sockets: list[Socket], begin: int) -> dict[str, int]:
-    """Finds the steps that lead to noted sockets. Those of which there are none are left out: why, and of how many."""
+    """Finds the steps that lead to noted sockets. Sockets that no steps lead to are left out, with the reasons and
+    their numbers."""
     left_out: Counter[str] = Counter()
     for socket in [socket for socket in sockets if socket.note]:
         assert socket.note
@@ -305,9 +308,9 @@ def chosen(
     at_once: Callable[[set[int]], int] = len,
     first: int = 0,
 ) -> set[Socket]:
-    """The sockets that a recording of this many steps has room for: the open ones first, and the newest of them and of
-    the others; before all the one whose lock word has the address `first`. `at_once` gives the number of goroutines at
-    once."""
+    """The sockets that fit into a recording of this many steps: the open ones first, and of them and of the others
+    the newest; before all the one whose lock word has the address `first`. `at_once` gives the number of
+    goroutines at one time."""
     kept: set[Socket] = set()
     goroutines: set[int] = set()
     steps, text = 0, 0

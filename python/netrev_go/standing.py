@@ -12,12 +12,12 @@ from .toolchain import Go, Trouble, fit, overlay
 from .trying import trial
 
 KEPT = "standing.json"
-FITS = "fits "  # so begins a line of a rule that fits
+FITS = "fits "  # the beginning of a line for a rule that fits
 
 
 @dataclass(frozen=True)
 class Standing:
-    """The state of a release, in words."""
+    """The state of a release, as text."""
 
     version: str
     rules: int = 0
@@ -36,7 +36,7 @@ class Standing:
 
 
 def read_standing(out: pathlib.Path) -> Standing | None:
-    """What was kept of a release, if it was."""
+    """The stored state of a release, if any."""
     try:
         return Standing(**json.loads((out / KEPT).read_text()))
     except (OSError, ValueError, TypeError):
@@ -44,7 +44,7 @@ def read_standing(out: pathlib.Path) -> Standing | None:
 
 
 def standing_of(go: Go) -> Standing:
-    """Fits the rules, compiles what is changed, and records the doctor's program."""
+    """Fits the rules, compiles the changed files, and records the doctor's program."""
     _, said = fit(go)
     fitting = sum(line.startswith(FITS) for line in said)
     try:

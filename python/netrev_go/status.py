@@ -1,4 +1,4 @@
-"""How `netrev-go` ends."""
+"""The exit statuses of `netrev-go`."""
 
 from __future__ import annotations
 
@@ -6,12 +6,12 @@ from enum import IntEnum
 
 
 class Status(IntEnum):
-    """How netrev-go ends, unless it is with Go's own status."""
+    """The exit status of netrev-go, unless it is Go's own."""
 
     DONE = 0
-    REFUSED = 1  # a log that is converted gives no recording
+    REFUSED = 1  # a converted log gives no recording
     USAGE = 2
-    SUSPECTED = 3  # and --fail-on asks for that
+    SUSPECTED = 3  # with --fail-on
     TROUBLE = 4
-    UNRECORDED = 5  # and --strict asks for that
+    UNRECORDED = 5  # with --strict
     INTERRUPTED = 130

@@ -1,4 +1,4 @@
-"""What `make real` records: tests of Go's own packages and of other projects, and the samples."""
+"""The programs of `make real`: tests of Go's own packages and of other projects, and the samples."""
 
 from __future__ import annotations
 
@@ -16,14 +16,14 @@ SAMPLES = ROOT / "tools/go/samples"
 
 @dataclass(frozen=True)
 class Suite:
-    """A package's tests, and which of them."""
+    """A package's tests, and a selection of them."""
 
     package: str
     tests: str = "."
 
     @property
     def is_of_others(self) -> bool:
-        """Whether it is another project's, whose name begins with a domain's."""
+        """Whether it is another project's, whose name begins with a domain."""
         return "." in self.package.partition("/")[0]
 
 
@@ -35,7 +35,7 @@ class Sample:
     source: str
     runs: tuple[tuple[str, ...], ...]
     processors: tuple[int, ...] = (1, 4)
-    is_healthy: bool = False  # nothing is to be suspected of it
+    is_healthy: bool = False  # it should have no suspect
 
 
 def runs_of(names: str) -> tuple[tuple[str, ...], ...]:
@@ -71,7 +71,7 @@ OF_OTHERS = (
     ),
     Suite("github.com/valyala/fasthttp", "Client|Server|Conn|Timeout|Pipeline|Dial|Listen|Shutdown"),
 )
-# Of a test that moves gigabytes, the parts that don't: each byte is two letters of a recording.
+# Of a test that moves gigabytes, the parts that don't, because each byte is two characters of a recording.
 PARTS = {"TestSplice": "^TestSplice$/./^(simple|multipleWrite|honors|updates|limited|readerAtEOF|issue)"}
 # What the gate records: each sample once, and ten tests.
 SMALL_SAMPLES = (

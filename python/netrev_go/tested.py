@@ -1,4 +1,4 @@
-"""`netrev-go test`: each test known by its name, and recordings of those that fail."""
+"""`netrev-go test`: the name and result of each test, and recordings of those that fail."""
 
 from __future__ import annotations
 
@@ -33,18 +33,18 @@ UNFIT = re.compile(r"[^A-Za-z0-9_.-]+")
 LONGEST_NAME = 255 - len(LONGEST_ENDING)
 OTHER = "process"  # the recording of a process that has no tests
 FOUND = 4  # nrdb's status if a schedule ends badly
-GRACE = 60  # seconds for reducing what was found
+GRACE = 60  # seconds for reducing the findings
 INDENT = "  "
 
 
 def short_name(package: str) -> str:
-    """A package's name as its test program has it: the last word that isn't a major version."""
+    """The package name in its test program: the last element that isn't a major version."""
     words = package.split("/")
     return words[-2] if len(words) > 1 and MAJOR.match(words[-1]) else words[-1]
 
 
 def file_name(*words: str) -> str:
-    """A name for a file: a test's slashes are dots, and what a file's name shouldn't have is _."""
+    """A name for a file: a test's slashes become dots, and unsuitable characters _."""
     return UNFIT.sub("_", ".".join(word.replace("/", ".") for word in words).lstrip("."))[:LONGEST_NAME]
 
 
@@ -62,13 +62,13 @@ class Recordings:
         self._is_page_wanted = is_page_wanted
         self.told: dict[tuple[str, str], Told] = {}
         self._names: set[pathlib.Path] = set()  # that recordings have
-        self._short: dict[str, str] = {}  # of which package a short name is
-        self.all_recorded = True  # what should have been
+        self._short: dict[str, str] = {}  # the package of a short name
+        self.all_recorded = True  # whether everything was recorded that should be
         self.trouble = False  # whether one couldn't be written
         self.suspected = False
 
     def take(self, folder: pathlib.Path, failed: bool) -> None:
-        """Makes the recordings that are wanted of a run's logs."""
+        """Makes the requested recordings of a run's logs."""
         logs = [(log, of_log(log)) for log in logs_in(folder)]
         self.count(test for _, tests in logs for test in tests.ran)
         is_known = any(tests.to_keep() for _, tests in logs)
@@ -100,7 +100,7 @@ class Recordings:
         return free
 
     def whole(self, log: pathlib.Path, tests: Tests) -> None:
-        """The recording of a process in which no test is known to have failed, though something did."""
+        """The recording of a process in which no test is known to have failed, although something did."""
         name = self.name_of(tests.package or OTHER, "")
         saying = Saying([messages.NO_TEST_FAILED.format(process=plain(tests.package or OTHER))])
         outcome = self.made(self.read(log, tests), name, None, saying.hear)
@@ -124,7 +124,7 @@ class Recordings:
                 say([messages.TEST_USED_NONE.format(test=head)])
 
     def keep(self, told: Told, name: pathlib.Path, outcome: Outcome, saying: Saying) -> None:
-        """Prints the report of a recording, and keeps it for machines."""
+        """Prints the report of a recording, and stores it for machines."""
         told.say(outcome.lines)
         told.accepted = outcome.taken
         if name.exists():
@@ -159,7 +159,7 @@ class Recordings:
         return outcome
 
     def explore(self, seconds: float) -> bool:
-        """Plays other schedules of the recordings that there are, for so long together; whether something is found. What is found is
+        """Runs other schedules of the recordings, for this long together; whether something is found. A finding is
         possible: no run had it."""
         recorded = [told for told in self.told.values() if told.recording and told.accepted]
         for told in recorded:
@@ -201,7 +201,7 @@ def findings(recording: str, seconds: float) -> list[str]:
             running.kill()
             raise
         except subprocess.TimeoutExpired:
-            running.send_signal(signal.SIGINT)  # it says then what it has found
+            running.send_signal(signal.SIGINT)  # then it prints the findings so far
             try:
                 said, _ = running.communicate(timeout=GRACE)
             except subprocess.TimeoutExpired:

@@ -30,17 +30,17 @@ from .running import (
 from .tested import Recordings
 from .toolchain import Go
 
-SO_FAR = "test"  # what the recordings of a run that goes on are named with
+SO_FAR = "test"  # the base name of recordings of a run in progress
 FOLDER = "recordings"
 STANDARD_OUTPUT = "-"
-UNTESTED = re.compile(r"--?(?:test\.)?(?:bench|fuzz)(?:=.|\Z)")  # flags by which other functions than tests run
+UNTESTED = re.compile(r"--?(?:test\.)?(?:bench|fuzz)(?:=.|\Z)")  # flags that run other functions than tests
 
 
 @dataclass
 class Came:
     """The result of all runs."""
 
-    status: int = 0  # the first that isn't 0, as a shell has it
+    status: int = 0  # the first that isn't 0, in a shell's form
     suspected: bool = False
     possible: bool = False
     all_recorded: bool = True
@@ -56,7 +56,7 @@ class Round:
     delays: int
 
     def words(self) -> str:
-        """How it was run."""
+        """A description of the run."""
         how = [f"GOMAXPROCS={self.processors}"] if self.processors else []
         how += [f"--delays {self.delays}"] if self.delays else []
         return f"run {self.number + 1}" + (f" ({', '.join(how)})" if how else "")
@@ -68,7 +68,7 @@ def most_runs(options: argparse.Namespace) -> int | None:
 
 
 def rounds(options: argparse.Namespace) -> Iterator[Round]:
-    """The runs that are wanted, at most."""
+    """The requested runs, at most."""
     most = most_runs(options)
     end = time.monotonic() + options.seconds if options.seconds is not None else None
     processors = (None, *sorted({1, 2, os.cpu_count() or 1, 2 * (os.cpu_count() or 1)}))
@@ -80,7 +80,7 @@ def rounds(options: argparse.Namespace) -> Iterator[Round]:
 
 
 def record_tests(options: argparse.Namespace, go: Go, command: list[str], wish: Wish) -> Came:
-    """Runs the tests as often as is wanted, and makes recordings of those that fail."""
+    """Runs the tests as often as requested, and makes recordings of those that fail."""
     base = base_name(options.o, FOLDER)
     look_folder(base)
     recordings = Recordings(base, go, wish, options.all or options.explore is not None, options.html)
@@ -151,7 +151,7 @@ class Run:
         return make
 
     def _take(self, folder: pathlib.Path, failed: bool) -> bool:
-        """Makes the recordings; whether the logs can go."""
+        """Makes the recordings; whether the logs can be removed."""
         self.has_recorded = not report_unrecorded(folder)
         if report_no_log(folder, failed):
             self.is_last, self.has_recorded = True, False
@@ -164,7 +164,7 @@ class Run:
 
 
 def tell(options: argparse.Namespace, recordings: Recordings, came: Came) -> None:
-    """Says how many tests failed in how many runs, and writes what machines read."""
+    """Prints how many tests failed in how many runs, and writes the output for machines."""
     told = list(recordings.told.values())
     red = [one for one in told if one.is_red()]
     is_kept = any(one.recording for one in told)

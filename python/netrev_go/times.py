@@ -1,5 +1,5 @@
-"""The time of each step: that at which its point was passed, or of a step that no point is of, as of bytes that arrive, the point that it
-was made for."""
+"""The time of each step: that of its point, or for a step without a point, such as bytes that arrive, that of the
+point for which it was made."""
 
 from __future__ import annotations
 
@@ -32,12 +32,12 @@ def times_of(points: Iterable[Point], ended: list[int], begin: int) -> list[int]
 
 
 def deltas(numbers: list[int]) -> list[int]:
-    """Of each number how much larger it is than the one before; the first as it is."""
+    """The differences between consecutive numbers; the first number as it is."""
     return list(map(sub, numbers, chain((0,), numbers)))
 
 
 def seconds(text: str) -> float:
-    """A time as Go writes it: 5s, 500ms, 2m."""
+    """A duration in Go's form: 5s, 500ms, 2m."""
     found = A_TIME.match(text)
     if not found or not (number := float(found[1]) * UNITS[found[2]]):
         raise argparse.ArgumentTypeError("it is a time, as 5s, 500ms or 2m")

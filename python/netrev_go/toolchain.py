@@ -1,4 +1,5 @@
-"""The installed Go, and the overlay that makes it record: a few of its files, changed, in a folder of the user's cache."""
+"""The installed Go, and the overlay that makes it record: changed copies of a few of its files, in a folder of the
+user's cache."""
 
 from __future__ import annotations
 
@@ -20,7 +21,7 @@ from . import messages
 SOURCES = pathlib.Path(__file__).resolve().parent / "go"
 OVERLAY, NEW, LEFT_OUT = "overlay.json", "new.json", "without.txt"
 CHANGED = ("runtime", "internal/poll", "testing")  # of Go's packages
-WITHOUT = "without "  # so begins a line of a rule that can be done without
+WITHOUT = "without "  # the beginning of a line for an optional rule
 # The patch of each release with which the rules were tried.
 TRIED = {"1.19": 8, "1.21": 13, "1.22": 12, "1.23": 5, "1.24": 4, "1.26": 10, "1.27": 3}
 
@@ -43,7 +44,7 @@ class Go:
         return self.root / "src"
 
     def own_program(self) -> str:
-        """The command of this very release. `go` on the PATH may be one that looks into go.mod for which release to run."""
+        """The command of this very release. The `go` on the PATH may read go.mod to choose another release."""
         own = self.root / "bin/go"
         return str(own) if own.exists() else self.program
 
@@ -67,13 +68,13 @@ def find_go() -> Go:
 
 
 def cache() -> pathlib.Path:
-    """Where overlays are kept."""
+    """The folder of the overlays."""
     base = os.environ.get("XDG_CACHE_HOME") or os.path.expanduser("~/.cache")
     return pathlib.Path(base) / "netrev-go"
 
 
 def key_of(go: Go) -> str:
-    """What an overlay depends on: Go's files below the two packages that are changed, and ours."""
+    """A key for everything that an overlay depends on: Go's files below the two changed packages, and ours."""
     digest = hashlib.sha256(f"{go.version} {go.root}".encode())
     ours = sorted(SOURCES.glob("*/*.go"))
     theirs = [path for name in CHANGED for path in sorted((go.sources() / name).glob("*.go"))]
@@ -92,7 +93,7 @@ def quiet_go(go: Go, folder: pathlib.Path, *words: str) -> subprocess.CompletedP
 
 
 def release_of(version: str) -> tuple[str, str]:
-    """The release of a version, and which patch of it that is: 1.27 and 3 of go1.27.3."""
+    """The release and the patch of a version: 1.27 and 3 for go1.27.3."""
     found = re.match(r"go(1\.\d+)(?:\.(\d+))?(?:\s|\Z)", version)
     return (found[1], found[2] or "0") if found else (version, "")
 
@@ -103,7 +104,7 @@ def is_tried(version: str) -> bool:
 
 
 def tried(version: str) -> str:
-    """Whether a version was tried, in words."""
+    """Whether a version was tried, as text."""
     release, _ = release_of(version)
     if is_tried(version):
         return messages.TRIED
@@ -145,7 +146,7 @@ def overlay(go: Go) -> pathlib.Path:
 
 
 def left_out(go: Go) -> list[str]:
-    """What isn't recorded of this Go, a line for each rule that doesn't fit and can be done without."""
+    """What isn't recorded with this Go, a line for each optional rule that doesn't fit."""
     return (overlay(go).parent / LEFT_OUT).read_text().splitlines()
 
 

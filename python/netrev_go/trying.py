@@ -29,7 +29,7 @@ from .toolchain import SOURCES, Go, Trouble, is_tried, left_out, overlay, quiet_
 PATIENCE = 60
 KEPT = "trial.json"
 PROCESSORS = (1, 4)
-MOMENTS = (3, 30, 300)  # milliseconds that the program gives a goroutine to come to its wait; more on a busy machine
+MOMENTS = (3, 30, 300)  # milliseconds that the program gives a goroutine to reach its wait; more on a busy machine
 WANTED = frozenset(
     "incref increfclose decref rwlock rwunlock acquire release sysread syswrite closewrite sockopen pollopen pollclose pollreset "
     "waitbegin blockarm blockcheck parkcommit blockswap waitcheck setdeadline evict pollevent pop fire".split()
@@ -43,7 +43,7 @@ class Trial:
 
     good: bool
     said: str
-    is_hasty: bool = False  # more time might have made it good
+    is_hasty: bool = False  # more time might have helped
 
 
 def trial(go: Go) -> Trial:
@@ -51,7 +51,7 @@ def trial(go: Go) -> Trial:
     kept_in = overlay(go).parent / KEPT
     with tempfile.TemporaryDirectory(prefix="netrev-trial-") as name:
         tried_out = tried_in(go, pathlib.Path(name))
-    with contextlib.suppress(OSError):  # then it is tried again
+    with contextlib.suppress(OSError):  # then the trial is repeated
         if tried_out.good:
             kept_in.write_text(json.dumps({"said": tried_out.said}))
         else:
@@ -117,7 +117,7 @@ def incomplete(made: Recording, counted: str) -> str:
 
 
 def unchained(made: Recording) -> str:
-    """The first lock word that differs from what the point before left."""
+    """The first lock word that differs from the value that the point before left."""
     last: dict[int, int] = {}
     for (step, socket, new), old in zip(made.words, made.olds):
         if last.get(socket, 0) != old:
@@ -148,7 +148,7 @@ def compared(made: Recording, name: pathlib.Path) -> Trial:
 
 
 def kept(go: Go) -> Trial | None:
-    """The kept result of an earlier trial of this Go."""
+    """The stored result of an earlier trial of this Go."""
     try:
         return Trial(True, str(json.loads((overlay(go).parent / KEPT).read_text())["said"]))
     except (OSError, ValueError, TypeError, KeyError):

@@ -26,7 +26,7 @@ This makes serve.jsonl, which `nrdb serve.jsonl` opens. `netrev-go COMMAND --hel
 
 @dataclass(frozen=True)
 class Usage:
-    """The help of a command: how it is called, what it does, an example, which options it has, and what to read next."""
+    """The help of a command: its usage, what it does, an example, its options, and what to read next."""
 
     call: str
     does: str

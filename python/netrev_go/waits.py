@@ -1,5 +1,5 @@
-"""Where goroutines that a recording has wait outside of the poller: at a channel, a select, a mutex, a condition or a WaitGroup. Of waits
-in which the recording has a step."""
+"""The waits of recorded goroutines outside of the poller: at a channel, a select, a mutex, a condition or a
+WaitGroup, if the wait lasts over a step of the recording."""
 
 from __future__ import annotations
 
@@ -24,8 +24,9 @@ class Wait(NamedTuple):
 
 
 def waits_of(found: Goroutines, numbers: dict[int, int], since: Mapping[int, int] = {}) -> list[Wait]:
-    """The waits in the order of their ends, those that don't end last. `numbers` has the recording's numbers of goroutines, and `since` behind
-    which step a goroutine took one that another had before: what it did earlier would be taken for the other's."""
+    """The waits in the order of their ends, those that don't end last. `numbers` has the recording's numbers of
+    goroutines, and `since` the step after which a goroutine took another's number: what it did earlier would be
+    attributed to the other."""
     waits = []
     for park in (
         *(found.parks[place] for place in found.finished),

@@ -1,5 +1,5 @@
-"""Recordings of a server that runs: of now, or when a call of its has waited long. Its log has two small tables that say which goroutines wait
-at sockets, and since when, so that looking at them often costs little."""
+"""Recordings of a running server: at once, or when one of its calls has waited long. Its log has two small tables
+of the goroutines that wait at sockets, and since when, so that frequent checks cost little."""
 
 from __future__ import annotations
 
@@ -28,16 +28,16 @@ from .status import Status
 from .toolchain import Go, Trouble
 from .where import own_line
 
-LOOKS = 10  # in the time that a call may wait
-OFTENEST, SELDOMEST = 0.05, 1.0  # seconds between two looks
-# Words of a row of the table of descriptors: its lock word's address, and of each side the place, goroutine, stack and begin of a wait.
+LOOKS = 10  # checks during the time that a call may wait
+OFTENEST, SELDOMEST = 0.05, 1.0  # seconds between two checks
+# The words of a row of the table of descriptors: its lock word's address, and for each side the place, goroutine, stack and begin of a wait.
 AT_A_WORD, SIDES, SIDE_WORDS = 1, 2, 4
 ACCEPTS = "internal/poll.(*FD).Accept"
 
 
 class Waiting(NamedTuple):
-    """A goroutine that waits at a socket: by Go's name, for what, from which stack (0: none is known), since when by Go's clock, and the address of the
-    socket's lock word."""
+    """A goroutine that waits at a socket: Go's number, the side, the stack (0 if unknown), the begin by Go's clock,
+    and the address of the socket's lock word."""
 
     goroutine: int
     what: str
@@ -47,7 +47,7 @@ class Waiting(NamedTuple):
 
     @property
     def is_reader(self) -> bool:
-        """Whether it waits to read, as those do that are idle."""
+        """Whether it waits to read, as idle goroutines do."""
         return self.what == READS
 
 
@@ -55,7 +55,7 @@ READS, WRITES, LOCKS = "waits to read", "waits to write", "waits for a lock of a
 
 
 def waiting_in(file: BinaryIO, header: Header) -> Iterator[Waiting]:
-    """The goroutines that wait, by the tables of a log."""
+    """The goroutines that wait, from the tables of a log."""
     file.seek(header.rows_begin)
     rows, queue = array("Q"), array("Q")
     rows.frombytes(file.read(header.rows * ROW_WORDS * WORD))
@@ -75,7 +75,7 @@ def waiting_in(file: BinaryIO, header: Header) -> Iterator[Waiting]:
 
 
 class Watch:
-    """Looks at the log of a process for calls that have waited long."""
+    """Checks the log of a process for calls that have waited long."""
 
     def __init__(self, log: pathlib.Path, file: BinaryIO, header: Header, go: Go | None) -> None:
         self._log, self._file, self._header, self._go = log, file, header, go
@@ -94,8 +94,8 @@ class Watch:
         return self._calls[stack]
 
     def is_meant(self, one: Waiting) -> bool:
-        """Whether it is a call of the program's that is to go on: one that accepts isn't, nor are reads in Go's own goroutines alone, as those of idle
-        connections."""
+        """Whether it is a call of the program that should continue: calls that accept don't count, nor do reads in
+        Go's own goroutines alone, such as those of idle connections."""
         calls = self.calls(one.stack)
         if calls is None or not calls.calls:
             return not one.is_reader
@@ -104,7 +104,7 @@ class Watch:
         return own_line(calls) is not None or not one.is_reader
 
     def stuck(self, longest: float, only_writes: bool) -> Waiting | None:
-        """The call that has waited longest, if it is longer than that."""
+        """The call that has waited longest, if that is longer than the limit."""
         now = time.clock_gettime_ns(time.CLOCK_MONOTONIC)
         for one in sorted(waiting_in(self._file, self._header), key=lambda one: one.since):
             if now - one.since < longest * 1e9:
@@ -121,7 +121,7 @@ class Watch:
 
 
 def snapshot(options: argparse.Namespace, go: Go | None, wish: Wish, known: list[object]) -> int:
-    """Makes the recording of now of a process that runs on."""
+    """Makes a recording of a running process at once."""
     base = base_name(options.o, "snapshot")
     look(base)
     saying = Saying([])
@@ -131,7 +131,7 @@ def snapshot(options: argparse.Namespace, go: Go | None, wish: Wish, known: list
 
 
 def watch(options: argparse.Namespace, go: Go | None, wish: Wish, known: list[object]) -> int:
-    """Makes a recording of a process when a call of its has waited as long as that."""
+    """Makes a recording of a process when one of its calls has waited that long."""
     log = log_of_process(options.pid)
     look(base_name(options.o, "snapshot"))
     pause = min(max(options.stuck / LOOKS, OFTENEST), SELDOMEST)

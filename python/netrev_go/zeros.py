@@ -5,12 +5,13 @@ from __future__ import annotations
 from functools import lru_cache
 from typing import NamedTuple
 
-FEW = 64  # bytes, whose zeros are written out at once
-LINES_KEPT = 4_096  # since many lines are alike
+FEW = 64  # bytes whose zeros are stored in full
+LINES_KEPT = 4_096  # because many lines are alike
 
 
 class Zeros(NamedTuple):
-    """A line with many zeros, that are written out when the recording is: a log of a few points may have moved gigabytes."""
+    """A line with many zeros, which are written only with the recording: a log of a few points may have moved
+    gigabytes."""
 
     before: str
     size: int  # bytes

@@ -14,9 +14,8 @@ from .notes import CLOSED, Look, Looks, Notes
 from .recording import Recording
 from .whose import NONE, Whose
 
-Maker = Callable[
-    ..., Look
-]  # called with the book, the notes, and the step's arguments, the first of which is its goroutine
+# called with the book, the notes, and the step's arguments, the first of which is its goroutine
+Maker = Callable[..., Look]
 SETTING = {"r": "SetReadDeadline", "w": "SetWriteDeadline", "rw": "SetDeadline"}
 LOCKING = {"r": "Read", "w": "Write"}
 WAITING = {"r": "WaitRead", "w": "WaitWrite"}

@@ -191,7 +191,7 @@ TABLES_OF_OTHERS = {
 
 FILE = re.compile(r"\b(FILE|OUT\.\w+)\b(?!:)")  # the words for a file in a command's usage
 DIRECTIONS = ("reverse", "forward")
-PAGINATION = "pagination"  # settings that GDB has too
+PAGINATION = "pagination"  # a setting that GDB has too
 SETTINGS = ("exec-direction", PAGINATION)
 
 

@@ -41,9 +41,8 @@ class Notes:
 
     def __init__(self, recording: Recording, looks: Looks = MappingProxyType({})) -> None:
         self.recording, self.changes, self._looks = recording, changes_of(recording), looks
-        self.step = (
-            self.moved
-        ) = self.code = 0  # the step, the number of bytes that it moved, and the code that it found
+        # the step, the number of bytes that it moved, and the code that it found
+        self.step = self.moved = self.code = 0
         self.told: dict[str, str] = {}  # the changes of the steps nearby: `12 lock 0`, with the value
         self._lines, self._fired_at = "", 0  # the lines of those changes, and the place of the last firing in them
         self.clock = 0
@@ -64,10 +63,8 @@ class Notes:
         self.closer: dict[int, By] = {}
         self.shut: dict[int, By] = {}
         self.arrived: dict[int, int] = {}
-        self.again: dict[str, dict[int, int]] = {
-            "r": {},
-            "w": {},
-        }  # for each side the last try that was answered EAGAIN
+        # for each side the last try that was answered EAGAIN
+        self.again: dict[str, dict[int, int]] = {"r": {}, "w": {}}
         self.peer: dict[int, int] = {}
         self.evicted: dict[int, int] = {}
         # for descriptors: their tags and notes, all uses, the tags of those that are open, which are ready for reading, and the last event that was

@@ -66,11 +66,8 @@ class RecordedChanges:
     """The changes of a recording's steps, which may still be arriving: a caller waits for those that it needs."""
 
     def __init__(self) -> None:
-        self._steps, self._values, self._texts = (
-            OfCells(),
-            OfCells(),
-            Texts(),
-        )  # for each cell the numbers of its changes
+        # for each cell the numbers of its changes
+        self._steps, self._values, self._texts = OfCells(), OfCells(), Texts()
         self._lines = ChangedLines()
         self._held = 0  # how many of its pieces are in the arrays
         self._asked = 0

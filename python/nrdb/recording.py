@@ -20,12 +20,8 @@ from .recorded_changes import RecordedChanges
 from .suspect_list import SuspectList
 from .where import Lines
 
-BEFORE_BLANKS = (
-    b"\n\n",
-    b"\n ",
-    b"\n\t",
-    b"\n\r",
-)  # a text that has a blank line after the first contains one of these
+# a text that has a blank line after the first contains one of these
+BEFORE_BLANKS = (b"\n\n", b"\n ", b"\n\t", b"\n\r")
 BLANK_LINE = re.compile(rb"^[ \t\r]*$", re.MULTILINE)
 SHOWN = 40
 PIECE = 1_024  # steps

@@ -117,9 +117,8 @@ class Lines(AllGoroutines):
         """Starts without any known line."""
         self.steps = array("l")
         self.stacks: dict[int, Stack] = {0: Stack((), None)}
-        self.orders: Optional[
-            list[tuple[int, int]]
-        ] = None  # steps that the program orders; None if the recorder saw none
+        # steps that the program orders; None if the recorder saw none
+        self.orders: Optional[list[tuple[int, int]]] = None
         self.bytes: Optional[
             int
         ] = None  # the most bytes that a read or a write counts; None if each has all of its own
@@ -128,16 +127,14 @@ class Lines(AllGoroutines):
         self.tests: list[tuple[int, int, str]] = []  # the first and the last step while each test ran, package and name
         self.peers: dict[int, int] = {}  # for a socket the one at the connection's other end
         self.ends: dict[int, tuple[int, int]] = {}  # for a socket the numbers of its own name and of the other end's
-        self.addresses: dict[
-            int, tuple[str, str]
-        ] = {}  # for datagram sockets their addresses, and those that they are connected to
+        # for datagram sockets their addresses, and those that they are connected to
+        self.addresses: dict[int, tuple[str, str]] = {}
         self.sent: dict[int, str] = {}  # the address that a datagram was sent to, by a step of the call
         self.sizes: dict[int, int] = {}  # how many bytes a read or a write had that counts fewer, by its step
         self.errors: dict[int, str] = {}  # the system's errors, by the step after which a goroutine's call had them
         self.waits: dict[int, list[Wait]] = {}  # waits outside of the poller, by goroutine
-        self.times = array(
-            "q"
-        )  # the times of the steps, in nanoseconds from the start of the log; empty if the recorder had none
+        # the times of the steps, in nanoseconds from the start of the log; empty if the recorder had none
+        self.times = array("q")
         self._calls: dict[int, Call] = {}
         self.begin_goroutines()
 
@@ -198,7 +195,7 @@ class Lines(AllGoroutines):
             self.add_goroutines(line, self._calls, self.stacks)
         elif line["step"] == len(self.steps) + 1:
             numbers = line["stacks"]
-            are_known = self.stacks.keys() >= set(numbers)  # (mostly all thousand are numbers)
+            are_known = self.stacks.keys() >= set(numbers)  # (mostly all thousand are known)
             self.steps.extend(numbers if are_known else (one if one in self.stacks else 0 for one in numbers))
 
     def _add_of_sockets(self, line: dict[str, Any]) -> None:

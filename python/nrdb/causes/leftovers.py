@@ -22,7 +22,7 @@ from .unused_sockets import untaken_results
 from .words import came_of, is_of_go, place_of_step, told, waits_words
 
 
-FAREWELL = "crypto/tls.(*Conn).closeNotify"  # sockets that need not be read
+FAREWELL = "crypto/tls.(*Conn).closeNotify"  # an alert that need not be read
 
 
 class Place(NamedTuple):

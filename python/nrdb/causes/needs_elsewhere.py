@@ -41,7 +41,8 @@ class NeedsElsewhere:
         stacks = list(self._stacks())
         self._groups = Groups(index, waits, stacks, position)
         self._channels = NeedsOfChannels(self._recording, waits, self._ledger, waiters, dict(stacks), self._does)
-        self._hands: dict[Hashable, dict[int, list[Hand]]] = {}  # goroutines that pass values on to those that wait at a line
+        # goroutines that pass values on to those that wait at a line
+        self._hands: dict[Hashable, dict[int, list[Hand]]] = {}
         self._later: dict[Hashable, Optional[Need]] = {}  # what ends the selects of a line
         self._conditions: dict[Hashable, list[str]] = {}  # the sentences about waits, by their lines and objects
         self._mutexes = NeedsOfMutexes(self._recording, self._ledger, waiters, stacks, self._does)

@@ -15,7 +15,7 @@ from .source_functions import text_at
 from .words import short
 
 MOST_LINES = 2
-DEFERRED = ".deferwrap"  # parts of the names of functions that run when another ends, in any case
+DEFERRED = ".deferwrap"  # part of the names of functions that run when another ends, in any case
 
 
 class Kind(NamedTuple):

@@ -12,7 +12,7 @@ from ..text_files import lines_of
 from ..where import Call
 
 Lines = tuple[str, ...]
-WRAPPED = ".gowrap"  # parts of the names of functions that only start another
+WRAPPED = ".gowrap"  # part of the names of functions that only start another
 LITERAL = re.compile(r"\.(?:func|gowrap|deferwrap)\d+")
 
 

@@ -100,9 +100,8 @@ class Handshakes:
     def _shake(self, connection: Connection) -> None:
         """Begins a connection, in a thread of its own."""
         is_admitted = False
-        with suppress(
-            Malformed, OSError, ValueError
-        ):  # (the other end has gone, or sent something that isn't a message)
+        # (the other end has gone, or sent something that isn't a message)
+        with suppress(Malformed, OSError, ValueError):
             is_admitted = connection.admitted()
         is_admitted = self._ended(connection) and is_admitted
         if is_admitted:

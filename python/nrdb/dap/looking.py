@@ -23,7 +23,7 @@ from .roots import Roots
 
 NETWORK = 65_536  # the thread's number; a goroutine's is at most 4,096
 GOIDS = 10**6  # thread numbers above this one are of goroutines without steps, by Go's own numbers
-IN_QUEUES = ("acquiring", "queued", "relock", "owing")  # cells whose number is a socket's
+IN_QUEUES = ("acquiring", "queued", "relock", "owing")  # statuses whose number is a socket's
 
 
 def thread_of(maker: Maker) -> int:

@@ -62,7 +62,7 @@ class Marks:
     def holding(self, numbers: Sequence[str]) -> list[str]:
         """Those of the marks that hit here which have no condition, or one that holds."""
         marks = {number: mark for mark, number in self._numbers.items()}
-        met = self._session.holding(numbers)  # conditions that were typed in the console
+        met = self._session.holding(numbers)  # by the conditions that were typed in the console
         return [number for number in met if number not in marks or self._holds(marks[number])]
 
     def _holds(self, mark: tuple[Sort, str]) -> bool:

@@ -31,9 +31,8 @@ FAULTS: dict[str, dict[tuple[Any, ...], Why]] = {
 }
 OVER = ("rwunlock", "pollclose")  # steps with which a failed call ends
 
-Watched = dict[
-    tuple[int, int], int
-]  # for a goroutine and one of its operations, the operation at which its call begins
+# for a goroutine and one of its operations, the operation at which its call begins
+Watched = dict[tuple[int, int], int]
 
 
 class Failed(NamedTuple):

@@ -12,7 +12,7 @@ from .taking_apart import goroutines_of
 
 CLOCK = ("tick", "pop", "fire")
 RAW = ("internal/poll.(*FD).RawRead", "internal/poll.(*FD).RawWrite")
-CAUSES = ("syswrite", "closewrite", "pollopen", "evict", "pollclose")  # the answers that the network may give
+CAUSES = ("syswrite", "closewrite", "pollopen", "evict", "pollclose")  # steps that the network may answer
 
 
 def script_of(recording: Recording) -> Script:

@@ -61,7 +61,7 @@ class Telling:
 
     def __init__(self, recording: Recording) -> None:
         self._recording = recording
-        self._names: dict[tuple[str, int], str] = {}  # lines of calls, by their stacks
+        self._names: dict[tuple[str, int], str] = {}  # names of calls, by their stacks
         self._lines: dict[int, str] = {}  # of stacks
         self._texts: dict[str, str] = {}  # the name of a call with its result
 

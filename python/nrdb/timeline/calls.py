@@ -17,7 +17,7 @@ from ..recording import Recording
 from ..where import OF_THE_PROGRAM, Stack
 from .runs import Window
 
-Data = dict[str, Any]  # the names that the page's script reads
+Data = dict[str, Any]  # the data that the page's script reads
 WRAPPER = re.compile(r"\.(gowrap|deferwrap)\d*$")
 DONE, FAILED, HANGS, OPEN, LISTENS = range(5)  # the states of a drawn call
 

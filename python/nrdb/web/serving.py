@@ -87,9 +87,8 @@ class Server:
         server = await asyncio.start_server(self._accept, sock=self._socket, limit=LONGEST_HEAD)
         self._ready.set()
         await self._ended.wait()
-        self._loop.remove_reader(
-            self._socket
-        )  # (closed at once, the server would lose connections that it has just accepted)
+        # (closed at once, the server would lose connections that it has just accepted)
+        self._loop.remove_reader(self._socket)
         await asyncio.sleep(LAST)
         server.close()
         limit = self._loop.time() + ENDING / 2

@@ -81,7 +81,7 @@ class Shared(Session):
 
     streams: Telling = field(kw_only=True)
     who: str = ""
-    part: str = ""  # the author of the line that is being answered
+    part: str = ""  # the part of a line that is being answered
     told: Optional[Position] = None
     told_marks: Optional[list[Listed]] = None
 
