@@ -59,7 +59,8 @@ lint:
 # Tests running out of memory, and bad usage: refuses each allocation of the program and of each library call in turn, in shared
 # sessions too.
 refused: ready
-	cd crates/nr_refused && rt run -- all
+	@sh scripts/prove.sh nr_refused
+	crates/nr_refused/out/nr_refused all
 	@sh scripts/refused.sh
 	@sh scripts/pytest.sh --beside $(addprefix python/tests/program/,each_call.py refused_serving.py)
 
@@ -105,7 +106,7 @@ mutants: ready
 # Compares netrev with the same programs over lists, on the examples, bad recordings, the largest sizes, and random cases:
 # `make agree COUNT=20000 SEED=1`.
 agree: ready
-	@cd crates/netrev_plain && rt run
+	@sh scripts/prove.sh netrev_plain
 	@sh scripts/pytest.sh --beside python/tests/program/agree.py --random $(COUNT) --seed $(or $(SEED),1)
 
 # Proves netrev and leaves it at crates/netrev/out/netrev; what hasn't changed isn't proved again. `make netrev CPU=x86-64-v3` builds it for
@@ -141,7 +142,7 @@ bench: ready
 	@$(MAKE) --no-print-directory pace
 
 # Measures the machine alone, beside plain Rust without proofs: replay, undo and search. `make pace STEPS=100000` for fewer than 1,000,000
-# steps. It proves bench/pace/crate first, which is not part of the gate.
+# steps. It proves bench/pace/crate first.
 pace:
 	@sh bench/pace/prove.sh
 	@python3 python netrev_bench.pace $(lastword $(STEPS))

@@ -1,9 +1,9 @@
 #!/bin/sh
-# Proves netrev and all that it stands on, and leaves the program at crates/netrev/out/netrev:  scripts/prove.sh
+# Proves and builds a program, and leaves it at crates/NAME/out/NAME:  scripts/prove.sh [NAME]
 #
-# Where nothing was proved here yet, crates are proved side by side, as many as there are processors and 5 GB of memory for,
-# in a copy that has no others; what that made is moved here. Later only what changed is proved, from the lowest crate up.
-# CPU says for which processors the program is built, as x86-64-v3; without it, for all of x86-64. The proofs are the same.
+# NAME is netrev if it is left out. `rt ci` proves the program and the crates below it in a copy that has no others; what an earlier
+# run on this machine proved of the same files, in any checkout, isn't proved again. CPU says for which processors the program is
+# built, as x86-64-v3; without it, for all of x86-64. With CPU the proofs, which are the same, are made in this checkout.
 set -eu
 cd "$(dirname "$0")/.."
 top=${1:-netrev}
@@ -22,24 +22,18 @@ below() {
 		END { add(top) }' crates.txt
 }
 
-if [ ! -e "crates/$top/out" ]; then
-	fit=$(awk '/^MemAvailable:/ { print int($2 / 5000000) }' /proc/meminfo)
-	lanes=$(nproc)
-	[ "$fit" -ge "$lanes" ] || lanes=$fit
-	[ "$lanes" -ge 1 ] || lanes=1
-	copy=$(mktemp -d)
-	trap 'rm -rf "$copy"' EXIT
-	cp HANDLES "$copy"
-	mkdir "$copy/crates"
-	for crate in $(below "$top"); do
-		grep -E "^$crate[ :]" crates.txt >> "$copy/crates.txt"
-		(cd crates && tar -cf - --exclude=out --exclude=must-fail "$crate") | tar -xf - -C "$copy/crates"
-	done
-	(cd "$copy" && rt all check --jobs "$lanes")
-	for crate in $(below "$top"); do
-		[ -e "crates/$crate/out" ] || mv "$copy/crates/$crate/out" "crates/$crate/out"
-	done
+if [ -n "${CPU:-}" ]; then
+	cd "crates/$top"
+	exec rt run --cpu="$CPU"
 fi
-[ "$top" = netrev ] || exit 0
-cd crates/netrev
-rt run ${CPU:+--cpu="$CPU"} -- check ../../examples/first.jsonl
+copy=$(mktemp -d)
+trap 'rm -rf "$copy"' EXIT
+cp HANDLES "$copy"
+mkdir "$copy/crates"
+for crate in $(below "$top"); do
+	grep -E "^$crate[ :]" crates.txt >> "$copy/crates.txt"
+	(cd crates && tar -cf - --exclude=out --exclude=must-fail "$crate") | tar -xf - -C "$copy/crates"
+done
+(cd "$copy" && rt ci)
+mkdir -p "crates/$top/out"
+cp "$copy/crates/$top/out/$top" "crates/$top/out/$top"

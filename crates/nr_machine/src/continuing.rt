@@ -1,6 +1,6 @@
 //! What steps that change a descriptor with its timers have in common: its timers obey, and those who are woken go on.
 
-ghost use Rattle.std.specs.Prelude.{◌≡◌, ◌∷◌, [], ◌<◌, ◌≤◌, length, slice_get, option_to_list, Some, Ok, Err, IfSome, IfOk, IfErr, OnErr};
+ghost use Rattle.std.specs.Prelude.{◌≡◌, ◌∷◌, [], ◌<◌, ◌≤◌, length, slice_get, option_to_list, Some, Ok, Err, IfSome, IfErr, OnErr, OnOk};
 ghost use Rattle.nr_rev.specs.Step as step;
 ghost use Rattle.nr_rev.specs.Weight.{option_weight, sides_weight};
 ghost use Rattle.nr_rev.specs.declared.status.Status.TheVariants.{Parked};
@@ -46,7 +46,9 @@ impl World {
         let mut desc = desc;
         match desc.apply(op) {
             Ok((left, before)) => {
-                let timers = self.core.obey(descriptor, left.orders.sides())?;
+                let mut timers = Sides::twice(None);
+                self.core
+                    .obey(descriptor, left.orders.sides(), &mut timers)?;
                 self.core.set_descriptor(descriptor, desc);
                 self.core.wake_both(descriptor, left.woken);
                 way.put(WorldUndo::Changed {
@@ -116,40 +118,44 @@ impl Core {
         &mut self,
         descriptor: u32,
         orders: Sides<Option<TimerOrder>>,
-    ) -> Result<Sides<Option<TimersDelta>>, Refusal>
+        deltas: &mut Sides<Option<TimersDelta>>,
+    ) -> Result<(), Refusal>
         requires timers { IsTimers self.old.timers }
         requires below { descriptor < self.old.timers.descriptors }
-        ensures obeyed { IfOk result (λ deltas. Obeyed self.old descriptor (listed orders) self.new) }
-        ensures back { IfOk result (λ deltas. ObeyBack deltas self.new self.old) }
-        ensures light { IfOk result (λ deltas. sides_weight (option_weight delta_weight) deltas ≤ 20) }
+        ensures obeyed { OnOk result (Obeyed self.old descriptor (listed orders) self.new) }
+        ensures back { OnOk result (ObeyBack deltas.new self.new self.old) }
+        ensures light { OnOk result (sides_weight (option_weight delta_weight) deltas.new ≤ 20) }
         ensures err { IfErr result (λ e. orders_outcome descriptor (listed orders) self.old ≡ Err e) }
         ensures unchanged { OnErr result (self.new ≡ self.old) }
     {
         if orders.read.is_none() && orders.write.is_none() {
-            return Ok(Sides::twice(None));
+            *deltas = Sides::twice(None);
+            return Ok(());
         }
-        self.obey_both(descriptor, orders)
+        self.obey_both(descriptor, orders, deltas)
     }
 
     /// Orders to both sides' timers are obeyed, of which at least one asks for something.
+    #[inline(always)]
     fn obey_both(
         &mut self,
         descriptor: u32,
         orders: Sides<Option<TimerOrder>>,
-    ) -> Result<Sides<Option<TimersDelta>>, Refusal>
+        deltas: &mut Sides<Option<TimersDelta>>,
+    ) -> Result<(), Refusal>
         requires timers { IsTimers self.old.timers }
         requires below { descriptor < self.old.timers.descriptors }
-        ensures obeyed { IfOk result (λ deltas. Obeyed self.old descriptor (listed orders) self.new) }
-        ensures back { IfOk result (λ deltas. ObeyBack deltas self.new self.old) }
-        ensures light { IfOk result (λ deltas. sides_weight (option_weight delta_weight) deltas ≤ 20) }
+        ensures obeyed { OnOk result (Obeyed self.old descriptor (listed orders) self.new) }
+        ensures back { OnOk result (ObeyBack deltas.new self.new self.old) }
+        ensures light { OnOk result (sides_weight (option_weight delta_weight) deltas.new ≤ 20) }
         ensures err { IfErr result (λ e. orders_outcome descriptor (listed orders) self.old ≡ Err e) }
         ensures unchanged { OnErr result (self.new ≡ self.old) }
     {
-        let read = self.obey_one(descriptor, orders.read)?;
-        match self.obey_one(descriptor, orders.write) {
-            Ok(write) => Ok(Sides { read, write }),
+        self.obey_one(descriptor, orders.read, &mut deltas.read)?;
+        match self.obey_one(descriptor, orders.write, &mut deltas.write) {
+            Ok(()) => Ok(()),
             Err(refusal) => {
-                self.unorder(read);
+                self.unorder(deltas.read);
                 Err(refusal)
             }
         }
@@ -161,20 +167,23 @@ impl Core {
         &mut self,
         descriptor: u32,
         order: Option<TimerOrder>,
-    ) -> Result<Option<TimersDelta>, Refusal>
+        delta: &mut Option<TimersDelta>,
+    ) -> Result<(), Refusal>
         requires timers { IsTimers self.old.timers }
         requires below { descriptor < self.old.timers.descriptors }
-        ensures obeyed { IfOk result (λ delta. Obeyed self.old descriptor (option_to_list order) self.new) }
-        ensures back { IfOk result (λ delta. IfAny TimersBack delta self.new self.old) }
-        ensures light { IfOk result (λ delta. option_weight delta_weight delta ≤ 10) }
+        ensures obeyed { OnOk result (Obeyed self.old descriptor (option_to_list order) self.new) }
+        ensures back { OnOk result (IfAny TimersBack delta.new self.new self.old) }
+        ensures light { OnOk result (option_weight delta_weight delta.new ≤ 10) }
         ensures err { IfErr result (λ e. orders_outcome descriptor (option_to_list order) self.old ≡ Err e) }
         ensures unchanged { OnErr result (self.new ≡ self.old) }
     {
         let Some(order) = order else {
-            return Ok(None);
+            *delta = None;
+            return Ok(());
         };
-        let (_, delta) = self.timers.apply(&ordered(descriptor, order))?;
-        Ok(Some(delta))
+        let (_, made) = self.timers.apply(&ordered(descriptor, order))?;
+        *delta = Some(made);
+        Ok(())
     }
 
     /// The goroutines that are woken go on, reading first.

@@ -14,6 +14,7 @@ SCRIPTS = (
     pytest.param("sh scripts/refused.sh", marks=pytest.mark.long),
     pytest.param("python3 python netrev_go.real --gate", marks=pytest.mark.long),
     pytest.param("sh scripts/lint.sh --if-there", marks=pytest.mark.long),
+    pytest.param("sh bench/pace/prove.sh", marks=pytest.mark.long),
     "python3 scripts/pages.py",
     "python3 scripts/surface.py",
     pytest.param("sh examples/play_all.sh", marks=pytest.mark.alone),

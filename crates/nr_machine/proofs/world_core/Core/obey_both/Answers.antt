@@ -7,9 +7,9 @@ use Rattle.nr_machine.proofs.world_core.Core.obey_both.Goals as goal
 pub returns-in-Err-clause-err : goal.returns-in-Err-clause-err
 returns-in-Err-clause-err c =
     second_refused c.args.descriptor c.args.orders.read c.args.orders.write c.args.self.now c.obey_one.new.self c.in-Err.refusal
-    c.in_ok-read.ensures.obeyed c.in-Err.ensures.err
+    c.in_ok-obey_one.ensures.obeyed c.in-Err.ensures.err
 
 pub returns-in-Err-clause-unchanged : goal.returns-in-Err-clause-unchanged
 returns-in-Err-clause-unchanged c =
-    timers_again c.in_ok-read.read c.obey_one-2.new.self c.unorder.new.self c.args.self.now c.unorder.ensures
-    (subst (λ (core : Core). IfAny TimersBack c.in_ok-read.read core c.args.self.now) (sym c.in-Err.ensures.unchanged) c.in_ok-read.ensures.back)
+    timers_again c.obey_one.new.delta c.obey_one-2.new.self c.unorder.new.self c.args.self.now c.unorder.ensures
+    (subst (λ (core : Core). IfAny TimersBack c.obey_one.new.delta core c.args.self.now) (sym c.in-Err.ensures.unchanged) c.in_ok-obey_one.ensures.back)
