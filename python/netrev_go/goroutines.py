@@ -280,6 +280,8 @@ class Passing:
     def _objects(self, what: int, at: int, b: int, c: int) -> tuple[At, ...]:
         """The objects of a wait: channels by their keys."""
         keys = self._keys
+        if not keys:
+            return objects_of(what, at, b, c)
         return tuple(
             At(keys.get(one.address, one.address), one.use) if one.use else one for one in objects_of(what, at, b, c)
         )

@@ -36,12 +36,7 @@ class Lifetimes:
         return sorted(((number, goroutine) for goroutine, number in self.ended.items()), reverse=True)
 
 
-def lifetimes_of(used: Iterable[tuple[int, int]], ends: Iterable[Point]) -> Lifetimes:
-    """The lifetimes of goroutines. `used` has which goroutine made which point, in the points' order."""
-    found = Lifetimes()
-    for goroutine, number in used:
-        found.began.setdefault(goroutine, number)
-    for point in ends:
-        if point.kind == ENDS and point.goroutine in found.began:
-            found.ended[point.goroutine] = point.number
-    return found
+def lifetimes_of(began: dict[int, int], ends: Iterable[Point]) -> Lifetimes:
+    """The lifetimes of goroutines that began to make steps at these points."""
+    ended = {point.goroutine: point.number for point in ends if point.kind == ENDS and point.goroutine in began}
+    return Lifetimes(began, ended)

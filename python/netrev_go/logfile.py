@@ -3,6 +3,7 @@ still runs: complete points are used, and notes say what is missing."""
 
 from __future__ import annotations
 
+import contextlib
 import io
 import os
 import pathlib
@@ -222,7 +223,17 @@ def read_log(path: pathlib.Path, is_written: bool = False) -> Log:
         with path.open("rb") as file:
             return log_of(copy_of(file), is_written) if is_written else log_of(file)
     except OSError as fault:
-        raise NoLog(messages.UNREADABLE.format(why=fault.strerror)) from None
+        raise NoLog(uncopied(path) or messages.UNREADABLE.format(why=fault.strerror)) from None
+
+
+def uncopied(path: pathlib.Path) -> str:
+    """Why a program couldn't copy its log to this path; empty if it didn't try to, or if it did so."""
+    with contextlib.suppress(OSError):
+        for name in sorted(os.listdir(path.parent)):
+            number = name.removeprefix(path.name + ".failed.")
+            if number != name and number.isdecimal():
+                return messages.UNCOPIED.format(why=os.strerror(int(number)))
+    return ""
 
 
 def copy_of(file: BinaryIO) -> BinaryIO:

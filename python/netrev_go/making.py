@@ -186,7 +186,7 @@ class Fitted:
     @cached_property
     def lifetimes(self) -> Lifetimes:
         """When goroutines begin and end, computed only if they are many."""
-        return lifetimes_of(self.found.used(), self.ends)
+        return lifetimes_of(self.found.began(), self.ends)
 
     def at_once(self, goroutines: set[int]) -> int:
         """The greatest number of these goroutines at one time."""

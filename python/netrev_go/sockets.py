@@ -7,13 +7,13 @@ points of some sockets are a recording too. A socket without its opening in the 
 from __future__ import annotations
 
 from collections import Counter
-from collections.abc import Callable, Iterator
+from collections.abc import Callable
 from dataclasses import dataclass, field
 from operator import itemgetter
 
 from .notes import NAMED as NOTED_NAMED, NOTED, Debts, Note
 from .prelude import Lead, Unreachable, led
-from .points import AT_A_SOCKET, AT_A_WORD, GOROUTINE, LOCKING, NOTING, Kind, Point
+from .points import AT_A_SOCKET, AT_A_WORD, GOROUTINE, LOCKING, NOTING, NUMBER, Kind, Point
 
 BUFFER = 65_536
 OUTPUT = 4_096
@@ -236,14 +236,16 @@ class Owned:
     unknown: int  # points of sockets whose opening isn't in the log
     cut: int  # reads and writes that count as ones of fewer bytes
 
-    def used(self) -> Iterator[tuple[int, int]]:
-        """The goroutine of each point, in the points' order; for a note those that wait there."""
-        for point, socket in self.points:
-            if point.kind == NOTED and socket.note:
-                for goroutine in socket.note.goroutines() | socket.note.known():
-                    yield goroutine, point.number
-            elif point.goroutine:
-                yield point.goroutine, point.number
+    def began(self) -> dict[int, int]:
+        """The number of each goroutine's first point, or of the note of a socket that it waits for or had. (Backwards, so that the
+        first one is kept: there may be a million points.)"""
+        points = list(map(POINT, reversed(self.points)))
+        began = dict(zip(map(GOROUTINE, points), map(NUMBER, points)))
+        for note in (socket.note for socket in self.sockets if socket.note):
+            for goroutine in note.goroutines() | note.known():
+                began[goroutine] = min(began.get(goroutine, note.number), note.number)
+        began.pop(0, None)
+        return began
 
 
 def owned(points: list[Point], all_bytes: bool = True) -> Owned:

@@ -173,6 +173,18 @@ class Reading(unittest.TestCase):
         with self.assertRaisesRegex(NoLog, "can't be read"):
             read_log(pathlib.Path("/nowhere/log.1"))
 
+    def test_a_copy_that_a_program_couldn_t_make_says_why(self) -> None:
+        with tempfile.TemporaryDirectory() as folder:
+            copy = pathlib.Path(folder, "log.1.snapshot")
+            copy.with_name(copy.name + ".failed.028").touch()
+            copy.with_name("log.2.snapshot.failed.005").touch()
+            with self.assertRaisesRegex(NoLog, "couldn't copy its log: No space left on device"):
+                read_log(copy)
+            with self.assertRaisesRegex(NoLog, "can't be read: No such file"):
+                read_log(copy.with_name("log.3.snapshot"))
+            copy.write_bytes(binary(opened(2)))
+            self.assertEqual(len(read_log(copy).points), 4)
+
     def test_a_log_that_is_cut_short_gives_what_is_whole(self) -> None:
         data = binary(opened(200))
         ring = HEADER_BYTES + STACKS * 256
