@@ -195,15 +195,17 @@ class Served:
             log.unlink()
 
     def tell(self) -> None:
-        """Prints a row for each number of connections and way: the median of the processor time, and the other medians."""
+        """Prints a row for each number of connections and way: the median of the processor time, how much more that is than the first way's (the median
+        of all rounds, in each of which both met the same load), and the other medians."""
         for (connections, way), took in self.took.items():
-            base = statistics.median(self.took[connections, self.ways[0]])
+            base = self.took[connections, self.ways[0]]
+            more = statistics.median(one / other for one, other in zip(took, base)) - 1
             median = statistics.median(took)
             kept = statistics.median(self.kept[connections, way])
             points = statistics.median(self.points.get((connections, way), [0]))
             print(
                 f"| {self.name} | {connections} | {way} | {median / 1000:.1f} ({min(took) / 1000:.1f} to {max(took) / 1000:.1f}) "
-                f"| {100 * (median / base - 1):+.1f} % | {f'{kept:,.0f}' if kept else ''} | {f'{points:.1f}' if points else ''} |"
+                f"| {100 * more:+.1f} % | {f'{kept:,.0f}' if kept else ''} | {f'{points:.1f}' if points else ''} |"
             )
 
 
