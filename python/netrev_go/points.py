@@ -66,6 +66,7 @@ class Kind(IntEnum):
     NOTES_BEGIN = 139
     NOTES_END = 140
     NOTED_NAMED = 141
+    DEADLINE_CALL = 142
 
 
 # Sets of plain numbers, as points have them: an enumeration's members are compared much more slowly.

@@ -20,7 +20,11 @@ OUTPUT = 4_096
 CLOSED = 1
 AGAIN = 1
 READ, WRITE, NAMED = int(Kind.READ), int(Kind.WRITE), int(Kind.NAMED)
-UNLIKE = {READ, WRITE, NAMED, NOTED, NOTED_NAMED}  # these are more than one step of their socket
+DEADLINE_CALL, INCREF, SET_DEADLINE, DECREF = map(
+    int, (Kind.DEADLINE_CALL, Kind.INCREF, Kind.SET_DEADLINE, Kind.DECREF)
+)
+UNLIKE = {READ, WRITE, NAMED, NOTED, NOTED_NAMED, DEADLINE_CALL}  # these are more than one step of their socket
+REFERENCE, RETURNS_TRUE = 8, 2  # of a lock word; what Go's function returned, as points of lock words have it
 INIT, OPEN, OPEN_FAILED, CLOSE = int(Kind.INIT), int(Kind.OPEN), int(Kind.OPEN_FAILED), int(Kind.CLOSE)
 EVENT, FIRE = int(Kind.EVENT), int(Kind.FIRE)
 # points at the descriptor's newest use
@@ -181,6 +185,17 @@ def of_few(point: Point) -> Point:
     return Point(number, kind, goroutine, at, asked, min(moved, FEW_BYTES), failed, time, stack)
 
 
+def points_of_call(point: Point, socket: Socket) -> list[tuple[Point, Socket]]:
+    """The three points that a call is which sets a deadline: it takes a reference to the socket first, and drops it in the end."""
+    number, _, g, at, mode, deadline, state, time, stack = point
+    held, word = state + REFERENCE, socket.word
+    return [
+        (Point(number, INCREF, g, word, state, held, RETURNS_TRUE, time, stack), socket),
+        (Point(number, SET_DEADLINE, g, at, mode, deadline, 0, time, stack), socket),
+        (Point(number, DECREF, g, word, held, state, 0, time, stack), socket),
+    ]
+
+
 def count_bytes(socket: Socket, point: Point) -> None:
     """Counts a read or a write at its socket: its text, the size of the output, and for a read the steps."""
     number, kind, _, _, asked, got, failed, _, _ = point
@@ -254,7 +269,7 @@ def owned(points: list[Point], all_bytes: bool = True) -> Owned:
     of, words, uses = owners.of, owners.words, owners.uses
     mine: list[tuple[Point, Socket]] = []
     writes: list[tuple[Point, Socket]] = []
-    cut = 0
+    cut = calls = 0
     for point in points:
         kind, at = point[1], point[3]
         # (the same as `of` for nearly all points, because there may be a million)
@@ -264,6 +279,10 @@ def owned(points: list[Point], all_bytes: bool = True) -> Owned:
             if socket is None:
                 continue
         if kind in UNLIKE:
+            if kind == DEADLINE_CALL:
+                mine += points_of_call(point, socket)
+                calls += 1
+                continue
             if kind == NAMED or kind == NOTED_NAMED:
                 socket.steps -= 1
             elif kind == NOTED:
@@ -283,7 +302,7 @@ def owned(points: list[Point], all_bytes: bool = True) -> Owned:
     count_points(mine)
     count_parts(writes)
     known = [socket for socket in owners.sockets if socket.has_descriptor and not socket.failed]
-    return Owned(mine, known, len(points) - len(mine), cut)
+    return Owned(mine, known, len(points) + 2 * calls - len(mine), cut)
 
 
 def lead_to(sockets: list[Socket], begin: int) -> dict[str, int]:

@@ -47,8 +47,12 @@ class Server:
 
 SERVERS = {
     "keep-deadline": Server(
-        "keep", "deadline", None, ("deadline left behind",)
-    ),  # (which was set before the oldest point)
+        "keep",
+        "deadline",
+        None,
+        ("deadline left behind", "was set before the recording begins", "net.(*conn).Write"),
+        False,
+    ),  # (which names the descriptor)
     "keep-wakeup": Server("keep", "wakeup", (), ("lost wake-up", "{line}")),
     "keep-mutex": Server("keep", "mutex", ("--writes",), ("a mutex", "{line}")),
     "stream-mutex": Server("stream", "mutex", (), ("a mutex", "{line}"), False),
@@ -209,7 +213,7 @@ def main(words: list[str]) -> int:
     parser.add_argument("--seconds", type=int, default=60)
     parser.add_argument("--points", type=int, default=2**16)
     parser.add_argument("--connections", type=int, default=50)
-    parser.add_argument("--pause", type=int, default=200, help="milliseconds between two requests of a client")
+    parser.add_argument("--pause", type=int, default=2_000, help="milliseconds between two requests of a client")
     parser.add_argument("--stuck", default="5s", help="for how long a call waits that is recorded")
     parser.add_argument("--gopath", type=pathlib.Path, default=DEBIAN)
     parser.add_argument("--keep", type=pathlib.Path)

@@ -175,6 +175,23 @@ class Ordinary(unittest.TestCase):
 
 
 class Deadlines(unittest.TestCase):
+    def test_a_call_that_sets_a_deadline_is_three_steps(self) -> None:
+        log = Points().opened().add(Kind.RW_LOCK, 1, WORD, 0, 10, 3)
+        log.add(Kind.DEADLINE_CALL, 2, DESCRIPTOR, 114, 5, 10, time=100).add(Kind.RW_UNLOCK, 1, WORD, 10, 0, 1)
+        steps = [
+            ["incref", 1, 0, "yes"],
+            ["tick", 100, "done"],
+            ["setdeadline", 1, 0, "r", 5, "done"],
+            ["decref", 1, 0, "notlast"],
+        ]
+        self.assertEqual(log.steps()[-5:-1], steps)
+        self.assertEqual([word for _, _, word in log.made().words], [10, 18, 10, 0])
+        self.assertEqual(log.made().notes, [])
+
+    def test_a_call_that_sets_a_deadline_of_an_unknown_socket_is_none(self) -> None:
+        log = Points().opened().add(Kind.DEADLINE_CALL, 2, DESCRIPTOR + 300, 114, 5, 10, time=100)
+        self.assertEqual(len(log.steps()), 2)
+
     def fired(self, bits: int, time: int = 105) -> Points:
         log = Points().opened(reading=7, writing=7).add(Kind.SET_DEADLINE, 1, DESCRIPTOR, 114, 5, time=100)
         return log.add(Kind.FIRE, 0, DESCRIPTOR, 7, bits, time=time)
