@@ -165,7 +165,8 @@ def ran(
             [str(TOOL), "-o", str(name), *command], cwd=SAMPLES / server.sample, capture_output=True, text=True, errors="replace",
             timeout=options.seconds + PATIENCE, check=False,
         )  # fmt: skip
-        return Came(run.stdout + run.stderr + late_suspects(run.stdout, name), passed(log), resident(process.pid))
+        printed = run.stdout + run.stderr
+        return Came(printed + late_suspects(printed, name), passed(log), resident(process.pid))
     finally:
         process.kill()
         process.wait()
