@@ -1,11 +1,13 @@
-"""What recording costs:  python3 python netrev_go.costs [RELEASE ..] [--times N] [--before FOLDER] [--requests [N]]
+"""Measures the cost of recording:  python3 python netrev_go.costs [RELEASE ..] [--times N] [--before FOLDER] [--requests [N]]
 
 It builds samples/cost and samples/load of tools/go without and with the overlay, and prints what a call costs, what channels, locks,
-goroutines and timers cost, and how many round trips a second there are: without the overlay, with it and no log, with a log, with the
-program's orders, with lines, and with both. With --requests it builds samples/served in their place, and prints the processor time of an HTTP
-request over 20 and over 200 keep-alive connections, beside runtime/trace and its FlightRecorder, and how many bytes each keeps of a request.
-RELEASE is one of Debian's (netrev_go.fetching), as 1.27; without any it is the `go` on the PATH. FOLDER is another clone of the repository, whose
-recorder is measured too. All are measured by turns, so many times each, and the machine's load is said."""
+goroutines and timers cost, and the round trips a second: without the overlay, with it and no log, with a log, with the program's
+orders, with lines, and with both. With --requests it builds samples/served instead, and prints the processor time of an HTTP request
+over 20 and over 200 keep-alive connections, beside runtime/trace and its FlightRecorder, and how many bytes each keeps of a request.
+
+RELEASE is one of Debian's (netrev_go.fetching), such as 1.27; the default is the `go` on the PATH. FOLDER is another clone of the
+repository, whose recorder is measured too. All are measured in turn, N times each, and the machine's load is printed.
+"""
 
 from __future__ import annotations
 

@@ -1,4 +1,4 @@
-"""The command `mutants.py around`: draws mutants, tries them and prints a table of what survives."""
+"""The command `mutants.py around`: draws mutants, tries them and prints a table of the survivors."""
 
 from __future__ import annotations
 
@@ -43,7 +43,7 @@ def arguments(words: list[str]) -> argparse.Namespace:
 
 
 def table(verdicts: list[Verdict]) -> str:
-    """The mutants that weren't found, and of each kind how many were."""
+    """The survivors, and how many of each kind were found."""
     lines = ["| Mutant | Kind | Change | Verdict |", "|---|---|---|---|"]
     for one in sorted(verdicts, key=lambda one: (one.mutant.file, one.mutant.line)):
         if one.answer not in (FOUND, UNBUILT):

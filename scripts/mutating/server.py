@@ -1,9 +1,11 @@
-"""A plugin of pytest's that tries one mutant after the other, each in a process of its own that begins where all tests are loaded.
+"""A plugin of pytest that tries one mutant after the other, each in a process of its own that starts with all tests
+loaded.
 
-It reads requests, a line of JSON each, from the first of the two descriptors that NETREV_MUTANTS names: the file, its
-text before and behind the change, for how many seconds to try, and the test, if it is one alone. Into the second it writes what came of it: the test that failed, nothing, or
-"too long". A mutant's file lies changed on the disk meanwhile, for the processes that tests start; here the code of the function that it changes
-is put into the function that is there."""
+It reads requests, a line of JSON each, from the first of the two descriptors in NETREV_MUTANTS: the file, its text
+before and after the change, the time limit in seconds, and the test, if only one is to run. Into the second it
+writes the result: the test that failed, nothing, or "too long". Meanwhile the mutant's file is on the disk, for the
+processes that tests start; in this process the loaded function gets the code of the changed one.
+"""
 
 from __future__ import annotations
 
@@ -25,7 +27,7 @@ from .changes import NOT_PUT_IN, TOO_LONG
 
 
 def codes_in(code: CodeType) -> Iterator[CodeType]:
-    """The codes of a code, itself first, in the order of the source."""
+    """The code objects in a code object, itself first, in the order of the source."""
     yield code
     for constant in code.co_consts:
         if isinstance(constant, CodeType):
@@ -37,14 +39,14 @@ def key(code: CodeType) -> tuple[str, int, str]:
 
 
 def changed_codes(file: str, before: str, behind: str) -> dict[tuple[str, int, str], CodeType]:
-    """The codes that a mutant changes, by where the old ones stand. A change may not add lines."""
+    """The code objects that a mutant changes, by the places of the old ones. A change may not add lines."""
     old, new = (list(codes_in(compile(text, file, "exec", dont_inherit=True))) for text in (before, behind))
     named: dict[tuple[str, int, str], CodeType] = {key(code): code for code in new}
     return {key(code): named[key(code)] for code in old if key(code) in named and named[key(code)] != code}
 
 
 def put_in(file: str, before: str, behind: str) -> bool:
-    """Gives the functions that are loaded the mutant's code. Whether that was done, or its module isn't loaded yet."""
+    """Gives the loaded functions the mutant's code. Whether that was done, or its module isn't loaded yet."""
     if not any(getattr(module, "__file__", None) == file for module in list(sys.modules.values())):
         return True
     changed = changed_codes(file, before, behind)
@@ -97,7 +99,7 @@ def tried(request: dict[str, Any], items: list[pytest.Item]) -> str:
 
 
 def pytest_runtestloop(session: pytest.Session) -> bool:
-    """In place of running the tests: runs those of each request."""
+    """Runs the tests of each request, instead of all tests."""
     requests, answers = (int(number) for number in os.environ["NETREV_MUTANTS"].split(","))
     with open(requests, encoding="utf-8") as lines, open(answers, "w", encoding="utf-8", buffering=1) as replies:
         print("ready", file=replies)

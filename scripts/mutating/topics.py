@@ -1,7 +1,6 @@
-"""Which tests are tried against a mutant of a module: those that import it, the nearest first.
-
-A file of tests that imports the module itself is nearest; after it come those that import a module that imports it, and so on.
-`topics.txt` names the tests of what no test imports, and others that a module needs."""
+"""The tests that are tried against a mutant of a module: those that import it, the nearest first. A file of tests
+that imports the module itself is nearest; then come those that import a module that imports it, and so on.
+`topics.txt` names tests for modules that no test imports, and further tests for others."""
 
 from __future__ import annotations
 

@@ -1,4 +1,4 @@
-"""Tries mutants: each in a copy of the repository, against the tests that call the function that it changes."""
+"""Tries mutants: each in a copy of the repository, against the tests that call the changed function."""
 
 from __future__ import annotations
 
@@ -24,7 +24,7 @@ from .topics import Topics
 
 ROOT = Path(__file__).resolve().parent.parent.parent
 PACKAGES = ("python/nrdb", "python/netrev_calls", "python/netrev_go")
-UNTOUCHED = ("messages",)  # modules of texts alone, and folders of them
+UNTOUCHED = ("messages",)  # modules that contain only texts, and folders of them
 FOUND, SURVIVED, UNTESTED, UNBUILT = "found", "survives", "no test imports it", "can't be compiled"
 FAILS_ANYWAY = "its test fails without it too"
 PATIENCE, GO_PATIENCE = 600, 1_800  # seconds
@@ -33,7 +33,7 @@ SERVERS = 4  # that are kept
 
 @dataclass
 class Verdict:
-    """What came of a mutant."""
+    """The result of a mutant."""
 
     mutant: Mutant
     answer: str
@@ -68,7 +68,7 @@ def all_mutants(root: Path, parts: Iterable[str] = PACKAGES) -> Iterator[Mutant]
 
 
 def drawn(mutants: Iterable[Mutant], count: int, seed: int) -> list[Mutant]:
-    """So many mutants, of each kind as many; fewer if there aren't so many."""
+    """So many mutants, the same number of each kind; fewer if not so many exist."""
     dice = random.Random(seed)
     piles: dict[str, list[Mutant]] = {kind: [] for kind in KINDS}
     for mutant in mutants:
@@ -88,7 +88,7 @@ def drawn(mutants: Iterable[Mutant], count: int, seed: int) -> list[Mutant]:
 
 
 def pytest_by(python: str) -> list[str]:
-    """How pytest is started."""
+    """The command that starts pytest."""
     return [python, "-m", "pytest", "-q"]
 
 
@@ -133,7 +133,7 @@ class Worker:
         self.servers: dict[tuple[str, ...], Server] = {}  # by the files of tests
 
     def put(self, file: str, text: str) -> None:
-        """Writes a file with a time that no compiled module of it has."""
+        """Writes a file with a time that differs from those of its compiled modules."""
         path = self.room / file
         path.write_text(text, encoding="utf-8")
         self.time += 2
@@ -181,7 +181,7 @@ class Worker:
             self.put(mutant.file, text)
 
     def passes(self, test: str, tests: list[str]) -> bool:
-        """Whether a test of these files passes in the copy as it is, which is asked once."""
+        """Whether a test of these files passes in the unchanged copy, which is checked once."""
         if test not in self.passing:
             self.passing[test] = not self.server(tests).first_failed(self.room, "", "", GO_PATIENCE, test)
         return self.passing[test]
@@ -207,7 +207,7 @@ class Worker:
             server.end()
 
     def is_unbuilt(self, mutant: Mutant, text: str) -> bool:
-        """Whether Go's own check of types refuses the mutant."""
+        """Whether Go's type checker rejects the mutant."""
         path = self.room / mutant.file
         self.put(mutant.file, mutant.applied(text))
         ran = subprocess.run(["gofmt", "-e", str(path)], capture_output=True, check=False)
