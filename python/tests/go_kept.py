@@ -1,5 +1,5 @@
 """netrev-go with a real Go, in cases in which a run could be lost: a program that execs another one, and what its
-children inherit. It needs Go and netrev, and is run by `make real`."""
+children inherit. It needs Go and netrev; `make real` runs it."""
 
 import os
 import pathlib

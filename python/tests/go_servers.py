@@ -35,8 +35,8 @@ POSTGRES = "/usr/lib/postgresql/*/bin"
 
 @dataclass(frozen=True)
 class Server:
-    """A sample with a bug: the options of the watch that waits for it, or None where a snapshot is made when it has come; and what is to be printed, in
-    which {line} is the place of the bug."""
+    """A sample with a bug: the options of the watch that waits for it, or None if a snapshot is made after it; and
+    the expected output, in which {line} is the place of the bug."""
 
     sample: str
     bug: str
@@ -67,7 +67,7 @@ def bug_line(server: Server) -> str:
 
 
 def built(sample: str, gopath: pathlib.Path, folder: pathlib.Path) -> pathlib.Path:
-    """The sample's program, which records if it is asked to."""
+    """The sample's program, which records on request."""
     program = folder / sample
     settings = os.environ | ({"GO111MODULE": "off", "GOPATH": str(gopath)} if sample != "keep" else {})
     words = [str(TOOL), "build", "-o", str(program), "main.go"]
@@ -85,7 +85,7 @@ def free_port() -> int:
 
 @contextmanager
 def database(folder: pathlib.Path) -> Iterator[dict[str, str]]:
-    """What the environment of a client of PostgreSQL's has. The server, which refuses to be root's, is run by another user then."""
+    """The environment for a client of PostgreSQL. The server refuses to run as root, so another user runs it then."""
     commands = max(pathlib.Path("/").glob(POSTGRES.lstrip("/")), default=None)
     if commands is None:
         sys.exit("PostgreSQL isn't here: apt-get install postgresql")
@@ -140,7 +140,7 @@ def resident(process: int) -> int:
 
 @dataclass
 class Came:
-    """What came of a server's run."""
+    """The result of a server's run."""
 
     printed: str
     points: int
@@ -195,7 +195,7 @@ def old_sockets(name: pathlib.Path) -> set[int]:
 
 
 def faults(server: Server, came: Came, name: pathlib.Path, options: argparse.Namespace) -> list[str]:
-    """What isn't as it has to be."""
+    """The differences from the expected result."""
     found = []
     if not re.search(r"\.jsonl: ok \d+ steps", came.printed):
         return ["netrev doesn't accept the recording"]

@@ -1,4 +1,4 @@
-"""Copies of a log by SIGUSR2, which the owner of a program chooses. It needs Go and netrev, and is run by `make real`."""
+"""Copies of a log by SIGUSR2, which a program's owner turns on. It needs Go and netrev; `make real` runs it."""
 
 import os
 import pathlib
@@ -30,11 +30,11 @@ class Signals(Tool):
         self.assertEqual(self.called("build", "-o", "prog", "main.go")[0], 0)
 
     def started(self, *words: str, **settings: str) -> tuple[subprocess.Popen[str], pathlib.Path]:
-        """The program, which runs, and its log."""
+        """The running program, and its log."""
         return self.started_by(["./prog", *words], settings)
 
     def started_by(self, command: list[str], settings: dict[str, str]) -> tuple[subprocess.Popen[str], pathlib.Path]:
-        """The program, which a command starts, and its log."""
+        """The running program, started by a command, and its log."""
         settings |= {"NETREV_LOG": str(self.folder / "log"), "NETREV_POINTS": str(POINTS)}
         process = subprocess.Popen(
             command,
@@ -50,7 +50,7 @@ class Signals(Tool):
         return process, self.folder / f"log.{process.pid}"
 
     def waited(self, is_done: Callable[[], bool]) -> None:
-        """Waits until something is so."""
+        """Waits until a condition holds."""
         end = time.monotonic() + PATIENCE
         while not is_done():
             self.assertLess(time.monotonic(), end)

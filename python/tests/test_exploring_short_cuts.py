@@ -1,5 +1,5 @@
-"""The short cuts of exploring change nothing: all that is found is what comes of playing each schedule from its first step to its
-last, each step by the model, where everybody who waits looks again at each turn."""
+"""The optimizations of exploring change nothing: the findings are those of running each schedule from its first
+step to its last, each step by the model, with all waiting actors checking at each turn."""
 
 import unittest
 from pathlib import Path

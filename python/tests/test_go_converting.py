@@ -1,4 +1,4 @@
-"""Points of Go's become the steps that they are: made-up logs of a few points each. No program is needed."""
+"""Go's points become the steps that they stand for, in made-up logs of a few points each. No program is needed."""
 
 import json
 import unittest

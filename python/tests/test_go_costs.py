@@ -1,4 +1,5 @@
-"""What is printed of a server's cost, by programs that say what they took and leave a log of so many points. No Go is needed."""
+"""The output about a server's cost, with programs that print fixed figures and leave a log of so many points. No Go
+is needed."""
 
 import io
 import pathlib
@@ -26,7 +27,7 @@ esac
 
 class Requests(unittest.TestCase):
     def table(self, status: int = 3, passed: int = 44_000) -> str:
-        """What is printed after three rounds of such a server."""
+        """The output after three rounds of such a server."""
         folder = folder_of(self)
         program, logs = folder / "server", folder / "logs"
         logs.mkdir()

@@ -1,4 +1,4 @@
-"""The recorder's logs are read whatever was done to them, and the stored ones give the stored recordings and lines."""
+"""The recorder's logs can be read whatever their damage, and the stored ones give the stored recordings and lines."""
 
 import pathlib
 import random
@@ -133,7 +133,8 @@ class StacksOfCalls(unittest.TestCase):
     """A point within a call needs no stack: its step has that with which the call came to the socket."""
 
     def stacks(self, *points: tuple[Kind, int, int, int]) -> list[int]:
-        """The stacks of the steps of points after the opening of two sockets: each is a kind, a goroutine, a socket, and a stack."""
+        """The stacks of the steps of points after the opening of two sockets: each is a kind, a goroutine, a
+        socket, and a stack."""
         made = opened(2)
         for kind, g, socket, stack in points:
             at = made[2 * socket].at if kind != Kind.RESET else made[2 * socket + 1].at

@@ -1,4 +1,4 @@
-"""The orders of a program: made-up logs of a few points, and which of the steps come behind which. No program is needed."""
+"""The orders of a program: made-up logs of a few points, and the steps that follow others. No program is needed."""
 
 import json
 import pathlib

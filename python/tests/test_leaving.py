@@ -1,4 +1,4 @@
-"""How programs end that know millions of small things."""
+"""The end of programs with millions of small objects."""
 
 import subprocess
 import sys

@@ -1,4 +1,5 @@
-"""`make mutants`: which mutants a module has, which tests are tried against them, and that a test that notices one is named."""
+"""`make mutants`: the mutants of a module, the tests that are tried against them, and the name of a test that
+notices one."""
 
 import ast
 from pathlib import Path

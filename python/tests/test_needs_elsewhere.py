@@ -1,5 +1,5 @@
-"""Which goroutine is named that could end a wait outside of the poller: the one at the same channel, and the one that serves the request which
-is waited for."""
+"""The goroutine that could end a wait outside of the poller: the one at the same channel, and the one that serves
+the awaited request."""
 
 import unittest
 

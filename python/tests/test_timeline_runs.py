@@ -1,4 +1,4 @@
-"""What the timeline shows of each cell and queue: over random recordings what the machine's model shows at each position."""
+"""The timeline's values of each cell and queue equal the model's at each position, in random recordings."""
 
 import random
 

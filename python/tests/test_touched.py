@@ -1,4 +1,4 @@
-"""Whose the steps of a part of a recording are, by the part alone, is what they are by all steps from the first one."""
+"""The owners of the steps in a part of a recording, found from the part alone, equal those found from all steps."""
 
 import random
 from collections import Counter

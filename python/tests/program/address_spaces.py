@@ -59,7 +59,7 @@ def ended(process, given=None):
 
 
 def limit_memory(size):
-    """For the next process: an address space of this many bytes, and no core file."""
+    """Limits the address space of the next process to this many bytes, without a core file."""
     resource.setrlimit(resource.RLIMIT_CORE, (0, 0))
     resource.setrlimit(resource.RLIMIT_AS, (size, size))
 

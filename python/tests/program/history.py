@@ -35,7 +35,7 @@ Choice = tuple[int, State]  # a front, and the state behind its next line
 
 
 class Clue(NamedTuple):
-    """What a reply says about its place in a history, whatever the lines before it are."""
+    """The constraints that a reply puts on its place in a history, whatever the lines before it are."""
 
     leads_to: Optional[int] = None  # the position after it
     stands_at: frozenset[int] = frozenset()  # the positions at which it may have been answered, if there are few
@@ -120,7 +120,7 @@ class Search:
         return [[clue._replace(stands_at=clue.stands_at & reached) for clue in front] for front in clues]
 
     def count(self, front: int, at: int, more: int) -> None:
-        """Counts a line in or out of those that are left."""
+        """Adds a line to the remaining ones, or removes it."""
         clue = self.clues[front][at]
         self.unplaced += more * self.fronts[front][at].is_placed()
         if clue.leads_to is not None:
@@ -171,7 +171,7 @@ class Search:
         return leaves <= self.entries[here] and (self.entries[here] > 0 or not self.stays[here])
 
     def take(self, front: int, state: State) -> None:
-        """Goes over a front's next line."""
+        """Adds a front's next line to the history."""
         self.count(front, self.taken[front], -1)
         self.taken[front] += 1
         self.order.append(front)
@@ -202,8 +202,7 @@ class Search:
         return bool(self.clue_of(front).takes_away) and not self.are_full
 
     def worth(self, choice: Choice) -> tuple[bool, int]:
-        """How good it is to try a line first: lines that show where they began come first, and of these the one read
-        first."""
+        """The priority of a line: lines that show where they began come first, and of these the one read first."""
         front, _ = choice
         return bool(self.clue_of(front).stands_at), -self.next_of(front).read
 

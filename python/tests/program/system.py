@@ -582,7 +582,7 @@ def leave_pipe(folder, first, ignored, recording=FIRST, word="run"):
 
 
 def play_errors(folder):
-    """The usage text can't be printed: the status says it."""
+    """The usage text can't be printed: the status shows it."""
     for into in (CLOSED, FULL, gone):
         stream = None if into is CLOSED else into(folder)
         close = (lambda: os.close(2)) if into is CLOSED else None

@@ -1,5 +1,5 @@
-"""The timeline's rows of goroutines that touch no socket, with what each waits for; and its search for lines, functions, connections and
-goroutines, in chromium. Left out where there is no chromium (Debian: apt-get install chromium)."""
+"""The timeline's rows of goroutines without sockets, with what each waits for; and its search for lines, functions,
+connections and goroutines, in chromium. Skipped without chromium (Debian: apt-get install chromium)."""
 
 import re
 import unittest
