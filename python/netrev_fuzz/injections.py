@@ -83,7 +83,7 @@ class Traffic(Program):
         self.fed: set[int] = set()
 
     def is_due(self, bug: Bug) -> bool:
-        """Whether that bug is to be planted now. Each bug is planted once."""
+        """Whether that bug should be planted now. Each bug is planted once."""
         return self.bug is bug and not self.planted and len(self.steps) > self.begins
 
     def plant(self, socket: int, goroutine: Optional[int] = None, descriptor: Optional[int] = None) -> None:

@@ -140,7 +140,7 @@ class Measured:
         return {way: [min(values) for values in zip(*calls)] for way, calls in self.calls.items()}
 
     def tell(self) -> None:
-        """Prints a row a way: the best of the calls, and the median of the round trips."""
+        """Prints a row for each way: the best of the calls, and the median of the round trips."""
         base: list[int] = []
         for way, best in self.best().items():
             base = base or best
@@ -152,7 +152,7 @@ class Measured:
             )
 
     def tell_rounds(self) -> None:
-        """Prints a row a way: the best of the rounds."""
+        """Prints a row for each way: the best of the rounds."""
         for way, best in self.best().items():
             print(f"| {self.name} | {way} | " + " | ".join(f"{figure:,}" for figure in best[2:]) + " |")
 

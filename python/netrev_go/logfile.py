@@ -142,7 +142,7 @@ def whole_points(file: BinaryIO, header: Header) -> tuple[list[Point], int]:
     return points, held
 
 
-# As Point._make, without a look at how many values there are.
+# The same as Point._make, but without a check of the number of values.
 made = cast(Callable[[tuple[int, ...]], Point], partial(tuple.__new__, Point))
 
 
@@ -196,7 +196,8 @@ def are_whole(first: int, heads: array[int], columns: list[array[int]], lasts: a
 
 @lru_cache(2)
 def masks(count: int) -> tuple[int, int, int, int]:
-    """Of so many words, as one number, the lowest byte of each, the lower half, a one in each, and in each how many come before it."""
+    """Masks for this many words, each as one number: the lowest byte of each word, the lower half, a one in each,
+    and in each its index."""
     kinds, low, ones = (as_one(array("Q", (word,)) * count) for word in (255, LOW, 1))
     return kinds, low, ones, as_one(array("Q", range(count)))
 

@@ -1,11 +1,12 @@
-"""Servers that run far past their ring, and have a bug then: netrev has to accept what `netrev-go watch` or `snapshot` records, it has to have
-the connection of the bug, which is older than the oldest point, and what is printed has to name the bug's line.
+"""Servers that run far beyond their ring, and then have a bug: netrev must accept the recording of `netrev-go watch` or `snapshot`, which must
+contain the connection of the bug, older than the oldest point, and the output must name the bug's line.
 
     python3 python tests.go_servers [--seconds N] [--points N] [--connections N] [--pause N] [--stuck T] [--gopath FOLDER] [--keep FOLDER] [NAME ..]
 
-The servers are those of tools/go/samples: `keep` needs Go alone, `stream` Debian's golang-google-grpc-dev below GOPATH, `pool` Debian's
-golang-github-lib-pq-dev there and PostgreSQL (postgresql). The bug comes after so many seconds. A line is printed for each; with --keep the
-recordings stay, and what was printed of them. The exit status is 1 if one isn't as it has to be."""
+The servers are samples of tools/go: `keep` needs only Go, `stream` Debian's golang-google-grpc-dev below GOPATH, `pool` Debian's
+golang-github-lib-pq-dev there and PostgreSQL (postgresql). The bug comes after N seconds. It prints a line for each; with --keep the
+recordings and the output about them stay. The exit status is 1 if one fails.
+"""
 
 import argparse
 import json

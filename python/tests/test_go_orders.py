@@ -40,7 +40,7 @@ class Ordered(Points):
         return self
 
     def orders(self) -> list[list[str]]:
-        """The orders, by whose which step it is: 2.1 is the first of Go's goroutine 2."""
+        """The orders as pairs of names: 2.1 is the first step of Go's goroutine 2."""
         recording = make(Log(self.points, has_orders=True))
         names: dict[int, str] = {}
         counts: dict[int, int] = {}

@@ -191,8 +191,8 @@ def play_memory(word, recording, right=b""):
 
 
 def kinds_met(play):
-    """What is met at a hundred sizes. If a stack has to grow and the address space has no room for it, the system kills
-    netrev; with more room it doesn't."""
+    """The results at a hundred sizes. If a stack has to grow and the address space has no room for it, the system
+    kills netrev; with more room it doesn't."""
     met = set()
     for size in a_hundred_sizes(play):
         what = play(size)

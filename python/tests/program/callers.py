@@ -116,8 +116,8 @@ def play_only_port_taken(_folder):
 
 
 def play_late(folder):
-    """A front whose first caller comes when another has searched for long: it goes through all of that first, and answers what
-    is right then; and the other has its replies meanwhile."""
+    """A front whose first caller comes when another has searched for a long time: it makes all of that first, and
+    then gives the right replies, while the other front gets its own."""
     turns = 100
     with Server(file_of("large", LARGE.encode())(folder).decode(), fronts=2) as server:
         first = server.call(0)
@@ -138,8 +138,8 @@ def play_late(folder):
 
 
 def play_gone_with_lines(_folder):
-    """A caller who resets while another is served: its lines are still read, and its first replies can't be written. Then
-    no more of its lines are run."""
+    """A caller that resets while another is served: its lines are still read, and its first replies can't be
+    written. Then no more of its lines run."""
     lines = 2000
     with Server(FIRST, fronts=1, connections=3) as server:
         with server.call(0) as first:

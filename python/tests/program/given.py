@@ -1,6 +1,6 @@
-"""What cases are given: recordings and files; and what several modules do with them.
+"""The recordings and files of test cases, and functions that several modules use.
 
-    python3 python tests.program.given FILE    prints what `netrev upgrade` has to write of a recording
+    python3 python tests.program.given FILE    prints the text that `netrev upgrade` must write for a recording
 """
 
 import os

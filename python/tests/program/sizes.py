@@ -1,8 +1,8 @@
-"""Plays the built program at the greatest sizes that a recording and a session may have.
+"""Tests the built program at the greatest sizes of a recording and a session.
 
-A call may report that memory ran out, and a proof can't tell whether it was right to. So each is played here with ample memory
-and as much of everything as docs/reference/RECORDING.md allows: none may say that memory ran out, and all replies have to be right.
-It takes 1 GB of memory.
+A call may report that memory ran out, and a proof can't tell whether that is right. So each is tested here with ample memory and the
+most that docs/reference/RECORDING.md allows: none may report that memory ran out, and all replies must be right. It takes 1 GB of
+memory.
 """
 
 import socket
@@ -299,7 +299,7 @@ CASES: dict[str, Case] = {
 
 @pytest.fixture(scope="module")
 def folder() -> Iterator[Path]:
-    """One for all cases, since several play the same recording."""
+    """One folder for all cases, because several use the same recording."""
     with tempfile.TemporaryDirectory() as name:
         yield Path(name)
 

@@ -34,7 +34,7 @@ def quietly(call, *arguments, **more):
 
 
 def decref_with_another_reason(world, g, s):
-    """`decref` with another reason where there is no reference."""
+    """A fault: `decref` without a reference has another reason."""
     try:
         return steps.decref(world, g, s)
     except Refused as refused:
@@ -159,7 +159,7 @@ class Pressing(unittest.TestCase):
         self.came += 1
 
     def give_up(self, happens):
-        """Asks a netrev, of which the session is given up by what happens then, and ends it."""
+        """Sends a netrev a line while its session is given up, and ends it."""
         interrupts = Interrupts()
         with confined():
             netrev = Slow(NETREV, str(EXAMPLE), interrupts, happens)

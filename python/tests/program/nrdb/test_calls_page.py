@@ -40,7 +40,7 @@ STATES = ["done", "failed", "hangs", "open", "listens"]
 
 
 def opened(page: str) -> str:
-    """The page, of whose script a test may use `inside`."""
+    """The page, with access to the names inside its script."""
     end = "})(JSON.parse("
     assert page.count(end) == 1
     return page.replace(end, f"window.inside = {{ {NAMES} }};\n{end}")

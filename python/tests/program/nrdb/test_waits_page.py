@@ -20,7 +20,7 @@ BODIES = HUB.with_name("bodies-bad.jsonl")
 
 
 def opened(page: str) -> str:
-    """The page, of whose script a test may use `inside`."""
+    """The page, with access to the names inside its script."""
     end = "})(JSON.parse("
     assert page.count(end) == 1
     return page.replace(end, f"window.inside = {{ V, CALLS, GROUPS, headOf, xOf }};\n{end}")
