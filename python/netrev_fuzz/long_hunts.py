@@ -109,7 +109,8 @@ class Keeper(Hunt):
         yield from self.closed(g, s)
 
     def keep(self, g: int, s: int, is_done: list[bool]) -> Turns:
-        """Extends the deadline of a connection repeatedly. The bug: from some step on, that of the wrong side."""
+        """Extends the deadline of a connection repeatedly. The bug: from some step on, it extends that of the wrong
+        side."""
         times = 0
         while not is_done:
             for _ in range(self.dice.randrange(10, 40)):

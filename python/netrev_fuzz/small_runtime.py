@@ -369,7 +369,8 @@ class Runtime:
             self.unblock(pd, "w", False)
 
     def event(self, pd: PollDescriptor, mode: str, is_error: bool, tag: int) -> None:
-        """netpoll's loop over one event; the tag is the descriptor's of when the system was asked for events of it."""
+        """netpoll's loop over one event; its tag is the descriptor's at the time when the system was asked for
+        events."""
         is_stale = self.has_tags and tag != pd.fdseq
         c = tag if self.has_tags else 0
         self.log(Kind.EVENT, 0, pd.address, MODES[mode], int(is_error) + 2 * is_stale, c)

@@ -29,7 +29,8 @@ def figures(steps: int, times: float, programs: tuple[str, ...]) -> Figures:
 
 
 def measured(*programs: str, sizes: tuple[int, ...] = (1_000, 10_000)) -> Measurement:
-    """Two shapes: in the second the baseline takes a fourth of what it takes in the first, the others as much."""
+    """Two shapes: in the second the baseline takes a fourth of its figures in the first, the other programs the
+    same."""
     found = {}
     for steps in sizes:
         found["locks", steps] = figures(steps, 1, programs)

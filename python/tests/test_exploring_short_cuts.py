@@ -39,7 +39,7 @@ class PlainBoard(Board):
 
 
 class PlainPlayer(Player):
-    """It keeps nothing of the recorded run, and every goroutine that waits tests again."""
+    """A player without the stored recorded run, in which every waiting goroutine checks again."""
 
     def _note(self, g: int, place: Place, answer: Answer, status: Status) -> None:
         pass

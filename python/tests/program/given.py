@@ -65,7 +65,7 @@ class Function:
 
 
 def file_of(name: Union[str, bytes], text: bytes) -> Callable[[Path], bytes]:
-    """A file of this name, which may be bytes, with this text."""
+    """A file with this name, which may be bytes, and this text."""
 
     def make(folder: Path) -> bytes:
         path = os.path.join(os.fsencode(folder), name if isinstance(name, bytes) else name.encode())
@@ -77,7 +77,7 @@ def file_of(name: Union[str, bytes], text: bytes) -> Callable[[Path], bytes]:
 
 
 def rest_of(caller: socket.socket) -> bytes:
-    """What a caller reads before netrev has ended, or resets."""
+    """The bytes that a caller reads before netrev has ended, or resets."""
     came = b""
     with caller:
         try:

@@ -300,7 +300,7 @@ def faulty_headers():
 
 
 def versions_and_answers():
-    """Rows of version 2, and those of version 1 that only the other accepts."""
+    """The rows of version 2, and the rows of version 1 that version 2 rejects."""
     rows = [(f"version: {name}", *row) for name, *row in VERSIONS]
     rows += [(f"answer {name}", [SECOND, *steps], *fault) for name, steps, *fault in ANSWERS]
     for text in NO_ANSWERS:

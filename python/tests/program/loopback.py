@@ -66,7 +66,7 @@ def kept():
 
 @pytest.fixture(scope="module")
 def parked(kept):
-    """A short recording, read with what its positions show."""
+    """A short recording with the values at its positions."""
     path = kept / "parked.jsonl"
     path.write_text(PARKED, encoding="ascii")
     return Recording.read(NETREV, path, LOOKS)
@@ -74,7 +74,7 @@ def parked(kept):
 
 @pytest.fixture(scope="module")
 def lives(kept):
-    """A long one."""
+    """A long recording with the values at its positions."""
     path = kept / "lives.jsonl"
     shapes = ROOT / "bench/shapes.awk"
     with open(path, "wb") as out:
@@ -168,9 +168,9 @@ def commands_in(lines):
 
 
 def share_lines(recording, fronts, journal=4096, workers=1, windows=(1,), at_once=None):
-    """Plays the lines of each front's connections, each caller with one of the windows, and gives what each front
-    exchanged. All callers are connected from the beginning. The first one talks alone; then as many fronts as are said
-    do so at the same time, or all."""
+    """Sends the lines of each front's connections, each caller with one of the windows, and returns each front's
+    exchange. All callers connect at the beginning. The first one talks alone; then the given number of fronts do
+    so at the same time, or all."""
     at_once = at_once or len(fronts)
     with Server(recording.path, len(fronts), len(fronts[0]), journal, workers) as server:
         talkers = [
@@ -268,7 +268,7 @@ def test_elsewhere(parked):
 
 
 def other_addresses():
-    """Addresses of this machine that aren't 127.0.0.1: each of 127.0.0.0/8 is, and those that it has besides."""
+    """Addresses of this machine other than 127.0.0.1: all of 127.0.0.0/8, and those of its network."""
     found = [(socket.AF_INET, "127.0.0.2"), (socket.AF_INET, "127.255.255.254")]
     # nothing is sent: these only ask which address it would come from
     for family, far in ((socket.AF_INET, "192.0.2.1"), (socket.AF_INET6, "2001:db8::1"), (socket.AF_INET6, "::1")):
@@ -282,7 +282,7 @@ def other_addresses():
 
 
 def test_crowded(lives):
-    """Callers that step forwards at the same time: each place up to the journal's room is one command's."""
+    """Callers step forwards at the same time: each free place of the journal gets one command."""
     for fronts, each, journal in ((8, 1, 7), (2, 100, 4096)):
         exchanged = share_lines(lives, [[[b"stepi"] * each + [b"quit"]]] * fronts, journal, windows=(1000,))
         replies = [one.reply for front in exchanged for one in front if is_command(one.asked)]
@@ -292,7 +292,7 @@ def test_crowded(lives):
 
 
 def test_silent(parked, dice):
-    """Sixteen work to their end beside a silent one."""
+    """Sixteen callers finish beside a silent one."""
     for leave, status in ((socket.socket.close, 0), (reset, 3)):
         with Server(parked.path, fronts=17) as server:
             silent = server.call(0)

@@ -119,9 +119,9 @@ PORTS = Ports()
 
 
 class Server:
-    """A netrev that serves a recording, at ports of its own, or from `port` on. `before` is called with the first one
-    before it is started, which is done by the words of `through`, if any. Each search of it has so many workers. With
-    no number of connections it serves until it is stopped."""
+    """A netrev that serves a recording, at its own ports, or from `port` on. `before` is called with the first port
+    before netrev is started, through the command `through`, if given. Each search uses the given number of
+    workers. Without a number of connections it serves until it is stopped."""
 
     def __init__(self, recording, fronts=1, connections=1, journal=4096, workers=1, through=(), before=None, port=None):
         self.errors = tempfile.TemporaryFile()

@@ -149,8 +149,8 @@ def crowd() -> tuple[list[str], int]:
 
 
 def crowded(folder: Path) -> tuple[Path, int, int]:
-    """A recording of that: behind it ticks, so that there are copies of it, and all timers fire. Where the crowd is there, and
-    the last position."""
+    """A recording of that crowd, followed by ticks, so that copies of it are kept, and all timers fire. The
+    position with the crowd, and the last position."""
     steps, _ = crowd()
     timers = 2 * DESCRIPTORS
     more = [f'["tick",{time}]' for time in range(1, 3001)] + [f'["tick",{3 * 10**9}]'] + ['["pop"]'] * timers
@@ -218,7 +218,7 @@ def ticks_in(file: Path) -> int:
 
 
 def play_idle_caller(folder: Path) -> None:
-    """Where each worker's report finds room, the front's own thread searches nothing that they have searched. It may be one of
+    """If each worker's report finds room, the front's own thread searches nothing a second time. It may be one of
     the workers; so it takes no more of the whole time than one of them does, and not as much as all together."""
     with Server(ticking(folder), workers=WORKERS) as server, server.call(0) as caller:
         caller.settimeout(WAITS)
@@ -263,8 +263,8 @@ def greatest_memory(path: Path, steps: int) -> int:
 
 
 def play_copies(folder: Path) -> None:
-    """What docs/reference/RECORDING.md says that a recording takes: the bytes held, once and not once a copy where they stay the same, and
-    some for each step. (The program itself, the rings and what lists grow by are in the rest.)"""
+    """The memory of a recording by docs/reference/RECORDING.md: the bytes held, once instead of once a copy if they
+    stay the same, and some for each step. (The rest is the program itself, the rings, and the growth of lists.)"""
     steps = 100 * EACH_COPY
     turn = ['["sysread",0,0,1,["got",1]]', '["arrive",0,"ab","done"]']
     for pieces, turns in ((0, False), (BUFFER // PIECE, False), (BUFFER // PIECE, True)):

@@ -151,9 +151,9 @@ FULL = opened("/dev/full", os.O_WRONLY)
 
 @dataclass
 class Case:
-    """netrev with `word` and FILE; its standard input, as bytes, as one of the above or CLOSED; its standard output, which
-    is read where none is named; the memory that it may have, in all or beside what it is loaded in; and how it has to end.
-    """
+    """netrev with `word` and FILE; its standard input, as bytes, one of the above or CLOSED; its standard output,
+    which is read unless named; the memory that it may have, in all or beyond that for loading; and the expected
+    end."""
 
     name: str
     word: str

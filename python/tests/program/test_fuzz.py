@@ -155,7 +155,7 @@ class Pressing(unittest.TestCase):
         self.addCleanup(signal.signal, signal.SIGINT, signal.signal(signal.SIGINT, self.comes))
 
     def comes(self, *_):
-        """A Ctrl-C has come that no session and no case had."""
+        """Records a Ctrl-C that no session and no case handled."""
         self.came += 1
 
     def give_up(self, happens):
