@@ -20,11 +20,9 @@ class Lifetimes:
 
     def most(self, goroutines: Iterable[int]) -> int:
         """The greatest number of these goroutines at one time."""
-        moments = []
-        for goroutine in goroutines:
-            moments.append((self.began.get(goroutine, 0), 1))
-            if goroutine in self.ended:
-                moments.append((self.ended[goroutine], -1))
+        known, began, ended = list(goroutines), self.began, self.ended
+        moments = [(began.get(goroutine, 0), 1) for goroutine in known]
+        moments += [(ended[goroutine], -1) for goroutine in known if goroutine in ended]
         count = most = 0
         for _, change in sorted(moments):
             count += change

@@ -335,12 +335,14 @@ def chosen(
     kept: set[Socket] = set()
     goroutines: set[int] = set()
     steps, text = 0, 0
+    everybody = set[int]().union(*(socket.goroutines for socket in sockets))
+    may_be_crowd = len(everybody) > MOST_GOROUTINES and at_once(everybody) > MOST_GOROUTINES
     for socket in sorted(sockets, key=lambda socket: (socket.closed, socket.word != first, -socket.opening)):
         if len(kept) == min(most, MOST_SOCKETS):
             break
         together = goroutines | socket.goroutines
         has_room = text + socket.text <= megabytes * MEGABYTE
-        is_crowd = len(together) > MOST_GOROUTINES and at_once(together) > MOST_GOROUTINES
+        is_crowd = may_be_crowd and len(together) > MOST_GOROUTINES and at_once(together) > MOST_GOROUTINES
         if has_room and not is_crowd and steps + socket.steps + len(together) - 1 <= room:
             kept.add(socket)
             goroutines = together
