@@ -124,7 +124,8 @@ def make(
     converter.beside.waits = waits_of(everybody, converter.goroutines, since)
     converter.beside.pair_unix()
     converter.beside.sizes = [
-        (step, size) for (point, socket), step in zip(converter.points, converter.ended)
+        (converter.early.get(point.number, step), size)
+        for (point, socket), step in zip(converter.points, converter.ended)
         if socket.whole and step and (size := socket.whole.get(point.number))
     ]  # fmt: skip
     return Recording(

@@ -54,7 +54,7 @@ class Socket:
     written: int = 0
     largest: int = OUTPUT
     full_at: int = 0
-    last_put: int = -1  # the number of the last point of a write that put bytes
+    last_write: Point | None = None  # the last point of a write that put bytes, or found no room for any
     number: int = -1
     descriptor: int = -1
     is_open: bool = False  # the converter's place
@@ -198,7 +198,7 @@ def points_of_call(point: Point, socket: Socket) -> list[tuple[Point, Socket]]:
 
 def count_bytes(socket: Socket, point: Point) -> None:
     """Counts a read or a write at its socket: its text, the size of the output, and for a read the steps."""
-    number, kind, _, _, asked, got, failed, _, _ = point
+    _, kind, _, _, asked, got, failed, _, _ = point
     got = max(got, 0)
     if kind == READ:
         socket.text += 2 * got
@@ -206,8 +206,9 @@ def count_bytes(socket: Socket, point: Point) -> None:
         return
     socket.text += 2 * (got or min(max(asked, 1), BUFFER))
     socket.written += got
+    if got or failed == AGAIN:
+        socket.last_write = point
     if got:
-        socket.last_put = number
         if got > socket.largest:
             socket.largest = min(got, BUFFER)
     if failed == AGAIN and socket.note:
