@@ -49,6 +49,7 @@ class Mutant:
     file: str  # below the repository's folder
     line: int
     function: str  # qualified name; empty for the module
+    code: str  # the innermost function's qualified name
     is_inside: bool  # a function, rather than a module's or class's body
     kind: str
     begin: int
@@ -97,8 +98,11 @@ class Finder(ast.NodeVisitor):
         old = self.text[begin:end]
         new += "\n" * (old.count("\n") - new.count("\n"))  # text below stays on its line
         function = ".".join(self.names).split(".<locals>")[0]
+        code = ".".join(self.names).removesuffix(".<locals>")
         source = self.lines[line - 1].strip()
-        self.found.append(Mutant(self.file, line, function, self.functions > 0, kind, begin, end, old, new, source))
+        self.found.append(
+            Mutant(self.file, line, function, code, self.functions > 0, kind, begin, end, old, new, source)
+        )
 
     def of_node(self, kind: str, node: ast.AST, new: str) -> None:
         self.put(kind, *self.span(node), new)

@@ -13,19 +13,21 @@ from pathlib import Path
 
 from . import equivalent
 from .changes import KINDS
-from .topics import MOST, read_topics
+from .topics import MOST, note_calls, read_topics
 
 from .trying import (
     FOUND, PACKAGES, ROOT, UNBUILT, Verdict, all_mutants, drawn, python_with_pytest, tried,
 )  # fmt: skip
 
 KEPT = ROOT / "out/mutants"
-USAGE = """scripts/mutants.py around [--seed N] [--count N] [--jobs N] [--tests N] [--list] [FILE ..]
+NOTES = KEPT / "called.jsonl"
+USAGE = """scripts/mutants.py around [--seed N] [--count N] [--jobs N] [--seconds N] [--list] [FILE ..]
 
 Tries mutants of nrdb, netrev_calls and netrev_go, or of the files and folders named: --count of them, drawn by --seed. Each is
-tried in a copy of the repository against the --tests files of tests that are nearest to its module (scripts/mutating/topics.py). What survives is printed as a
-table, and each verdict is kept in out/mutants. scripts/mutating/equivalent.txt has mutants that change nothing that a user sees, with the
-reasons; they aren't drawn.
+tried in a copy of the repository against --seconds of the tests that call the function which it changes, the quickest first; what
+each test calls is noted in out/mutants/called.jsonl, anew for a file of tests that has changed. What survives is printed as a table, and each
+verdict is kept in out/mutants. scripts/mutating/equivalent.txt has mutants that change
+nothing that a user sees, with the reasons; they aren't drawn.
 
 NETREV names the netrev that tests run. The status is 0 if at least --least of 100 mutants are found."""
 
@@ -35,7 +37,7 @@ def arguments(words: list[str]) -> argparse.Namespace:
     parser.add_argument("--seed", type=int, default=random.randrange(10**6))
     parser.add_argument("--count", type=int, default=200)
     parser.add_argument("--jobs", type=int, default=2)
-    parser.add_argument("--tests", type=int, default=MOST)
+    parser.add_argument("--seconds", type=float, default=MOST)
     parser.add_argument("--least", type=int, default=90)
     parser.add_argument("--list", action="store_true")
     parser.add_argument("files", nargs="*", metavar="FILE")
@@ -72,12 +74,14 @@ def main(words: list[str]) -> int:
             print(f"{mutant.file}:{mutant.line}: {mutant.kind}: {mutant.name()}")
         return 0
     python = python_with_pytest()
+    note_calls(ROOT, NOTES, python)
+    topics = read_topics(NOTES, given.seconds)
     with tempfile.TemporaryDirectory(prefix="mutants-") as name:
         room = Path(name)
         verdicts = []
         KEPT.mkdir(parents=True, exist_ok=True)
         with open(KEPT / f"{given.seed}.jsonl", "a", encoding="utf-8") as log:
-            for one in tried(chosen, read_topics(ROOT, given.tests), room, given.jobs, python):
+            for one in tried(chosen, topics, room, given.jobs, python):
                 verdicts.append(one)
                 row = one.answer, one.mutant.name(), one.mutant.line, one.mutant.kind, one.by, round(one.seconds, 1)
                 print(json.dumps(row), file=log, flush=True)

@@ -44,4 +44,4 @@ def go_mutants_of(root: Path, path: Path) -> Iterator[Mutant]:
             line = text.count("\n", 0, found.start()) + 1
             source = text.splitlines()[line - 1].strip()
             replaced = str(int(old) + 1) if new == "{next}" else new
-            yield Mutant(file, line, function, True, kind, found.start(), found.end(), old, replaced, source)
+            yield Mutant(file, line, function, function, True, kind, found.start(), found.end(), old, replaced, source)
