@@ -59,9 +59,9 @@ class Opened:
     """Which descriptors are open, by the openings and closings so far."""
 
     def __init__(self, earlier: Optional["Opened"] = None) -> None:
-        self.made = earlier.made if earlier else 0
-        self.free = earlier.free.copy() if earlier else list[int]()
-        self.now = earlier.now.copy() if earlier else dict[int, int]()
+        self.made: int = earlier.made if earlier else 0
+        self.free: list[int] = earlier.free.copy() if earlier else []
+        self.now: dict[int, int] = earlier.now.copy() if earlier else {}
 
     def after(self, recording: Recording, first: int, last: int) -> "Opened":
         """Which are open after the steps that lead from one position to another."""
