@@ -15,7 +15,7 @@ class LineStarts:
         self._data = data
         counts = (data.count(b"\n", begin, begin + BLOCK) for begin in range(0, len(data), BLOCK))
         self._before = list(accumulate(counts, initial=0))  # how many line feeds are before each block
-        # of the last block: how many line feeds are before it and up to its end, and their places in it; these of a few blocks
+        # for the last block: how many line feeds are before it and up to its end, and their places in it; the places of a few blocks
         self._first = self._last = 0
         self._behind = [0]
         self._kept: dict[int, list[int]] = {}
