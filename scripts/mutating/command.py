@@ -64,7 +64,7 @@ def table(verdicts: list[Verdict]) -> str:
 
 
 def not_found(mutants: list[Mutant], log: Path) -> list[Mutant]:
-    """Those that weren't found when they were last tried."""
+    """The mutants that weren't found when they were last tried."""
     answers = {name: answer for answer, name, *_ in map(json.loads, log.read_text(encoding="utf-8").splitlines())}
     return [mutant for mutant in mutants if answers.get(mutant.name(), FOUND) not in (FOUND, UNBUILT)]
 
