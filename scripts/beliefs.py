@@ -1,10 +1,10 @@
 #!/usr/bin/env python3
-"""Prints which definitions the laws rest on:  scripts/beliefs.py [--names | --write] [CRATE/FILE:NAME ..]
+"""Prints the definitions that the laws rest on:  scripts/beliefs.py [--names | --write] [CRATE/FILE:NAME ..]
 
-How many they are, of how many lines, and the files in the order in which they are read: the tables of docs/proof/THEOREM.md, as
-that page has them. `--write` puts them there; its sentences with numbers stay as they are, and scripts/pages.py finds those that are
-old. `--names` prints the definitions themselves instead, file by file. Named definitions stand in the place of the
-laws: `scripts/beliefs.py nr_rev/Step:outcome` says what that one rests on.
+It prints the tables of docs/proof/THEOREM.md: the number of definitions, of their lines, and the files in reading order. `--write`
+writes them into the page; sentences with numbers stay, and scripts/pages.py finds outdated ones. `--names` prints the definitions
+themselves, file by file. Named definitions replace the laws: `scripts/beliefs.py nr_rev/Step:outcome` prints those that this one
+rests on.
 """
 
 import argparse

@@ -1,7 +1,8 @@
 #!/usr/bin/env python3
 """Writes a shell's completion of netrev, nrdb or netrev-go to standard output:  scripts/completion.py bash | zsh NAME
 
-The words are those that the programs take: options and commands. All else is a file's name."""
+It completes options and commands; every other word is a file's name.
+"""
 
 from __future__ import annotations
 

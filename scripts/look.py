@@ -1,7 +1,8 @@
 #!/usr/bin/env python3
-"""nrdb's prompt on a recording, with a netrev that is compiled and not proved:  scripts/look.py FILE [SCRIPT]
+"""Opens nrdb's prompt on a recording, with a netrev that is compiled and not proved:  scripts/look.py FILE [SCRIPT]
 
-With SCRIPT netrev runs the commands of that file instead, as `netrev run FILE < SCRIPT`."""
+With SCRIPT netrev runs the commands of that file instead, as `netrev run FILE < SCRIPT`.
+"""
 
 import os
 import signal
@@ -20,7 +21,7 @@ def say(text: str) -> None:
 
 
 def prompt(recording: Path) -> int:
-    """Becomes nrdb."""
+    """Replaces this process by nrdb."""
     program = unproved_netrev(say)
     say(f"{BANNER} Ctrl-D ends the session.\n")
     os.execv(ROOT / "nrdb", [str(ROOT / "nrdb"), str(recording), "--netrev", str(program)])

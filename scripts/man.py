@@ -1,8 +1,9 @@
 #!/usr/bin/env python3
 """Writes a man page to standard output:  scripts/man.py [netrev | nrdb | netrev-go] > netrev.1
 
-That of netrev is docs/reference/COMMANDS.md: headings become sections, and each row of a table an entry. Those of nrdb and netrev-go have the
-options that these take, and the rows of their pages' tables of statuses. So they go stale with nothing."""
+netrev's is docs/reference/COMMANDS.md: headings become sections, and each row of a table an entry. Those of nrdb and netrev-go are made
+from their parsers and from their pages' tables of exit statuses.
+"""
 
 from __future__ import annotations
 
@@ -113,7 +114,7 @@ def page(markdown: str) -> str:
     return TITLE + HEAD + "\n".join(line for lines in blocks for line in block(lines)) + "\n" + TAIL
 
 
-# For each other program: its parser, a line about it, its usage, and what it does and how it ends.
+# For each other program: its parser, a short description, its usage, what it does, and its exit statuses.
 OTHERS: dict[str, tuple[argparse.ArgumentParser, str, str, str]] = {
     "nrdb": (
         cli.parser(),

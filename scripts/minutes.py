@@ -1,16 +1,16 @@
 #!/usr/bin/env python3
-"""Where a run's processor minutes go:  scripts/minutes.py LOG COMMAND ..  or  scripts/minutes.py LOG
+"""Measures the processor minutes of a run:  scripts/minutes.py LOG COMMAND ..  or  scripts/minutes.py LOG
 
-With a command, runs it, looks each second which checks it has at work, and writes to LOG what each took: a line for each
-crate and kind of check, in processor seconds. Without one it prints LOG as a table for CONTRIBUTING.md:
+With a command, runs it, samples each second which checks are running, and writes to LOG what each took: a line for each crate and
+kind of check, in processor seconds. The status is the command's. Without one, prints LOG as a table:
 
     proofs   each crate's own, from which the libraries and the program are built
-    tests    the same once more with the crate's tests
-    seeds    what the crate's edits begin with, and the check that it still stands when all were tried
+    tests    the proofs once more with the crate's tests
+    seeds    the beginning of the crate's edits, and the final check of the unchanged crate
     edits    the edits that must fail
 
-The rest is what is left of all that the command took: the compilers, the programs and tests that ran, and what a check took
-since it was last seen. The status is the command's.
+The rest is the remaining time of the command: the compilers, the programs and tests that ran, and the checks since their last
+sample.
 """
 
 import os
@@ -64,7 +64,7 @@ def check_of(number):
 
 
 class Watch:
-    """The time that the checks below a process took, as far as it was seen."""
+    """The observed time of the checks below a process."""
 
     def __init__(self, top):
         self.top = top

@@ -2,21 +2,21 @@
 """Tries mutants:  scripts/mutants.py [--plant FILE] [--list] CRATE [NAME ..]
                scripts/mutants.py around [--seed N] [--count N] [--list] [FILE ..]
 
-With `around`, those of nrdb, netrev_calls and netrev_go, drawn by a seed, against their tests (scripts/mutating). Else many wrong
-bodies of a crate in one check.
+`around` draws mutants of nrdb, netrev_calls and netrev_go by a seed, and tries them against their tests (scripts/mutating).
+Otherwise the edits of a crate are tried, many in one check.
 
-The gate tries each edit of crates/CRATE/must-fail alone, over the whole crate. Here those of different functions go into one
-copy of the repository, and just their functions are checked, each for itself: what a function is proved of doesn't rest on
-another's body. So all edits of a crate are tried in minutes while one writes. It is for whoever writes, and no part of the gate.
+The gate tries each edit of crates/CRATE/must-fail alone, over the whole crate. Here the edits of different functions go into one
+copy of the repository, and only their functions are checked, each for itself, because the proof of a function doesn't rest on
+another's body. So all edits of a crate are tried in minutes. This is a tool for developers, and no part of the gate.
 
-An edit is refused where a function that it changes isn't proved by a goal of its own; that it calls another one which isn't
-proved doesn't count. An edit that changes more than bodies (a constant, a type, a definition) is named and left to
+An edit counts as refused if a function that it changes isn't proved because of a goal of its own; a call of another function
+that isn't proved doesn't count. An edit that changes more than bodies (a constant, a type, a definition) is named and left to
 `rt must-fail`, which tries it alone.
 
---plant FILE tries further mistakes in place of the crate's: a file of edits as those of must-fail/, each behind a line
-`name: NAME`. With --list nothing is checked: it prints which function each edit changes, and in which check it is tried.
+--plant FILE tries other mistakes than the crate's: a file of edits in the form of must-fail/, each after a line `name: NAME`.
+--list checks nothing, and prints which function each edit changes, and in which check it is tried.
 
-The status is 0 where each edit is refused, else 1.
+The status is 0 if each edit is refused, else 1.
 """
 
 import argparse
@@ -169,7 +169,8 @@ def check(folder, functions, jobs):
 
 
 def is_own(function, line, output):
-    """Whether the function isn't proved because of a goal of its own, not only because of what it calls."""
+    """Whether the function isn't proved because of a goal of its own, and not only because of a function that it
+    calls."""
     answers = "/".join(["proofs", *function.split("::")[1:], "Answers.antt"])
     return bool(
         UNPROVED.match(line) or line.startswith("not proved;") and re.search(rf"{answers}:\d+:\d+: error", output)

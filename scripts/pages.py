@@ -1,33 +1,32 @@
 #!/usr/bin/env python3
-"""Reads the pages against the tree:  scripts/pages.py [--diagram] [--write] [RULE ..]
+"""Checks the pages against the tree:  scripts/pages.py [--diagram] [--write] [RULE ..]
 
-The gate runs all rules. These are of pages and Python, and of what pages say of the source:
+The gate runs all rules. These are about pages and Python, and what pages say about the source:
 
-    quotes, texts, runs  what docs/proof/THEOREM.md quotes, and the computed sessions, are as in their files
-    beliefs              the reading list of docs/proof/THEOREM.md is what scripts/beliefs.py prints, and no longer than it may be
-    verdict              docs/proof/TRUSTED.md has what the verdict on netrev takes as given, and nothing that it calls may wait
-    raw-calls            calls that get at a stream or a caller are made where docs/proof/TRUSTED.md has them read by eye
-    promises, names      the functions, clauses and definitions that pages cite are there
-    in-files             a name is in the file that a page says it is in: `Step` in `nr_rev/src/step.rt`
+    quotes, texts, runs  the quotes of docs/proof/THEOREM.md, and the computed sessions, equal their files
+    beliefs              the reading list of docs/proof/THEOREM.md is what scripts/beliefs.py prints, and within its limits
+    verdict              docs/proof/TRUSTED.md lists what the verdict on netrev takes as given, and no called function may wait
+    raw-calls            calls that reach a stream or a caller are made only where docs/proof/TRUSTED.md has them read by eye
+    promises, names      the functions, clauses and definitions that pages cite exist
+    in-files             a name is in the file that a page names for it: `Step` in `nr_rev/src/step.rt`
     links, paths         each link, anchor and path leads somewhere
     shared-names         a name that two crates define is in the glossary's list, with each of these crates
     tables               a file that names most kinds, cells or commands is in a list of docs/internals/ARCHITECTURE.md
     diagram              the crates of docs/internals/ARCHITECTURE.md are those of crates.txt
-    imports              packages of Python import what the table of CONTRIBUTING.md says, and none that is below them there
-    docstrings           no docstring leans on what is before it
-    markers              no page has what a conflict of a merge leaves
+    imports              packages of Python import only the packages above them that the table of CONTRIBUTING.md names
+    docstrings           no docstring depends on the text before it
+    markers              no page has the marks of a merge conflict
 
-And these of the source itself:
+And these are about the source itself:
 
-    modules              the two groups of a specs/Lib.antt are what callers need, and what is inside
-    comments             no comment leans on the one before it: "The same."
+    modules              the two groups of a specs/Lib.antt are the modules that callers need, and the others
+    comments             no comment depends on the one before it: "The same."
     lines                no line of specs/ has more than 100 columns
     forgotten            `mem::forget`, and all that leaks memory, is in one file
-    refused              no function of the program says that memory was refused but where an error says so
+    refused              no function of the program reports refused memory without an error that says so
 
-`--diagram` prints the diagram of the crates. `--write` puts into CONTRIBUTING.md's table which packages import which, and then
-reads the pages. RULE .. runs just these. Prints each finding with its file and line, and ends with
-status 1 where there is one.
+`--diagram` prints the diagram of the crates. `--write` first writes the imports of the packages into CONTRIBUTING.md's table.
+RULE .. runs only these rules. Prints each finding with its file and line; the status is 1 if there is one.
 """
 
 import argparse

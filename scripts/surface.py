@@ -1,9 +1,10 @@
 #!/usr/bin/env python3
-"""The public calls that stay as they are, held against the sources:  scripts/surface.py [--list CRATE]
+"""Compares the public calls that stay as they are with the sources:  scripts/surface.py [--list CRATE]
 
 scripts/surface.txt has a line for each: a crate's name alone, and below it each call with its arguments and its result. A call
-that is renamed, or takes or returns something else, is reported and fails the gate; who means it changes that line too. Nothing
-is said of calls that are not listed. `--list CRATE` prints all public calls of a crate, in the table's form."""
+that is renamed, or takes or returns something else, is reported and fails the gate; for an intended change, change the line too.
+Calls that aren't listed may change. `--list CRATE` prints all public calls of a crate, in the table's form.
+"""
 
 import argparse
 import re

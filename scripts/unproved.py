@@ -1,7 +1,8 @@
-"""A netrev that is compiled without its proofs, kept in out/look for as long as its sources stay the same.
+"""Compiles a netrev without its proofs, and keeps it in out/look as long as its sources stay the same.
 
-`rt try` compiles netrev in a minute or two, runs it in a temporary folder and keeps nothing. So netrev is copied while it runs: it is
-given a named pipe to check, and waits there for a writer that never comes."""
+`rt try` compiles netrev in a minute or two, runs it in a temporary folder and keeps nothing. So the program is copied while it runs: it
+gets a named pipe to check, and waits there for a writer that never comes.
+"""
 
 from __future__ import annotations
 

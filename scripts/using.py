@@ -1,9 +1,9 @@
 #!/usr/bin/env python3
 """Tries the programs of docs/reference/LIBRARY.md:  scripts/using.py [NAME ..]
 
-Makes a repository in a folder of its own, of copies of the crates and of the page's programs, and runs each, or those of these
-names, by `rt try` over examples/first.jsonl. Ends with status 1 where one prints something else than the page says. Nothing is
-proved by it, and each takes a minute of processor time to compile.
+Makes a repository in a folder of its own, from copies of the crates and of the page's programs, and runs each, or those of these
+names, by `rt try` over examples/first.jsonl. The status is 1 if one prints something else than the page shows. Nothing is proved, and
+each takes a minute of processor time to compile.
 """
 
 import re

@@ -1,8 +1,8 @@
 #!/usr/bin/env python3
-"""Keeps the verdicts that a log of `rt ci` has:  scripts/verdicts.py [LOG]
+"""Stores the verdicts in a log of `rt ci`:  scripts/verdicts.py [LOG]
 
-Of each crate of which the log (out/gate.log) has one, with a sum of the files that it is of, in out/verdicts.json. Those of crates that
-were kept, of which a log has none, stay as they are. scripts/pages.py compares docs/proof/TRUSTED.md and crates.txt with them.
+Each verdict in the log (out/gate.log) goes into out/verdicts.json, with a checksum of its crate's files. Stored verdicts of crates
+that the log doesn't mention stay. scripts/pages.py compares docs/proof/TRUSTED.md and crates.txt with them.
 """
 
 import argparse

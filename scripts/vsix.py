@@ -1,7 +1,7 @@
-"""The extension for VS Code, packed without node:  scripts/vsix.py OUT.vsix, or scripts/vsix.py --check FILE.vsix
+"""Packs the extension for VS Code without node:  scripts/vsix.py OUT.vsix, or scripts/vsix.py --check FILE.vsix
 
-editors/vscode is an extension without code. A .vsix is a zip file of it, with two files of XML that say what it is. The same folder gives
-the same bytes. --check reads a packed one, says what is wrong with it, and has the status 1 where something is.
+editors/vscode is an extension without code. A .vsix is a zip file of it, with two XML files that describe it. The same folder gives
+the same bytes. --check reads a packed one and reports its faults; the status is 1 if it has any.
 """
 
 import argparse

@@ -1,7 +1,7 @@
-"""How long nrdb takes to answer, on recordings of the shape `mix`:  python3 python netrev_bench.companion [STEPS ..]
+"""Measures how long nrdb takes to answer, on recordings of the shape `mix`:  python3 python netrev_bench.companion [STEPS ..]
 
-Each line is asked at three quarters of the recording, by a session that has read up to there what each step changed, but for the
-first `goto`, which waits for that. A time is from the line to the last of what is said of it. NETREV can be set.
+Each line is sent at three quarters of the recording, to a session that has read the changes of all steps up to there, except for the
+first `goto`, which waits for them. A time is from the line to the end of its output. NETREV can be set.
 """
 
 import json

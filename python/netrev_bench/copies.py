@@ -1,8 +1,8 @@
-"""What copies of full buffers take:  python3 python netrev_bench.copies
+"""Measures the memory for copies of full buffers:  python3 python netrev_bench.copies
 
-Makes four recordings of a million steps of which the first fill buffers that nobody empties: what comes then changes none of
-these buffers, others, or all of them between two copies of the world. Prints for each the greatest memory and the processor time
-of `netrev check` and of a session that has loaded it, as rows of a table of Markdown. NETREV names the program. Linux alone.
+Makes four recordings of a million steps whose first steps fill buffers: the later steps change none of these buffers, others, or all
+of them between two copies of the world. Prints for each the greatest memory and the processor time of `netrev check` and of a session
+that has loaded it, as rows of a Markdown table. NETREV names the program. Linux only.
 """
 
 import os

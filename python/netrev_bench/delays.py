@@ -1,7 +1,8 @@
-"""In how many runs each race shows, with the recorder's delays and without:  python3 python netrev_bench.delays [--runs 100] [--only NAME]
+"""Counts the runs in which each race shows, with the recorder's delays and without:  python3 python netrev_bench.delays [--runs 100] [--only NAME]
 
-Each run of a race of tools/go/samples/races is a process of its own on four processors, that writes a log; with delays the seeds are
-1, 2, .. Go is needed, and no netrev. Its lines are rows of a table of Markdown."""
+Each run of a race of tools/go/samples/races is a process of its own on four processors, which writes a log; with delays the seeds are
+1, 2, .. Go is needed, netrev isn't. The output lines are rows of a Markdown table.
+"""
 
 import argparse
 import shutil
@@ -18,7 +19,7 @@ from .races import RACES, built, names
 
 POINTS = 2**16
 PROCESSORS = 4
-PATIENCE = 4  # seconds after which a run hangs
+PATIENCE = 4  # seconds after which a run counts as hanging
 
 
 def shows(program: Path, name: str, delays: int) -> bool:

@@ -1,8 +1,9 @@
-"""How many schedules are played a second:  python3 python netrev_bench.exploring [--schedules N] [--processors 1,4] [RECORDING ..]
+"""Measures how many schedules run in a second:  python3 python netrev_bench.exploring [--schedules N] [--processors 1,4] [RECORDING ..]
 
-Without recordings: the longest hunt of examples/hunts, and random traffic of 2,000 steps without a bug. Its lines are rows of a
-table of Markdown. Neither Go nor netrev is needed. On one processor seconds are those of its time, on more of the clock; both are
-from the script of the recording to the last finding, as for `explore`."""
+Without recordings: the longest hunt of examples/hunts, and random traffic of 2,000 steps without a bug. The output lines are rows of
+a Markdown table. Neither Go nor netrev is needed. On one processor seconds are processor time, on more of the clock; both are from the
+script of the recording to the last finding, as for `explore`.
+"""
 
 import argparse
 import gc

@@ -1,10 +1,9 @@
-"""Measures GDB's `record full`, what people have without netrev, on a small C program:  python3 python netrev_bench.gdb_record [ROUNDS]
+"""Measures GDB's `record full`, the alternative without netrev, on a small C program:  python3 python netrev_bench.gdb_record [ROUNDS]
 
-The program (gdb_record.c) goes through 1,000 rounds or so many: it takes a lock, writes to a socket pair, reads from it and
-releases the lock. Prints how many rounds a second it has alone, how many instructions, and rounds, GDB records, how many
-instructions it goes back by one `reverse-stepi` over 10,000, and how many it looks at in a `reverse-continue` over the whole
-record, by a watchpoint that never hits. Each is the best of three runs, by the clock. Without gdb or a C compiler it says so,
-and no more.
+The program (gdb_record.c) makes 1,000 rounds, or ROUNDS: it takes a lock, writes to a socket pair, reads from it and releases the
+lock. Prints how many rounds a second it makes alone, how many instructions and rounds GDB records, how many instructions it goes back
+with one `reverse-stepi` over 10,000, and how many it examines in a `reverse-continue` over the whole record, with a watchpoint that
+never hits. Each is the best of three runs, by the clock. Without gdb or a C compiler it only says so.
 """
 
 import re

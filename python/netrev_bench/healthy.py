@@ -1,7 +1,8 @@
-"""The table of healthy programs:  python3 python netrev_bench.healthy [--schedules 3000] [--out FOLDER] [--only TEXT]
+"""Prints the table of healthy programs:  python3 python netrev_bench.healthy [--schedules 3000] [--out FOLDER] [--only TEXT]
 
-Tests of Go's packages and of other projects, drawn by a seed, are recorded on four processors and explored: each finding is printed
-with its place, to be looked at. Go and Debian's packages are needed (python/netrev_go/suites.py names them), and no netrev."""
+Tests of Go's packages and of other projects, drawn by a seed, are recorded on four processors and explored; each finding is printed
+with its place, for inspection. Go and Debian's packages are needed (python/netrev_go/suites.py names them), netrev isn't.
+"""
 
 import argparse
 import gc
@@ -63,7 +64,7 @@ def drawn(go: Go, suite: Suite, count: int, out: Path) -> Iterator[Healthy]:
 
 
 def went_well(go: Go, program: Optional[Path], folder: Path, test: str, name: Path) -> Optional[Recording]:
-    """The recording of a test that passed, if it may be used."""
+    """The recording of a test that passed, if it can be used."""
     command = [str(program), "-test.run", f"^{test}$", "-test.short", "-test.timeout=40s"]
     run = recorded(go, command, folder, 4, name)
     if run.status or not run.recording:

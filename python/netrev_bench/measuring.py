@@ -40,7 +40,7 @@ def replies_to(process: "subprocess.Popen[bytes]", lines: bytes) -> bytes:
 
 
 def greatest_memory(process: "subprocess.Popen[bytes]") -> int:
-    """The most bytes that a program had that waits for a line."""
+    """The most memory, in bytes, that a program had while it waits for a line."""
     for line in Path(f"/proc/{process.pid}/status").read_text(encoding="ascii").splitlines():
         if line.startswith("VmHWM:"):
             return int(line.split()[1]) * 1024

@@ -1,7 +1,8 @@
-"""What the benchmarks run: netrev, the same machine in plain Rust without proofs (`baseline`), and recordings of many shapes.
+"""The programs and recordings of the benchmarks: netrev, the same machine in plain Rust without proofs
+(`baseline`), and recordings of many shapes.
 
-NETREV names the program, NETREV_BASELINE that of `bench/baseline`, which is built where it isn't given, for the processors that CPU
-names, if it names some. NETREV_BEFORE names an older netrev, which is measured only where it is given.
+NETREV names the program. NETREV_BASELINE names that of `bench/baseline`; by default it is built, for the processors
+that CPU names, if set. NETREV_BEFORE names an older netrev to measure too.
 """
 
 import os
@@ -14,7 +15,7 @@ ROOT = Path(__file__).resolve().parents[2]
 NETREV = os.environ.get("NETREV", str(ROOT / "crates/netrev/out/netrev"))
 NETREV_BEFORE = os.environ.get("NETREV_BEFORE")
 BASELINE = os.environ.get("NETREV_BASELINE")
-CPU = os.environ.get("CPU", "")  # as `make netrev` takes it
+CPU = os.environ.get("CPU", "")  # as in `make netrev`
 
 
 def built_baseline() -> Optional[str]:

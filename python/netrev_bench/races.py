@@ -1,7 +1,8 @@
-"""The table of races:  python3 python netrev_bench.races [--schedules 10000] [--runs 1000] [--out FOLDER] [--only NAME]
+"""Prints the table of races:  python3 python netrev_bench.races [--schedules 10000] [--runs 1000] [--out FOLDER] [--only NAME]
 
 Each race of tools/go/samples/races is recorded in a good run, on one processor and on four, and explored from that recording; and it
-is run so many times without a recorder. Go is needed, and no netrev. Its lines are rows of a table of Markdown."""
+runs --runs times without a recorder. Go is needed, netrev isn't. The output lines are rows of a Markdown table.
+"""
 
 import argparse
 import gc
@@ -46,7 +47,7 @@ def good_recording(go: Go, program: Path, name: str, processors: int) -> Optiona
 
 
 def gone_wrong(program: Path, name: str, runs: int, processors: int) -> str:
-    """The number of runs that show it."""
+    """The number of runs that show the race."""
     command = [str(program), name, str(runs)]
     run = subprocess.run(
         command, env=environment(GOMAXPROCS=str(processors)), capture_output=True, text=True, check=False

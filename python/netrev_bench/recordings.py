@@ -1,7 +1,8 @@
-"""The recordings that `netrev_bench.run` measures, and the lines that are asked of each.
+"""The recordings that `netrev_bench.run` measures, and the lines that it sends for each.
 
-Each shape of `bench/shapes.awk` is measured with its own limits, and with limits as netrev-go writes them: many sockets and
-descriptors, buffers of 65,536 bytes. Runs of servers are recorded by netrev-go (`servers.py`)."""
+Each shape of `bench/shapes.awk` is measured with its own limits, and with limits as netrev-go writes them: many
+sockets and descriptors, buffers of 65,536 bytes. Runs of servers are recorded by netrev-go (`servers.py`).
+"""
 
 import json
 import random
@@ -18,7 +19,7 @@ AT_A_TIME = 100
 CHECKPOINTS = 64
 RESTARTS = 1_000
 BUFFER = 65_536  # bytes, as netrev-go writes it
-Asked = tuple[str, Optional[str]]  # a line and its reply, None for whatever the first program prints
+Asked = tuple[str, Optional[str]]  # a line and its reply; None for any reply of the first program
 LOOK: Asked = ("print lock 0", None)
 
 
@@ -32,7 +33,7 @@ def beginning(places: list[int]) -> Iterator[Asked]:
 
 
 def walk(steps: int) -> Iterator[Asked]:
-    """To the end and back."""
+    """A walk to the end and back."""
     stops = [*range(0, steps, AT_A_TIME), steps]
     for before, stop in zip(stops, stops[1:]):
         yield from ((f"stepi {stop - before}", f"at {stop}"), LOOK)

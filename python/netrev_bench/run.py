@@ -1,29 +1,28 @@
 """Measures netrev beside the same machine in plain Rust without proofs:  python3 python netrev_bench.run [STEPS ..]
 
-For each recording the programs by turns
+For each recording the programs in turn
 
-    check     load the recording and say that it is one, as a program of its own
+    check     load the recording and accept it, in a process of its own
     walk      go to the end and back by 100 steps at a time, with a query after each
     continue  search forwards over the whole recording, by a break and a watch that never hit
     reverse   search backwards in the same way
-    restarts  go to checkpoints here and there, 1,000 times, with a query after each
+    restarts  go to various checkpoints, 1,000 times, with a query after each
 
 The recordings are each shape of `bench/shapes.awk` with its own limits, at each of the sizes (10,000, 100,000 and 1,000,000 steps); each
 shape with the limits that netrev-go writes, many sockets and descriptors and buffers of 65,536 bytes, at the first size; and two
 runs of servers, tests of Go's library that are recorded first.
 
-The instructions of each, a step of the recording or a restart, are those that `valgrind --tool=callgrind` counts: other work on the machine
-doesn't change these. Under callgrind the C library clears and copies without `rep`, since each repetition would count. The times are the least
-of three runs, or of RUNS. A time is the program's own processor time, of user and system. Memory is the greatest use. Ratios to the
-baseline are side by side by instructions and by time, with their geometric means over the shapes. The last table has the system calls that
-write the replies to a walk, by `strace -c`: each program answers all lines that one read brings by one write.
+Instructions, for a step of the recording or a restart, are counted by `valgrind --tool=callgrind`, because other work on the machine
+doesn't change them. Under callgrind the C library clears and copies without `rep`, because each repetition would count. Times are the
+least of three runs, or of RUNS: the program's own processor time, user and system. Memory is the greatest use. Ratios to the baseline
+are printed by instructions and by time, with their geometric means over the shapes. The last table has the system calls that write the
+replies to a walk, by `strace -c`: each program answers all lines of one read by one write.
 
-NETREV_BEFORE names an older netrev: it is measured in the same run, and each table has it beside the one that is now. All programs must give
-the same replies; one that isn't right ends it. What can't be measured is left out, with a line on standard error: without the
-baseline or the older netrev their columns, without valgrind the instructions, without strace the writes, without Go the runs of
-servers. NETREV and NETREV_BASELINE name the programs, SHAPES the shapes, SOCKETS the numbers of sockets (16 239; none leaves such
-limits out), COUNTED the sizes at which instructions are counted (10000). RUNS=0 leaves the times out, SERVERS=0 the runs of servers.
-There are no limits of time.
+NETREV_BEFORE names an older netrev, which is measured in the same run and has its place in each table. All programs must give the same
+replies; a wrong one ends the run. If a tool is missing, a line on standard error says so, and its part is omitted: the columns of the
+baseline or the older netrev, the instructions without valgrind, the writes without strace, the servers without Go. NETREV and
+NETREV_BASELINE name the programs, SHAPES the shapes, SOCKETS the numbers of sockets (16 239; empty: no such limits), COUNTED the sizes
+at which instructions are counted (10000). RUNS=0 omits the times, SERVERS=0 the servers. No time is limited.
 """
 
 import os

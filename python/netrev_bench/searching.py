@@ -1,11 +1,10 @@
 """Measures how fast a shared session searches with several workers:  python3 python netrev_bench.searching [WORKERS ..]
 
-Prints, for 1, 2 and 4 workers or those that are given, positions a second of a `continue` and of a `reverse-continue` over
-a recording of 1,000,000 steps in which no mark hits. Beside it is what the machine gives: as many sessions of their own,
-with one worker each, which search the same at once, and the positions of all together. Each is the best of RUNS. The last
-column is the `continue` of the workers, divided by that of the sessions. Then come the instructions a position, as callgrind
-counts them over COUNTED positions each way; nothing where there is no valgrind. There are no limits; a reply that isn't right
-ends it.
+Prints, for 1, 2 and 4 workers or WORKERS, the positions a second of a `continue` and of a `reverse-continue` over a recording of
+1,000,000 steps in which no mark hits. For comparison, as many separate sessions with one worker each make the same searches at the
+same time; their positions are added. Each is the best of RUNS. The last column is the `continue` of the workers, divided by that of the
+sessions. Then come the instructions a position, as callgrind counts them over COUNTED positions in each direction; nothing without
+valgrind. There are no limits; a wrong reply ends it.
 """
 
 import os

@@ -17,7 +17,7 @@ ONLY_IN_TWO = ("closewrite",)  # kinds of steps that version 1 doesn't have
 
 
 class Unrecorded(Exception):
-    """Why there is no such recording."""
+    """A recording couldn't be made: the reason."""
 
 
 def plain_lines(text: str) -> list[str]:

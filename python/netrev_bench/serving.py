@@ -1,9 +1,9 @@
 """Measures how fast a session is shared:  python3 python netrev_bench.serving
 
-Prints commands and looks a second through one front, over a pipe (`netrev run`) and over the loopback, with all lines sent
-at once; commands a second in all through several fronts that place 1,000 each at the same time, each by a connection over
-the loopback, and how long the slowest front then takes until a look shows them all; and round trips a second of one
-caller who waits for each reply. Each is the best of three. There are no limits; a reply that isn't right ends it.
+Prints commands and queries a second through one front, over a pipe (`netrev run`) and over the loopback, with all lines sent at once;
+commands a second in all through several fronts that place 1,000 each at the same time, each over its own connection, and how long the
+slowest front then takes until a query shows them all; and round trips a second of one caller that waits for each reply. Each is the
+best of three. There are no limits; a wrong reply ends it.
 """
 
 import subprocess
@@ -97,7 +97,7 @@ def share(recording, fronts, each):
 
 
 def wait_for_each(recording, count):
-    """Seconds of this many round trips."""
+    """Seconds for this many round trips."""
     with Server(recording) as server:
         caller = server.call(0)
         began = time.perf_counter()

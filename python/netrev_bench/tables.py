@@ -57,7 +57,7 @@ def quotient(figures: Figures, name: str, above: str, below: str) -> float:
 
 
 def written(figure: float) -> str:
-    """Three digits, or all before the point."""
+    """A number with three digits, or all digits before the point."""
     return f"{figure:,.{max(0, 2 - int(log10(max(figure, 1))))}f}"
 
 
@@ -113,7 +113,7 @@ def figure_table(measured: Measurement, name: str) -> str:
 
 
 def arrow(ratios: Iterable[float]) -> str:
-    """The ratio before and now, in one cell; or that of now alone."""
+    """The ratio before and now, in one cell; or only the present one."""
     return " → ".join(f"{ratio:.1f}" for ratio in ratios)
 
 
@@ -164,7 +164,7 @@ def has_figure(cases: Cases, name: str) -> bool:
 
 
 def first_of(sorts: dict[str, Cases]) -> Cases:
-    """The cases of the first sort, which are those of the others too."""
+    """The cases of the first sort, which all other sorts have too."""
     return next(iter(sorts.values()))
 
 

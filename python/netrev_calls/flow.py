@@ -1,5 +1,6 @@
-"""Go's control flow at a socket (internal/poll, runtime/netpoll): which step a goroutine makes next, by its status and its operation, and
-what an answer leads to. A call is a row of operations: `Read` locks, resets, reads and unlocks."""
+"""Go's control flow at a socket (internal/poll, runtime/netpoll): the next step of a goroutine, from its status and
+its operation, and what follows each answer. A call is a list of operations: `Read` locks, resets, reads and
+unlocks."""
 
 from enum import Enum, auto
 from typing import Any, NamedTuple, Optional
@@ -10,7 +11,8 @@ from netrev_words.vocabulary import KINDS
 
 
 class Sort(Enum):
-    """What an operation is, by the kind of its first step. A read, a write and a wait go round until they are done."""
+    """The sort of an operation, by the kind of its first step. A read, a write and a wait repeat until they are
+    done."""
 
     MAKE = "sockopen"
     OPEN = "pollopen"
@@ -31,8 +33,9 @@ class Sort(Enum):
 
 
 SORTS = {sort.value: sort for sort in Sort}  # by the kind of the first step
-ENDS = {Sort.UNLOCK: (Sort.LOCK,), Sort.GIVE_UP: (Sort.REFER, Sort.CLOSE)}  # what each of these ends
-TRIES = (Sort.RESET, Sort.WAIT, Sort.READ, Sort.WRITE)  # what is between, and is left out where one fails
+ENDS = {Sort.UNLOCK: (Sort.LOCK,), Sort.GIVE_UP: (Sort.REFER, Sort.CLOSE)}  # the operation that ends each of these
+# operations in between, which are skipped if an earlier one fails
+TRIES = (Sort.RESET, Sort.WAIT, Sort.READ, Sort.WRITE)
 
 # the step that a goroutine of this status makes, whatever its operation; a sleeping goroutine makes none
 BY_STATUS = {
@@ -80,19 +83,19 @@ def first_step(sort: Sort, g: int, which: int, side: str, values: tuple[Any, ...
 
 
 class Came(Enum):
-    """What an answer leads to."""
+    """The consequence of an answer."""
 
-    OVER = auto()  # the operation is over, or a part of it: what else there is to read, to write or to release
-    STAYS = auto()  # the status says what follows
+    OVER = auto()  # the operation, or a part of it, is over: what is left to read, to write or to release decides
+    STAYS = auto()  # the status determines the next step
     WAITS = auto()  # it waits first
     READY = auto()  # the wait is over
     FAILS = auto()
 
 
-LAST = ("last",)  # the answer that makes a goroutine destroy what is closed: it gave up the last reference
+LAST = ("last",)  # the answer after which a goroutine must destroy the closed descriptor: it gave up the last reference
 CODES = {"code 0": Came.OVER, "code": Came.FAILS}
 STAYS = {"yes": Came.STAYS, "no": Came.STAYS, "wait": Came.STAYS}
-# by the kind of a step, and by its answer, in which `code` is any but 0: what it leads to, if the operation isn't over
+# by the kind of a step, and by its answer (`code` is any code but 0): the consequence, if the operation isn't over
 ANSWERS = {
     "incref": {"no": Came.FAILS},
     "increfclose": {"no": Came.FAILS},
@@ -111,7 +114,7 @@ ANSWERS = {
 
 
 def came(kind: str, answer: Answer) -> Came:
-    """What an answer to a step of this kind leads to."""
+    """The consequence of an answer to a step of this kind."""
     row = ANSWERS.get(kind)
     if row is None:
         return Came.OVER

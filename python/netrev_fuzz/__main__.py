@@ -1,10 +1,10 @@
-"""make fuzz, or by hand:  python3 python netrev_fuzz [--minutes M] [--cases N] [--seed S] [--of nrdb]
+"""Runs the fuzzer, as make fuzz does:  python3 python netrev_fuzz [--minutes M] [--cases N] [--seed S] [--of nrdb]
 
-Plays random cases until the time is up or there were so many. Half of the time goes to cases for netrev, half to sessions of
-nrdb, but for `--cases`, which has none of these; `--of` plays one sort alone. Each has a seed of its own, `S-1`, `S-2`, ..; `S-nrdb-1`, .. for nrdb;
-`--case S-7` plays that one alone. Where netrev prints something else than the model, the case is kept in `out/fuzz/S-7/`, with as few
-lines as still show it, what was `told` and what the model `wanted`; `--again out/fuzz/S-7` plays what is kept there. The
-program is $NETREV, else the built one. Ends with status 1 where there was a difference.
+Runs random cases until the time or their number is used up. Half of the time goes to cases for netrev, half to sessions of nrdb, but
+`--cases` runs none of these; `--of` runs one sort alone. Each case has a seed, `S-1`, `S-2`, .., or `S-nrdb-1`, .. for nrdb; `--case S-7`
+runs that one alone. If netrev's output differs from the model's, the case is kept in `out/fuzz/S-7/`, with as few lines as still show
+it, netrev's output (`told`) and the model's (`wanted`); `--again out/fuzz/S-7` runs it again. The program is $NETREV, else the built one.
+The status is 1 if there was a difference.
 """
 
 import argparse
@@ -38,7 +38,7 @@ def arguments(words: Optional[Sequence[str]]) -> argparse.Namespace:
 
 
 def play_one(netrev: str, case: Case, met: Met) -> bool:
-    """Plays one case and prints the result. Returns whether there was a difference."""
+    """Runs one case and prints the result. Returns whether program and model differed."""
     with tempfile.TemporaryDirectory() as folder:
         differs = difference(netrev, case, Path(folder), met)
     print(f"{case.seed} ({case.sort}): {first_difference(*differs) if differs else 'no difference'}")
@@ -59,7 +59,7 @@ def case_of(seed: str) -> Case:
 
 
 def wanted_seeds(seed: str, cases: Optional[int], of: str) -> Iterator[str]:
-    """The seeds to play: this many for netrev, or without end, for one program or for both for the same time."""
+    """The seeds to run: this many for netrev, or without end, for one program or for both for the same time."""
     of_netrev, of_nrdb = seeds(seed, cases), seeds(f"{seed}{OF_NRDB}", cases)
     return of_nrdb if of == "nrdb" else of_netrev if of or cases else by_turns(of_netrev, of_nrdb)
 
@@ -83,7 +83,7 @@ def play(
     out: Path = ROOT / "out/fuzz",
     of: str = "",
 ) -> int:
-    """Plays cases, keeps each that differs, and returns their number."""
+    """Runs cases, keeps each that differs, and returns their number."""
     until, found = time.monotonic() + 60 * minutes, 0
     with tempfile.TemporaryDirectory() as name:
         for case in map(case_of, wanted_seeds(seed, cases, of)):

@@ -1,11 +1,11 @@
-"""make fuzz-around, or by hand:  python3 python netrev_fuzz.around [--of logs] [--minutes M] [--cases N] [--seed S]
+"""Runs the fuzzer of the tools around netrev, as make fuzz-around does:  python3 python netrev_fuzz.around [--of logs] [--minutes M]
+[--cases N] [--seed S]
 
-Plays random cases of what is round netrev, each sort for the same time: damaged `logs` of the recorder; logs of random `programs`, whose
-recordings have to have all of them; `views` of nrdb over recordings
-with any file of lines beside them; `editors` that ask the adapter for anything; `browsers` that type any line. In each it is a fault
-where Python has a traceback, also one that nrdb answers by a line, where one takes too long, too much memory, or a file, and where a terminal would obey. A case has
-a seed of its own, `S-logs-1`, ..; `--case S-logs-1` plays that one alone. The program is $NETREV, else the built one. Ends with status 1 where
-there was a fault.
+Runs random cases of each sort for the same time: damaged `logs` of the recorder; logs of random `programs`, which must become complete
+recordings; `views` of nrdb over recordings with any file of lines beside them; `editors` that send the adapter any request; `browsers`
+that send any line. A fault is a traceback of Python, also one that nrdb reports in a line, too much time or memory, an unexpected file,
+or terminal control. Each case has a seed, `S-logs-1`, ..; `--case S-logs-1` runs that one alone. The program is $NETREV, else the built
+one. The status is 1 if there was a fault.
 """
 
 import argparse
@@ -41,7 +41,7 @@ SORTS: dict[str, Judgement] = {
 
 
 class Late(BaseException):
-    """A case takes too long. No handler of exceptions takes it for one of its own."""
+    """A case takes too long. No exception handler of a case catches it."""
 
 
 @contextmanager
@@ -62,7 +62,8 @@ def in_time() -> Iterator[None]:
 
 @contextmanager
 def tracebacks() -> Iterator[io.StringIO]:
-    """In this context, nrdb prints here the tracebacks of its own errors, each of which it answers by a line."""
+    """Context in which nrdb prints the tracebacks of its own errors, which it otherwise reports in a line, to this
+    stream."""
     printed, before = io.StringIO(), os.environ.get(WANTED_BY)
     os.environ[WANTED_BY] = "1"
     try:

@@ -1,5 +1,5 @@
-"""Cases for the page: lines that a browser types, also forbidden ones. None may read or write a file or end nrdb, and
-the page must be able to show every answer."""
+"""Cases for the page: lines that a browser sends, also forbidden ones. None may read or write a file or end nrdb,
+and the page must be able to show every answer."""
 
 import os
 import random
@@ -81,7 +81,7 @@ WATCHED = Watched()
 
 
 class Told(Streams):
-    """Keeps what browsers are sent."""
+    """Keeps what is sent to browsers."""
 
     def __init__(self) -> None:
         super().__init__("recording.jsonl")
@@ -107,7 +107,7 @@ def body(dice: random.Random, length: int) -> bytes:
 
 
 def wrong(seed: str, folder: Path, program: str) -> str:
-    """The fault of what the lines of a seed do; empty if there is none."""
+    """The fault in the effects of a seed's lines; empty if there is none."""
     dice = random.Random(seed)
     recording, _ = Author(dice).recording(dice.choice([5, 20]))
     path = folder / "recording.jsonl"
@@ -124,7 +124,7 @@ def wrong(seed: str, folder: Path, program: str) -> str:
 
 
 def typed(dice: random.Random, shared: Shared, told: Told, length: int) -> str:
-    """Types lines; the fault of an answer."""
+    """Sends lines; the fault of an answer."""
     for _ in range(dice.choice([5, 30])):
         data = body(dice, length)
         try:

@@ -1,4 +1,4 @@
-"""The cases: each is made from its seed, and has a recording's text, a script, and the program that plays them."""
+"""The cases: each is made from its seed, and has a recording's text, a script, and the program that runs them."""
 
 import random
 from typing import Callable, NamedTuple, Optional, Sequence
@@ -22,8 +22,8 @@ Made = tuple[bytes, Optional[bytes]]  # a recording's text, and the script if th
 
 
 class Case(NamedTuple):
-    """A recording, the program of `run`, `check`, `upgrade`, `changes` and `suspects` that plays it, and for `run` the
-    standard input."""
+    """A recording, the program of `run`, `check`, `upgrade`, `changes` and `suspects` that runs over it, and for
+    `run` the standard input."""
 
     seed: str
     sort: str

@@ -1,8 +1,9 @@
-"""Cases for nrdb: a session over a random recording, while Ctrl-C is pressed, replies are slow and netrevs are killed. Whatever
-it tells up to where it ends has to be right (views.py).
+"""Cases for nrdb: a session over a random recording, while Ctrl-C is pressed, replies are slow and netrevs are
+killed. All output up to its end must be right (views.py).
 
-nrdb runs in this process, with netrevs of its own. What happens to it happens at random points of its conversations: where
-lines are sent, and where one is waited for. The signals are real ones, and a slow netrev is one that is stopped for a while."""
+nrdb runs in this process, with its own netrevs. Events happen at random points of its conversations: when lines are
+sent, and when a reply is awaited. The signals are real, and a slow netrev is one that is stopped for a while.
+"""
 
 import io
 import json
@@ -100,7 +101,7 @@ class Weather:
 
 
 def played(program: str, case: Case, folder: Path, met: Met) -> str:
-    """Plays a case: the first fault in what was printed, or none. Counts what was met."""
+    """Runs a case: the first fault in its output, or none. Counts the events."""
     replayed = replay(case.recording, met)
     recording = recording_of(replayed.text.steps, replayed.worlds)
     judge = Judge(replayed.text.steps, replayed.worlds, ModelSession(recording, Observer()))

@@ -1,4 +1,4 @@
-"""Counts of what the cases of a run met, for the last lines of output."""
+"""Counts of the events in a run's cases, for the last lines of output."""
 
 from collections import Counter
 from typing import Any, Iterator, Mapping
@@ -10,7 +10,8 @@ from netrev_words.vocabulary import KINDS
 
 
 class Met(Observer):
-    """Counts what the model met: applied steps by kind and answer, refused ones by kind and reason, steps with another recorded answer, faults, commands."""
+    """Counts the events of the model: applied steps by kind and answer, refused ones by kind and reason, steps with
+    another recorded answer, faults, commands."""
 
     def __init__(self) -> None:
         self.cases: Counter[str] = Counter()

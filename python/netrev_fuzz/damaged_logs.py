@@ -1,6 +1,6 @@
-"""Cases for the recorder's reading of logs: a log of a real program with other fields, in another order, mixed with
-another, or with damaged bytes; beside it lines of tests that may be anything. The result must be a recording or a
-sentence, in a process with little memory and time."""
+"""Cases for the reader of logs: a log of a real program with changed fields, in another order, mixed with another,
+or with damaged bytes, and with any lines of tests beside it. The result must be a recording or an error message,
+in a process with little memory and time."""
 
 import contextlib
 import io
@@ -70,7 +70,7 @@ NAMES = (
     "x" * 300,
 )
 PLACES = ("a_test.go:7", "/else/a_test.go:31", "", ":", "a:b", "a,b:1.go:2", "\x1b:5", "a.go:99999999999")
-TESTS = 3  # of a case from which recordings are made
+TESTS = 3  # the part of a case from which recordings are made
 
 Points = list[Point]
 
@@ -131,7 +131,7 @@ def mixed(dice: random.Random, points: Points) -> Points:
 
 
 def other_header(dice: random.Random, data: bytearray) -> bytearray:
-    """A header with other words, for a log that may be cut off, or have holes after its end."""
+    """A header with other values, for a log that may be cut off, or have holes after its end."""
     for _ in range(dice.choice([1, 1, 2, 3])):
         struct.pack_into("<Q", data, 8 * dice.randrange(12), dice.choice(HEADER_WORDS))
     return data[: dice.randrange(len(data))] if dice.random() < 0.2 else data
@@ -191,7 +191,7 @@ def tests_of(seed: str) -> bytes:
 
 
 def wrong(seed: str, folder: Path) -> str:
-    """The fault of what a seed's log becomes; empty if there is none."""
+    """The fault of the results of a seed's log; empty if there is none."""
     reading, writing = os.pipe()
     process = os.fork()
     if process == 0:
@@ -229,7 +229,7 @@ def confined(seed: str, folder: Path) -> str:
 
 
 def made_wrong(outcome: Outcome, name: Path) -> str:
-    """The fault of a recording that was made, its lines, and the text about it."""
+    """The fault of a recording, its lines, and the text about it."""
     if name.exists() and name.stat().st_size > GREATEST:
         return f"the recording has {name.stat().st_size} bytes"
     if not all(line.isprintable() for line in outcome.lines):

@@ -1,5 +1,5 @@
-"""Cases for the adapter: an editor that sends any requests, with arguments of any sort, and malformed messages. Each
-request is answered once, and a malformed message ends the session."""
+"""Cases for the adapter: an editor that sends any requests, with arguments of any sort, and malformed messages.
+Each request must be answered once, and a malformed message must end the session."""
 
 import io
 import json
@@ -99,7 +99,7 @@ def framed(message: Any) -> bytes:
 
 
 def conversation(seed: str, path: str) -> tuple[list[dict[str, Any]], bytes]:
-    """The requests of a seed, and what follows them."""
+    """The requests of a seed, with their endings."""
     dice = random.Random(seed)
     begun = [{"seq": 1, "type": "request", "command": "launch", "arguments": {"program": path}}]
     asked = begun if dice.random() < 0.9 else []
@@ -108,7 +108,7 @@ def conversation(seed: str, path: str) -> tuple[list[dict[str, Any]], bytes]:
 
 
 def wrong(seed: str, folder: Path, program: str) -> str:
-    """The fault of what an editor is sent; empty if there is none."""
+    """The fault of the messages to the editor; empty if there is none."""
     path = folder / "recording.jsonl"
     recording, _ = Author(random.Random(f"{seed} recording")).recording(20)
     path.write_bytes(write_plain(recording))

@@ -1,5 +1,9 @@
-"""Random traffic over connections, with a bug planted at a random place, or without one: what `info suspects` is measured
-by:  python3 -m netrev_fuzz.injections FIRST LAST   plays each bug with these seeds, and prints the table."""
+"""Random traffic over connections, with a bug planted at a random place, or without one, to measure `info suspects`:
+
+    python3 -m netrev_fuzz.injections FIRST LAST
+
+runs each bug with these seeds, and prints the table.
+"""
 
 import sys
 from enum import Enum
@@ -14,7 +18,7 @@ from .little_go import Program, Turns
 
 LIMITS = Limits(gor=1500, sock=120, desc=10, buf=64)
 LETTERS = range(ord("a"), ord("z") + 1)
-BOTH, OWN_SIDE, RAW, CANCELS = range(4)  # what a connection does with deadlines; no deadlines above these
+BOTH, OWN_SIDE, RAW, CANCELS = range(4)  # what a connection does with deadlines; no deadlines above these numbers
 
 
 class Bug(Enum):
@@ -60,7 +64,7 @@ class Planted(NamedTuple):
     descriptor: Optional[int] = None
 
     def is_of(self, suspect: Suspect) -> bool:
-        """Whether a suspect is about it."""
+        """Whether a suspect is about the planted bug."""
         pairs = zip(self, (suspect.socket, suspect.goroutine, suspect.descriptor))
         return all(None in pair or pair[0] == pair[1] for pair in pairs)
 
@@ -73,13 +77,13 @@ class Traffic(Program):
         self.bug, self.length = bug, length
         self.begins = length * (0.3 + 0.4 * self.dice.random())
         self.planted: list[Planted] = []
-        self.passed: set[Planted] = set()  # those whose deadline was left behind and has passed
+        self.passed: set[Planted] = set()  # connections whose deadline was left behind and has passed
         self.busy: dict[int, int] = {}  # for each connection the number of readers and writers
         self.muted: set[int] = set()  # sockets at which nothing arrives any more
         self.fed: set[int] = set()
 
     def is_due(self, bug: Bug) -> bool:
-        """Whether that bug is to be planted now. Each bug is planted once."""
+        """Whether that bug should be planted now. Each bug is planted once."""
         return self.bug is bug and not self.planted and len(self.steps) > self.begins
 
     def plant(self, socket: int, goroutine: Optional[int] = None, descriptor: Optional[int] = None) -> None:
@@ -317,7 +321,8 @@ class Traffic(Program):
 
 
 class Count(NamedTuple):
-    """For a bug: how often it was planted with a symptom, was named first, and was named at all; and other suspects."""
+    """Counts for a bug: how often it was planted with a symptom, was named first, and was named at all; and other
+    suspects."""
 
     shows: int = 0
     first: int = 0

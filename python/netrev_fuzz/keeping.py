@@ -1,4 +1,4 @@
-"""Reduces a difference and keeps it, in a folder from which it can be played again."""
+"""Reduces a difference and keeps it, in a folder from which it can be run again."""
 
 from pathlib import Path
 

@@ -29,7 +29,7 @@ def every_cell(limits: Limits, length: int, backwards: bool) -> bytes:
 
 
 class Speaker:
-    """Makes up lines over a recording. Their frequencies differ from script to script."""
+    """Makes random lines for a recording, with frequencies that differ from script to script."""
 
     def __init__(self, dice: random.Random, steps: Sequence[Step]) -> None:
         self.dice = dice

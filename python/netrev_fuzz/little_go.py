@@ -11,8 +11,8 @@ from netrev_machine.machine import Refused, World
 from netrev_machine.steps import apply
 from netrev_words.recording import Answer, Limits
 
-Turns = Generator[None, None, Any]  # a call: it yields after each of its steps, and returns what Go's function does
-CLOSED, EOF = -1, 0  # what a read returns instead of a count; a code of the poller, negated, is one too
+Turns = Generator[None, None, Any]  # a call: it yields after each of its steps, and returns the result of Go's function
+CLOSED, EOF = -1, 0  # a read's result instead of a count; a code of the poller, negated, is one too
 
 
 class Program:
@@ -54,7 +54,7 @@ class Program:
             self.do("exit", goroutine)
 
     def ready(self) -> list[int]:
-        """The goroutines that can go on."""
+        """The goroutines that can continue."""
         statuses = self.world.goroutines
         return [g for g in self.running if g not in self.stopped and statuses[g][0] not in ASLEEP]
 

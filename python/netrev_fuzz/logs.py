@@ -1,5 +1,5 @@
-"""Logs of the recorder as text, to be read and made: a line of JSON for the header, one for each stack, one for the
-line of each address, and one for each point, in the form of `netrev_go.points.Point`."""
+"""Logs of the recorder as text, for reading and writing: a line of JSON for the header, one for each stack, one for
+the line of each address, and one for each point, in the form of `netrev_go.points.Point`."""
 
 import json
 import struct
@@ -35,7 +35,7 @@ def binary(
     is_sparse: bool = False,
 ) -> bytes:
     """The log with these points, each at the place of its number. `room` is the number of places. `holders` is the
-    table of locked mutexes (None: the log has none), which lacked room `holders_lost` times. In one that is sparse a
+    table of locked mutexes (None: the log has none), which was full `holders_lost` times. In a sparse log a
     point without a time has that of the point before."""
     points = list(points)
     room = room or max((point.number for point in points), default=0) + 1

@@ -1,10 +1,13 @@
-"""Two long recordings, each of a program with one bug, made by dice from a seed:
+"""Two long recordings, each of a program with one bug, made at random from a seed:
+
     python3 -m netrev_fuzz.long_hunts keeper|refused STEPS OUT.jsonl [SEED]
 
-`keeper`: each connection has a reader, and a keeper that extends its read deadline. One keeper extends the write side in its place
-from some step on, so the old timer fires, and a reader gives up whose connection was kept alive.
-`refused`: each request is a write with a deadline. Where one times out the program looks at the connection by
-`RawConn.Control`; once that function never gives its reference back, and a later Close hangs."""
+`keeper`: each connection has a reader, and a keeper that extends its read deadline. One keeper extends the write deadline instead from
+some step on, so the old timer fires, and a reader gives up on a connection that was kept alive.
+
+`refused`: each request is a write with a deadline. If one times out, the program looks at the connection by `RawConn.Control`; once
+that function never gives its reference back, and a later Close hangs.
+"""
 
 import sys
 from pathlib import Path
@@ -81,7 +84,7 @@ class Hunt(Program):
         return not self.world.sockets[s].lock.closed
 
     def connection(self, g: int) -> Turns:
-        """What the goroutine of a connection does."""
+        """The actions of the goroutine of a connection."""
         raise NotImplementedError
 
     def use_network(self, s: int) -> None:
@@ -106,7 +109,8 @@ class Keeper(Hunt):
         yield from self.closed(g, s)
 
     def keep(self, g: int, s: int, is_done: list[bool]) -> Turns:
-        """Extends the deadline of a connection repeatedly. The bug: from some step on, that of the wrong side."""
+        """Extends the deadline of a connection repeatedly. The bug: from some step on, it extends that of the wrong
+        side."""
         times = 0
         while not is_done:
             for _ in range(self.dice.randrange(10, 40)):
@@ -141,7 +145,7 @@ class Refused(Hunt):
         return self
 
     def let_all_end(self) -> None:
-        """Lets everything end that can: the network takes what was written, and nothing more arrives."""
+        """Lets everything end that can: the network takes all written bytes, and nothing more arrives."""
         while True:
             if ready := self.ready():
                 self.turn(self.dice.choice(ready))
@@ -201,7 +205,7 @@ def made(name: str, length: int, has_bug: bool = True) -> Hunt:
 
 
 def main(words: list[str]) -> None:
-    """Writes one, and prints what was planted."""
+    """Writes a recording, and prints the planted bug."""
     name, length, out, *seed = words
     hunt = HUNTS[name](int(seed[0]) if seed else SEEDS[name], int(length)).run()
     Path(out).write_bytes(hunt.text())

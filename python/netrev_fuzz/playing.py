@@ -1,4 +1,4 @@
-"""The program and the model play a case, and their outputs are compared."""
+"""Runs a case by the program and by the model, and compares their outputs."""
 
 import subprocess
 from pathlib import Path
@@ -16,14 +16,14 @@ TIMEOUT = 120
 
 
 def wanted(case: Case, met: Met) -> Optional[Printed]:
-    """What the model prints, or None if it doesn't know."""
+    """The model's output, or None if it doesn't know."""
     want = printed(case.program, case.recording, case.script, met)
     met.doubted += want is None
     return want
 
 
 def told(netrev: str, case: Case, folder: Path) -> Printed:
-    """What the program prints."""
+    """The program's output."""
     path = folder / "recording.jsonl"
     path.write_bytes(case.recording)
     try:

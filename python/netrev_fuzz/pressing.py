@@ -1,7 +1,6 @@
-"""Ctrl-C as the fuzzer presses it: a real signal, pressed at any time, which comes while a session runs a line and not else.
-
-Within `confined` the main thread has the signal blocked, but in what `heard` calls. So none comes while what was told is
-judged, and none behind the end: all that may press have ended by then, and what they pressed late is gone."""
+"""Ctrl-C for the fuzzer: a real signal, pressed at any time, that arrives only while a session runs a line. Within
+`confined` the main thread has the signal blocked, except in what `heard` calls. So none arrives while the output
+is checked, and none after the end: all threads that may press have ended by then, and late signals are dropped."""
 
 import signal
 import threading

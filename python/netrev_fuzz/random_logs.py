@@ -1,7 +1,7 @@
-"""Random logs of what a Go program may do, and what a recording of one has to have.
-
-Goroutines read, write, dial, set deadlines, shut and close sockets over the small runtime; dice say who goes on, what the
-network does, which timer a processor takes and which clock it reads. The log may be cut, as a ring cuts it, and begin with notes."""
+"""Random logs of a Go program's possible actions, and the recording that each must give. Goroutines read, write,
+dial, set deadlines, shut and close sockets over the small runtime; random numbers decide which goroutine runs,
+what the network does, which timer a processor takes and which clock it reads. The log may be cut, as a ring cuts
+it, and begin with notes."""
 
 from __future__ import annotations
 
@@ -24,7 +24,7 @@ from .small_runtime import AGAIN, BROKEN_PIPE, MODES, NIL, NO_ERROR, OTHER, READ
 FEW, PAGE, BUFFER = 64, 4_096, 65_536
 SIZES = (1, 2, 3, 5, FEW, FEW + 1, 1_000, PAGE - 1, PAGE, PAGE + 1, 5_000, BUFFER - 1, BUFFER, BUFFER + 1, 200_000)
 RESET_BY_PEER = -104
-ASKED = 0.05  # the part of the seeds for which netrev is asked too
+ASKED = 0.05  # the part of the seeds for which netrev is run too
 WORDS = {NIL: 0, READY: 1, WAIT: 2}
 CODES_IN_WORDS = {1: "closed", 2: "timed out", 3: "event error"}
 PLACES = ("entering", "armed", "parking", "parked", "swapping", "checking")
@@ -36,27 +36,27 @@ Asked = Callable[[Recording], str]
 
 @dataclass(eq=False)
 class Called:
-    """A call that a goroutine made: its points, from the first to the last, what it moved, and how it ended."""
+    """A goroutine's call: its points, from the first to the last, the bytes that it moved, and how it ended."""
 
     goroutine: int
     name: str
     fd: Descriptor
     first: int
-    last: int = -1  # where it hasn't ended
+    last: int = -1  # if it hasn't ended
     moved: int = 0
     outcome: str = "done"
-    is_in_doubt: bool = False  # its error is one that a recording may have no step of
+    is_in_doubt: bool = False  # its error may have no step in a recording
 
 
 @dataclass
 class Choices:
-    """How often what happens in a log."""
+    """The frequencies of events in a log."""
 
     theme: str
     turns: int
     goroutines: int
     sockets: int
-    lag: int  # nanoseconds that a processor's reading of the clock may be old
+    lag: int  # how many nanoseconds old a processor's reading of the clock may be
     ring: str  # "", "cut" or "noted"
 
 
@@ -80,12 +80,12 @@ class Program:
         self.all: list[Descriptor] = []
         self.running: dict[int, Turns] = {}
         self.calls: list[Called] = []
-        self.at: dict[int, Descriptor] = {}  # what a goroutine's call is of
+        self.at: dict[int, Descriptor] = {}  # the socket of a goroutine's call
         self.read_clock: dict[
             object, int
-        ] = {}  # what a goroutine, or one that had a descriptor's lock, last read of the clock
+        ] = {}  # the last clock reading of a goroutine, or of one that had a descriptor's lock
         self.noted_from: int | None = None  # the number of the first point of the notes
-        self.events: list[tuple[Any, str, bool, int]] = []  # that the system has fetched
+        self.events: list[tuple[Any, str, bool, int]] = []  # events that the system has fetched
         weights = {"read": 4, "write": 4, "deadline": 4, "shut": 0.3, "close": 0.8, "dial": 1}
         often = {"reads": "read", "writes": "write", "deadlines": "deadline", "closes": "close", "locks": "read"}
         if self.choices.theme in often:
@@ -93,7 +93,7 @@ class Program:
         self.weights = weights
 
     def run(self) -> None:
-        """Makes all turns; each goroutine's call may be cut at the end."""
+        """Runs all turns; each goroutine's call may be cut at the end."""
         noting: Iterator[None] | None = None
         note_at = self.dice.randrange(self.choices.turns) if self.choices.ring == "noted" else -1
         for turn in range(self.choices.turns):
@@ -121,7 +121,7 @@ class Program:
             self.at.pop(g, None)
 
     def call(self, g: int) -> Turns:
-        """What a goroutine does next."""
+        """The next call of a goroutine."""
         dice = self.dice
         what = dice.choices(list(self.weights), list(self.weights.values()))[0]
         if not self.sockets or what == "dial" and len(self.sockets) < self.choices.sockets:
@@ -140,17 +140,17 @@ class Program:
         return self.noted_call(called, self.read(called, dice.choice(SIZES)))
 
     def noted_call(self, called: Called, turns: Turns) -> Turns:
-        """A call, which is noted as it begins and ends."""
+        """A call whose beginning and end are noted."""
         called.first = len(self.runtime.points)
         self.calls.append(called)
         yield from turns
         called.last = self.runtime.newest[called.goroutine]
 
-    # net.Conn's calls, after internal/poll/fd_unix.go
+    # calls of net.Conn, after internal/poll/fd_unix.go
 
     def dial(self, g: int) -> Turns:
         runtime, dice = self.runtime, self.dice
-        # (the collector frees what no goroutine has)
+        # (the collector frees what no goroutine uses)
         used = {fd.address for fd in self.all if not fd.is_gone or fd in self.sockets or fd in self.at.values()}
         free = sorted({fd.address for fd in self.all} - used)
         address = dice.choice(free) if free and dice.random() < 0.7 else 100 + 64 * len(self.all)
@@ -218,7 +218,7 @@ class Program:
             else:
                 error = AGAIN
             if dice.random() < 0.1:
-                yield  # the point comes after the system's call
+                yield  # the point comes after the system call
             runtime.log(Kind.WRITE, g, fd.address, size + max(put, 0), put, error)
             called.moved += max(put, 0)
             called.is_in_doubt |= fd.reset or fd.shut
@@ -246,7 +246,7 @@ class Program:
         same = [one for one in (fd.pd.rd, fd.pd.wd) if runtime.begin + now < one < 2**62]
         if same and dice.random() < 0.4:  # the same time as the other side's
             d = same[0] - runtime.begin - now
-        if 0 < d <= runtime.clock - now:  # (a recording has no deadline that is set as late as it passes)
+        if 0 < d <= runtime.clock - now:  # (a recording has no deadline that passes as it is set)
             d, now = d + runtime.clock - now, runtime.clock
         self.read_clock[g] = self.read_clock[fd.pd] = now
         called.name = {"r": "SetReadDeadline", "w": "SetWriteDeadline", "rw": "SetDeadline"}[mode]
@@ -275,13 +275,13 @@ class Program:
             return
         yield from runtime.evict(g, fd.pd)
         if fd in self.sockets and self.dice.random() < 0.8:
-            self.sockets.remove(fd)  # else goroutines try to use it
+            self.sockets.remove(fd)  # otherwise goroutines try to use it
         yield from runtime.decref(g, fd)
 
     # the network, the poller and the processors
 
     def happens(self) -> None:
-        """Something that no goroutine does."""
+        """An action of no goroutine."""
         runtime, dice = self.runtime, self.dice
         what = dice.choices(("clock", "pop", "fire", "event", "network"), (3, 3, 1, 2, 2))[0]
         if what == "clock":
@@ -301,7 +301,7 @@ class Program:
             self.comes(dice.choice(self.all))
 
     def comes(self, fd: Descriptor) -> None:
-        """The other end does something, and the system has an event of it."""
+        """The other end does something, and the system has an event for it."""
         dice, mode = self.dice, "r"
         if fd.pd is None or fd.is_gone:
             return
@@ -317,7 +317,7 @@ class Program:
             fd.reset, mode = True, "rw"
         self.events.append((fd.pd, mode, dice.random() < 0.05, fd.tag))
 
-    # what the recorder notes of sockets that are open
+    # the recorder's notes of open sockets
 
     def notes(self) -> Iterator[None]:
         runtime = self.runtime
@@ -346,7 +346,7 @@ class Program:
                 log(Kind.NOTED_QUEUED, g, fd.address, MODES[side])
 
     def kept(self) -> list[Point]:
-        """The points that the ring has at the end."""
+        """The points that are in the ring at the end."""
         points = self.runtime.points
         if not self.choices.ring or len(points) < 2:
             return points
@@ -356,7 +356,7 @@ class Program:
 
 
 def program_of(seed: str) -> Program:
-    """The program of a seed, which has run."""
+    """The program of a seed, after its run."""
     program = Program(random.Random(seed))
     program.run()
     return program
@@ -369,12 +369,12 @@ def log_of(program: Program) -> Log:
 
 
 def wrong(seed: str) -> str:
-    """What is wrong with the recording of a seed's log; the empty text if nothing is."""
+    """The fault of the recording of a seed's log; empty if there is none."""
     return wrong_with(program_of(seed))
 
 
 def wrong_with(program: Program, asked: Asked = lambda _: "") -> str:
-    """What is wrong by the model, or by another that is asked too."""
+    """The fault by the model, or by another checker that is asked too."""
     log = log_of(program)
     try:
         recording = make(log)
@@ -385,7 +385,7 @@ def wrong_with(program: Program, asked: Asked = lambda _: "") -> str:
 
 
 def wrong_by(seed: str, folder: Path, netrev: str) -> str:
-    """What is wrong with the recording of a seed's log, by the model, and for some seeds by netrev itself."""
+    """The fault of the recording of a seed's log, by the model, and for some seeds by netrev itself."""
 
     def asked(recording: Recording) -> str:
         path = folder / "made.jsonl"
@@ -402,7 +402,7 @@ def text_of(recording: Recording) -> bytes:
 
 
 def replayed(recording: Recording) -> tuple[Machine, list[tuple[Step, Any]], str]:
-    """The machine after the recording, its steps with their answers, and what is wrong with one."""
+    """The machine after the recording, its steps with their answers, and the first wrong one."""
     text = read_text(text_of(recording))
     machine = Machine(Limits(*text.limits))
     steps = list(zip(text.steps, text.answers))
@@ -417,7 +417,8 @@ def replayed(recording: Recording) -> tuple[Machine, list[tuple[Step, Any]], str
 
 
 def differs(program: Program, log: Log, recording: Recording, machine: Machine, steps: list[tuple[Step, Any]]) -> str:
-    """What of the log the recording hasn't: the sockets' and descriptors' state as it ends, the bytes, and each goroutine's steps."""
+    """What the recording lacks of the log: the final state of sockets and descriptors, the bytes, and each
+    goroutine's steps."""
     sockets = sockets_of(program, log, recording)
     if not log.points or log.points[0].number == 0:
         if len(sockets) != sum(fd.pd is not None for fd in program.all):
@@ -434,7 +435,7 @@ def differs(program: Program, log: Log, recording: Recording, machine: Machine, 
 
 
 def sockets_of(program: Program, log: Log, recording: Recording) -> dict[int, Descriptor]:
-    """The sockets that a recording has, by number: found by their first points."""
+    """The sockets of a recording, by number, found by their first points."""
     by_first = {fd.first: fd for fd in program.all}
     found: dict[int, Descriptor] = {}
     for point, socket in recording.points:
@@ -477,7 +478,7 @@ def socket_differs(program: Program, recording: Recording, machine: Machine, num
 
 
 def bytes_differ(points: list[tuple[Point, int]], steps: list[tuple[Step, Any]]) -> str:
-    """Which socket moved other bytes than the log has of it."""
+    """The socket that moved other bytes than in the log."""
     moved, had = Counter[tuple[int, str]](), Counter[tuple[int, str]]()
     for point, socket in points:
         if point.kind in (Kind.READ, Kind.WRITE) and point.b > 0:
@@ -489,7 +490,8 @@ def bytes_differ(points: list[tuple[Point, int]], steps: list[tuple[Step, Any]])
 
 
 def order_differs(recording: Recording, points: list[tuple[Point, int]], steps: list[tuple[Step, Any]]) -> str:
-    """The first of the goroutines' steps that isn't the log's. Reads and writes aren't compared: they may be in parts."""
+    """The first step of a goroutine that differs from the log. Reads and writes aren't compared, because they may
+    be split."""
     names = {number: name for name, number in recording.numbers.items()}
     expected = [
         (SPELLED[Kind(point.kind)], point.goroutine, answer_of(point)) for point, _ in points if point.kind in SPELLED
@@ -516,7 +518,7 @@ CODES = (Kind.RESET, Kind.WAIT_BEGIN, Kind.CHECK, Kind.WAIT_CHECK)
 
 
 def answer_of(point: Point) -> object:
-    """What Go's function returned."""
+    """The result of Go's function."""
     kind, yes = point.kind, point.c & 2
     if kind in CODES:
         return point.b

@@ -1,6 +1,6 @@
-"""Random recordings. Most steps are what some goroutine does next, or what the network, the poller and the clock may
-do, so that waits, queues, timers, evictions and full buffers occur. The frequencies differ from recording to recording:
-most have a theme."""
+"""Random recordings. Most steps are a goroutine's next step, or possible actions of the network, the poller and the
+clock, so that waits, queues, timers, evictions and full buffers occur. The frequencies differ from recording to
+recording: most have a theme."""
 
 import random
 from typing import Iterator, Optional, Sequence
@@ -83,7 +83,7 @@ def features(world: World) -> Iterator[str]:
 
 
 class Author:
-    """Makes up steps for the current state of a recording."""
+    """Makes random steps for the current state of a recording."""
 
     def __init__(
         self, dice: random.Random, wild: float = 0.03, version: Optional[int] = None, themes: Sequence[str] = THEMES
@@ -121,11 +121,11 @@ class Author:
         return Recording(self.version, self.limits, steps, answers), worlds
 
     def any_answer(self, kind: str) -> Optional[Answer]:
-        """The recorded answer of a step that doesn't apply: it is compared with nothing."""
+        """The recorded answer of a step that doesn't apply, which is never compared."""
         return random_answer(self.dice, kind, ("done",)) if self.version == 2 else None
 
     def rare_position(self, worlds: Sequence[World]) -> int:
-        """A position with something rare: each such thing has the same chance."""
+        """A position with something rare: each rare feature has the same chance."""
         having: dict[str, list[int]] = {}
         for position, world in enumerate(worlds):
             for feature in features(world):
@@ -133,7 +133,7 @@ class Author:
         return self.dice.choice(having[self.dice.choice(sorted(having))])
 
     def refused_step(self, world: World) -> Optional[Step]:
-        """A step that doesn't apply, if one is found: among those that are tried, each reason has the same chance, and
+        """A step that doesn't apply, if one is found: among the candidates each reason has the same chance, and
         each kind of that reason."""
         found: dict[int, dict[str, Step]] = {}
         for _ in range(80):
@@ -158,7 +158,7 @@ class Author:
         return self.dice.choice(able or [0])
 
     def step_of(self, world: World, g: int) -> Step:
-        """What a goroutine does next."""
+        """A goroutine's next step."""
         if step := step_by_status(g, world.goroutines[g]):
             return step
         if world.sockets and len(world.descs) == len(world.free) and self.dice.random() < 0.3:
@@ -172,7 +172,7 @@ class Author:
         return self.dice.choices(list(weights), list(weights.values()))[0]
 
     def wild_step(self, world: World) -> Step:
-        """Any kind, with arguments of which many name nothing that exists."""
+        """A step of any kind, with arguments many of which name nothing that exists."""
         self.past = self.dice.choice([0.05, 0.2, 0.6])
         idle = [g for g, status in enumerate(world.goroutines) if status == IDLE]
         g = self.dice.choice(idle) if idle and self.dice.random() < 0.6 else self.near(len(world.goroutines))
@@ -234,7 +234,7 @@ class Author:
         return self.dice.randint(1, min(most, self.dice.choice([2, 4, 9, 40, 300])))
 
     def time(self, world: World) -> int:
-        """A time for the clock: a little later, or when the first timer is due."""
+        """A time for the clock: a little later, or the due time of the first timer."""
         roll = self.dice.random()
         if roll < 0.4 and world.timers:
             return world.timers[0].when

@@ -31,7 +31,7 @@ NESTED = (b"[" * 100_000, b'{"call":' * 50_000, b"9" * 5_000, b"\xff", b"null", 
 
 
 def lines_of(dice: random.Random, steps: int) -> list[Any]:
-    """The lines of a well-formed file, with texts that a program may have."""
+    """The lines of a well-formed file, with possible texts of a program."""
     calls = dice.choice([1, 3, 10])
     found: list[Any] = [{"where": dice.choice([1, 2]), "steps": steps}]
     for number in range(1, calls + 1):

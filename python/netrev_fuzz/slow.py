@@ -1,4 +1,4 @@
-"""A slow netrev, while something happens to the thread that waits for it."""
+"""A slow netrev, for events in the thread that waits for it."""
 
 import signal
 import threading
@@ -14,13 +14,13 @@ MOMENT = 0.002  # seconds
 
 
 class Slow(Own):
-    """A netrev that can be stopped while something happens. `happens` is called before lines are sent, and before each
+    """A netrev that can be stopped while events happen. `happens` is called before lines are sent, and before each
     line that is read."""
 
     def __init__(self, program: str, path: str, interrupts: Interrupts, happens: Callable[["Slow"], None]):
         super().__init__(program, path, interrupts)
         self._happens = happens
-        self._waits = False  # whether a reply is awaited and isn't here yet
+        self._waits = False  # whether a reply is awaited and hasn't arrived
         self._meanwhile: Optional[threading.Thread] = None
 
     def _send(self, text: bytes) -> None:
@@ -34,7 +34,7 @@ class Slow(Own):
         return super()._next(asked)
 
     def while_stopped(self, *happening: Callable[[], None]) -> None:
-        """Stops netrev, lets these things happen one after the other, and continues it. If no reply is awaited, or
+        """Stops netrev, lets these events happen one after the other, and continues it. If no reply is awaited, or
         netrev is stopped already, they happen at once."""
         if not self._waits or (self._meanwhile and self._meanwhile.is_alive()):
             for happens in happening:

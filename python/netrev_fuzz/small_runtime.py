@@ -1,7 +1,6 @@
-"""A small runtime, written after internal/poll/fd_mutex.go and runtime/netpoll.go, that logs the points that the recorder logs there.
-
-It shares nothing with the model in Python: a log of it that becomes a recording says whether the two agree. A function that
-may be interrupted is a generator, which yields after each of its points."""
+"""A small runtime, written after internal/poll/fd_mutex.go and runtime/netpoll.go, that logs the recorder's points.
+It shares nothing with the model in Python: whether its log becomes a recording shows whether the two agree. A
+function that may be interrupted is a generator, which yields after each of its points."""
 
 from __future__ import annotations
 
@@ -25,7 +24,7 @@ NEVER = 2**63 - 1
 
 @dataclass(eq=False)
 class Timer:
-    """A timer of a descriptor's: `read` and `write` say whose deadline it is."""
+    """A timer of a descriptor: `read` and `write` say whose deadline it is."""
 
     pd: PollDescriptor
     when: int
@@ -62,7 +61,7 @@ class PollDescriptor:
 
 @dataclass(eq=False)
 class Descriptor:
-    """poll.FD with its lock word, and what the system has of its socket."""
+    """poll.FD with its lock word, and the system's data of its socket."""
 
     address: int
     number: int
@@ -76,16 +75,16 @@ class Descriptor:
     output: int = 0
     peer_closed: bool = False
     shut: bool = False
-    was_shut: bool = False  # as the log has it
+    was_shut: bool = False  # in the log's form
     reset: bool = False  # by the other end
     is_gone: bool = False
     first: int = -1  # the number of its first point
-    notes: list[int] = field(default_factory=list)  # the numbers of the points that note how it is
+    notes: list[int] = field(default_factory=list)  # the numbers of the points that note its state
 
 
 @dataclass
 class Runtime:
-    """What all goroutines share, and the log."""
+    """The state that all goroutines share, and the log."""
 
     has_tags: bool
     begin: int
@@ -298,7 +297,7 @@ class Runtime:
         yield
 
     def set_deadline(self, g: int, pd: PollDescriptor, mode: str, d: int, now: int) -> Turns:
-        """`now` is the reading of the clock that it makes; d is none if 0 and in the past if negative."""
+        """Sets a deadline. `now` is its reading of the clock; d is none if 0 and in the past if negative."""
         self.log(Kind.SET_DEADLINE, g, pd.address, MODES[mode], d, 0, self.begin + now)
         if not pd.closing:
             rd, wd = pd.rd, pd.wd
@@ -352,7 +351,7 @@ class Runtime:
         self.popped.append(timer)
 
     def fire(self, timer: Timer) -> None:
-        """netpolldeadlineimpl."""
+        """Runs a timer's function, netpolldeadlineimpl."""
         self.popped.remove(timer)
         pd = timer.pd
         is_stale = timer.seq != (pd.rseq if timer.read else pd.wseq)
@@ -370,7 +369,8 @@ class Runtime:
             self.unblock(pd, "w", False)
 
     def event(self, pd: PollDescriptor, mode: str, is_error: bool, tag: int) -> None:
-        """netpoll's loop over one event; the tag is the descriptor's of when the system was asked for events of it."""
+        """netpoll's loop over one event; its tag is the descriptor's at the time when the system was asked for
+        events."""
         is_stale = self.has_tags and tag != pd.fdseq
         c = tag if self.has_tags else 0
         self.log(Kind.EVENT, 0, pd.address, MODES[mode], int(is_error) + 2 * is_stale, c)

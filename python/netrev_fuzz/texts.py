@@ -40,7 +40,7 @@ ENDS: dict[str, list[int]] = {
 }
 WITH_LIMITS = ("arrive", "syswrite", "setdeadline", "pollevent", "tick")
 TEXTS = ["r", "w", "rw", "wr", "", "R", "6869", "686", "6g", "ABcd", "0x12", " 12", "é1", "00", "done", "Done", "got"]
-# what isn't a recorded answer, as text
+# texts that aren't recorded answers
 NO_ANSWERS = [
     *("null", "0", "{}", "[]", '"Done"', '""', '"got"', '["done"]', '["got"]', '["got",1,1]', '["got","1"]'),
     '["got",-1]',
@@ -148,7 +148,7 @@ def at_limits(dice: random.Random) -> bytes:
 
 
 def limits_answer(dice: random.Random) -> str:
-    """A recorded answer as text, or what isn't one."""
+    """A recorded answer as text, or something that isn't one."""
     if dice.random() < 0.1:
         return dice.choice(NO_ANSWERS)
     if dice.random() < 0.5:
@@ -171,7 +171,7 @@ def limits_header(dice: random.Random, version: int) -> str:
 
 
 def limits_argument(dice: random.Random, form: str) -> str:
-    """An argument as text: mostly a least or greatest one of its form, else one past it or of another form."""
+    """An argument as text: mostly the least or greatest one of its form, else one past it or of another form."""
     if dice.random() < 0.05:
         return dice.choice(ODD)
     past = dice.random() < 0.1

@@ -1,7 +1,6 @@
-"""What nrdb tells in a session, held against plain looks at the positions where it tells it: those of the model.
-
-A session has to be followed event by event, since it may stop anywhere: what is told up to there has to be right. `Judge` takes
-one event after the other, and says what is wrong with it."""
+"""Checks nrdb's output in a session against the model's values at the same positions. A session is followed event
+by event, because it may stop anywhere, and all output up to there must be right. `Judge` gets the events in
+order, and reports the first wrong one."""
 
 import re
 from fnmatch import fnmatchcase
@@ -22,12 +21,12 @@ SOCKET_CELLS = ("lock", "rsem", "wsem", "in", "out", "shut")
 DESCRIPTOR_CELLS = ("info", "rg", "wg", "rd", "wd", "fdseq")
 PLACE = re.compile(r"place (\d+) of (\d+)")
 TAKEN = re.compile(r"goroutine (\d+) has the lock since step (\d+)")
-# what may be printed whenever a session is interrupted
+# texts that may be printed whenever a session is interrupted
 DISTURBED = ("interrupted; the session goes on", "the netrev that looks at other positions has ended twice")
 
 
 class Judge:
-    """Follows a session over a recording, whose states are those of the model."""
+    """Follows a session over a recording, with the states of the model."""
 
     def __init__(self, steps: Sequence[Step], worlds: Sequence[World], session: Session) -> None:
         self.steps, self.worlds, self.session = steps, worlds, session
@@ -97,7 +96,7 @@ class Judge:
         return f"{line} says {text}"
 
     def wrong_table(self, line: str, event: Event) -> str:
-        """A table, by its topic."""
+        """Checks a table, by its topic."""
         judge: Callable[[str, Rows, str], str] = getattr(self, f"wrong_{event['topic']}")
         return judge(line, event["rows"], event["rest"] or "")
 
@@ -129,7 +128,7 @@ class Judge:
         return self.differs(line, told, right) or next(filter(None, waits), "")
 
     def wrong_group(self, row: Mapping[str, Any]) -> str:
-        """Goroutines that sleep alike: each has that status, and queued ones are queued for one lock."""
+        """Checks goroutines that sleep alike: each has that status, and queued ones are queued for one lock."""
         statuses = {self.value(f"gor {number}") for number in row["goroutines"]}
         is_one = len(statuses) == 1 if row["status"] == "queued" else True
         if is_one and all(status.split()[0] == row["status"] for status in statuses):
@@ -137,7 +136,7 @@ class Judge:
         return f"a group of {row} at {self.position} has {sorted(statuses)}"
 
     def wrong_wait(self, goroutine: int, status: str, words: str) -> str:
-        """A place in a queue, the goroutine that has the lock, and since when."""
+        """Checks a place in a queue, the goroutine that has the lock, and since when."""
         name, *rest = status.split()
         if name not in ("acquiring", "queued", "relock"):
             return ""
@@ -214,7 +213,7 @@ class Judge:
         return self.differs(line, told, right)
 
     def wrong_changed(self, line: str, rows: Rows, rest: str) -> str:
-        """The cells that the last step changed: all that differ before and after it."""
+        """Checks the cells that the last step changed: all that differ before and after it."""
         told = sorted((row["cell"], row["old"], row["new"]) for row in rows)
         numbers = {
             Of.ALL: [""],
@@ -227,7 +226,7 @@ class Judge:
         return self.differs(line, told, sorted(one for one in both if one[1] != one[2]))
 
     def wrong_timer(self, line: str, rows: Rows, rest: str) -> str:
-        """The owners of the timers in the steps around the position, and who set them."""
+        """Checks the owners of the timers in the steps around the position, and their setters."""
         told, right = [], []
         for row in rows:
             number = row["step"]
@@ -256,6 +255,6 @@ def cell_and_rest(words: Sequence[str]) -> tuple[str, str]:
 
 
 def says_something(row: Mapping[str, Any]) -> bool:
-    """Whether a socket has something to show."""
+    """Whether a socket isn't at rest."""
     word = LockWord.of(int(row["lock"]))
     return word.references > 0 or bool(row["rq"] or row["wq"]) or (not word.closed and row["in"] != "0")

@@ -1,7 +1,8 @@
-"""The calls of internal/poll.FD by other packages, and the steps of each call: as a table.
+"""The table of calls of internal/poll.FD by other packages, and the steps of each call.
 
-    python3 python netrev_go.calls_of_go            compares it with the calls that the installed Go has
-    python3 python netrev_go.calls_of_go --table    prints it"""
+    python3 python netrev_go.calls_of_go            compares it with the calls in the installed Go
+    python3 python netrev_go.calls_of_go --table    prints it
+"""
 
 from __future__ import annotations
 

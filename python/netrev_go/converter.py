@@ -63,7 +63,7 @@ class Converter:
         self.clock = 0
         self.deadlines = Deadlines()
         self.later_fires = {(socket, *self.firing(point)) for point, socket in points if point[1] == FIRE}
-        self.put_off: dict[Socket, tuple[int, int]] = {}  # closewrites that a write overtook, with their stacks
+        self.early: dict[int, int] = {}  # of writes whose points a closewrite overtook, the number of steps after each
         self.beside = Beside()
         if any(socket.note for _, socket in points):
             self.goroutine(NOBODY)
@@ -163,7 +163,7 @@ class Converter:
     def _unused_number(self, identity: int) -> int:
         while self._ends and self._ends[-1][0] < self._number:
             number = self.goroutines.get(self._ends.pop()[1])
-            if number is not None and not any(number == g for g, _ in self.put_off.values()):
+            if number is not None:
                 self._unused.append(number)
         if self._unused:
             number = self._unused.popleft()
@@ -209,7 +209,10 @@ class Converter:
         self.of(g, socket, point.stack, read_line(g, socket.number, point.a, answer))
 
     def write(self, point: Point, socket: Socket) -> None:
+        """A write, unless its steps were made with a closewrite whose point overtook it."""
         passed, _, identity, _, asked, put, error, _, stack = point
+        if passed in self.early:
+            return
         g, number = self.goroutine(identity), socket.number
         if put <= 0:
             if not can_answer(socket, point):
@@ -225,20 +228,17 @@ class Converter:
                 socket.held -= missing
             socket.held += count
             self.of(g, socket, stack, put_line(g, number, count))
-        if socket.last_put == passed and socket in self.put_off:
-            self.shut(socket, *self.put_off.pop(socket))
 
     def close_write(self, point: Point, socket: Socket) -> None:
-        """Closes the write side. The point is logged after its system call, so it may follow a write that was made after it."""
-        g = self.goroutine(point.goroutine)
-        if socket.last_put > point.number:
-            self.put_off[socket] = g, point.stack
-        else:
-            self.shut(socket, g, point.stack)
-
-    def shut(self, socket: Socket, g: int, stack: int) -> None:
+        """Closes the write side. Points are logged after their system calls: a write that was made before may have its point later. It is
+        one at most, as the next one has to wait for that, and its goroutine has been in that call since a point before this one.
+        """
+        g, last = self.goroutine(point.goroutine), socket.last_write
+        if last and last.number > point.number and last.number not in self.early:
+            self.write(last, socket)
+            self.early[last.number] = len(self.lines)
         socket.shut = True
-        self.of(g, socket, stack, f'["closewrite",{g},{socket.number},"done"]')
+        self.of(g, socket, point.stack, f'["closewrite",{g},{socket.number},"done"]')
 
     def park(self, point: Point, socket: Socket) -> None:
         g = self.goroutine(point.goroutine)

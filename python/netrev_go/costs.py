@@ -1,11 +1,13 @@
-"""What recording costs:  python3 python netrev_go.costs [RELEASE ..] [--times N] [--before FOLDER] [--requests [N]]
+"""Measures the cost of recording:  python3 python netrev_go.costs [RELEASE ..] [--times N] [--before FOLDER] [--requests [N]]
 
 It builds samples/cost and samples/load of tools/go without and with the overlay, and prints what a call costs, what channels, locks,
-goroutines and timers cost, and how many round trips a second there are: without the overlay, with it and no log, with a log, with the
-program's orders, with lines, and with both. With --requests it builds samples/served in their place, and prints the processor time of an HTTP
-request over 20 and over 200 keep-alive connections, beside runtime/trace and its FlightRecorder, and how many bytes each keeps of a request.
-RELEASE is one of Debian's (netrev_go.fetching), as 1.27; without any it is the `go` on the PATH. FOLDER is another clone of the repository, whose
-recorder is measured too. All are measured by turns, so many times each, and the machine's load is said."""
+goroutines and timers cost, and the round trips a second: without the overlay, with it and no log, with a log, with the program's
+orders, with lines, and with both. With --requests it builds samples/served instead, and prints the processor time of an HTTP request
+over 20 and over 200 keep-alive connections, beside runtime/trace and its FlightRecorder, and how many bytes each keeps of a request.
+
+RELEASE is one of Debian's (netrev_go.fetching), such as 1.27; the default is the `go` on the PATH. FOLDER is another clone of the
+repository, whose recorder is measured too. All are measured in turn, N times each, and the machine's load is printed.
+"""
 
 from __future__ import annotations
 
@@ -138,7 +140,7 @@ class Measured:
         return {way: [min(values) for values in zip(*calls)] for way, calls in self.calls.items()}
 
     def tell(self) -> None:
-        """Prints a row a way: the best of the calls, and the median of the round trips."""
+        """Prints a row for each way: the best of the calls, and the median of the round trips."""
         base: list[int] = []
         for way, best in self.best().items():
             base = base or best
@@ -150,7 +152,7 @@ class Measured:
             )
 
     def tell_rounds(self) -> None:
-        """Prints a row a way: the best of the rounds."""
+        """Prints a row for each way: the best of the rounds."""
         for way, best in self.best().items():
             print(f"| {self.name} | {way} | " + " | ".join(f"{figure:,}" for figure in best[2:]) + " |")
 
@@ -195,15 +197,17 @@ class Served:
             log.unlink()
 
     def tell(self) -> None:
-        """Prints a row for each number of connections and way: the median of the processor time, and the other medians."""
+        """Prints a row for each number of connections and way: the median of the processor time, how much more that is than the first way's (the median
+        of all rounds, in each of which both met the same load), and the other medians."""
         for (connections, way), took in self.took.items():
-            base = statistics.median(self.took[connections, self.ways[0]])
+            base = self.took[connections, self.ways[0]]
+            more = statistics.median(one / other for one, other in zip(took, base)) - 1
             median = statistics.median(took)
             kept = statistics.median(self.kept[connections, way])
             points = statistics.median(self.points.get((connections, way), [0]))
             print(
                 f"| {self.name} | {connections} | {way} | {median / 1000:.1f} ({min(took) / 1000:.1f} to {max(took) / 1000:.1f}) "
-                f"| {100 * (median / base - 1):+.1f} % | {f'{kept:,.0f}' if kept else ''} | {f'{points:.1f}' if points else ''} |"
+                f"| {100 * more:+.1f} % | {f'{kept:,.0f}' if kept else ''} | {f'{points:.1f}' if points else ''} |"
             )
 
 

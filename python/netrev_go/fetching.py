@@ -1,7 +1,8 @@
-"""Releases of Go as packages of Debian's, fetched into the user's cache and unpacked: nothing is installed, and apt's own lists stay
-as they are.
+"""Fetches Debian's packages of a Go release into the user's cache and unpacks them: nothing is installed, and apt's own lists stay as they
+are.
 
-    python3 python netrev_go.fetching 1.27    prints the folder of its `go`, fetched where it isn't there"""
+    python3 python netrev_go.fetching 1.27    prints the folder of its `go`, and fetches the release if it is missing
+"""
 
 from __future__ import annotations
 

@@ -279,10 +279,10 @@ class Passing:
 
     def _objects(self, what: int, at: int, b: int, c: int) -> tuple[At, ...]:
         """The objects of a wait: channels by their keys."""
-        keys = self._keys
-        return tuple(
-            At(keys.get(one.address, one.address), one.use) if one.use else one for one in objects_of(what, at, b, c)
-        )
+        keys, objects = self._keys, objects_of(what, at, b, c)
+        if not any([one.address in keys for one in objects]):  # (as nearly always)
+            return objects
+        return tuple([At(keys.get(one.address, one.address), one.use) if one.use else one for one in objects])
 
     def _parks(self, point: Point, step: int, time: int) -> None:
         """A goroutine begins to wait. If it waits already, its log was damaged, and the wait lasts to the end."""

@@ -20,11 +20,9 @@ class Lifetimes:
 
     def most(self, goroutines: Iterable[int]) -> int:
         """The greatest number of these goroutines at one time."""
-        moments = []
-        for goroutine in goroutines:
-            moments.append((self.began.get(goroutine, 0), 1))
-            if goroutine in self.ended:
-                moments.append((self.ended[goroutine], -1))
+        known, began, ended = list(goroutines), self.began, self.ended
+        moments = [(began.get(goroutine, 0), 1) for goroutine in known]
+        moments += [(ended[goroutine], -1) for goroutine in known if goroutine in ended]
         count = most = 0
         for _, change in sorted(moments):
             count += change
@@ -36,12 +34,7 @@ class Lifetimes:
         return sorted(((number, goroutine) for goroutine, number in self.ended.items()), reverse=True)
 
 
-def lifetimes_of(used: Iterable[tuple[int, int]], ends: Iterable[Point]) -> Lifetimes:
-    """The lifetimes of goroutines. `used` has which goroutine made which point, in the points' order."""
-    found = Lifetimes()
-    for goroutine, number in used:
-        found.began.setdefault(goroutine, number)
-    for point in ends:
-        if point.kind == ENDS and point.goroutine in found.began:
-            found.ended[point.goroutine] = point.number
-    return found
+def lifetimes_of(began: dict[int, int], ends: Iterable[Point]) -> Lifetimes:
+    """The lifetimes of goroutines that began to make steps at these points."""
+    ended = {point.goroutine: point.number for point in ends if point.kind == ENDS and point.goroutine in began}
+    return Lifetimes(began, ended)

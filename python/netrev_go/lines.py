@@ -68,7 +68,7 @@ def looked_up(
 
 
 def replaced_file(file: str) -> str:
-    """The name of a file of Go that the overlay replaces, in whose own name _ stands for /."""
+    """The real name of a file of Go that the overlay replaces by a file with _ for / in its name."""
     name = file.rpartition("/")[2]
     for package in ("internal_poll_", "runtime_", "testing_"):
         if name.startswith(package):

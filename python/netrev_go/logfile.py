@@ -3,6 +3,7 @@ still runs: complete points are used, and notes say what is missing."""
 
 from __future__ import annotations
 
+import contextlib
 import io
 import os
 import pathlib
@@ -141,7 +142,7 @@ def whole_points(file: BinaryIO, header: Header) -> tuple[list[Point], int]:
     return points, held
 
 
-# As Point._make, without a look at how many values there are.
+# The same as Point._make, but without a check of the number of values.
 made = cast(Callable[[tuple[int, ...]], Point], partial(tuple.__new__, Point))
 
 
@@ -195,7 +196,8 @@ def are_whole(first: int, heads: array[int], columns: list[array[int]], lasts: a
 
 @lru_cache(2)
 def masks(count: int) -> tuple[int, int, int, int]:
-    """Of so many words, as one number, the lowest byte of each, the lower half, a one in each, and in each how many come before it."""
+    """Masks for this many words, each as one number: the lowest byte of each word, the lower half, a one in each,
+    and in each its index."""
     kinds, low, ones = (as_one(array("Q", (word,)) * count) for word in (255, LOW, 1))
     return kinds, low, ones, as_one(array("Q", range(count)))
 
@@ -222,7 +224,17 @@ def read_log(path: pathlib.Path, is_written: bool = False) -> Log:
         with path.open("rb") as file:
             return log_of(copy_of(file), is_written) if is_written else log_of(file)
     except OSError as fault:
-        raise NoLog(messages.UNREADABLE.format(why=fault.strerror)) from None
+        raise NoLog(uncopied(path) or messages.UNREADABLE.format(why=fault.strerror)) from None
+
+
+def uncopied(path: pathlib.Path) -> str:
+    """Why a program couldn't copy its log to this path; empty if it didn't try to, or if it did so."""
+    with contextlib.suppress(OSError):
+        for name in sorted(os.listdir(path.parent)):
+            number = name.removeprefix(path.name + ".failed.")
+            if number != name and number.isdecimal():
+                return messages.UNCOPIED.format(why=os.strerror(int(number)))
+    return ""
 
 
 def copy_of(file: BinaryIO) -> BinaryIO:

@@ -124,7 +124,8 @@ def make(
     converter.beside.waits = waits_of(everybody, converter.goroutines, since)
     converter.beside.pair_unix()
     converter.beside.sizes = [
-        (step, size) for (point, socket), step in zip(converter.points, converter.ended)
+        (converter.early.get(point.number, step), size)
+        for (point, socket), step in zip(converter.points, converter.ended)
         if socket.whole and step and (size := socket.whole.get(point.number))
     ]  # fmt: skip
     return Recording(
@@ -186,7 +187,7 @@ class Fitted:
     @cached_property
     def lifetimes(self) -> Lifetimes:
         """When goroutines begin and end, computed only if they are many."""
-        return lifetimes_of(self.found.used(), self.ends)
+        return lifetimes_of(self.found.began(), self.ends)
 
     def at_once(self, goroutines: set[int]) -> int:
         """The greatest number of these goroutines at one time."""

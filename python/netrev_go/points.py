@@ -14,7 +14,7 @@ from netrev_words.vocabulary import NUMBERS
 
 
 class Kind(IntEnum):
-    """What a point is: the number of the step's kind, or above 100 what is no step of its own."""
+    """The kind of a point: the number of the step's kind, or above 100 for a point that isn't a step."""
 
     INIT = NUMBERS["sockopen"]
     READ = NUMBERS["sysread"]
@@ -66,6 +66,7 @@ class Kind(IntEnum):
     NOTES_BEGIN = 139
     NOTES_END = 140
     NOTED_NAMED = 141
+    DEADLINE_CALL = 142
 
 
 # Sets of plain numbers, as points have them: an enumeration's members are compared much more slowly.

@@ -1,20 +1,21 @@
-"""Steps that lead the empty machine to a socket as it was noted, so that a recording can begin in the middle of a run.
+"""Steps that lead the empty machine to a noted socket, so that a recording can begin in the middle of a run.
 
-What can be reached so, and what can't:
+These states can be reached:
 
 - Any lock word whose holders are known: a goroutine that has a lock or a reference then gives it up later in the log, or is inside the wait
-  of that side. Goroutines queued for a lock are queued in their order.
-- Each place of a wait, with a word that is nil, ready, wait or the goroutine. A goroutine that was woken parks first, and an event, a deadline
-  in the past or the close wakes it.
-- Deadlines to come, those that went off while their timers run, and those set in the past; one timer for both too.
-- Sequences and tags of Go's may be millions. The machine's begin anew, and Go's are counted from there: an event or a firing names the use of
-  a descriptor or the timer that it is of, and not a number.
-- Bytes aren't known. The input is empty, since bytes arrive just before the read that gets them; the output is full where a goroutine waits to
-  write there, or where a write finds it full later.
+  of that side. Goroutines that are queued for a lock are queued in their order.
+- Each place of a wait, with a word that is nil, ready, wait or the goroutine. A goroutine that was woken parks first, and an event, a past
+  deadline or the close wakes it.
+- Future deadlines, those that passed while their timers run, and those set in the past; also one timer for both sides.
+- Go's sequences and tags may be millions. The machine's begin anew, and Go's are counted from there: an event or a firing names the use of
+  a descriptor or the timer that it belongs to, instead of a number.
+- Bytes aren't known. The input is empty, because bytes arrive just before the read that gets them; the output is full if a goroutine waits
+  to write there, or if a write finds it full later.
 
-Left out, and named: a socket of which a goroutine is about to pass a lock on to another, or has a lock or a reference that it doesn't give up
-in the log; one whose timer is due and hasn't run; and a state to which these steps don't lead. Each socket's steps are run by the model in
-Python, and what they come to is compared with all that was noted."""
+Left out, and named: a socket at which a goroutine is about to pass a lock on to another, or has a lock or a reference that it doesn't give up
+in the log; one whose timer is due and hasn't run; and a state to which these steps don't lead. The model in Python runs each socket's
+steps, and the resulting state is compared with the whole note.
+"""
 
 from __future__ import annotations
 

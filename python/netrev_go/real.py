@@ -5,10 +5,12 @@ and on four, and compares every answer and every lock word with netrev's.
                                   [--tests WORD] [--small] [--record | --check]
     python3 python netrev_go.real --gate
 
-Without --go it is the `go` on the PATH; a release that Debian has is fetched where it isn't here (netrev_go.fetching). --seconds
-are a release's. The words of --only and --tests are regular expressions: `--only '^net$' --tests '^TestUnix'`. The recordings are left in out/real/RELEASE, with a line of JSON for each test's process in results.jsonl;
---check asks netrev about those that are there, and makes none. --small leaves most tests out. --gate is --small with the releases
-of GATE, or with the `go` on the PATH where neither is here, and says so where there is none."""
+The default is the `go` on the PATH; --go fetches a release of Debian's if it is missing (netrev_go.fetching). --seconds limits a
+release. The words of --only and --tests are regular expressions: `--only '^net$' --tests '^TestUnix'`. The recordings stay in
+out/real/RELEASE, with a line of JSON for each test's process in results.jsonl; --check compares existing recordings and makes none.
+--small omits most tests. --gate is --small with the releases of GATE, or with the `go` on the PATH if neither is installed, and says
+so without any.
+"""
 
 from __future__ import annotations
 

@@ -7,20 +7,24 @@ points of some sockets are a recording too. A socket without its opening in the 
 from __future__ import annotations
 
 from collections import Counter
-from collections.abc import Callable, Iterator
+from collections.abc import Callable
 from dataclasses import dataclass, field
 from operator import itemgetter
 
 from .notes import NAMED as NOTED_NAMED, NOTED, Debts, Note
 from .prelude import Lead, Unreachable, led
-from .points import AT_A_SOCKET, AT_A_WORD, GOROUTINE, LOCKING, NOTING, Kind, Point
+from .points import AT_A_SOCKET, AT_A_WORD, GOROUTINE, LOCKING, NOTING, NUMBER, Kind, Point
 
 BUFFER = 65_536
 OUTPUT = 4_096
 CLOSED = 1
 AGAIN = 1
 READ, WRITE, NAMED = int(Kind.READ), int(Kind.WRITE), int(Kind.NAMED)
-UNLIKE = {READ, WRITE, NAMED, NOTED, NOTED_NAMED}  # these are more than one step of their socket
+DEADLINE_CALL, INCREF, SET_DEADLINE, DECREF = map(
+    int, (Kind.DEADLINE_CALL, Kind.INCREF, Kind.SET_DEADLINE, Kind.DECREF)
+)
+UNLIKE = {READ, WRITE, NAMED, NOTED, NOTED_NAMED, DEADLINE_CALL}  # these are more than one step of their socket
+REFERENCE, RETURNS_TRUE = 8, 2  # of a lock word; what Go's function returned, as points of lock words have it
 INIT, OPEN, OPEN_FAILED, CLOSE = int(Kind.INIT), int(Kind.OPEN), int(Kind.OPEN_FAILED), int(Kind.CLOSE)
 EVENT, FIRE = int(Kind.EVENT), int(Kind.FIRE)
 # points at the descriptor's newest use
@@ -50,7 +54,7 @@ class Socket:
     written: int = 0
     largest: int = OUTPUT
     full_at: int = 0
-    last_put: int = -1  # the number of the last point of a write that put bytes
+    last_write: Point | None = None  # the last point of a write that put bytes, or found no room for any
     number: int = -1
     descriptor: int = -1
     is_open: bool = False  # the converter's place
@@ -181,9 +185,20 @@ def of_few(point: Point) -> Point:
     return Point(number, kind, goroutine, at, asked, min(moved, FEW_BYTES), failed, time, stack)
 
 
+def points_of_call(point: Point, socket: Socket) -> list[tuple[Point, Socket]]:
+    """The three points that a call is which sets a deadline: it takes a reference to the socket first, and drops it in the end."""
+    number, _, g, at, mode, deadline, state, time, stack = point
+    held, word = state + REFERENCE, socket.word
+    return [
+        (Point(number, INCREF, g, word, state, held, RETURNS_TRUE, time, stack), socket),
+        (Point(number, SET_DEADLINE, g, at, mode, deadline, 0, time, stack), socket),
+        (Point(number, DECREF, g, word, held, state, 0, time, stack), socket),
+    ]
+
+
 def count_bytes(socket: Socket, point: Point) -> None:
     """Counts a read or a write at its socket: its text, the size of the output, and for a read the steps."""
-    number, kind, _, _, asked, got, failed, _, _ = point
+    _, kind, _, _, asked, got, failed, _, _ = point
     got = max(got, 0)
     if kind == READ:
         socket.text += 2 * got
@@ -191,8 +206,9 @@ def count_bytes(socket: Socket, point: Point) -> None:
         return
     socket.text += 2 * (got or min(max(asked, 1), BUFFER))
     socket.written += got
+    if got or failed == AGAIN:
+        socket.last_write = point
     if got:
-        socket.last_put = number
         if got > socket.largest:
             socket.largest = min(got, BUFFER)
     if failed == AGAIN and socket.note:
@@ -236,14 +252,16 @@ class Owned:
     unknown: int  # points of sockets whose opening isn't in the log
     cut: int  # reads and writes that count as ones of fewer bytes
 
-    def used(self) -> Iterator[tuple[int, int]]:
-        """The goroutine of each point, in the points' order; for a note those that wait there."""
-        for point, socket in self.points:
-            if point.kind == NOTED and socket.note:
-                for goroutine in socket.note.goroutines() | socket.note.known():
-                    yield goroutine, point.number
-            elif point.goroutine:
-                yield point.goroutine, point.number
+    def began(self) -> dict[int, int]:
+        """The number of each goroutine's first point, or of the note of a socket that it waits for or had. (Backwards, so that the
+        first one is kept: there may be a million points.)"""
+        points = list(map(POINT, reversed(self.points)))
+        began = dict(zip(map(GOROUTINE, points), map(NUMBER, points)))
+        for note in (socket.note for socket in self.sockets if socket.note):
+            for goroutine in note.goroutines() | note.known():
+                began[goroutine] = min(began.get(goroutine, note.number), note.number)
+        began.pop(0, None)
+        return began
 
 
 def owned(points: list[Point], all_bytes: bool = True) -> Owned:
@@ -252,7 +270,7 @@ def owned(points: list[Point], all_bytes: bool = True) -> Owned:
     of, words, uses = owners.of, owners.words, owners.uses
     mine: list[tuple[Point, Socket]] = []
     writes: list[tuple[Point, Socket]] = []
-    cut = 0
+    cut = calls = 0
     for point in points:
         kind, at = point[1], point[3]
         # (the same as `of` for nearly all points, because there may be a million)
@@ -262,6 +280,10 @@ def owned(points: list[Point], all_bytes: bool = True) -> Owned:
             if socket is None:
                 continue
         if kind in UNLIKE:
+            if kind == DEADLINE_CALL:
+                mine += points_of_call(point, socket)
+                calls += 1
+                continue
             if kind == NAMED or kind == NOTED_NAMED:
                 socket.steps -= 1
             elif kind == NOTED:
@@ -281,7 +303,7 @@ def owned(points: list[Point], all_bytes: bool = True) -> Owned:
     count_points(mine)
     count_parts(writes)
     known = [socket for socket in owners.sockets if socket.has_descriptor and not socket.failed]
-    return Owned(mine, known, len(points) - len(mine), cut)
+    return Owned(mine, known, len(points) + 2 * calls - len(mine), cut)
 
 
 def lead_to(sockets: list[Socket], begin: int) -> dict[str, int]:
@@ -314,12 +336,14 @@ def chosen(
     kept: set[Socket] = set()
     goroutines: set[int] = set()
     steps, text = 0, 0
+    everybody = set[int]().union(*(socket.goroutines for socket in sockets))
+    may_be_crowd = len(everybody) > MOST_GOROUTINES and at_once(everybody) > MOST_GOROUTINES
     for socket in sorted(sockets, key=lambda socket: (socket.closed, socket.word != first, -socket.opening)):
         if len(kept) == min(most, MOST_SOCKETS):
             break
         together = goroutines | socket.goroutines
         has_room = text + socket.text <= megabytes * MEGABYTE
-        is_crowd = len(together) > MOST_GOROUTINES and at_once(together) > MOST_GOROUTINES
+        is_crowd = may_be_crowd and len(together) > MOST_GOROUTINES and at_once(together) > MOST_GOROUTINES
         if has_room and not is_crowd and steps + socket.steps + len(together) - 1 <= room:
             kept.add(socket)
             goroutines = together

@@ -1,7 +1,7 @@
-"""The model in netrev's place:  python3 python netrev_machine run|check|upgrade|changes|suspects FILE
+"""Runs the model instead of netrev:  python3 python netrev_machine run|check|upgrade|changes|suspects FILE
 
-It answers as the program should, as far as the model has an opinion, and is no netrev: nothing of it is proved, and it is slow
-where a recording is long. Tests of nrdb that need no built program are played with it.
+It gives the program's answers, if the model can decide them. It is unproved, and slow for long recordings. Tests of nrdb that need no
+built program use it.
 """
 
 import sys
@@ -32,7 +32,7 @@ def run(recording: bytes) -> int:
 
 
 def main(words: list[str]) -> int:
-    """Plays what the words ask for; the exit status."""
+    """Runs the requested program; the exit status."""
     if len(words) != 2 or words[0] not in ("run", "check", "upgrade", "changes", "suspects"):
         print(__doc__, file=sys.stderr)
         return 2

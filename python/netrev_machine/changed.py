@@ -1,4 +1,4 @@
-"""Which cells the last step of a machine in place changed, read off what it keeps of the step."""
+"""The cells that the last step of a machine in place changed, from the machine's record of the step."""
 
 from typing import Any, NamedTuple
 
@@ -6,14 +6,14 @@ from .cells import SHOWS_ALL, SHOWS_DESC, SHOWS_GOROUTINE, SHOWS_SOCKET, Shows
 from .in_place import WHOLE, Machine
 from .machine import Timer
 
-# the lists of queues, which `dump` shows
+# the lists of queues, for `dump`
 SHOWS_QUEUES: Shows = {"rq": lambda socket: socket.queues[0], "wq": lambda socket: socket.queues[1]}
 # (no step changes cells of a socket and of a descriptor, so `shut` comes last)
 OF_MANY: dict[str, Shows] = {"goroutines": SHOWS_GOROUTINE, "sockets": SHOWS_SOCKET, "descs": SHOWS_DESC}
 
 
 class Before(NamedTuple):
-    """Of the whole machine what was there before the step."""
+    """The values of the whole machine before the step."""
 
     clock: int
     waiters: int
@@ -22,10 +22,10 @@ class Before(NamedTuple):
 
 
 def changed_cells(machine: Machine, with_queues: bool = False) -> list[str]:
-    """The cells that the last step changed, in the order of docs/reference/COMMANDS.md, and of one name in that of numbers; with queues what
-    `dump rq` and `dump wq` show too, last of all."""
+    """The cells that the last step changed, in the order of docs/reference/COMMANDS.md, and those of one name by
+    number; with queues also the lists of `dump rq` and `dump wq`, at the end."""
     whole: dict[str, Any] = {}
-    first: dict[str, dict[int, Any]] = {}  # what was there before the step
+    first: dict[str, dict[int, Any]] = {}  # the values before the step
     for of, place, old in machine.changes:
         if place == WHOLE:
             whole.setdefault(of, old)

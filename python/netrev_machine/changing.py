@@ -1,4 +1,4 @@
-"""What `netrev changes` prints over a recording, by the machine in place: the cells that each step changed."""
+"""The output of `netrev changes` for a recording, by the machine in place: the cells that each step changed."""
 
 from typing import cast
 
@@ -13,7 +13,7 @@ from .replaying import answers
 
 
 def lines_of(machine: Machine, number: int) -> list[str]:
-    """A line for each cell that the last step changed, whose number this is."""
+    """A line for each cell that the last step, of this number, changed."""
     return [f"{number} {cell} = {_shown(machine, cell)}" for cell in changed_cells(machine)]
 
 
@@ -23,7 +23,7 @@ def _shown(machine: Machine, cell: str) -> object:
 
 
 def changes(recording: bytes, observer: Observer) -> tuple[list[str], bool]:
-    """The lines with the last one, and whether there is no fault; Doubtful if the model can't decide."""
+    """The lines including the last one, and whether there is no fault; raises Doubtful if the model can't decide."""
     lines: list[str] = []
     try:
         text = read_text(recording)

@@ -1,5 +1,5 @@
-"""The machine's timers alone, for callers that don't need the other parts: a heap of armed timers, and the timers that went off and
-haven't run."""
+"""The machine's timers alone, for callers that don't need the other parts: a heap of armed timers, and the timers
+that went off and haven't run."""
 
 from __future__ import annotations
 
@@ -12,7 +12,7 @@ from .machine import SIDES
 from .polling import are_both, followed
 
 READING, WRITING = 0, 1
-FEWEST = 64  # timers for which the heap is swept
+FEWEST = 64  # the number of timers above which the heap is swept
 
 
 @dataclass(eq=False, slots=True)
@@ -30,7 +30,7 @@ class Timer:
 
 @dataclass(slots=True)
 class Descriptor:
-    """What a descriptor's deadlines hang on; each pair is of reading and of writing."""
+    """The deadlines of a descriptor and their timers; each pair is for reading and writing."""
 
     closing: bool = False
     deadlines: list[int] = field(default_factory=lambda: [0, 0])
@@ -46,7 +46,7 @@ class Deadlines:
     def __init__(self) -> None:
         self.descriptors: dict[int, Descriptor] = {}
         self.heap: list[tuple[int, int, Timer]] = []  # and timers that were stopped since
-        self._room = FEWEST  # for so many it is swept
+        self._room = FEWEST  # the number above which it is swept
         self.firings: list[Timer] = []
         self._keys: list[tuple[int, int, int]] = []  # of each firing its descriptor, side and sequence
         self._counts: dict[tuple[int, int, int], int] = defaultdict(int)  # of each of these, how many are in the list
@@ -54,7 +54,7 @@ class Deadlines:
         self.most_firings = 0
 
     def open(self, number: int) -> tuple[int, int]:
-        """Opens a descriptor, and says what its sequences are then."""
+        """Opens a descriptor, and records its sequences then."""
         descriptor = self.descriptors.setdefault(number, Descriptor())
         descriptor.closing = False
         descriptor.deadlines = [0, 0]
@@ -82,7 +82,7 @@ class Deadlines:
             self.disarm(descriptor, side)
 
     def changing(self, number: int, mode: str, deadline: int) -> list[tuple[int, bool]]:
-        """The sides whose timer another deadline changes, and whether each has one then."""
+        """The sides whose timers a new deadline changes, and whether each then has one."""
         descriptor = self.descriptors[number]
         if descriptor.closing:
             return []
@@ -90,7 +90,7 @@ class Deadlines:
         new = (deadline if "r" in mode else read, deadline if "w" in mode else write)
         changes = []
         for side, is_running in enumerate(descriptor.running):
-            # (most descriptors have no timer of writing, and get none)
+            # (most descriptors have no timer for writing, and get none)
             if (is_running or new[side] > 0) and (wants := followed(is_running, side, old, new)) is not None:
                 changes.append((side, wants))
         return changes
@@ -126,7 +126,7 @@ class Deadlines:
         heapq.heappush(self.heap, (due, self.armings, timer))
 
     def _sweep(self) -> None:
-        """Takes the timers that were stopped out of the heap: most are, long before they are due."""
+        """Removes stopped timers from the heap: most are stopped long before they are due."""
         self.heap = [entry for entry in self.heap if entry[2].armed]
         heapq.heapify(self.heap)
         self._room = max(FEWEST, 2 * len(self.heap))
@@ -151,7 +151,7 @@ class Deadlines:
     def place(self, number: int, side: int, sequence: int) -> int | None:
         """The place of a firing in the list, if it is in it."""
         key = number, side, sequence
-        return self._keys.index(key) if self._counts.get(key) else None  # (of hundreds it is mostly none)
+        return self._keys.index(key) if self._counts.get(key) else None  # (it is mostly none of hundreds)
 
     def fire(self, place: int, sides: str = "") -> tuple[Timer, bool]:
         """The function of a timer runs, for these sides or those that it covers; the timer, and whether it is stale."""

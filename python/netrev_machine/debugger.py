@@ -1,8 +1,10 @@
-"""A plain model of the shared debugger, against which the replies of a session are held.
+"""A plain model of the shared debugger, for comparison with a session's replies.
 
-`Recording` knows what stands at each position of a recording: the kinds of its steps by its text, and the replies of
-looks by one pass of `netrev run` over it. The words stand in the tables of netrev_words/vocabulary.py. The model itself, by docs/reference/COMMANDS.md, has the effects of commands and the answers to lines: `read_line` says what a line asks for, and
-`Recording.answer` what it is answered in a state of the session, and the state behind it.
+`Recording` has the facts about each position of a recording: the kinds of its steps from its text, and the replies
+of queries from one pass of `netrev run` over it. The vocabulary is in netrev_words/vocabulary.py.
+
+The model itself follows docs/reference/COMMANDS.md: `read_line` returns the meaning of a line, and
+`Recording.answer` its reply in a state of the session, and the state after it.
 """
 
 from __future__ import annotations
@@ -40,7 +42,7 @@ class Asked(NamedTuple):
 
 
 class State(NamedTuple):
-    """What all share: marks and checkpoints are pairs of a number and what has it, in rising order."""
+    """The shared state: marks and checkpoints are pairs of a number and its object, in rising order."""
 
     position: int = 0
     reverse: bool = False
@@ -105,13 +107,13 @@ def read_words(first: str, rest: list[str]) -> Optional[Asked]:
 
 
 def is_command(asked: Optional[Asked]) -> bool:
-    """Whether a line asks for a command, which takes a place of the journal."""
+    """Whether a line is a command, which takes a place of the journal."""
     return asked is not None and asked.sort in COMMANDS
 
 
 @dataclass(frozen=True, eq=False)
 class Recording:
-    """A recording, and what each of some looks shows at each of its positions. It lives as long as the script."""
+    """A recording, and the results of some queries at each of its positions. It lives as long as the script."""
 
     path: Optional[Path]
     kinds: tuple[str, ...]
@@ -119,7 +121,7 @@ class Recording:
 
     @staticmethod
     def read(netrev: str, path: Path, looks: Sequence[str]) -> Recording:
-        """Reads the recording, and looks at all its positions in one pass of `netrev run`."""
+        """Reads the recording, and makes the queries at all its positions in one pass of `netrev run`."""
         with open(path, encoding="ascii") as lines:
             kinds = tuple(json.loads(line)[0] for line in list(lines)[1:] if line.strip())
         script = "\n".join([*looks, "stepi"]) + "\n"
@@ -155,7 +157,7 @@ class Recording:
 
     @lru_cache(maxsize=200_000)
     def nearest(self, marks: Marks, position: int, reverse: bool) -> Optional[tuple[int, list[int]]]:
-        """The nearest hit that way and the marks that hit there, or None."""
+        """The nearest hit in that direction and the marks that hit there, or None."""
         found = [hit for _, mark in marks if (hit := self.nearest_of(mark, position, reverse)) is not None]
         if not found:
             return None
@@ -163,7 +165,7 @@ class Recording:
         return hit, [number for number, mark in marks if self.is_hit(mark, hit)]
 
     def nearest_of(self, mark: str, position: int, reverse: bool) -> Optional[int]:
-        """The nearest position that way at which a mark hits, or None."""
+        """The nearest position in that direction at which a mark hits, or None."""
         hits = self.hits_of(mark)
         if reverse:
             at = bisect_left(hits, position)

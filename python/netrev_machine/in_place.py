@@ -14,12 +14,12 @@ from .steps import OF_KIND
 ONE_OF_MANY = ("goroutines", "sockets", "descs")
 STATE = World._fields
 Itself = TypeVar("Itself", bound="Machine")
-WHOLE = -1  # the place of what isn't one of many
+WHOLE = -1  # the place of the single parts
 
 
 class Change(NamedTuple):
-    """What was changed, and what was there before: of goroutines, sockets and descriptors the one at a place, where None says that it
-    was made; of all else the whole."""
+    """A change and the old value: of goroutines, sockets and descriptors the one at a place (None: it was new); of
+    all other parts the whole."""
 
     of: str
     place: int
@@ -72,7 +72,7 @@ class Machine:
         return True
 
     def copy(self: Itself) -> Itself:
-        """It as it is, with no step to undo."""
+        """A copy of the machine, with no step to undo."""
         made = object.__new__(type(self))
         for name in STATE:
             value = getattr(self, name)
@@ -81,19 +81,19 @@ class Machine:
         return made
 
     def world(self) -> World:
-        """A snapshot of it."""
+        """A snapshot of the machine."""
         return World(
             self.limits, self.clock, self.waiters, self.next_number, tuple(self.goroutines), tuple(self.sockets),
             tuple(self.descs), self.free, self.timers, self.firings,
         )  # fmt: skip
 
-    # what the functions of steps.py ask of a World
+    # the attributes of a World that the functions of steps.py need
 
     def is_open(self, d: int) -> bool:
         return d < len(self.descs) and d not in self.free
 
     def inside(self, d: int, side: str) -> list[int]:
-        """The goroutines that are inside the wait of a descriptor and side: one at most."""
+        """The goroutines inside the wait of a descriptor and side: one at most."""
         g = self._seats.get((d, side))
         return [] if g is None else [g]
 
@@ -125,7 +125,7 @@ class Machine:
         return self
 
     def _put_all(self, name: str, old: list[Any], items: tuple[Any, ...]) -> None:
-        """Has these goroutines, sockets or descriptors: one more than there were, or others of them."""
+        """Replaces these goroutines, sockets or descriptors, of which one may be new."""
         if len(items) != len(old):
             self._changes.append(Change(name, len(old), None))
             old.extend(items[len(old) :])
@@ -145,7 +145,7 @@ class Machine:
         self.goroutines[g] = status
 
     def _lead_back(self, changes: Changes) -> None:
-        """Leads back over these changes, from the last to the first."""
+        """Undoes these changes, from the last to the first."""
         for of, place, old in reversed(changes):
             if place == WHOLE:
                 setattr(self, of, old)
@@ -156,7 +156,7 @@ class Machine:
         changes.clear()
 
     def put(self, of: str, place: int, item: Any) -> None:
-        """Has this goroutine's status, this socket or descriptor at a place."""
+        """Replaces a goroutine's status, a socket or a descriptor at a place."""
         if of == "goroutines":
             self._sits(place, item)
         else:

@@ -10,7 +10,7 @@ Operated = tuple[str, Lock, tuple[int, ...]]
 
 
 def more(number: int) -> int:
-    """One more in a field of 20 bits."""
+    """A field of 20 bits, increased by one."""
     if number == FULL:
         raise Refused(6)
     return number + 1

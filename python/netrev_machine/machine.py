@@ -1,6 +1,7 @@
-"""The machine's state, as docs/internals/MACHINE.md tells it. A state is never changed: a step makes the next one of it.
+"""The machine's state, as in docs/internals/MACHINE.md. A state is immutable: a step makes the next one from it.
 
-A status is a tuple of what `print gor` shows: ("idle",), ("acquiring", 0, "r"), ("owing", 0, 2, 1). Values for both sides are pairs, reading first.
+A status is a tuple with the words of `print gor`: ("idle",), ("acquiring", 0, "r"), ("owing", 0, 2, 1). Values for
+both sides are pairs, reading first.
 """
 
 from __future__ import annotations
@@ -9,7 +10,7 @@ from typing import Any, NamedTuple, TypeVar, Union
 
 from netrev_words.recording import Answer, Limits
 
-Status = tuple[Any, ...]  # its name, and the numbers and the side that it has
+Status = tuple[Any, ...]  # its name, its numbers and its side
 Word = Union[str, int]  # "nil", "ready", "wait" or a goroutine's number
 Item = TypeVar("Item")
 
@@ -69,7 +70,7 @@ class Desc(NamedTuple):
 
 
 class Timer(NamedTuple):
-    """An armed timer, or a firing. They are in order as Python orders tuples: by time, then by arming number."""
+    """An armed timer, or a firing. They are sorted as Python sorts tuples: by time, then by arming number."""
 
     when: int
     number: int
@@ -85,7 +86,7 @@ class Timer(NamedTuple):
 
 
 class World(NamedTuple):
-    """The whole state. The free list's first is the descriptor that was freed last; the timers are in order."""
+    """The whole state. The first of the free list is the descriptor that was freed last; the timers are sorted."""
 
     limits: Limits
     clock: int = 0

@@ -1,4 +1,4 @@
-"""The observer of the model: a caller overrides the methods for the events that it wants."""
+"""Receives the events of the model: a caller overrides the methods for the events that it needs."""
 
 from __future__ import annotations
 
@@ -11,7 +11,7 @@ if TYPE_CHECKING:
 
 
 class Observer:
-    """Gets each step and each line. This one ignores them."""
+    """Receives each step and each line, and ignores them."""
 
     def applied(self, kind: str, answer: Answer) -> None:
         """A step of this kind applied, and had this answer."""

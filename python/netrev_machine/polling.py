@@ -1,4 +1,5 @@
-"""What a descriptor does inside one step: the check, unblocking, deadlines with their timers, events and closing."""
+"""The changes of a descriptor inside one step: the check, unblocking, deadlines with their timers, events and
+closing."""
 
 from typing import Optional, Sequence
 
@@ -22,7 +23,7 @@ def summary(desc: Desc) -> int:
 
 
 def raised(number: int) -> int:
-    """A sequence, fdseq or arming number with one more."""
+    """A sequence, fdseq or arming number, increased by one."""
     if number == GREATEST_SEQUENCE:
         raise Refused(18)
     return number + 1
@@ -44,7 +45,7 @@ def unblock(world: World, d: int, side: str, readiness: bool) -> World:
 
 
 def opened(world: World, s: int) -> tuple[World, int]:
-    """The world with a descriptor opened for a socket, and its number. None is free and all are made: reason 3."""
+    """The world with a descriptor opened for a socket, and its number. Reason 3 if none is free and all are made."""
     if not world.free and len(world.descs) == world.limits.desc:
         raise Refused(3)
     if world.free:
@@ -72,27 +73,27 @@ def event(world: World, d: int, mode: str, error: bool) -> World:
 
 
 def are_both(deadlines: Sequence[int]) -> bool:
-    """Whether both deadlines, of reading and of writing, are the same time to come: one timer serves both then."""
+    """Whether both deadlines, of reading and of writing, are the same future time: then one timer serves both."""
     read, write = deadlines
     return read > 0 and read == write
 
 
 def is_combo(desc: Desc) -> bool:
-    """Whether both deadlines are the same time to come."""
+    """Whether both deadlines are the same future time."""
     return are_both(desc.deadlines)
 
 
 def followed(is_running: bool, place: int, before: Sequence[int], now: Sequence[int]) -> Optional[bool]:
     """Whether the timer of a side is armed again after a change of the deadlines; None if it stays as it is."""
     both = are_both(now)
-    is_wanted = now[place] > 0 and not (both and place)  # (the timer of reading is for both)
+    is_wanted = now[place] > 0 and not (both and place)  # (the timer for reading serves both)
     if not is_running:
         return is_wanted or None
     return is_wanted if now[place] != before[place] or both != are_both(before) else None
 
 
 def deadline_of(clock: int, time: int) -> int:
-    """The deadline that a time from now comes to; none or one in the past as it is given."""
+    """The deadline for a time from now; no deadline, or a past one, is kept as given."""
     return min(clock + time, GREATEST_TIME) if time > 0 else time
 
 
@@ -112,7 +113,7 @@ def set_deadline(world: World, d: int, mode: str, time: int) -> World:
 
 
 def follow(world: World, d: int, side: str, before: Desc) -> World:
-    """The timer of a side follows the deadlines, which were those of the descriptor before."""
+    """Updates the timer of a side after a change of the descriptor's deadlines."""
     desc, place = world.descs[d], at(side)
     wanted = followed(desc.running[place], place, before.deadlines, desc.deadlines)
     if wanted is None:

@@ -1,4 +1,5 @@
-"""netrev as the model plays it: what `run`, `check`, `upgrade`, `changes` and `suspects` print over the bytes of a recording."""
+"""netrev as a model: the output of `run`, `check`, `upgrade`, `changes` and `suspects` for the bytes of a
+recording."""
 
 from typing import Callable, Iterable, NamedTuple, Optional
 
@@ -15,7 +16,7 @@ from .session import Session, recording_of, replies_to
 from .suspects import suspects
 from .wellformed import breaches
 
-HELD = 500  # of so many positions the states are looked over
+HELD = 500  # the number of positions whose states are checked
 Listed = Callable[[bytes, Observer], tuple[list[str], bool]]
 LISTS: dict[str, Listed] = {
     "changes": changes,
@@ -24,7 +25,7 @@ LISTS: dict[str, Listed] = {
 
 
 class Printed(NamedTuple):
-    """A status and what went to standard output; and why else it can't be right, if it can't."""
+    """A status and the standard output; and another reason why it can't be right, if there is one."""
 
     status: int
     output: bytes
@@ -44,7 +45,8 @@ class Replayed(NamedTuple):
 
 
 def replay(recording: bytes, observer: Observer, keeps_worlds: bool = True, keeps_answers: bool = True) -> Replayed:
-    """Replays the recording; Fault if it isn't one, Doubtful if the model can't decide. Keeps states and answers on request."""
+    """Replays the recording; raises Fault if it isn't one, Doubtful if the model can't decide. Keeps states and
+    answers on request."""
     text = read_text(recording)
     worlds, answers = held_together(positions(text, observer), keeps_worlds, keeps_answers)
     return Replayed(text, worlds, answers)
@@ -53,7 +55,7 @@ def replay(recording: bytes, observer: Observer, keeps_worlds: bool = True, keep
 def held_together(
     replayed: Iterable[tuple[World, Optional[Answer]]], keeps_worlds: bool, keeps_answers: bool
 ) -> tuple[list[World], list[Answer]]:
-    """The states of all positions, the first of them well-formed, and the answers."""
+    """The states of all positions, of which the first ones are checked to be well formed, and the answers."""
     worlds, answers = [], []
     for position, (world, answer) in enumerate(replayed):
         if position < HELD and (broken := breaches(world)):

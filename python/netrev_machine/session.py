@@ -1,4 +1,4 @@
-"""A session of `netrev run` as the model plays it: the debugger of debugger.py over the states of the machine."""
+"""A model of a session of `netrev run`: the debugger of debugger.py over the states of the machine."""
 
 from typing import Optional, Sequence
 
@@ -13,7 +13,7 @@ ROOM = 65_536
 
 
 class Looked:
-    """What one look shows, by position."""
+    """The results of one query, by position."""
 
     def __init__(self, worlds: Sequence[World], asked: str) -> None:
         self.worlds = worlds
@@ -24,7 +24,7 @@ class Looked:
 
 
 class Shown(dict[str, Looked]):
-    """What each look shows; it is asked for by the line of the look."""
+    """The results of each query, by the query's line."""
 
     def __init__(self, worlds: Sequence[World]) -> None:
         super().__init__()
@@ -36,7 +36,7 @@ class Shown(dict[str, Looked]):
 
 
 def recording_of(steps: Sequence[Step], worlds: Sequence[World]) -> Recording:
-    """What the debugger knows of a recording with these steps, and these states at its positions."""
+    """The debugger's data for a recording with these steps, and these states at its positions."""
     return Recording(None, tuple(step[0] for step in steps), Shown(worlds))
 
 
@@ -62,7 +62,7 @@ class Session:
         return reply
 
     def close(self) -> None:
-        """Forgets what was kept for the sake of speed."""
+        """Drops the caches."""
         Recording.hits_of.cache_clear()
         Recording.nearest.cache_clear()
 

@@ -1,7 +1,8 @@
-"""The 31 kinds of step: each a function of the state and the arguments that gives the next state and
-the answer, or raises Refused with the first reason, in the order of the table of docs/internals/MACHINE.md.
+"""The 31 kinds of step: each a function of the state and the arguments that returns the next state and the answer,
+or raises Refused with the first reason, in the order of the table of docs/internals/MACHINE.md.
 
-Answers are as docs/internals/MACHINE.md names them, in small letters; a number, a code, `got` and `put` carry theirs.
+Answers have their names of docs/internals/MACHINE.md in lower case; a number, a code, `got` and `put` include
+theirs.
 """
 
 from typing import Callable

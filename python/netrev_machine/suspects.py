@@ -1,14 +1,14 @@
-"""What `netrev suspects` prints over a recording, read off its definitions in docs/reference/COMMANDS.md word by word: each question goes over
-the steps anew, with the states before and after each of them. So it is quadratic, and meant for short recordings.
+"""The output of `netrev suspects` for a recording, by the definitions in docs/reference/COMMANDS.md word for word: each question goes over
+all steps, with the states before and after each. So it is quadratic, and meant for short recordings.
 
-    passed deadline  a `fire` by which the deadline of a side passes, with the `setdeadline` that it is due to
-    timeout          a check answered `code 2`, by which a call ends, with the `setdeadline` that it is due to
-    taken back       a `setdeadline` of a side whose deadline has passed, before the goroutine that it woke looked why
+    passed deadline  a `fire` by which the deadline of a side passes, with the `setdeadline` that set it
+    timeout          a check answered `code 2`, by which a call ends, with the `setdeadline` that set the deadline
+    taken back       a `setdeadline` of a side whose deadline has passed, before the goroutine that it woke checked why
     lost wake-up     a goroutine parked at a side, though no try was answered EAGAIN after the side's last event
     asleep           a goroutine parked at a side, though a check would end its wait, or its socket has what it waits for
     held reference   a goroutine that took more references of a closed socket than it gave back
 
-Each line is of one hunt. Those of deadlines come step by step, the others are of the last position.
+Each line has one finding. Those about deadlines come step by step, the others are about the last position.
 """
 
 from typing import Iterator, NamedTuple, Optional, Sequence
@@ -180,7 +180,7 @@ def is_setting(replayed: Replayed, n: int, d: int) -> bool:
 
 
 def lost_wake_ups(replayed: Replayed) -> Iterator[str]:
-    """Each goroutine that is parked in the end at a side that is owed."""
+    """Each goroutine that is parked at the end at a side to which a try is owed."""
     for d, desc in enumerate(replayed.worlds[replayed.end].descs):
         for side in SIDES:
             parked, event = desc.words[at(side)], owed(replayed, d, side)
@@ -225,11 +225,11 @@ def takes(replayed: Replayed, n: int, d: int, side: str) -> bool:
     return before == "ready" and after != "ready"
 
 
-# goroutines that sleep on
+# goroutines that sleep although their side has to be answered
 
 
 def asleep(replayed: Replayed) -> Iterator[str]:
-    """Each goroutine that is parked in the end at a side that has to be answered."""
+    """Each goroutine that is parked at the end at a side that has to be answered."""
     world = replayed.worlds[replayed.end]
     for d, desc in enumerate(world.descs):
         for side in SIDES:
@@ -239,7 +239,7 @@ def asleep(replayed: Replayed) -> Iterator[str]:
 
 
 def reasons_to_answer(world: World, d: int, side: str) -> list[str]:
-    """Why a side needn't wait: what a check finds first, then what its socket has."""
+    """The reasons why a side needn't wait: the first result of a check, then the state of its socket."""
     desc, socket = world.descs[d], world.sockets[world.descs[d].socket]
     reads = side == "r"
     holds = {
@@ -258,7 +258,7 @@ def reasons_to_answer(world: World, d: int, side: str) -> list[str]:
 
 
 def held_references(replayed: Replayed) -> Iterator[str]:
-    """Each goroutine that holds references of a socket that is closed in the end and has some."""
+    """Each goroutine that holds references of a closed socket at the end."""
     world = replayed.worlds[replayed.end]
     for s, socket in enumerate(world.sockets):
         if socket.lock.number & 1 and socket.lock.references >= 1:

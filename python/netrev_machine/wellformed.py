@@ -1,8 +1,6 @@
-"""What holds of each state, by the list "What always holds" of docs/internals/MACHINE.md. The fuzzer holds the model to it, at each
-state that a recording reaches: where one breaks it, the pages contradict each other, or the model is wrong.
-
-`breaches` names what doesn't hold.
-"""
+"""The invariants of each state, by the list "What always holds" of docs/internals/MACHINE.md. The fuzzer checks
+them for the model, at each state that a recording reaches: if a state breaks one, the pages contradict each
+other, or the model is wrong. `breaches` names the broken ones."""
 
 from typing import Iterator
 
@@ -13,12 +11,13 @@ from .polling import is_combo
 
 
 def breaches(world: World) -> list[str]:
-    """What doesn't hold of a state, in words."""
+    """The invariants that a state breaks, as text."""
     return [name for rule in RULES for name in rule(world)]
 
 
 def waits(world: World) -> Iterator[str]:
-    """One goroutine at most inside each wait, of an open descriptor; words hold just the parked, and waiters count them."""
+    """At most one goroutine is inside each wait, of an open descriptor; words hold exactly the parked goroutines,
+    and waiters counts them."""
     held: dict[int, Status] = {}
     for d, desc in enumerate(world.descs):
         for side in SIDES:

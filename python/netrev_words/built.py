@@ -8,10 +8,10 @@ from typing import Optional
 
 HERE = Path(__file__).resolve().parents
 BUILT = HERE[2] / "crates/netrev/out/netrev"
-INSTALLED = HERE[3] / "bin/netrev"  # by `make install`, which puts this module into lib/netrev/netrev_words
+INSTALLED = HERE[3] / "bin/netrev"  # set by `make install`, which puts this module into lib/netrev/netrev_words
 
 
-LAUNCHER = b"netrev_words.launching"  # stands in the script of pip's that looks for netrev itself
+LAUNCHER = b"netrev_words.launching"  # a text in pip's script that looks for netrev itself
 
 
 def is_launcher(path: Path) -> bool:
@@ -30,8 +30,8 @@ def on_the_path() -> Optional[str]:
 
 
 def netrev_program() -> Optional[str]:
-    """The one that NETREV names, else the one that is built here, one that is installed beside the program that runs, or
-    another that is installed."""
+    """The program that NETREV names, else the one that is built here, the one that is installed beside the running
+    program, or another installed one."""
     beside = Path(sys.argv[0]).resolve().with_name("netrev")
     there = [str(path) for path in (BUILT, beside, INSTALLED) if path.is_file() and not is_launcher(path)]
     return os.environ.get("NETREV") or next(iter(there), None) or on_the_path()

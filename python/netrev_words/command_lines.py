@@ -44,7 +44,7 @@ def scripts_of(name: str) -> list[Path]:
 
 
 def schemes() -> list[str]:
-    """Where pip puts scripts: those of this Python's own folder of packages, or the user's."""
+    """The folders into which pip puts scripts: those of this Python's own packages, or the user's."""
     every = sysconfig.get_default_scheme(), sysconfig.get_preferred_scheme("user")
     return [scheme for scheme in every if Path(sysconfig.get_path("purelib", scheme)).resolve() == PACKAGES]
 
@@ -54,7 +54,7 @@ def is_executable(path: Path) -> bool:
 
 
 def path_from_here(path: Path) -> str:
-    """A path that a shell runs in the current folder: a relative one if it isn't longer."""
+    """A path for a shell in the current folder: a relative one unless it is longer."""
     try:
         relative = os.path.relpath(path, os.getcwd())
     except OSError:  # the current folder is gone
@@ -69,7 +69,7 @@ def file_word(path: object) -> str:
 
 
 def how_to_get_netrev(option: str = "NETREV") -> str:
-    """What to do if netrev's program isn't found. `option` is what names another one."""
+    """What to do if netrev's program isn't found. `option` names another one."""
     build = make_command("netrev")
     get = f"`{build}` builds it" if build else "the Debian package and the archive contain it"
     return f"{get}; {option} names another one"

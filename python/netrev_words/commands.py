@@ -5,7 +5,7 @@ from dataclasses import dataclass
 
 @dataclass(frozen=True)
 class Command:
-    """A command: its name, how it is called, what it does, and its short names. An empty line of nrdb repeats it if it
+    """A command: its name, its usage, what it does, and its short names. An empty line of nrdb repeats it if it
     steps."""
 
     name: str

@@ -1,4 +1,4 @@
-"""Files that are written completely or not at all: if a write fails, the old file stays."""
+"""Writes files atomically: if a write fails, the old file stays."""
 
 import errno
 import os
@@ -8,20 +8,20 @@ from pathlib import Path
 from typing import IO, Any, Iterator
 
 STREAMS = tuple(map(Path, ("/dev", "/dev/fd", "/proc/self/fd")))
-MOST_LINKS = 40  # as the kernel follows
-OF_LINES = b'{"where":'  # a file of lines beside a recording begins so (docs/reference/RECORDING.md)
+MOST_LINKS = 40  # the most links that the kernel follows
+OF_LINES = b'{"where":'  # the beginning of a file of lines beside a recording (docs/reference/RECORDING.md)
 
 
 def beside(path: Path) -> Path:
-    """A new name in the folder of a file, which is short whatever the file is called."""
+    """A new name in the folder of a file, short whatever the file's name."""
     return path.with_name(f".netrev-{os.getpid()}-{secrets.token_hex(4)}")
 
 
 @contextmanager
 def whole(path: Path, mode: str = "w") -> Iterator[IO[Any]]:
-    """A file to write to, which replaces the old one at the end; an OSError that names it if it can't be written. A path that isn't
-    a regular file, such as a pipe or /dev/stdout, is written to directly. A link is followed unless it belongs to another user.
-    """
+    """A file to write to, which replaces the old one at the end; raises an OSError that names it if it can't be
+    written. A path that isn't a regular file, such as a pipe or /dev/stdout, is written to directly. A link is
+    followed unless it belongs to another user."""
     try:
         check_name(path)
         check_links(path)
@@ -46,7 +46,7 @@ def whole(path: Path, mode: str = "w") -> Iterator[IO[Any]]:
 
 
 def check_name(path: str | Path) -> None:
-    """An OSError if no file can have that name."""
+    """Raises an OSError if no file can have that name."""
     try:
         is_name = b"\0" not in os.fsencode(path)
     except UnicodeEncodeError:
@@ -68,7 +68,7 @@ def check_links(path: Path) -> None:
 
 
 def open_for(path: Path, mode: str) -> IO[Any]:
-    """Opens a file for text of UTF-8, or for bytes."""
+    """Opens a file for text in UTF-8, or for bytes."""
     return open(path, mode, encoding=None if "b" in mode else "utf-8")
 
 
@@ -82,6 +82,6 @@ def forget_where(path: Path) -> None:
 
 
 def written_whole(path: Path, data: bytes) -> None:
-    """Writes these bytes; an OSError that names the file if that fails."""
+    """Writes these bytes; raises an OSError that names the file if that fails."""
     with whole(path, "wb") as file:
         file.write(data)

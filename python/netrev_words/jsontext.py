@@ -1,11 +1,11 @@
-"""A line of JSON, read as strictly as docs/reference/RECORDING.md says, over Python's `json`. Where Python is laxer:
+"""Reads a line of JSON as strictly as docs/reference/RECORDING.md says. Unlike Python's `json`, it rejects
 
-- `NaN` and `Infinity` are no JSON, nor is a number too great for a floating-point one, or half of a surrogate pair;
-- arrays and objects nested 128 deep are none either;
-- `-0` is no whole number, as none is that has a point or an exponent, or more digits than 64 bits hold.
+- `NaN`, `Infinity`, numbers too large for floating point, and half of a surrogate pair;
+- arrays and objects nested 128 deep;
 
-Readers of JSON differ over numbers close to the greatest floating-point one. `Doubtful` is raised there, and such a case
-isn't judged.
+and doesn't count as a whole number `-0`, a number with a point or an exponent, or one with more digits than 64 bits hold.
+
+JSON parsers differ over numbers close to the largest floating-point one. There `Doubtful` is raised, and the case isn't judged.
 """
 
 import json
@@ -18,7 +18,7 @@ DOUBTED = (Decimal("1.7976e308"), Decimal("1.7978e308"))
 
 
 class NoJson(ValueError):
-    """The text is no JSON."""
+    """The text isn't JSON."""
 
 
 class Doubtful(Exception):
@@ -26,7 +26,7 @@ class Doubtful(Exception):
 
 
 class Fraction:
-    """A number that isn't taken for a whole one."""
+    """A number that doesn't count as a whole one."""
 
 
 def whole(text: str) -> object:
@@ -41,7 +41,7 @@ def fraction(text: str) -> Fraction:
     try:
         if DOUBTED[0] <= Decimal(text).copy_abs() <= DOUBTED[1]:
             raise Doubtful(text)
-    except InvalidOperation:  # an exponent past Decimal's own
+    except InvalidOperation:  # an exponent beyond Decimal's
         pass
     if float(text) in (float("inf"), float("-inf")):
         raise NoJson(text)
@@ -61,7 +61,7 @@ def pairs(items: list[tuple[str, object]]) -> dict[str, object]:
 
 
 def whole_text(value: object) -> None:
-    """Refuses half of a surrogate pair, in whatever the value holds. (Objects were looked at when they were read.)"""
+    """Rejects half of a surrogate pair anywhere in the value. (Objects were checked when they were read.)"""
     if isinstance(value, str) and any("\ud800" <= letter <= "\udfff" for letter in value):
         raise NoJson("half of a surrogate pair")
     if isinstance(value, list):

@@ -1,4 +1,5 @@
-"""The command `netrev` where pip installed it: pip has no proved program, so this runs the one that is found, or says how to get it."""
+"""The command `netrev` of a pip installation: pip has no proved program, so this runs the one that it finds, or
+says how to get it."""
 
 import os
 import sys

@@ -1,4 +1,4 @@
-"""How a program ends that knows millions of small things: at once, and not when Python has given them back piece by piece."""
+"""Ends a program at once, without freeing millions of small objects piece by piece."""
 
 import atexit
 import os
@@ -17,7 +17,7 @@ def ended_by(main: Callable[[], int]) -> None:
 
 def leave(ended: list[int]) -> None:
     """Ends the process with a status at once: freeing the data of a million steps would take a second."""
-    with suppress(OSError, ValueError):  # (Python reports what can't be printed, as always)
+    with suppress(OSError, ValueError):  # (Python reports output that can't be printed, as always)
         for status in ended:
             for stream in filter(None, (sys.stdout, sys.stderr)):
                 stream.flush()

@@ -1,11 +1,11 @@
-"""Text of others, made fit to be shown: whatever reaches a terminal or a page goes through `plain`."""
+"""Escapes text from outside: all text for a terminal or a page goes through `plain`."""
 
 UNSAFE = {ord("\n"): "\\n", ord("\r"): "\\r", ord("\t"): "\\t"}
 
 
 def plain(text: str) -> str:
-    """The text with each character written out that a terminal obeys or that can't be seen: controls, those of the
-    upper half too, marks that turn the direction of writing, spaces that aren't, and bytes that are no UTF-8."""
+    """The text with each character escaped that a terminal obeys or that can't be seen: controls, those of the
+    upper half too, marks that turn the direction of writing, unusual spaces, and bytes that aren't UTF-8."""
     return text if text.isprintable() else "".join(map(_shown, text))
 
 

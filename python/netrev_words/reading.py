@@ -1,4 +1,4 @@
-"""A text of bytes as a recording, or its first fault, by docs/reference/RECORDING.md."""
+"""Reads a text of bytes as a recording, or reports its first fault, by docs/reference/RECORDING.md."""
 
 import re
 from functools import lru_cache
@@ -12,7 +12,7 @@ from .vocabulary import KINDS as OF_NRDB
 LONGEST_LINE = 200_000
 MOST_STEPS = 1_000_000
 MOST_DIGITS = 131_072
-# of each version the header's greatest limits
+# the greatest limits of the header, by version
 RANGES = {
     version: {key: limit.greatest for key, limit in header.items() if key != "netrev"}
     for version, header in HEADERS.items()
@@ -26,7 +26,7 @@ def forms_of(kind: Kind) -> tuple[str, ...]:
 
 
 ARGUMENTS = {kind.name: forms_of(kind) for kind in OF_NRDB.values()}
-# of each version the kinds that its recordings can have
+# the kinds that recordings can have, by version
 KINDS = {version: tuple(kind.name for kind in OF_NRDB.values() if kind.since <= version) for version in VERSIONS}
 
 

@@ -1,17 +1,18 @@
-"""What a recording says: its limits, its steps, and the answers that it has beside them."""
+"""The contents of a recording: its limits, its steps, and their recorded answers."""
 
 from __future__ import annotations
 
 from typing import Any, NamedTuple, Optional, Sequence
 
 Step = tuple[Any, ...]  # the kind, and the arguments after it
-Answer = tuple[Any, ...]  # its name, and for some a number after it
+Answer = tuple[Any, ...]  # its name, and for some answers a number
 
 GREATEST_TIME = 2**63 - 1
 
 
 class Limits(NamedTuple):
-    """The header's keys but the version: of goroutines, sockets and descriptors how many there may be, and how many bytes a buffer."""
+    """The header's keys except the version: the most goroutines, sockets and descriptors, and the bytes of a
+    buffer."""
 
     gor: int
     sock: int
@@ -20,7 +21,7 @@ class Limits(NamedTuple):
 
 
 class Recording(NamedTuple):
-    """What a text says: steps as tuples, and in version 2 the recorded answer of each, as the machine's answers are."""
+    """A recording's contents: steps as tuples, and in version 2 the recorded answer of each, in the machine's form."""
 
     version: int
     limits: Limits

@@ -1,3 +1,3 @@
-"""netrev's version. All else takes it from here: pyproject.toml, the Makefile, the man page, `nrdb --version`."""
+"""netrev's version, for pyproject.toml, the Makefile, the man page and `nrdb --version`."""
 
 VERSION = "1.0.0"

@@ -1,5 +1,6 @@
-"""The words of recordings and commands, each table once: kinds of steps with their arguments, cells, dumps, reasons,
-faults and the header's keys. docs/internals/MACHINE.md, docs/reference/RECORDING.md and docs/reference/COMMANDS.md tell what they mean."""
+"""The vocabulary of recordings and commands, each table once: kinds of steps with their arguments, cells, dumps,
+reasons, faults and the header's keys. docs/internals/MACHINE.md, docs/reference/RECORDING.md and
+docs/reference/COMMANDS.md explain them."""
 
 from dataclasses import dataclass
 from enum import Enum
@@ -12,7 +13,7 @@ VERSIONS = (1, 2)
 
 
 class Of(Enum):
-    """What a cell is one of: there is one of the whole machine, or one for each goroutine, socket or descriptor."""
+    """The owner of a cell: the whole machine, or each goroutine, socket or descriptor."""
 
     ALL = "machine"
     GOROUTINE = "goroutine"
@@ -22,8 +23,8 @@ class Of(Enum):
 
 @dataclass(frozen=True)
 class Kind:
-    """A kind of step: its name, the names of its arguments, the names of the answers that it can give, in a few words
-    what it records, and the first version whose recordings can have it."""
+    """A kind of step: its name, the names of its arguments, the names of its possible answers, a short description,
+    and the first version whose recordings can have it."""
 
     name: str
     arguments: tuple[str, ...]
@@ -38,7 +39,7 @@ class Kind:
 
 @dataclass(frozen=True)
 class Cell:
-    """A cell that `print` and `watch` know, what it is one of, and what its value says."""
+    """A cell of `print` and `watch`, its owner, and the meaning of its value."""
 
     name: str
     of: Of
@@ -89,7 +90,7 @@ KINDS = {
 
 OF_A_GOROUTINE = tuple(name for name, kind in KINDS.items() if kind.arguments[:1] == ("g",))  # which one makes
 
-NUMBERS = {name: number for number, name in enumerate(KINDS, 1)}  # a kind's number is its place in the table
+NUMBERS = {name: number for number, name in enumerate(KINDS, 1)}  # a kind's number is its index in the table
 
 # a recorded answer is one of these names, or an array of one of those with a number
 PLAIN_ANSWERS = ("done", "yes", "no", "wait", "last", "notlast", "eof", "again", "stale", "pipe")
@@ -97,7 +98,7 @@ COUNTED_ANSWERS = ("number", "code", "got", "put")
 
 
 def is_answer(value: object) -> bool:
-    """Whether a value of a recording is an answer, be it one that the step's kind can give or not."""
+    """Whether a value of a recording is an answer, even if the step's kind can't give it."""
     if isinstance(value, str):
         return value in PLAIN_ANSWERS
     if not (isinstance(value, list) and len(value) == 2 and isinstance(value[0], str)):
@@ -140,7 +141,7 @@ DUMPS = {
 
 
 class Written(Enum):
-    """How an argument is written in a recording."""
+    """The written form of an argument in a recording."""
 
     NUMBER = "a whole number from 0 to 4294967295"
     TAG = "a whole number from 0 to 18446744073709551615"
@@ -163,7 +164,8 @@ _WRITTEN = {
 
 
 def written(kind: Kind, argument: str) -> Written:
-    """How this argument of this kind is written: the time of a deadline may be negative, that of the clock not."""
+    """The written form of this argument of this kind: the time of a deadline may be negative, that of the clock
+    not."""
     if kind.name == "setdeadline" and argument == "time":
         return Written.DEADLINE
     return _WRITTEN.get(argument, Written.NUMBER)
@@ -239,7 +241,7 @@ def number_of(word: str) -> Optional[int]:
 
 
 def break_of(words: Sequence[str]) -> Optional[str]:
-    """What a break that the words spell stops at, as `info breakpoints` has it, or None: a kind, or `@` and a step."""
+    """The target of a break in these words, as in `info breakpoints`, or None: a kind, or `@` and a step."""
     if len(words) != 1:
         return None
     word = words[0]

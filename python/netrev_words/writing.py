@@ -1,4 +1,4 @@
-"""Recordings as text, in the one way in which netrev writes them."""
+"""Recordings as text, in netrev's own form."""
 
 import json
 from typing import Optional
@@ -11,7 +11,7 @@ def header_of(recording: Recording) -> dict[str, int]:
 
 
 def json_answer(answer: Answer) -> object:
-    """An answer as the JSON value that a recording has of it."""
+    """The JSON value of an answer in a recording."""
     return answer[0] if len(answer) == 1 else list(answer)
 
 

@@ -6,7 +6,7 @@ from .output import Row
 from .waits import Name, of_names
 from .words import DOING, SIDES
 
-MANY = 4  # goroutines that wait for the same, from which on they share a row
+MANY = 4  # the least number of goroutines that share a row if they wait for the same
 RUNS = 8  # numbers that are shown
 
 

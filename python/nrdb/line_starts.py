@@ -5,6 +5,7 @@ from bisect import bisect_left
 from itertools import accumulate
 
 BLOCK = 2**16  # bytes
+KEPT = 4  # blocks whose line feeds have been found
 
 
 class LineStarts:
@@ -14,9 +15,10 @@ class LineStarts:
         self._data = data
         counts = (data.count(b"\n", begin, begin + BLOCK) for begin in range(0, len(data), BLOCK))
         self._before = list(accumulate(counts, initial=0))  # how many line feeds are before each block
-        # for the last block: how many line feeds are before it and up to its end, and their places in it
+        # for the last block: how many line feeds are before it and up to its end, and their places in it; the places of a few blocks
         self._first = self._last = 0
         self._behind = [0]
+        self._kept: dict[int, list[int]] = {}
 
     def __len__(self) -> int:
         return self._before[-1] + 2
@@ -27,10 +29,18 @@ class LineStarts:
                 return self._at_an_end(line)
             block = bisect_left(self._before, line) - 1
             self._first, self._last = self._before[block : block + 2]
+            self._behind = self._found(block)
+        return self._behind[line - self._first]
+
+    def _found(self, block: int) -> list[int]:
+        """The places behind the line feeds of a block."""
+        if block not in self._kept:
+            if len(self._kept) == KEPT:
+                del self._kept[next(iter(self._kept))]
             begin = block * BLOCK
             lines = self._data[begin : begin + BLOCK].split(b"\n")
-            self._behind = list(accumulate(map((1).__add__, map(len, lines)), initial=begin))
-        return self._behind[line - self._first]
+            self._kept[block] = list(accumulate(map((1).__add__, map(len, lines)), initial=begin))
+        return self._kept[block]
 
     def _at_an_end(self, line: int) -> int:
         """The place of the first line, or the place after the last one."""

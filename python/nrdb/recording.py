@@ -139,6 +139,13 @@ class Recording:
         """The lines before that of a step, from 1 to one more than the last."""
         return self.before_line(self._numbers[number]) if number <= self.length else self.data
 
+    def between(self, first: int, last: int) -> bytes:
+        """The lines of the steps that lead from one position to another."""
+        last = min(last, self.length)
+        if first >= last:
+            return b""
+        return self.data[self._starts[self._numbers[first + 1] - 1] : self._starts[self._numbers[last]]]
+
     def is_last(self, number: int) -> bool:
         """Whether only blanks follow that line."""
         return not self.data[self._starts[number] :].strip(b" \t\r\n\0")

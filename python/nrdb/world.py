@@ -2,7 +2,8 @@
 and of which sockets."""
 
 import re
-from typing import Iterable, Sequence
+from functools import lru_cache
+from typing import Iterable, Optional, Sequence
 
 from netrev_words.vocabulary import Of
 
@@ -11,7 +12,9 @@ from .recording import Recording
 
 OF_POLL = re.compile(rb'"poll(?:close"\s*,\s*\d+\s*,\s*(\d+)|open"\s*,\s*\d+\s*,\s*(\d+))')
 COUNTED_BY = {Of.GOROUTINE: "gor", Of.SOCKET: "lock", Of.DESCRIPTOR: "fdseq"}
-AT_FIRST = 64
+LIMITS = {Of.GOROUTINE: "gor", Of.SOCKET: "sock", Of.DESCRIPTOR: "desc"}
+AT_FIRST, TIMES = 8, 8  # how many cells are asked for at first, and how many times as many each time after that
+BLOCK = 16_384  # steps, after each of which it is kept which descriptors are open
 
 
 class World:
@@ -45,48 +48,79 @@ class World:
 
     def made(self, of: Of) -> int:
         """The number of goroutines, sockets or descriptors that exist, whose numbers are all below it."""
-        return made_at(self.netrev, of)
+        return made_at(self.netrev, of, room_for(self.recording, of))
 
     def sockets_of_open(self) -> dict[int, int]:
         """The open descriptors, each with its socket."""
         return opened_by(self.recording, self.position)[0]
 
 
+class Opened:
+    """Which descriptors are open, by the openings and closings so far."""
+
+    def __init__(self, earlier: Optional["Opened"] = None) -> None:
+        self.made: int = earlier.made if earlier else 0
+        self.free: list[int] = earlier.free.copy() if earlier else []
+        self.now: dict[int, int] = earlier.now.copy() if earlier else {}
+
+    def after(self, recording: Recording, first: int, last: int) -> "Opened":
+        """Which are open after the steps that lead from one position to another."""
+        opened = Opened(self)
+        for closed, socket in closings_and_openings(recording, first, last):
+            if closed:
+                opened.free.append(int(closed))
+                del opened.now[opened.free[-1]]
+            else:
+                opened.now[opened.take()] = int(socket)
+        return opened
+
+    def next(self) -> int:
+        """The number that `pollopen` takes: the one freed last, or the next new one."""
+        return self.free[-1] if self.free else self.made
+
+    def take(self) -> int:
+        if self.free:
+            return self.free.pop()
+        self.made += 1
+        return self.made - 1
+
+
+@lru_cache(maxsize=128)
+def opened_after(recording: Recording, blocks: int) -> Opened:
+    """Which descriptors are open after so many blocks of steps."""
+    if not blocks:
+        return Opened()
+    return opened_after(recording, blocks - 1).after(recording, (blocks - 1) * BLOCK, blocks * BLOCK)
+
+
 def opened_by(recording: Recording, position: int) -> tuple[dict[int, int], int]:
-    """The descriptors that are open after this many steps, each with its socket, and the number that `pollopen` takes
-    next: the one freed last, or the next new one."""
-    free: list[int] = []
-    made, open_now = 0, dict[int, int]()
-    for closed, socket in closings_and_openings(recording, position):
-        if closed:
-            free.append(int(closed))
-            del open_now[free[-1]]
-            continue
-        if free:
-            descriptor = free.pop()
-        else:
-            descriptor, made = made, made + 1
-        open_now[descriptor] = int(socket)
-    return open_now, free[-1] if free else made
+    """The descriptors that are open after this many steps, each with its socket, and the number that `pollopen` takes next."""
+    blocks = position // BLOCK
+    opened = opened_after(recording, blocks).after(recording, blocks * BLOCK, position)
+    return opened.now, opened.next()
 
 
-def closings_and_openings(recording: Recording, position: int) -> Iterable[tuple[bytes, bytes]]:
-    """For each `pollclose` and `pollopen` among these steps the descriptor, or the socket, as spelled; the other one is
-    empty."""
+def closings_and_openings(recording: Recording, first: int, last: int) -> Iterable[tuple[bytes, bytes]]:
+    """For each `pollclose` and `pollopen` among the steps from one position to another the descriptor, or the socket, as spelled; the
+    other one is empty."""
     if not recording.has_escapes:
-        return OF_POLL.findall(recording.before_step(position + 1))
-    steps = recording.steps_of(("pollopen", "pollclose"), position)
-    numbers = ((b"%d" % step.arguments[1], step.kind == "pollclose") for step in steps)
+        return OF_POLL.findall(recording.between(first, last))
+    steps = recording.steps_of(("pollopen", "pollclose"), last)
+    numbers = ((b"%d" % step.arguments[1], step.kind == "pollclose") for step in steps if step.number > first)
     return ((number, b"") if is_closed else (b"", number) for number, is_closed in numbers)
 
 
-def made_at(netrev: Netrev, of: Of) -> int:
-    """The number of goroutines, sockets or descriptors that exist at netrev's position."""
+def room_for(recording: Recording, of: Of) -> int:
+    """How many goroutines, sockets or descriptors a recording may have, by its header."""
+    return int(recording.limits[LIMITS[of]])
+
+
+def made_at(netrev: Netrev, of: Of, most: int) -> int:
+    """The number of goroutines, sockets or descriptors that exist at netrev's position; `most` if there are more."""
     count, size = 0, AT_FIRST
-    while True:
-        values = netrev.values([f"{COUNTED_BY[of]} {number}" for number in range(count, count + size)])
-        there = values.index("absent") if "absent" in values else size
-        count += there
-        if there < size:
-            return count
-        size *= 2
+    while count < most:
+        values = netrev.values([f"{COUNTED_BY[of]} {number}" for number in range(count, min(count + size, most))])
+        if "absent" in values:
+            return count + values.index("absent")
+        count, size = count + len(values), size * TIMES
+    return count

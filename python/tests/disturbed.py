@@ -1,6 +1,5 @@
-"""A session of nrdb to which something happens at a point of its conversations, and what it has to tell then: what it would
-have told, or less. `tests.test_interrupts` has it with a netrev that the model plays, `tests.program.nrdb.test_slow` with the
-built one."""
+"""A session of nrdb with an event at a point of its conversations: its output must be what it would have been, or a
+part of that. `tests.test_interrupts` uses a modelled netrev, `tests.program.nrdb.test_slow` the built one."""
 
 import io
 import json
@@ -58,7 +57,7 @@ class Weather(Generic[Of]):
 
 
 def nothing(weather: Weather[Of], netrev: Of) -> None:
-    """The sky is clear."""
+    """Does nothing."""
 
 
 class Played(NamedTuple):
@@ -87,7 +86,7 @@ class Played(NamedTuple):
 
 
 class Disturbances(unittest.TestCase, Generic[Of]):
-    """Batches and the journal are made small, so that there are many points."""
+    """Makes batches and the journal small, so that a session has many points."""
 
     def setUp(self) -> None:
         with ExitStack() as stack:
@@ -104,7 +103,7 @@ class Disturbances(unittest.TestCase, Generic[Of]):
         return played.run(command)
 
     def settle(self) -> None:
-        """Waits until everything that began to happen has happened."""
+        """Waits until all pending events have happened."""
 
     def begun(self) -> Played:
         """A session over the example, with a mark and a display."""

@@ -1,7 +1,8 @@
-"""Records the programs of tools/go/samples/causes, oversights, roots, turns, gone, skips, joins, sizes, sources, hands and chains with the `go` on the PATH, bad and good, and says whether the
-line of each bug stands in what is printed first:
+"""Records the programs of tools/go/samples/causes, oversights, roots, turns, gone, skips, joins, sizes, sources, hands and chains with the `go`
+on the PATH, bad and good, and reports whether the first output has the line of each bug:
 
-    python3 python tests.go_caused [FOLDER]    keeps the recordings in FOLDER, as in python/tests/caused"""
+    python3 python tests.go_caused [FOLDER]    keeps the recordings in FOLDER, as in python/tests/caused
+"""
 
 import os
 import pathlib

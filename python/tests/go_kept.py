@@ -1,5 +1,5 @@
 """netrev-go with a real Go, in cases in which a run could be lost: a program that execs another one, and what its
-children inherit. It needs Go and netrev, and is run by `make real`."""
+children inherit. It needs Go and netrev; `make real` runs it."""
 
 import os
 import pathlib
@@ -18,6 +18,66 @@ BECOMES = program(
 INHERITS = program(
     '\tout, err := exec.Command("ls", "-l", "/proc/self/fd").CombinedOutput()\n\tfmt.Print(string(out), err)',
     "fmt", "os/exec",
+)  # fmt: skip
+# Goroutines lock mutexes one within the other, on processors whose number changes, and others unlock some of them. In the end three are locked.
+LOCKS = program(
+    """
+	var shared [40]sync.Mutex
+	var reading [20]sync.RWMutex
+	var locking, unlocking sync.WaitGroup
+	handed := make(chan *sync.Mutex, 100)
+	unlocking.Add(1)
+	go func() {
+		for one := range handed {
+			one.Unlock()
+		}
+		unlocking.Done()
+	}()
+	for i := 0; i < 8; i++ {
+		locking.Add(1)
+		go func(i int) {
+			var own [6]sync.Mutex
+			for n := 0; n < 2000; n++ {
+				for j := range own {
+					own[j].Lock()
+				}
+				if n%50 == 0 {
+					runtime.Gosched()
+				}
+				for j := range own {
+					own[j].Unlock()
+				}
+				one, first, second := &shared[(i+n)%40], &reading[(i+n)%20], &reading[(i+n+1)%20]
+				one.Lock()
+				if n%7 == 0 {
+					handed <- one
+				} else {
+					one.Unlock()
+				}
+				first.RLock()
+				second.RLock()
+				if n%64 == 0 {
+					runtime.Gosched()
+				}
+				first.RUnlock()
+				second.RUnlock()
+				if i == 0 && n%100 == 0 {
+					runtime.GOMAXPROCS(1 + n/100%6)
+				}
+			}
+			locking.Done()
+		}(i)
+	}
+	locking.Wait()
+	close(handed)
+	unlocking.Wait()
+	shared[3].Lock()
+	reading[2].RLock()
+	reading[5].Lock()
+	fmt.Println(uintptr(unsafe.Pointer(&shared[3])), uintptr(unsafe.Pointer(&reading[2])), uintptr(unsafe.Pointer(&reading[5])))
+	os.Exit(0)
+""",
+    "fmt", "os", "runtime", "sync", "unsafe",
 )  # fmt: skip
 MANY = program("\tfor i := 0; i < 5000; i++ {\n\t\ta.SetDeadline(time.Now().Add(time.Hour))\n\t}", "time")
 
@@ -56,6 +116,17 @@ class Kept(Tool):
         self.assertIn("recording.jsonl -ex continue -ex 'info errors'", said)
         self.assertNotIn("--explore", said)
 
+    def test_the_log_has_just_the_mutexes_that_are_locked_in_the_end(self) -> None:
+        self.written(LOCKS)
+        self.assertEqual(self.called("build", "-o", "prog", "main.go")[0], 0)
+        for turn in range(3):
+            settings = self.environment(NETREV_LOG=str(self.folder / f"log-{turn}"))
+            run = subprocess.run(["./prog"], cwd=self.folder, env=settings, capture_output=True, text=True, check=True)
+            (log,) = (path for path in self.folder.glob(f"log-{turn}.*") if ".program." not in path.name)
+            mutex, reading, writing = map(int, run.stdout.split())
+            held = {(one.address, one.is_reader) for one in read_log(log).holders or ()}
+            self.assertEqual(held, {(mutex, False), (reading, True), (writing, False)})
+
     def mounted(self, size: str) -> pathlib.Path:
         """A file system of this size."""
         small = self.folder / "small"
@@ -66,9 +137,9 @@ class Kept(Tool):
         return small
 
     def test_a_log_without_room_ends_and_the_program_goes_on(self) -> None:
-        self.written(MANY.replace("5000", "50000"))
+        self.written(MANY.replace("5000", "100000"))
         self.assertEqual(self.called("build", "-o", "prog", "main.go")[0], 0)
-        small = self.mounted("8m")
+        small = self.mounted("10m")
         settings = self.environment(NETREV_LOG=f"{small}/log")
         ended = subprocess.run(["./prog"], cwd=self.folder, env=settings, capture_output=True, check=True)
         self.assertEqual((ended.stdout, ended.stderr), (b"", b""))

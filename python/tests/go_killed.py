@@ -43,7 +43,7 @@ EARLIEST, LATEST = -2.0, 4.0  # seconds to the signal, after the program's begin
 
 @dataclass
 class Trial:
-    """A folder with a program, of which runs are killed."""
+    """A folder with a program whose runs are killed."""
 
     folder: Path
     release: str
@@ -62,7 +62,7 @@ class Trial:
         return os.environ | settings | files | {"NETREV_LOGS": str(self.folder / "logs")}
 
     def called(self, number: int, *words: str) -> str:
-        """What netrev-go prints on standard error."""
+        """netrev-go's output on standard error."""
         run = subprocess.run(
             [TOOL, *words], cwd=self.folder, env=self.environment(number), capture_output=True, text=True, check=False
         )

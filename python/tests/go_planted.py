@@ -96,7 +96,7 @@ PLANTED: dict[str, tuple[list[Change], str]] = {
 
 
 class Planted(unittest.TestCase):
-    """A copy of Go 1.27, without what no program needs."""
+    """A copy of Go 1.27, without the parts that no program needs."""
 
     root: pathlib.Path
     folder: pathlib.Path
@@ -117,7 +117,7 @@ class Planted(unittest.TestCase):
 
     @contextlib.contextmanager
     def planted(self, changes: list[Change]) -> Iterator[None]:
-        """Some files with other texts in them."""
+        """Puts other texts into some files."""
         before = {name: (self.root / "src" / name).read_text() for name, _ in changes}
         try:
             for name, words in changes:

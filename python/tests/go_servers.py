@@ -1,11 +1,12 @@
-"""Servers that run far past their ring, and have a bug then: netrev has to accept what `netrev-go watch` or `snapshot` records, it has to have
-the connection of the bug, which is older than the oldest point, and what is printed has to name the bug's line.
+"""Servers that run far beyond their ring, and then have a bug: netrev must accept the recording of `netrev-go watch` or `snapshot`, which must
+contain the connection of the bug, older than the oldest point, and the output must name the bug's line.
 
     python3 python tests.go_servers [--seconds N] [--points N] [--connections N] [--pause N] [--stuck T] [--gopath FOLDER] [--keep FOLDER] [NAME ..]
 
-The servers are those of tools/go/samples: `keep` needs Go alone, `stream` Debian's golang-google-grpc-dev below GOPATH, `pool` Debian's
-golang-github-lib-pq-dev there and PostgreSQL (postgresql). The bug comes after so many seconds. A line is printed for each; with --keep the
-recordings stay, and what was printed of them. The exit status is 1 if one isn't as it has to be."""
+The servers are samples of tools/go: `keep` needs only Go, `stream` Debian's golang-google-grpc-dev below GOPATH, `pool` Debian's
+golang-github-lib-pq-dev there and PostgreSQL (postgresql). The bug comes after N seconds. It prints a line for each; with --keep the
+recordings and the output about them stay. The exit status is 1 if one fails.
+"""
 
 import argparse
 import json
@@ -35,8 +36,8 @@ POSTGRES = "/usr/lib/postgresql/*/bin"
 
 @dataclass(frozen=True)
 class Server:
-    """A sample with a bug: the options of the watch that waits for it, or None where a snapshot is made when it has come; and what is to be printed, in
-    which {line} is the place of the bug."""
+    """A sample with a bug: the options of the watch that waits for it, or None if a snapshot is made after it; and
+    the expected output, in which {line} is the place of the bug."""
 
     sample: str
     bug: str
@@ -47,8 +48,12 @@ class Server:
 
 SERVERS = {
     "keep-deadline": Server(
-        "keep", "deadline", None, ("deadline left behind",)
-    ),  # (which was set before the oldest point)
+        "keep",
+        "deadline",
+        None,
+        ("deadline left behind", "was set before the recording begins", "net.(*conn).Write"),
+        False,
+    ),  # (which names the descriptor)
     "keep-wakeup": Server("keep", "wakeup", (), ("lost wake-up", "{line}")),
     "keep-mutex": Server("keep", "mutex", ("--writes",), ("a mutex", "{line}")),
     "stream-mutex": Server("stream", "mutex", (), ("a mutex", "{line}"), False),
@@ -63,7 +68,7 @@ def bug_line(server: Server) -> str:
 
 
 def built(sample: str, gopath: pathlib.Path, folder: pathlib.Path) -> pathlib.Path:
-    """The sample's program, which records if it is asked to."""
+    """The sample's program, which records on request."""
     program = folder / sample
     settings = os.environ | ({"GO111MODULE": "off", "GOPATH": str(gopath)} if sample != "keep" else {})
     words = [str(TOOL), "build", "-o", str(program), "main.go"]
@@ -81,7 +86,7 @@ def free_port() -> int:
 
 @contextmanager
 def database(folder: pathlib.Path) -> Iterator[dict[str, str]]:
-    """What the environment of a client of PostgreSQL's has. The server, which refuses to be root's, is run by another user then."""
+    """The environment for a client of PostgreSQL. The server refuses to run as root, so another user runs it then."""
     commands = max(pathlib.Path("/").glob(POSTGRES.lstrip("/")), default=None)
     if commands is None:
         sys.exit("PostgreSQL isn't here: apt-get install postgresql")
@@ -136,7 +141,7 @@ def resident(process: int) -> int:
 
 @dataclass
 class Came:
-    """What came of a server's run."""
+    """The result of a server's run."""
 
     printed: str
     points: int
@@ -161,7 +166,8 @@ def ran(
             [str(TOOL), "-o", str(name), *command], cwd=SAMPLES / server.sample, capture_output=True, text=True, errors="replace",
             timeout=options.seconds + PATIENCE, check=False,
         )  # fmt: skip
-        return Came(run.stdout + run.stderr + late_suspects(run.stdout, name), passed(log), resident(process.pid))
+        printed = run.stdout + run.stderr
+        return Came(printed + late_suspects(printed, name), passed(log), resident(process.pid))
     finally:
         process.kill()
         process.wait()
@@ -190,7 +196,7 @@ def old_sockets(name: pathlib.Path) -> set[int]:
 
 
 def faults(server: Server, came: Came, name: pathlib.Path, options: argparse.Namespace) -> list[str]:
-    """What isn't as it has to be."""
+    """The differences from the expected result."""
     found = []
     if not re.search(r"\.jsonl: ok \d+ steps", came.printed):
         return ["netrev doesn't accept the recording"]
@@ -209,7 +215,7 @@ def main(words: list[str]) -> int:
     parser.add_argument("--seconds", type=int, default=60)
     parser.add_argument("--points", type=int, default=2**16)
     parser.add_argument("--connections", type=int, default=50)
-    parser.add_argument("--pause", type=int, default=200, help="milliseconds between two requests of a client")
+    parser.add_argument("--pause", type=int, default=2_000, help="milliseconds between two requests of a client")
     parser.add_argument("--stuck", default="5s", help="for how long a call waits that is recorded")
     parser.add_argument("--gopath", type=pathlib.Path, default=DEBIAN)
     parser.add_argument("--keep", type=pathlib.Path)

@@ -1,4 +1,4 @@
-"""Copies of a log by SIGUSR2, which the owner of a program chooses. It needs Go and netrev, and is run by `make real`."""
+"""Copies of a log by SIGUSR2, which a program's owner turns on. It needs Go and netrev; `make real` runs it."""
 
 import os
 import pathlib
@@ -30,10 +30,18 @@ class Signals(Tool):
         self.assertEqual(self.called("build", "-o", "prog", "main.go")[0], 0)
 
     def started(self, *words: str, **settings: str) -> tuple[subprocess.Popen[str], pathlib.Path]:
-        """The program, which runs, and its log."""
+        """The running program, and its log."""
+        return self.started_by(["./prog", *words], settings)
+
+    def started_by(self, command: list[str], settings: dict[str, str]) -> tuple[subprocess.Popen[str], pathlib.Path]:
+        """The running program, started by a command, and its log."""
         settings |= {"NETREV_LOG": str(self.folder / "log"), "NETREV_POINTS": str(POINTS)}
         process = subprocess.Popen(
-            ["./prog", *words], cwd=self.folder, env=self.environment(**settings), stdout=subprocess.PIPE, text=True
+            command,
+            cwd=self.folder,
+            env=self.environment(**settings),
+            stdout=subprocess.PIPE,
+            text=True,
         )
         self.addCleanup(process.wait)
         self.addCleanup(process.kill)
@@ -42,7 +50,7 @@ class Signals(Tool):
         return process, self.folder / f"log.{process.pid}"
 
     def waited(self, is_done: Callable[[], bool]) -> None:
-        """Waits until something is so."""
+        """Waits until a condition holds."""
         end = time.monotonic() + PATIENCE
         while not is_done():
             self.assertLess(time.monotonic(), end)
@@ -92,6 +100,35 @@ class Signals(Tool):
             self.waited(lambda: self.passed(log) > POINTS)
             self.assertEqual(list(self.folder.glob("*.snapshot*")), [])
 
+    def test_on_a_full_disk_the_program_runs_on_and_convert_says_why_there_is_no_copy(self) -> None:
+        alone = ["unshare", "-m" if os.geteuid() == 0 else "-rm"]
+        if subprocess.run([*alone, "true"], check=False, capture_output=True).returncode != 0:
+            self.skipTest("this system gives no mounts of its own")
+        disk = self.folder / "disk"
+        disk.mkdir()
+        command = f"mount -t tmpfs -o size=64m none {disk} && NETREV_LOG={disk}/log exec ./prog"
+        process, _ = self.started_by([*alone, "sh", "-c", command], {"NETREV_SIGNAL": "usr2"})
+        inside = pathlib.Path(f"/proc/{process.pid}/root{disk}")
+        log, filler = inside / f"log.{process.pid}", inside / "filler"
+        with self.assertRaises(OSError), filler.open("wb", buffering=0) as file:
+            while True:
+                file.write(bytes(2**16))
+        process.send_signal(signal.SIGUSR2)
+        failed = log.with_name(log.name + ".snapshot.failed.028")
+        self.waited(failed.exists)
+        before = self.passed(log)
+        self.waited(lambda: self.passed(log) > before + POINTS)
+        self.assertEqual(sorted(path.name for path in inside.glob("*snapshot*")), [failed.name])
+        status, said = self.called("-o", "none", "convert", str(inside / f"{log.name}.snapshot"))
+        self.assertIn("the program couldn't copy its log: No space left on device", said)
+        self.assertNotEqual(status, 0)
+        filler.unlink()
+        process.send_signal(signal.SIGUSR2)
+        self.waited(lambda: log.with_name(log.name + ".snapshot").exists() and not failed.exists())
+        status, said = self.called("-o", "copied", "convert", str(inside / f"{log.name}.snapshot"))
+        self.assertEqual(status, 0, said)
+        self.recorded(said, "copied")
+
     def test_without_room_there_is_no_copy_and_the_program_runs_on(self) -> None:
         process, log = self.started(NETREV_SIGNAL="usr2")
         os.mkdir(log.with_name(log.name + ".snapshot.part"))  # a name that can't be had
@@ -99,4 +136,5 @@ class Signals(Tool):
         before = self.passed(log)
         self.waited(lambda: self.passed(log) > before + POINTS)
         self.assertFalse(log.with_name(log.name + ".snapshot").exists())
+        self.assertTrue(log.with_name(log.name + ".snapshot.failed.017").exists())
         self.assertIsNone(process.poll())

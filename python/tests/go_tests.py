@@ -1,5 +1,5 @@
-"""`netrev-go test` with a real Go: which tests are known, which recordings are kept, and with which status it ends. It needs Go and
-netrev, and is run by `make real`."""
+"""`netrev-go test` with a real Go: the known tests, the recordings that it keeps, and its exit status. It needs Go
+and netrev; `make real` runs it."""
 
 import json
 import os

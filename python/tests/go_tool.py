@@ -1,5 +1,5 @@
-"""netrev-go with a real Go: programs of all sorts, and each thing that can go wrong. It needs Go (Debian's golang-go, or one that
-netrev_go.fetching fetched, on the PATH) and netrev, and is run by `make real`."""
+"""netrev-go with a real Go: programs of all sorts, and everything that can go wrong. It needs Go (Debian's
+golang-go, or one that netrev_go.fetching fetched, on the PATH) and netrev; `make real` runs it."""
 
 import dataclasses
 import json
@@ -48,7 +48,7 @@ def program(body: str, *imports: str) -> str:
 
 
 def begin_of_ring(text: bytes) -> int:
-    """Where the points of a log begin, after its tables."""
+    """The place where the points of a log begin, after its tables."""
     return Header(text).ring
 
 
@@ -342,7 +342,7 @@ class Sentences(Tool):
                 self.assertNotIn("Traceback", told)
 
     def tools(self) -> str:
-        """A folder with what the launcher needs, and without Go."""
+        """A folder with the tools that the launcher needs, but without Go."""
         folder = self.folder / "tools"
         folder.mkdir(exist_ok=True)
         for name in ("dirname", "readlink", "python3", "env", "sh"):
@@ -352,7 +352,7 @@ class Sentences(Tool):
         return str(folder)
 
     def fit(self, changes: dict[str, dict[str, str]]) -> tuple[int, list[str]]:
-        """The message about the installed Go with other words in some of its files."""
+        """The message about the installed Go after some texts in its files were changed."""
         go = find_go()
         points = points_program(go, self.folder)
         for name in CHANGED:
@@ -413,7 +413,7 @@ class Sentences(Tool):
 
 
 class Installed(Tool):
-    """The release that is on the PATH."""
+    """The release of the `go` on the PATH."""
 
     def test_it_was_tried(self) -> None:
         self.assertIn(release_of(find_go().version)[0], TRIED)

@@ -1,5 +1,5 @@
-"""Each kind of wait outside of the poller, and what goroutines do at channels, as a program's NAME.where has them: with each release of Go
-that is here (netrev_go.fetching), else with the `go` on the PATH. It is run by `make real`."""
+"""Each kind of wait outside of the poller, and the uses of channels, in a program's NAME.where: with each installed
+release of Go (netrev_go.fetching), else with the `go` on the PATH. `make real` runs it."""
 
 import os
 

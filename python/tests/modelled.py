@@ -1,4 +1,4 @@
-"""A netrev that is the model, within the test's process, with events."""
+"""A model of netrev within the test's process, with events."""
 
 from collections import deque
 from pathlib import Path
@@ -17,7 +17,7 @@ Happens = Callable[["Modelled"], None]
 
 
 def recording_at(path: Path) -> Recording:
-    """The recording as the model's debugger knows it."""
+    """The recording in the form of the model's debugger."""
     replayed = replay(path.read_bytes(), Observer())
     return recording_of(replayed.text.steps, replayed.worlds)
 

@@ -15,7 +15,7 @@ SCRIPTS = Path(__file__).resolve().parents[2] / "scripts"
 
 
 def loaded(name: str, file: Path) -> ModuleType:
-    """A module of scripts/, which is no folder that Python looks for modules in."""
+    """A module of scripts/, which isn't on Python's path."""
     spec = importlib.util.spec_from_file_location(name, file)
     assert spec is not None and spec.loader is not None
     module = importlib.util.module_from_spec(spec)
@@ -224,7 +224,7 @@ class SmallTree(unittest.TestCase):
         file.write_text(text, encoding="utf-8")
 
     def run_over(self, *words: str) -> tuple[int, str]:
-        """Runs the script over the small tree: its status, and what it prints."""
+        """Runs the script over the small tree: its status and output."""
         with contextlib.redirect_stdout(io.StringIO()) as printed, contextlib.redirect_stderr(printed):
             try:
                 status = PAGES.main(["--root", str(self.top), *words])
@@ -233,14 +233,14 @@ class SmallTree(unittest.TestCase):
         return status, printed.getvalue()
 
     def beliefs(self, *words: str) -> str:
-        """What scripts/beliefs.py prints of the small tree."""
+        """The output of scripts/beliefs.py for the small tree."""
         with contextlib.redirect_stdout(io.StringIO()) as printed, contextlib.redirect_stderr(printed):
             with contextlib.suppress(SystemExit):
                 BELIEFS.main(["--root", str(self.top), *words])
         return printed.getvalue()
 
     def keep(self, log: str) -> None:
-        """Has the verdicts of a log kept."""
+        """Stores the verdicts of a log."""
         self.write("out/gate.log", log)
         with contextlib.redirect_stdout(io.StringIO()):
             self.assertEqual(VERDICTS.main(["--root", str(self.top)]), 0)

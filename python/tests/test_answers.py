@@ -1,5 +1,5 @@
-"""Answers that don't come: kept in a buffer, cut by the WriteTimeout of an http.Server, never sent to a datagram; and requests that a reader with
-a buffer of its own has read in advance."""
+"""Answers that don't come: kept in a buffer, cut by the WriteTimeout of an http.Server, never sent to a datagram;
+and requests that a buffered reader has read ahead."""
 
 import tempfile
 import unittest
@@ -69,7 +69,7 @@ class Flushes(WithFile):
         return ways_round_a_flush(recording, Stack((line(5, "(*session).loop", file),), None)).replace(file, "a.go")
 
     def test_a_continue_behind_what_is_written(self) -> None:
-        """That of a read which failed wrote nothing."""
+        """A `continue` after a failed read wrote nothing."""
         self.assertEqual(self.ways(FLUSHES), " (a.go:11 goes on without a.go:14, which flushes)")
 
     def test_no_way_round_it(self) -> None:

@@ -51,7 +51,7 @@ class Pages(unittest.TestCase):
 
 class Completion(unittest.TestCase):
     def completed(self, name: str, word: str, at: int) -> list[str]:
-        """What bash offers for a word."""
+        """bash's completions of a word."""
         source = said(sys.executable, "scripts/completion.py", "bash", name)
         words = " ".join([name, *["x"] * (at - 1), word])
         ask = f'COMP_WORDS=({words}); COMP_CWORD={at}; _{name.replace("-", "_")}; printf "%s\\n" "${{COMPREPLY[@]}}"'

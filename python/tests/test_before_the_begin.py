@@ -1,5 +1,5 @@
-"""What is said of a recording that begins in the middle of a run: nothing is claimed of the time before, and no goroutine is named that made the steps
-which lead to its first state."""
+"""Answers about a recording that begins in the middle of a run: they claim nothing about the time before, and name
+no goroutine for the steps that lead to its first state."""
 
 import unittest
 from typing import Any
@@ -20,7 +20,7 @@ NOBODY_WROTE = "Nobody has written anything on this connection"
 
 
 def begun(begins: int, steps: list[Any]) -> Recording:
-    """A recording of these steps, of which so many lead to its first state."""
+    """A recording of these steps, the first of which lead to its first state."""
     recording = with_lines(steps)
     recording.lines.prelude = begins
     return recording
@@ -28,7 +28,7 @@ def begun(begins: int, steps: list[Any]) -> Recording:
 
 class Before(unittest.TestCase):
     def said(self, begins: int) -> str:
-        """What is said of a Read that waits at the end, where nobody has written."""
+        """The answer about a Read that waits at the end, if nobody has written."""
         recording = begun(begins, [*TWO_ENDS, *READS_ON])
         index = index_of(recording)
         (call,) = [one.call for one in waiters_at(index, recording.length).values() if one.call]

@@ -1,4 +1,5 @@
-"""scripts/beliefs.py: which definitions a law of the small tree rests on, in which order, and what isn't opened."""
+"""scripts/beliefs.py: the definitions that a law of the small tree rests on, their order, and those that aren't
+opened."""
 
 import unittest
 from unittest import mock

@@ -24,12 +24,13 @@ OF = {BEFORE: 0.008, NOW: 0.004, BASELINE: 0.001}
 
 
 def figures(steps: int, times: float, programs: tuple[str, ...]) -> Figures:
-    """So many times what the programs take for a step. Memory is the same in all."""
+    """Figures that are multiples of the programs' time for a step. Memory is the same in all."""
     return {program: {"walk": OF[program] * steps * times, "memory": 40.0} for program in programs}
 
 
 def measured(*programs: str, sizes: tuple[int, ...] = (1_000, 10_000)) -> Measurement:
-    """Two shapes: in the second the baseline takes a fourth of what it takes in the first, the others as much."""
+    """Two shapes: in the second the baseline takes a fourth of its figures in the first, the other programs the
+    same."""
     found = {}
     for steps in sizes:
         found["locks", steps] = figures(steps, 1, programs)
@@ -40,7 +41,7 @@ def measured(*programs: str, sizes: tuple[int, ...] = (1_000, 10_000)) -> Measur
 
 
 def rows(table: str) -> Iterator[list[str]]:
-    """The cells of a table but its rule."""
+    """The cells of a table without its rule."""
     lines = table.splitlines()
     for line in [lines[0], *lines[2:]]:
         yield line.strip("| ").split(" | ")

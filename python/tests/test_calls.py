@@ -1,5 +1,5 @@
-"""Calls in place of steps: what nrdb finds in a recording's steps is what the goroutines of random traffic have called, with the
-same steps and the same ends; and where `next`, `finish` and their reverses lead."""
+"""Calls instead of steps: the calls that nrdb finds in a recording are those that the goroutines of random traffic
+made, with the same steps and results; and the destinations of `next`, `finish` and their reverses."""
 
 import random
 import unittest
@@ -78,7 +78,7 @@ def seen(call: Call) -> Made:
 
 class Calls(unittest.TestCase):
     def compare(self, one: Optional[Call], made: Made) -> None:
-        """Holds a call that nrdb found against that which was made."""
+        """Compares a call that nrdb found with the call that was made."""
         assert one is not None, made
         found = seen(one)
         if found.name == "Control" and (found.outcome is Outcome.CLOSED or not found.last):

@@ -1,5 +1,6 @@
-"""What is said first of programs that failed, by recordings of tools/go/samples/causes and oversights (tests.go_caused made them): the
-line of the bug stands in it. And the rules that look at calls: each finds its bug, and not what is nearly that."""
+"""The first output for programs that failed, in recordings of tools/go/samples/causes and oversights
+(tests.go_caused made them): it has the line of the bug. And the rules about calls: each finds its bug, and not a
+similar correct program."""
 
 import contextlib
 import json
@@ -54,7 +55,7 @@ TAKES_TURN: Steps = [["rwlock", 0, 0, "r"], ["acquire", 0], *UNLOCKS, ["release"
 
 
 class Pair(NamedTuple):
-    """Steps with a bug, and some that nearly have it."""
+    """Steps with a bug, and some similar steps without it."""
 
     bad: Steps
     good: Steps
@@ -118,7 +119,8 @@ PAIRS = {
 
 
 def with_lines(steps: Steps, of: str = "program") -> Recording:
-    """A recording of these steps, whose lines are all of one call, and whose sockets 0 and 1 are one connection's ends."""
+    """A recording of these steps, whose lines are all of one call, and whose sockets 0 and 1 are the ends of one
+    connection."""
     recording = recording_of(steps)
     told: list[Any] = [
         {"where": 1, "steps": len(steps)},
@@ -277,7 +279,8 @@ class Rules(unittest.TestCase):
             self.assertNotIn("end not passed on", rules_of(with_lines(steps)))
 
     def test_a_timeout_by_a_deadline_under_which_calls_went_well_is_no_suspect(self) -> None:
-        """It is said with the failed call: the line that set the deadline, and how many calls went well under it."""
+        """It is reported with the failed call: the line that set the deadline, and how many calls succeeded under
+        it."""
         for name in ("forgotten", "pool"):
             recording = Recording.read(str(CAUSED / f"{name}-bad.jsonl"))
             self.assertEqual(all_suspects_of(recording).suspects, [])

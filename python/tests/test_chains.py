@@ -1,5 +1,6 @@
-"""What was left open, locked or unflushed, by recordings of tools/go/samples/chains (tests.go_caused made them): the first cause names the line, with the reason, and
-no cause of the good run says so. And the rules' exceptions, by pieces of source."""
+"""Resources that were left open, locked or unflushed, in recordings of tools/go/samples/chains (tests.go_caused
+made them): the first cause names the line with the reason, and no cause of the good run does. And the rules'
+exceptions, by pieces of source."""
 
 import re
 from pathlib import Path

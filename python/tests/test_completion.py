@@ -1,4 +1,4 @@
-"""What words at the prompt can be completed to, and which commands the words of other debuggers are."""
+"""Completions at the prompt, and the commands that other debuggers' words stand for."""
 
 import unittest
 
@@ -8,7 +8,7 @@ from nrdb.prompt.completion import candidates
 
 
 def numbers(of: Of) -> list[str]:
-    """The numbers in use: another one for each sort."""
+    """The numbers in use, different for each sort."""
     return [{Of.GOROUTINE: "87", Of.SOCKET: "4", Of.DESCRIPTOR: "11"}[of]]
 
 

@@ -1,5 +1,5 @@
-"""`condition`: a mark stops only if a cell has a value, whichever way a move goes, for netrev's marks and for breaks at places of the program.
-Played by the model."""
+"""`condition`: a mark stops only if a cell has a value, in either direction, for netrev's marks and for breaks at
+places of the program, with a modelled netrev."""
 
 from pathlib import Path
 

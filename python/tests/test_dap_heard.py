@@ -1,4 +1,5 @@
-"""What an editor says while a request is worked on: a pause, a cancel and an end stop the work within half a second, whatever it is at."""
+"""An editor's messages while a request is worked on: a pause, a cancel and a disconnect stop any work within half a
+second."""
 
 import io
 import json
@@ -37,13 +38,13 @@ def framed(number: int, command: str, **arguments: Any) -> bytes:
 
 
 def busy(_: Interrupts) -> None:
-    """Work that never looks whether it is stopped."""
+    """Work that never checks whether it is stopped."""
     while True:
         sum(range(100))
 
 
 def polled(interrupts: Interrupts) -> None:
-    """Work that looks between two pieces, as a move does."""
+    """Work that checks between two pieces, as a move does."""
     while True:
         time.sleep(0.05)
         interrupts.check()
@@ -81,14 +82,14 @@ class Heard(unittest.TestCase):
         self.says = -1
 
     def asked(self, *messages: bytes) -> Request:
-        """The first of these requests, which are sent."""
+        """Sends these requests; the first one."""
         os.write(self.says, b"".join(messages))
         request = self.hearing.request()
         assert request is not None
         return request
 
     def stopped(self, request: Request, work: Callable[[Interrupts], None], heard: bytes, by: type[Exception]) -> None:
-        """The work on a request is stopped by what is said in the midst of it, soon: that is in so much processor time, whatever else the
+        """The work on a request is soon stopped by a message: within so much processor time, whatever else the
         machine does."""
         said: list[float] = []
 
@@ -199,7 +200,7 @@ class Heard(unittest.TestCase):
             self.assertEqual((sending.is_alive(), self.hearing._held), (False, 0))
 
     def sends(self, data: bytes) -> None:
-        """Sends all of it, however long that takes."""
+        """Sends everything, however long that takes."""
         while data:
             data = data[os.write(self.says, data) :]
 

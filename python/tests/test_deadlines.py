@@ -1,4 +1,4 @@
-"""The timers that went off, by whose they are."""
+"""The timers that went off, by owner."""
 
 import unittest
 

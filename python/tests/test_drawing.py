@@ -1,5 +1,5 @@
-"""The picture as SVG and the diagram that `report` writes: each call and each step is there once, the story's steps are numbered, and texts of
-others stay texts."""
+"""The picture as SVG and the diagram of `report`: each call and each step occurs once, the story's steps are
+numbered, and text from outside stays text."""
 
 import re
 import unittest
@@ -27,7 +27,7 @@ def read(name: str) -> Recording:
 
 
 def with_lines_of(text: str) -> Recording:
-    """A recording whose functions and files have this text for their names."""
+    """A recording whose functions and files have this text as their names."""
     recording = read("lost")
     stacks = recording.lines.stacks
     for number, stack in stacks.items():

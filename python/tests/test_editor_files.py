@@ -1,4 +1,5 @@
-"""What editors are given: the extension for VS Code, packed, and the lines for Helix. Both name what the adapter takes."""
+"""The files for editors: the packed extension for VS Code, and the lines for Helix. Both name only what the adapter
+accepts."""
 
 import json
 import re
@@ -23,7 +24,7 @@ TOML = re.compile(r"\n((?:    .*\n)*    \[\[language\]\]\n(?:    .*\n)*)")
 
 @pytest.fixture
 def copy(folder: Path) -> Path:
-    """The extension's folder, of one's own."""
+    """A private copy of the extension's folder."""
     return Path(shutil.copytree(vsix.FOLDER, folder / "vscode"))
 
 

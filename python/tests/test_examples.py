@@ -1,4 +1,4 @@
-"""The list of examples has what is in their folder, and the scripts that go by it find the same."""
+"""The list of examples agrees with their folder, and the scripts that use it find the same."""
 
 import os
 import re
@@ -13,7 +13,7 @@ SHARED = "shared"  # commands of two people, which examples/shared.sh plays
 
 
 def there(*patterns: str) -> list[str]:
-    """The names of the files that are like one of these patterns."""
+    """The names of the files that match one of these patterns."""
     files = [file for pattern in patterns for file in EXAMPLES.glob(pattern)]
     return sorted(str(file.relative_to(EXAMPLES).with_suffix("")) for file in files)
 

@@ -1,5 +1,5 @@
-"""Exploring without netrev: a script that is played under no delay is the recording again, step by step; a race that a good run
-doesn't show is found, and nothing where there is none; and what is said of it."""
+"""Exploring without netrev: a script without delays gives the recording again, step by step; a race that a good run
+doesn't show is found, and nothing in a correct program; and the text about findings."""
 
 import json
 import unittest
@@ -46,7 +46,7 @@ HEALTHY = ("answers", "first", "temporary-break", "shut-write-side", "real/half"
 
 
 def examples() -> list[Path]:
-    """All recordings that netrev takes."""
+    """All recordings that netrev accepts."""
     found = [path for folder in ("", "hunts", "real", "races") for path in sorted((EXAMPLES / folder).glob("*.jsonl"))]
     return [path for path in found if path.stem not in REFUSED]
 
@@ -75,7 +75,7 @@ def script_at(name: str) -> Script:
 
 
 def explored(script: Script, most: int) -> Exploring:
-    """So many schedules."""
+    """The result of so many schedules."""
     exploring = Exploring(script, lambda number: "")
     exploring.run(most, lambda: None)
     return exploring

@@ -1,5 +1,5 @@
-"""Calls that fail in another schedule, though they went well: each sort is found, and not in what is nearly that; and of the programs of
-tools/go/samples/causes with their bugs, for which good runs."""
+"""Calls that succeeded in the recording and fail in another schedule: each sort is found, and none in a similar
+correct program; and the good runs of programs of tools/go/samples/causes that show their bugs."""
 
 import unittest
 from pathlib import Path
@@ -38,7 +38,7 @@ CLOSES: Steps = [["increfclose", 0, 0], ["evict", 0, 0], ["decref", 0, 0], ["pol
 
 
 class Sort(NamedTuple):
-    """A good run in which a call may fail, and why; and one that is nearly that."""
+    """A good run in which a call may fail, and why; and a similar one in which none can."""
 
     why: Why
     good: Steps
@@ -110,7 +110,7 @@ class Failures(unittest.TestCase):
                     self.ends_with_its_call(finding)
 
     def ends_with_its_call(self, finding: Finding) -> None:
-        """Behind the failure its goroutine gives up the lock, and nobody makes a step behind that."""
+        """After the failure its goroutine gives up the lock, and no step follows."""
         failed = finding.played.failed
         assert failed
         behind = [made.step for made in finding.played.steps[failed.step :] if made.step[0] not in NOBODYS]

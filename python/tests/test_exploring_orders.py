@@ -1,4 +1,4 @@
-"""What the program orders is kept in each schedule, and so is what the network may answer; calls that hang are those of which the
+"""Each schedule keeps the program's orders, and what the network may answer; calls that hang are those whose
 deadline was set; and a deadline that nobody sees pass in the recording can pass."""
 
 import unittest
@@ -103,7 +103,7 @@ class Planted(unittest.TestCase):
 
 
 def broken(script: Script, delay: Delay, orders: Pairs) -> Pairs:
-    """The orders of which a schedule has the second step before the first, or without it."""
+    """The orders that a schedule violates: the second step is before the first, or without it."""
     player = Player(script, (delay,))
     player.end(2_000)
     at = {made.number: at for at, made in enumerate(player.steps) if made.number}

@@ -1,5 +1,5 @@
-"""The short cuts of exploring change nothing: all that is found is what comes of playing each schedule from its first step to its
-last, each step by the model, where everybody who waits looks again at each turn."""
+"""The optimizations of exploring change nothing: the findings are those of running each schedule from its first
+step to its last, each step by the model, with all waiting actors checking at each turn."""
 
 import unittest
 from pathlib import Path
@@ -39,7 +39,7 @@ class PlainBoard(Board):
 
 
 class PlainPlayer(Player):
-    """It keeps nothing of the recorded run, and every goroutine that waits tests again."""
+    """A player without the stored recorded run, in which every waiting goroutine checks again."""
 
     def _note(self, g: int, place: Place, answer: Answer, status: Status) -> None:
         pass

@@ -1,4 +1,4 @@
-"""Several processes find what one finds, and Ctrl-C keeps what they have found."""
+"""Several processes find what one finds, and after Ctrl-C their findings are kept."""
 
 import pickle
 import sys

@@ -1,4 +1,5 @@
-"""What is said of a call that failed: which step brought that about, and whether it came before the call began or while it was under way."""
+"""The text about a failed call: the step that caused the failure, and whether it came before the call began or
+during the call."""
 
 import pytest
 

@@ -1,4 +1,5 @@
-"""The causes ask netrev what the steps changed, and reckon that themselves if it doesn't say it. And `info hangs` where a session opens."""
+"""The causes use netrev's list of changes, and compute the changes themselves if netrev doesn't answer. And `info
+hangs` when a session opens."""
 
 import contextlib
 import io
@@ -30,12 +31,12 @@ class ByNetrev(unittest.TestCase):
         self.says(f'test "$1" = changes && cat {self.changes}')
 
     def says(self, script: str) -> None:
-        """What the stand-in for netrev does."""
+        """The behaviour of the stand-in for netrev."""
         self.netrev.write_text(f"#!/bin/sh\n{script}\n")
         self.netrev.chmod(0o700)
 
     def printed(self) -> list[str]:
-        """What `nrdb.causes` prints."""
+        """The output of `nrdb.causes`."""
         out = io.StringIO()
         with patch.dict(os.environ, {"NETREV": str(self.netrev)}), contextlib.redirect_stdout(out):
             self.assertEqual(causes.main([BAD]), 0)

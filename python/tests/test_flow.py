@@ -1,4 +1,5 @@
-"""The table of Go's control flow, against the machine: over random recordings each step leads to what its row says."""
+"""The table of Go's control flow, compared with the machine: in random recordings each step has the consequence in
+its row."""
 
 import random
 from typing import Iterator

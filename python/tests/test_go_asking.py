@@ -1,4 +1,4 @@
-"""What comes of a netrev that is killed: no recording is called rejected that wasn't checked."""
+"""A killed netrev: no recording is reported as rejected without having been checked."""
 
 import pathlib
 import unittest
@@ -10,7 +10,7 @@ from .folders import folder_of
 
 class Killed(unittest.TestCase):
     def netrev(self, line: str) -> str:
-        """A program in netrev's place."""
+        """A stand-in for netrev."""
         program = folder_of(self) / "netrev"
         program.write_text(f"#!/bin/sh\n{line}\n")
         program.chmod(0o755)

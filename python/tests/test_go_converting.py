@@ -1,4 +1,4 @@
-"""Points of Go's become the steps that they are: made-up logs of a few points each. No program is needed."""
+"""Go's points become the steps that they stand for, in made-up logs of a few points each. No program is needed."""
 
 import json
 import unittest
@@ -102,8 +102,32 @@ class Answering(unittest.TestCase):
         self.assertEqual(steps[2:], [["closewrite", 0, 0, "done"], ["syswrite", 0, 0, "000000", "pipe"]])
 
     def test_a_write_that_a_closewrite_overtook_stands_before_it(self) -> None:
-        steps = Points().opened().add(Kind.CLOSE_WRITE, 2, WORD).add(Kind.WRITE, 1, WORD, 3, 3, 0).steps()
-        self.assertEqual([step[0] for step in steps[2:]], ["spawn", "syswrite", "closewrite"])
+        log = Points().opened().add(Kind.CLOSE_WRITE, 2, WORD)
+        # (the goroutine that closed it goes on, and the other has its point later)
+        log.add(Kind.RW_LOCK, 2, WORD, 9, 17, 0).add(Kind.WRITE, 1, WORD, 3, 3, 0).add(Kind.WRITE, 1, WORD, 3, -1, 2)
+        made = log.made()
+        self.assertEqual(
+            [json.loads(str(line))[0] for line in made.lines[2:]],
+            ["spawn", "syswrite", "closewrite", "rwlock", "syswrite"],
+        )
+        self.assertEqual(
+            [(number, goroutine) for number, goroutine, _ in made.made[2:]], [(2, 1), (2, 2), (3, 2), (5, 1)]
+        )
+
+    def test_a_write_that_found_no_room_and_a_closewrite_overtook_stands_before_it(self) -> None:
+        log = Points().opened().add(Kind.WRITE, 1, WORD, 5, 5, 0).add(Kind.CLOSE_WRITE, 2, WORD)
+        steps = log.add(Kind.WRITE, 1, WORD, 3, 0, 1).add(Kind.CLOSE_WRITE, 2, WORD).steps()
+        self.assertEqual(
+            [step[-1] if step[0] == "syswrite" else step[0] for step in steps[2:]],
+            [["put", 5], "spawn", "again", "closewrite", "closewrite"],
+        )
+
+    def test_the_size_of_a_write_that_a_closewrite_overtook_is_at_its_step(self) -> None:
+        log = Points().opened().add(Kind.CLOSE_WRITE, 2, WORD).add(Kind.DECREF, 2, WORD, 9, 1, 0)
+        log.add(Kind.WRITE, 1, WORD, 999, 999, 0)
+        made = make(Log(log.points), all_bytes=False)
+        (place,) = (place for place, line in enumerate(made.lines, 1) if "syswrite" in str(line))
+        self.assertEqual(made.beside.sizes, [(place, 999)])
 
     def test_an_output_is_full_where_go_found_it_so(self) -> None:
         steps = Points().opened().add(Kind.WRITE, 1, WORD, 3, 2, 0).add(Kind.WRITE, 1, WORD, 1, 0, 1).steps()
@@ -175,6 +199,23 @@ class Ordinary(unittest.TestCase):
 
 
 class Deadlines(unittest.TestCase):
+    def test_a_call_that_sets_a_deadline_is_three_steps(self) -> None:
+        log = Points().opened().add(Kind.RW_LOCK, 1, WORD, 0, 10, 3)
+        log.add(Kind.DEADLINE_CALL, 2, DESCRIPTOR, 114, 5, 10, time=100).add(Kind.RW_UNLOCK, 1, WORD, 10, 0, 1)
+        steps = [
+            ["incref", 1, 0, "yes"],
+            ["tick", 100, "done"],
+            ["setdeadline", 1, 0, "r", 5, "done"],
+            ["decref", 1, 0, "notlast"],
+        ]
+        self.assertEqual(log.steps()[-5:-1], steps)
+        self.assertEqual([word for _, _, word in log.made().words], [10, 18, 10, 0])
+        self.assertEqual(log.made().notes, [])
+
+    def test_a_call_that_sets_a_deadline_of_an_unknown_socket_is_none(self) -> None:
+        log = Points().opened().add(Kind.DEADLINE_CALL, 2, DESCRIPTOR + 300, 114, 5, 10, time=100)
+        self.assertEqual(len(log.steps()), 2)
+
     def fired(self, bits: int, time: int = 105) -> Points:
         log = Points().opened(reading=7, writing=7).add(Kind.SET_DEADLINE, 1, DESCRIPTOR, 114, 5, time=100)
         return log.add(Kind.FIRE, 0, DESCRIPTOR, 7, bits, time=time)

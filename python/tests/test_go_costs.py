@@ -1,4 +1,5 @@
-"""What is printed of a server's cost, by programs that say what they took and leave a log of so many points. No Go is needed."""
+"""The output about a server's cost, with programs that print fixed figures and leave a log of so many points. No Go
+is needed."""
 
 import io
 import pathlib
@@ -26,7 +27,7 @@ esac
 
 class Requests(unittest.TestCase):
     def table(self, status: int = 3, passed: int = 44_000) -> str:
-        """What is printed after three rounds of such a server."""
+        """The output after three rounds of such a server."""
         folder = folder_of(self)
         program, logs = folder / "server", folder / "logs"
         logs.mkdir()
@@ -51,6 +52,19 @@ class Requests(unittest.TestCase):
             "| 1.27.3 | 20 | runtime/trace | 150.0 (150.0 to 150.0) | +20.0 % | 257 |  |",
         ])  # fmt: skip
         self.assertEqual(len(rows), 4 * len(CONNECTIONS))
+
+    def test_a_way_is_compared_with_the_first_one_of_the_same_round(self) -> None:
+        served = Served("1.27.3", (pathlib.Path(), pathlib.Path()), 1_000, list(SERVED))
+        served.took[20, "without the overlay"] = [100_000, 200_000, 400_000]
+        served.took[20, "recording"] = [110_000, 300_000, 440_000]
+        for way in ("without the overlay", "recording"):
+            served.kept[20, way] = [0]
+        out = io.StringIO()
+        with redirect_stdout(out):
+            served.tell()
+        self.assertEqual(
+            out.getvalue().splitlines()[1], "| 1.27.3 | 20 | recording | 300.0 (110.0 to 440.0) | +10.0 % |  |  |"
+        )
 
     def test_a_program_that_fails_ends_the_measuring(self) -> None:
         with self.assertRaises(subprocess.CalledProcessError):

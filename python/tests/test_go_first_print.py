@@ -1,5 +1,5 @@
-"""What netrev-go prints first of a program that failed: why calls failed and hang, before netrev has checked the recording and long before
-the suspects are known."""
+"""netrev-go's first output for a program that failed: why calls failed and hang, before netrev has checked the
+recording and long before the suspects are known."""
 
 import pathlib
 from unittest import mock
@@ -30,7 +30,7 @@ class FirstPrint(Run):
         self.said: list[list[str]] = []
 
     def hear(self, lines: list[str], stream: object = None) -> None:
-        """Takes what is printed, and lets the check end."""
+        """Receives the output, and lets the check end."""
         self.said.append(lines)
         (self.folder / "heard").touch()
 

@@ -1,5 +1,5 @@
-"""All goroutines of a log, as NAME.where has them and nrdb reads them: made-up logs of a few points, and of a hundred thousand goroutines.
-No program is needed."""
+"""All goroutines of a log, as NAME.where has them and nrdb reads them: made-up logs of a few points, and of a
+hundred thousand goroutines. No program is needed."""
 
 import json
 import pathlib
@@ -44,7 +44,7 @@ class Points:
         return self
 
     def at(self, number: int) -> "Points":
-        """The next point has this number."""
+        """Sets the number of the next point."""
         while len(self.points) < number:
             self.add(Kind.READY, 0, 0, 99)
         return self
@@ -54,7 +54,7 @@ class Points:
 
 
 def cases(*uses: int) -> int:
-    """What a select's point has of how its channels are used."""
+    """The value in a select's point for the uses of its channels."""
     return SELECT | sum(use << 8 + 2 * place for place, use in enumerate(uses))
 
 
@@ -170,7 +170,7 @@ def of_sync(*names: str) -> Calls:
 def written(
     found: Goroutines, calls: dict[int, Calls], numbers: Optional[dict[int, int]] = None, most: int = MOST
 ) -> Lines:
-    """What nrdb reads of the file of a recording of three steps."""
+    """nrdb's reading of the file for a recording of three steps."""
     with tempfile.TemporaryDirectory() as folder:
         path = pathlib.Path(folder, "x.where")
         numbers = numbers or {}

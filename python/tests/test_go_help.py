@@ -1,4 +1,4 @@
-"""What `netrev-go` says of itself: its help, that of each command, and its usage errors."""
+"""netrev-go's help, that of each command, and its usage errors."""
 
 import pytest
 from netrev_go import cli
@@ -10,7 +10,7 @@ GOS_OWN = {"run": "`go help run`", "test": "`go help test`", "build": "`go help 
 
 
 def printed(capsys: pytest.CaptureFixture[str], *words: str) -> tuple[object, str, str]:
-    """The status of netrev-go with these words, and what it prints on standard output and on standard error."""
+    """The status of netrev-go with these words, and its output on standard output and on standard error."""
     try:
         status: object = cli.main(list(words))
     except SystemExit as ended:

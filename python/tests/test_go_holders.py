@@ -1,5 +1,5 @@
-"""The mutexes that are locked to a log's end: the table of a made-up log, the steps and the lines that are made of it, and what nrdb reads of these. No program is
-needed."""
+"""The mutexes that are locked at a log's end: the table of a made-up log, its steps and lines, and nrdb's reading
+of these. No program is needed."""
 
 import json
 import struct

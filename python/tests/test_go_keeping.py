@@ -1,5 +1,5 @@
-"""A run is never lost. A program of our own stands in for Go: it leaves a stored log, does what a test wants, and ends with a
-status. Neither Go nor netrev is needed."""
+"""A run is never lost. A stand-in for Go leaves a stored log, does what a test wants, and ends with a status.
+Neither Go nor netrev is needed."""
 
 import contextlib
 import io
@@ -65,7 +65,7 @@ class Run(unittest.TestCase):
     def called(
         self, *words: str, does: str = "", status: int = 0, leaves: str = "", netrev: Optional[str] = None
     ) -> tuple[int, str]:
-        """netrev-go's status, and all that it says."""
+        """netrev-go's status, and all its output."""
         go = self.go(does, status, leaves or f'cp {self.log} "$NETREV_LOG.$$"')
         said = io.StringIO()
         with contextlib.ExitStack() as patched:

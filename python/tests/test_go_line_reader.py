@@ -1,4 +1,5 @@
-"""The program that reads lines of source: it comes with Go, or is built once for each release, with a shell script in the place of Go."""
+"""The program that reads source lines: it comes with Go, or is built once for each release, with a shell script
+instead of Go."""
 
 import os
 import struct

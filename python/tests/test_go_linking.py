@@ -1,5 +1,5 @@
-"""The same tests run again aren't linked again. A program of our own stands in for Go, and a script for its linker. Neither Go nor
-netrev is needed."""
+"""Repeated tests aren't linked again. A stand-in for Go and a script for its linker are used. Neither Go nor netrev
+is needed."""
 
 import pathlib
 import shlex
@@ -79,7 +79,7 @@ class Keeping(unittest.TestCase):
 
 class Flags(test_go_tests.Tested):
     def words(self, *options: str) -> list[str]:
-        """With which words Go is called, in the first run."""
+        """The words with which Go is called in the first run."""
         seen = self.folder / "seen"
         self.told(*options, status=1, does=f'[ -e {seen} ] || printf "%s\\n" "$@" > {seen}')
         words = seen.read_text().splitlines()

@@ -1,4 +1,4 @@
-"""The recorder's logs are read whatever was done to them, and the stored ones give the stored recordings and lines."""
+"""The recorder's logs can be read whatever their damage, and the stored ones give the stored recordings and lines."""
 
 import pathlib
 import random
@@ -133,7 +133,8 @@ class StacksOfCalls(unittest.TestCase):
     """A point within a call needs no stack: its step has that with which the call came to the socket."""
 
     def stacks(self, *points: tuple[Kind, int, int, int]) -> list[int]:
-        """The stacks of the steps of points after the opening of two sockets: each is a kind, a goroutine, a socket, and a stack."""
+        """The stacks of the steps of points after the opening of two sockets: each is a kind, a goroutine, a
+        socket, and a stack."""
         made = opened(2)
         for kind, g, socket, stack in points:
             at = made[2 * socket].at if kind != Kind.RESET else made[2 * socket + 1].at
@@ -172,6 +173,18 @@ class Reading(unittest.TestCase):
                 read(data)
         with self.assertRaisesRegex(NoLog, "can't be read"):
             read_log(pathlib.Path("/nowhere/log.1"))
+
+    def test_a_copy_that_a_program_couldn_t_make_says_why(self) -> None:
+        with tempfile.TemporaryDirectory() as folder:
+            copy = pathlib.Path(folder, "log.1.snapshot")
+            copy.with_name(copy.name + ".failed.028").touch()
+            copy.with_name("log.2.snapshot.failed.005").touch()
+            with self.assertRaisesRegex(NoLog, "couldn't copy its log: No space left on device"):
+                read_log(copy)
+            with self.assertRaisesRegex(NoLog, "can't be read: No such file"):
+                read_log(copy.with_name("log.3.snapshot"))
+            copy.write_bytes(binary(opened(2)))
+            self.assertEqual(len(read_log(copy).points), 4)
 
     def test_a_log_that_is_cut_short_gives_what_is_whole(self) -> None:
         data = binary(opened(200))

@@ -1,5 +1,6 @@
-"""Where channels are made, also at an address at which another one was, and dials that fail: by points of made-up logs, in the lines that are written and as nrdb
-reads them. And which functions are the recorder's own. No program is needed."""
+"""The places where channels are made, also at a reused address, and dials that fail: by points of made-up logs, in
+the lines that are written and as nrdb reads them; and the functions that are the recorder's own. No program is
+needed."""
 
 import errno
 import json
@@ -28,7 +29,7 @@ SERVER = OF_IPV4 << 56 | (127 << 24 | 1) << 16 | 4_000  # 127.0.0.1:4000, as the
 
 
 def used(found: Goroutines) -> list[tuple[int, int, str]]:
-    """At which channel which goroutine did what."""
+    """The uses of each channel by goroutine."""
     return [(use.address, use.goroutine, use.what) for use in found.uses]
 
 

@@ -1,4 +1,4 @@
-"""The orders of a program: made-up logs of a few points, and which of the steps come behind which. No program is needed."""
+"""The orders of a program: made-up logs of a few points, and the steps that follow others. No program is needed."""
 
 import json
 import pathlib
@@ -40,7 +40,7 @@ class Ordered(Points):
         return self
 
     def orders(self) -> list[list[str]]:
-        """The orders, by whose which step it is: 2.1 is the first of Go's goroutine 2."""
+        """The orders as pairs of names: 2.1 is the first step of Go's goroutine 2."""
         recording = make(Log(self.points, has_orders=True))
         names: dict[int, str] = {}
         counts: dict[int, int] = {}

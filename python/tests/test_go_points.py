@@ -1,4 +1,4 @@
-"""The Go of the recorder numbers its points as the table of kinds does, and calls them by name."""
+"""The recorder's Go numbers and names its points as the table of kinds does."""
 
 import re
 import unittest
@@ -30,7 +30,7 @@ def in_go() -> dict[str, int]:
 
 
 def named(name: str) -> Kind:
-    """The kind that Go calls so."""
+    """The kind with this name in Go."""
     spaced = re.sub(r"(?<=[a-z])(?=[A-Z])|(?<=RW)(?=[A-Z])", "_", name)
     return OTHERWISE.get(name) or Kind[spaced.upper()]
 

@@ -1,4 +1,5 @@
-"""What netrev-go knows of Go's releases, how a trial is looked over, and what `make real` counts. Neither Go nor netrev is needed."""
+"""The data of netrev-go about Go's releases, the evaluation of a trial, and the counts of `make real`. Neither Go
+nor netrev is needed."""
 
 import contextlib
 import io
@@ -40,7 +41,7 @@ def stored(name: str) -> Recording:
 
 
 def said_of(made: Recording) -> tuple[bool, str]:
-    """What the model in Python says of a recording and of Go's lock words."""
+    """The model's message about a recording and Go's lock words."""
     with tempfile.TemporaryDirectory() as folder:
         name = pathlib.Path(folder, "one.jsonl")
         write(made, name)

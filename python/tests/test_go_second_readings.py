@@ -1,5 +1,5 @@
-"""The orders and the waits of random programs: the same as by a reading that goes along all edges between their points, and by one
-that looks for each wait's end."""
+"""The orders and the waits of random programs equal those of a reading along all edges between their points, and of
+one that searches for each wait's end."""
 
 import random
 from typing import Optional
@@ -34,7 +34,7 @@ class Synchronized:
             self.turn(self.dice.randint(1, 4), self.dice.randint(1, 4))
 
     def point(self, kind: int, g: int, at: int = 0, a: int = 0, b: int = 0, behind: tuple[int, ...] = ()) -> int:
-        """A point of a goroutine, which comes behind its last one and behind these."""
+        """A point of a goroutine, which follows its last one and these."""
         number = len(self.points)
         self.points.append(Point(number, kind, g, at, a, b, 0, 0, 0))
         self.edges[number] = self.last.get(g, set()) | set(behind)
@@ -77,7 +77,7 @@ class Synchronized:
         return orders_of(ordering, [(number, g, number + 1) for number, g in self.steps.items()])
 
     def along(self, pairs: Pairs) -> dict[int, set[int]]:
-        """Of each step, those that come before it by these pairs and the goroutines' own order."""
+        """For each step, those that precede it by these pairs and the goroutines' own order."""
         reached: dict[int, set[int]] = {}
         newest: dict[int, int] = {}
         for number, g in self.steps.items():

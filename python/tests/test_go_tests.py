@@ -1,5 +1,5 @@
-"""`netrev-go test`: which tests ran, which sockets are of which, what is kept and what is told. A program of our own stands in for
-Go, and leaves a made-up log and its tests. Neither Go nor netrev is needed."""
+"""`netrev-go test`: the tests that ran, their sockets, the recordings that are kept and the output. A stand-in for
+Go leaves a made-up log and its tests. Neither Go nor netrev is needed."""
 
 import contextlib
 import io
@@ -67,7 +67,7 @@ LINES = f"""1 1 5 package {PACKAGE}
 
 
 def tests_of(lines: str) -> Tests:
-    """What a process's lines say."""
+    """The tests in a process's lines."""
     with tempfile.TemporaryDirectory() as folder:
         log = pathlib.Path(folder, "log.1")
         log.with_name("log.1.tests").write_text(lines)
@@ -206,7 +206,7 @@ class Tested(Run):
 
 
 class Kept(Tested):
-    """The files that it leaves and the text that it prints."""
+    """The files that it leaves and its output."""
 
     def test_the_recording_of_the_test_that_failed_is_kept(self) -> None:
         returned, out, error = self.told("test", "./...")

@@ -1,4 +1,5 @@
-"""Which calls have waited long, by the tables of a log; and a log that is copied while it is written. No program is needed."""
+"""Calls that have waited long, by the tables of a log; and a log that is copied while it is written. No program is
+needed."""
 
 import argparse
 import io

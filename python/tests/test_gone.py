@@ -1,5 +1,5 @@
-"""What went nowhere, by recordings of tools/go/samples/gone of which a part is changed: each rule names its line in the first cause, and says
-nothing where it doesn't fit."""
+"""Messages that went nowhere, in recordings of tools/go/samples/gone that are changed in part: each rule names its
+line in the first cause, and says nothing if it doesn't apply."""
 
 import contextlib
 from pathlib import Path
@@ -52,7 +52,7 @@ SAYS = {
 
 @contextlib.contextmanager
 def in_source(recording: Recording) -> Iterator[Recording]:
-    """A recording whose source is here, and not newer."""
+    """A recording whose source exists and isn't newer."""
     recording.lines.written = float("inf")
     with in_the_folder_of_the_source(GONE):
         yield recording

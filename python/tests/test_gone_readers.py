@@ -1,5 +1,5 @@
-"""A goroutine that alone read at a connection and has ended while bytes still come; and a Read in an io.ReadFull whose bytes are counted only in
-part."""
+"""A goroutine that was a connection's only reader and has ended while bytes still come; and a Read in an
+io.ReadFull whose bytes are counted only in part."""
 
 import unittest
 from typing import Any

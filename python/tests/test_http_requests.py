@@ -1,5 +1,5 @@
-"""Requests of net/http's client: on which connection each was written, and which ended because a deadline passed or somebody cancelled them.
-The recording is of tools/go/samples/requests."""
+"""Requests of net/http's client: the connection on which each was written, and those that ended because a deadline
+passed or somebody cancelled them. The recording is of tools/go/samples/requests."""
 
 import pathlib
 import re
@@ -24,7 +24,7 @@ def line_of(bug: str) -> str:
 
 
 def recording(name: str = "requests") -> Recording:
-    """A recording that no other test has, so that its lines may be changed."""
+    """A recording for this test alone, so that its lines may be changed."""
     return Recording.read(str(CAUSED / f"{name}.jsonl"))
 
 

@@ -1,5 +1,5 @@
-"""The machine in place is the model's, over random recordings: its states, answers and refusals, back over each step, and which
-cells each step changed."""
+"""The machine in place equals the model, in random recordings: its states, answers and refusals, back over each
+step, and the cells that each step changed."""
 
 import random
 import unittest
@@ -38,7 +38,7 @@ def in_order(cells: set[str]) -> list[str]:
 
 class InPlace(unittest.TestCase):
     def made(self, machine: Machine, world: World, step: tuple[Any, ...]) -> World:
-        """Both make a step, which both refuse for the same reason, and are equal then: the state after it."""
+        """Both make a step, or refuse it for the same reason, and are equal then: the state after it."""
         try:
             after, answer = apply(world, step)
         except Refused as refused:

@@ -1,5 +1,5 @@
-"""Ctrl-C, once and twice, and a netrev that is killed, at every point of every conversation: nrdb then goes on and tells what
-it would have told, or it ends. It never tells anything else."""
+"""Ctrl-C, once and twice, and a killed netrev, at every point of every conversation: nrdb then continues with its
+normal output, or it ends. It never prints anything else."""
 
 import unittest
 from typing import Optional

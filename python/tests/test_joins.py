@@ -1,5 +1,6 @@
-"""Failed calls and the hangs that explain them, by recordings of tools/go/samples/joins (tests.go_caused made them): the first cause has both, and what
-is known why comes before what isn't. And what isn't a deadlock, since a deadline ends it."""
+"""Failed calls and the hangs that explain them, in recordings of tools/go/samples/joins (tests.go_caused made
+them): the first cause has both, and a cause with a known reason comes before others. And waits that aren't a
+deadlock, because a deadline ends them."""
 
 import re
 
@@ -109,7 +110,7 @@ def test_a_hang_that_began_later_or_has_no_reason_explains_nothing() -> None:
 
 
 def test_a_call_of_the_same_line_that_waits_yet_explains_one_that_failed() -> None:
-    """If it is known why that waits."""
+    """If the reason of its wait is known."""
     recording = stored("guarded-bad")
     graph, (cause,) = graph_of(recording), failures_of(recording)
     twin = Waiter(Name(9), recording.length, recording.lines.of(cause.call.first), cause.call)

@@ -1,4 +1,4 @@
-"""How programs end that know millions of small things."""
+"""The end of programs with millions of small objects."""
 
 import subprocess
 import sys
@@ -26,7 +26,7 @@ ended_by(main)
 
 
 def run(does: str) -> tuple[int, str]:
-    """The status and the words of a program that does this last."""
+    """The status and the output of a program that ends with these statements."""
     words = [sys.executable, "-c", PROGRAM.format(does=does)]
     ran = subprocess.run(words, cwd=PACKAGES, stdout=subprocess.PIPE, stderr=subprocess.DEVNULL, text=True)
     return ran.returncode, ran.stdout

@@ -1,5 +1,6 @@
-"""What is said of limits of time only if it is certain: those of an http.Server, and of an http.Client that was redirected. And of the goroutines
-that a WaitGroup is waited for: never the waiter itself, and which it started."""
+"""Time limits are reported only if they are certain: those of an http.Server, and of an http.Client that was
+redirected. And the goroutines that a wait for a WaitGroup names: never the waiter itself, and those that it
+started."""
 
 import json
 import unittest

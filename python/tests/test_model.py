@@ -1,4 +1,4 @@
-"""The model answers the examples as they are stored, and reads JSON as strictly as recordings are read."""
+"""The model gives the stored answers for the examples, and reads JSON as strictly as RECORDING.md says."""
 
 import unittest
 from pathlib import Path

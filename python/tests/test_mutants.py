@@ -1,18 +1,22 @@
-"""`make mutants`: which mutants a module has, which tests are tried against them, and that a test that notices one is named."""
+"""`make mutants`: the mutants of a module, the tests that are tried against them, and the name of a test that
+notices one."""
 
 import ast
+from dataclasses import replace
 from pathlib import Path
 
 import pytest
 
 from mutating import equivalent
-from mutating.changes import KINDS, can_compile, mutants_of
+from mutating.called import name_of, qualified
+from mutating.changes import FORGOTTEN, KINDS, Mutant, can_compile, mutants_of
 from mutating.go_changes import go_mutants_of
-from mutating.server import changed_codes
-from mutating.topics import OVERRIDES, read_overrides, read_topics
+from mutating.server import changed_codes, codes_in
+from mutating.topics import OVERRIDES, Test, Topics, read_overrides
 from mutating.trying import all_mutants, drawn
 
 ROOT = Path(__file__).resolve().parents[2]
+HOLDERS = "python/nrdb/holders.py"
 SOURCE = '''
 """A docstring with 1 < 2."""
 MOST = 3
@@ -72,11 +76,53 @@ def test_a_mutant_s_code_is_put_into_its_function_alone(module: Path) -> None:
     assert {code.co_name for code in changed.values()} == {"<module>", "waits"}
 
 
-def test_the_nearest_tests_import_the_module() -> None:
-    topics = read_topics(ROOT, 2)
-    assert "python/tests/test_second_readings.py" in topics.tests_of("python/nrdb/holders.py")
-    assert topics.tests_of("python/nrdb/suspects/rules/lock_held.py")[0] == "python/tests/test_suspect_boundaries.py"
-    assert len(topics.tests_of("python/nrdb/timers.py")) == 2
+def of_tests(most: float = 60) -> tuple[Topics, Mutant]:
+    """Tests of the functions of a module, and a mutant of its function `holders_of`."""
+    mutant = next(one for one in all_mutants(ROOT, [HOLDERS]) if one.code == "holders_of" and one.kind == FORGOTTEN)
+    called = {
+        "a.py::test_slow": (5.0, f"{HOLDERS}|holders_of"), "b.py::Kept::test_that": (1.0, f"{HOLDERS}|holders_of"),
+        "b.py::Kept::test_those[1]": (0.5, f"{HOLDERS}|holders_of"), "c.py::test_other": (0.1, f"{HOLDERS}|other"),
+        "d.py::test_of_another_file": (0.2, "python/nrdb/timers.py|holders_of"),
+    }  # fmt: skip
+    tests = [Test(name, seconds, frozenset([function])) for name, (seconds, function) in called.items()]
+    return Topics(tests, most, [("*/log/*", ["a.py"]), ("*.go", ["c.py"])]), mutant
+
+
+def names_of(topics: Topics, mutant: Mutant) -> list[str]:
+    return [test.name for test in topics.tests_of(mutant)]
+
+
+def test_the_tests_of_a_mutant_call_its_function_and_the_quickest_class_comes_first() -> None:
+    topics, mutant = of_tests()
+    assert names_of(topics, mutant) == ["b.py::Kept::test_those[1]", "b.py::Kept::test_that", "a.py::test_slow"]
+    topics, mutant = of_tests(6.4)
+    assert names_of(topics, mutant) == ["b.py::Kept::test_those[1]", "b.py::Kept::test_that"]
+
+
+def test_the_tests_of_a_mutant_of_a_module_call_any_function_of_it() -> None:
+    topics, mutant = of_tests()
+    assert "c.py::test_other" in names_of(topics, replace(mutant, is_inside=False, code=""))
+    assert names_of(topics, replace(mutant, code="unknown")) == []
+
+
+def test_the_first_pattern_that_fits_names_the_tests_of_a_file_of_go() -> None:
+    topics, _ = of_tests()
+    assert topics.files_of("go/log/runtime.go") == ["a.py"] and topics.files_of("go/points.go") == ["c.py"]
+    assert topics.files_of("go/points.txt") == []
+
+
+def test_the_code_of_a_mutant_is_its_innermost_function(tmp_path: Path) -> None:
+    path = tmp_path / "nested.py"
+    path.write_text(
+        "class Waits:\n    def of(self):\n        def look(step):\n            return step < 1\n        return look\n"
+    )
+    (mutant,) = (one for one in mutants_of(tmp_path, path) if one.new == "<=")
+    assert (mutant.function, mutant.code) == ("Waits.of", "Waits.of.<locals>.look")
+    code = next(code for code in codes_in(compile(path.read_text(), str(path), "exec")) if code.co_name == "look")
+    folder = f"{tmp_path}/"
+    assert name_of(code, folder) == "" and qualified("Waits.of.<locals>.<lambda>") == "Waits.of"
+    inside = code.replace(co_filename=f"{folder}python/nrdb/nested.py")
+    assert name_of(inside, folder) == "python/nrdb/nested.py|Waits.of.<locals>.look"
 
 
 def test_topics_name_tests_that_exist() -> None:

@@ -1,4 +1,5 @@
-"""What a goroutine needs that waits for a mutex, by the recorder's table of locked mutexes: made-up holders and waits, and a file of a few lines."""
+"""The needs of goroutines that wait for a mutex, by the recorder's table of locked mutexes: made-up holders and
+waits, and a file of a few lines."""
 
 from pathlib import Path
 from typing import Optional

@@ -1,5 +1,5 @@
-"""What goroutines need, by recordings of tools/go/samples/turns of which a part is changed: each rule says nothing where it doesn't
-fit."""
+"""The needs of goroutines, in recordings of tools/go/samples/turns that are changed in part: each rule says nothing
+if it doesn't apply."""
 
 import unittest
 from typing import Any

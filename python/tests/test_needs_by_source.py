@@ -1,4 +1,4 @@
-"""What goroutines need, by the program's source: of a file of a few lines."""
+"""The needs of goroutines, by the program's source: a file of a few lines."""
 
 import tempfile
 import unittest

@@ -1,5 +1,5 @@
-"""Which goroutine is named that could end a wait outside of the poller: the one at the same channel, and the one that serves the request which
-is waited for."""
+"""The goroutine that could end a wait outside of the poller: the one at the same channel, and the one that serves
+the awaited request."""
 
 import unittest
 
@@ -21,7 +21,8 @@ A_VALUE = "a value from a channel"
 
 
 def waiting(before: int, now: int, steps: Steps = TWO_ENDS) -> Recording:
-    """Two goroutines wait for values: one of them at channel `now`, after the other ended its wait at the same line, at channel `before`."""
+    """Two goroutines wait for values: one at channel `now`, after the other ended its wait at the same line, at
+    channel `before`."""
     recording = with_lines(steps)
     lines = recording.lines
     lines.stacks[2], lines.stacks[3] = (
@@ -72,8 +73,8 @@ class EndedBefore(unittest.TestCase):
 
 class EndedWithAFailure(unittest.TestCase):
     def said(self, ended: int) -> list[str]:
-        """The text about goroutine 1's only call, which is Go's goroutine 7, and was the last to put a value where
-        another waits."""
+        """The text about goroutine 1's only call, which is Go's goroutine 7, and the last to put a value where
+        another goroutine waits."""
         recording = waiting(3, 4, [*TWO_ENDS, *GETS, *UNLOCKS])
         lines = recording.lines
         lines.uses[4] = [use(GONE, PUT, 3, number=4)]

@@ -1,5 +1,5 @@
-"""What the notes keep of cells is what the changes say: whoever asks only for the cells that a step may have changed has missed none. And
-the pauses are those that are found where each step is looked at alone."""
+"""The notes about cells equal the changes: a reader that takes only the cells that a step may have changed misses
+none. And the pauses equal those that are found by looking at each step alone."""
 
 import random
 import unittest
@@ -83,7 +83,7 @@ class Behind:
 
 
 def kept_of(notes: Notes, goroutines: int) -> Iterator[tuple[str, str]]:
-    """Each cell that the notes keep, and what it shows by them."""
+    """Each cell that the notes keep, and its value by them."""
     for g in range(goroutines):
         yield f"gor {g}", notes.goroutines[g].status
     for name, kept in NUMBERS:

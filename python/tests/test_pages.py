@@ -1,4 +1,4 @@
-"""scripts/pages.py: each of its rules finds the mistake that it is for, in a small tree, and nothing where there is none."""
+"""scripts/pages.py: each rule finds its planted mistake in a small tree, and nothing without one."""
 
 import unittest
 

@@ -1,5 +1,5 @@
-"""Lines and functions of the program as places: breaks that stop both ways, moves, frames and source, at the prompt; and in the
-adapter's breakpoints. Played by the model."""
+"""Lines and functions of the program as places: breaks in both directions, moves, frames and source, at the prompt
+and in the adapter's breakpoints, with a modelled netrev."""
 
 import io
 import unittest

@@ -1,4 +1,5 @@
-"""Forms that other debuggers have, at the prompt: apropos, delete for all, functions for list and break, Tab for places. Played by the model."""
+"""Forms of other debuggers at the prompt: apropos, delete for all, functions for list and break, Tab for places,
+with a modelled netrev."""
 
 import io
 
@@ -18,7 +19,7 @@ UNKNOWN = "fault 201 unknown command"
 
 
 class Prompt:
-    """A session at the start of a recording, and what it says."""
+    """A session at the start of a recording, and its output."""
 
     def __init__(self) -> None:
         self.printed = io.StringIO()

@@ -1,4 +1,5 @@
-"""`nrdb --version` says which netrev runs: where its program is, whether that is the installed one, its sum, and what it was proved with."""
+"""`nrdb --version` says which netrev it runs: the program's path, whether that is the installed one, its checksum,
+and its proofs."""
 
 import hashlib
 import os
@@ -19,7 +20,7 @@ LOGIC = "rattle-kit-1 logic d0e1"
 
 @pytest.fixture
 def package(tmp_path: Path, monkeypatch: pytest.MonkeyPatch) -> Path:
-    """An installation with a program that a package says was proved; its program."""
+    """An installation with a package's program and its claim of a proof; the program."""
     packages, program = tmp_path / "lib/netrev", tmp_path / "bin/netrev"
     packages.mkdir(parents=True)
     program.parent.mkdir()
@@ -33,7 +34,7 @@ def package(tmp_path: Path, monkeypatch: pytest.MonkeyPatch) -> Path:
 
 
 def version(capsys: pytest.CaptureFixture[str], *words: str) -> list[str]:
-    """What `nrdb --version` prints."""
+    """The output of `nrdb --version`."""
     with pytest.raises(SystemExit) as ended:
         main([*words, "--version"])
     assert ended.value.code == 0

@@ -1,4 +1,4 @@
-"""Queries in a row: they are sent together, in batches, and the output is the same."""
+"""Consecutive queries: they are sent together, in batches, and the output is the same."""
 
 import io
 import os
@@ -41,7 +41,7 @@ class Joined(Scripted):
 
 
 class Counting(io.StringIO):
-    """Keeps what was out at each flush."""
+    """Keeps the output at each flush."""
 
     def __init__(self) -> None:
         super().__init__()
@@ -146,7 +146,7 @@ class Answered(unittest.TestCase):
 
 class LinesTogether(unittest.TestCase):
     def pieces(self, texts: Sequence[bytes]) -> Iterator[list[str]]:
-        """The results of these texts, each written when the lines of the one before were taken."""
+        """The results of these texts, each written when the lines of the one before were read."""
         reader, writer = os.pipe()
         taken = threading.Semaphore(1)
 

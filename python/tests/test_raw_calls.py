@@ -14,7 +14,7 @@ LOOPBACK = "crates/netrev/src/loopback.rt"
 
 
 def findings(path: str = "", old: str = "", new: str = "") -> list[str]:
-    """What the rule says of the tree, in which one file has a text changed that it has once."""
+    """The findings of the rule for the tree after a text, which occurs once in a file, was changed."""
     tree = PAGES.Tree(ROOT)
     if path:
         assert tree.text(path).count(old) == 1, "the text is there once"

@@ -26,7 +26,7 @@ def targets() -> set[str]:
 
 
 def printed(*command: str) -> str:
-    """What a command prints, at the top of the repository."""
+    """The output of a command at the top of the repository."""
     return subprocess.run(command, cwd=ROOT, capture_output=True, text=True, check=True).stdout
 
 

@@ -1,4 +1,4 @@
-"""What plays README (tests/program/readme.py and readme_rooms.py) finds each way in which README can be wrong."""
+"""The README player (tests/program/readme.py and readme_rooms.py) finds each way in which README can be wrong."""
 
 import os
 from pathlib import Path

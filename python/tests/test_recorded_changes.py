@@ -1,4 +1,5 @@
-"""What `netrev changes` says, held and asked: against the model, whole and in pieces, with faults, where netrev fails, and interrupted."""
+"""The output of `netrev changes`, stored and queried: compared with the model, whole and in pieces, with faults,
+with a failing netrev, and interrupted."""
 
 import os
 import sys
@@ -130,7 +131,7 @@ def test_a_text_without_its_end_is_none(text: bytes) -> None:
 
 @pytest.fixture
 def netrev(tmp_path: Path) -> Path:
-    """The place of a program that plays netrev."""
+    """The path of a stand-in for netrev."""
     return tmp_path / "netrev"
 
 

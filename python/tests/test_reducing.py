@@ -1,5 +1,5 @@
-"""Reducing without netrev: units played with the model are the recording's own steps; what is left out takes along what needs
-it; and numbers are made anew."""
+"""Reducing without netrev: replayed units give the recording's own steps; a removed unit takes those with it that
+need it; and numbers are assigned anew."""
 
 import tempfile
 import unittest
@@ -33,7 +33,7 @@ def player_of(recording: Recording) -> tuple[Player, list[Unit], Events]:
 
 
 def told(player: Player) -> list[str]:
-    """The steps that were played."""
+    """The replayed steps."""
     return [line_of(step, None) for step, _ in player.steps]
 
 

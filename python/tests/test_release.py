@@ -1,4 +1,4 @@
-"""`make release` leaves all that is published in one folder, and nothing is packed that passed no gate."""
+"""`make release` leaves all published files in one folder, and packs nothing without a passed gate."""
 
 import hashlib
 import os
@@ -61,7 +61,7 @@ def run(tree: Path, *command: str) -> "subprocess.CompletedProcess[str]":
 
 
 def pass_gate(tree: Path, program: bytes) -> Path:
-    """A program, and what the gate leaves that it passed."""
+    """A program, and the files of a gate that it passed."""
     built = tree / "crates/netrev/out/netrev"
     built.write_bytes(program)
     built.chmod(0o755)
@@ -96,7 +96,7 @@ def test_without_a_package_there_is_no_release(tree: Path) -> None:
 
 
 def notes(folder: Path, version: str) -> "subprocess.CompletedProcess[str]":
-    """What scripts/notes.py makes of CHANGELOG."""
+    """The output of scripts/notes.py for CHANGELOG."""
     (folder / "changes").write_text(CHANGELOG)
     command = [sys.executable, str(ROOT / "scripts/notes.py"), version, str(folder / "changes")]
     return subprocess.run(command, capture_output=True, text=True, check=False)

@@ -1,4 +1,4 @@
-"""`finish` and step out between two calls: they go on until the goroutine has left the program's function."""
+"""`finish` and step out between two calls: they continue until the goroutine has left the program's function."""
 
 import pytest
 from nrdb.following import Goal, Stay, finish_goal

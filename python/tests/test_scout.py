@@ -1,4 +1,4 @@
-"""The scout, which queries positions by a netrev of its own, or by one that it was lent."""
+"""The scout, which queries positions with a netrev of its own, or with a lent one."""
 
 import gc
 from pathlib import Path

@@ -1,5 +1,5 @@
-"""What nrdb says of references, timers and calls, over random recordings: the same as by a reading of the definition that goes through all
-states of the model, or that made the calls itself."""
+"""nrdb's facts about references, timers and calls, in random recordings: they equal a reading of the definition
+over all states of the model, or the calls that were made."""
 
 import random
 from typing import Any, Iterator
@@ -118,7 +118,7 @@ def test_a_timer_is_of_the_step_that_set_its_deadline(seed: int) -> None:
 
 @pytest.mark.parametrize("seed", range(60))
 def test_calls_are_those_that_goroutines_made(seed: int) -> None:
-    """The program that a random log is of knows them."""
+    """The program behind a random log knows them."""
     program = program_of(f"calls {seed}")
     log = log_of(program)
     try:
@@ -146,7 +146,8 @@ def test_calls_are_those_that_goroutines_made(seed: int) -> None:
 
 
 def sleeps_of(made: Made) -> list[tuple[int, int, int, int]]:
-    """The steps by which goroutines go on that slept: the step, the goroutine, for how many steps it slept, and for how long."""
+    """The steps by which sleeping goroutines continued: the step, the goroutine, for how many steps it slept, and
+    for how long."""
     text = read_text(text_of(made))
     machine, asleep, found = Machine(Limits(*text.limits)), dict[int, tuple[int, int]](), []
     for number, (kind, *arguments) in enumerate(text.steps, 1):
@@ -189,7 +190,7 @@ def test_the_newest_of_a_goroutine_s_references_is_given_back() -> None:
 
 
 class UseOf:
-    """What happens in a use of a descriptor."""
+    """The events in a use of a descriptor."""
 
     def __init__(self, d: int, s: int, opened: int, tag: int) -> None:
         self.place = d, s, opened, tag
@@ -224,7 +225,7 @@ def side_of(before: World, kind: str, g: int, arguments: list[Any]) -> tuple[int
 
 
 class Naive:
-    """What a recording's steps did, by the states before and after each."""
+    """The effects of a recording's steps, from the states before and after each."""
 
     def __init__(self, steps: Steps) -> None:
         self.uses: list[UseOf] = []
@@ -317,7 +318,7 @@ def test_notes_are_what_the_states_say(seed: int) -> None:
 
 @pytest.mark.parametrize("seed", range(30))
 def test_each_step_is_of_the_socket_that_it_names(seed: int) -> None:
-    """Or of that of its descriptor, its timer or its event's tag, or of the one that its goroutine named last."""
+    """Or to that of its descriptor, its timer or its event's tag, or to the one that its goroutine named last."""
     text, worlds = random_text(f"whose {seed}", {**LOCKING, **TIMING, **WAITING}, ALONE)
     recording, named, tags = Recording(write_plain(text)), dict[int, tuple[int, int]](), dict[tuple[int, int], int]()
     of_timers, expected = timers(steps_of(text, worlds)), []

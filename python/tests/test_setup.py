@@ -25,7 +25,7 @@ STAND_INS = {
 
 
 class World:
-    """A tree with scripts/setup.sh, and a machine of stand-ins."""
+    """A tree with scripts/setup.sh, and a simulated machine."""
 
     def __init__(self, top: Path) -> None:
         self.top, self.installed, self.commands = top, top / "installed", top / "commands"
@@ -45,7 +45,7 @@ class World:
         (self.commands / name).chmod(0o755)
 
     def run(self, **settings: str) -> str:
-        """What the script prints, whose status is always 0."""
+        """The output of the script, whose status is always 0."""
         variables = {
             "PATH": str(self.commands),
             "WORLD": str(self.top),

@@ -1,5 +1,5 @@
-"""The shells' completions of netrev, nrdb and netrev-go, at the prompt of a real bash and a real zsh. A shell that isn't here is left
-out, and named."""
+"""The shells' completions of netrev, nrdb and netrev-go, at the prompt of a real bash and a real zsh. A missing
+shell is skipped, and named."""
 
 import contextlib
 import os
@@ -56,7 +56,7 @@ class Typed:
         os.write(self.terminal, text.encode())
 
     def until(self, text: str) -> bool:
-        """Reads until this is on the screen; whether it comes."""
+        """Reads until this is on the screen; whether that happens in time."""
         limit = time.monotonic() + PATIENCE
         while text not in self.screen:
             left = limit - time.monotonic()

@@ -1,4 +1,5 @@
-"""How many bytes calls moved of which a recording counts fewer, which datagrams were cut, and which unix sockets are two ends of one connection."""
+"""The bytes of calls if a recording counts fewer, datagrams that were cut, and unix sockets that are two ends of
+one connection."""
 
 import pytest
 

@@ -1,5 +1,6 @@
-"""Ways that skip what should be done: of functions of a few lines, and of the recordings of tools/go/samples/skips, each of which names its line in
-the first cause, and says nothing of the kind where the recording doesn't agree."""
+"""Paths that skip what should be done: in functions of a few lines, and in the recordings of
+tools/go/samples/skips, each of which names its line in the first cause, and says nothing of the kind if the
+recording doesn't agree."""
 
 import re
 from pathlib import Path
@@ -83,7 +84,7 @@ TRIES = [
 
 
 def ways(source: str, begin: str = "take(") -> list[tuple[int, str]]:
-    """The ways of a function from a line that has a text to one that gives it back."""
+    """The paths of a function from a line with a text to one that gives it back."""
     lines = tuple(source.split("\n"))
     found = skipped_ways(
         lines, range(1, len(lines)), lambda text: begin in text, lambda text: "give(" in text, lambda text: "keep(" in text

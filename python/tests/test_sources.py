@@ -1,5 +1,5 @@
-"""Hangs of which the source says where they come from, by recordings of tools/go/samples/sizes and sources (tests.go_caused made them): the first cause names
-the line, with the reason, and says so of no good run."""
+"""Hangs that the source explains, in recordings of tools/go/samples/sizes and sources (tests.go_caused made them):
+the first cause names the line with the reason, and none of a good run does."""
 
 from pathlib import Path
 

@@ -1,5 +1,5 @@
-"""Servers that aren't netrev, or that don't answer, and recordings, headers, replies and values with characters that a terminal
-obeys: nrdb says what is wrong in a sentence, and writes those characters out."""
+"""Servers that aren't netrev, or that don't answer, and recordings, headers, replies and values with control
+characters: nrdb reports the problem in a sentence, and escapes those characters."""
 
 import contextlib
 import io
@@ -54,7 +54,7 @@ def unseen(text: str) -> list[str]:
 
 
 def nrdb(*words: object) -> tuple[int, str]:
-    """The exit status of nrdb with these words, and what it prints, on both streams."""
+    """The exit status of nrdb with these words, and its output on both streams."""
     said = io.StringIO()
     with contextlib.redirect_stdout(said), contextlib.redirect_stderr(said):
         try:
@@ -66,7 +66,7 @@ def nrdb(*words: object) -> tuple[int, str]:
 
 @contextlib.contextmanager
 def server(answers: Answers) -> Iterator[str]:
-    """The address of a server that answers each line so, and nothing if that is empty."""
+    """The address of a server that answers each line with this text, and not at all if it is empty."""
 
     def serve() -> None:
         with contextlib.suppress(OSError):
@@ -87,13 +87,13 @@ def server(answers: Answers) -> Iterator[str]:
 
 
 def joined(answers: Answers, *more: object, asked: tuple[str, ...] = ASKED) -> tuple[int, str]:
-    """What nrdb says of a server that answers so."""
+    """nrdb's output about a server that answers so."""
     with server(answers) as address:
         return nrdb("--join", address, FIRST, "--batch", *(word for line in asked for word in ("-ex", line)), *more)
 
 
 def behind_position(answer: bytes) -> Answers:
-    """Answers its position, as netrev does, and everything else by this."""
+    """Answers its position, as netrev does, and everything else with this text."""
     return lambda line: POSITION if line == b"info position" else answer
 
 
@@ -163,7 +163,7 @@ class Strangers(unittest.TestCase):
 
 
 class WhoSays(unittest.TestCase):
-    """Who says whether a file is a recording is given no input: it may be one that waits for some."""
+    """The program that checks whether a file is a recording gets no input: it may be one that waits for some."""
 
     def test_it_isnt_waited_for(self) -> None:
         with tempfile.TemporaryDirectory() as folder:
@@ -182,7 +182,7 @@ class WhoSays(unittest.TestCase):
 
 
 class NoRecordings(unittest.TestCase):
-    """Files that netrev has never read, and that are no recordings: where a session is joined."""
+    """Files that netrev has never read, and that aren't recordings, in a joined session."""
 
     LINES = (b"garbage", b"5", b"[]", b'{"a":1}', b'[["rwlock",0,0,"r"]]', b"\xff\xfe", b"[1,2]", b"null", b"[" * 9000)
 

@@ -1,5 +1,5 @@
-"""What `netrev suspects` lists, asked and used by `info suspects`: how it is read, what the rules make of it, and that they find the same
-without it. The list is that of the naive reading (netrev_machine/suspects.py)."""
+"""The list of `netrev suspects` in `info suspects`: how it is read, how the rules use it, and that they find the
+same without it. The list is that of the naive reading (netrev_machine/suspects.py)."""
 
 import random
 from pathlib import Path
@@ -43,7 +43,7 @@ def netrev(tmp_path: Path) -> Path:
 
 
 def list_of(netrev: Path, script: str, interrupts: Optional[Interrupts] = None) -> SuspectList:
-    """The list that this script of the shell prints."""
+    """The list that this shell script prints."""
     netrev.write_text(f"#!/bin/sh\n{script}\n")
     netrev.chmod(0o755)
     return SuspectList(str(netrev), "some.jsonl", interrupts or Interrupts())
@@ -131,7 +131,7 @@ def test_a_netrev_that_still_runs_is_ended(netrev: Path) -> None:
 
 
 class Reading(SuspectList):
-    """The list that the naive reading makes of a recording."""
+    """The list of a recording by the naive reading."""
 
     def __init__(self, recording: Recording) -> None:
         super().__init__("", "", Interrupts())
@@ -285,7 +285,8 @@ def test_planted_bugs_have_the_same_suspects(bug: Optional[Bug]) -> None:
 
 
 def test_random_recordings_have_the_same_facts_by_the_notes() -> None:
-    """By the notes the rules find those of the list: of steps that are only played, and with an older netrev."""
+    """From the notes the rules find the same facts as from the list, for candidates of searches and with an older
+    netrev."""
     lost = passed = ended = back = 0
     for seed in range(200):
         dice = random.Random(f"suspects {seed}")
@@ -306,6 +307,6 @@ def without_lines(facts: Iterable[Union[LostWakeUp, OfDeadline]]) -> list[str]:
 
 
 def test_a_close_that_goes_on_has_a_line_and_is_no_suspect() -> None:
-    """The list is no list of bugs: what a recording ends in is in it too."""
+    """The list isn't one of bugs: it also has the state in which a recording ends."""
     recording = recording_of(OPEN + SHUT[:2])
     assert len(Reading(recording).lines) == 2 and found(recording) == []

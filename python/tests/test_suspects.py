@@ -1,5 +1,5 @@
-"""The rules of `info suspects`: each finds its bug in a small recording and not in one that nearly has it; the bugs of the
-examples are named first; so are bugs planted at random, and traffic without one has no suspect."""
+"""The rules of `info suspects`: each finds its bug in a small recording and not in a similar correct one; the bugs
+of the examples are named first, and so are bugs planted at random; traffic without one has no suspect."""
 
 import json
 import unittest
@@ -42,7 +42,7 @@ USED_AGAIN: Steps = [
 
 
 class Pair(NamedTuple):
-    """A recording with a bug, and one that nearly has it."""
+    """A recording with a bug, and a similar one without it."""
 
     bad: Steps
     good: Steps
@@ -91,7 +91,7 @@ PAIRS = {
 
 
 def recording_of(steps: Steps) -> Recording:
-    """A recording of these steps with the model's answers; all of them have to apply."""
+    """A recording of these steps with the model's answers; all of them must apply."""
     world = World(LIMITS)
     lines: list[Any] = [{"netrev": 2, **LIMITS._asdict()}]
     for kind, *rest in steps:
@@ -103,7 +103,7 @@ def recording_of(steps: Steps) -> Recording:
 
 
 def shown(recording: Recording) -> list[Suspect]:
-    """The suspects of a recording that are shown."""
+    """The visible suspects of a recording."""
     return [suspect for suspect in suspects_of(recording).suspects if suspect.is_shown]
 
 

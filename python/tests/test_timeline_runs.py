@@ -1,4 +1,4 @@
-"""What the timeline shows of each cell and queue: over random recordings what the machine's model shows at each position."""
+"""The timeline's values of each cell and queue equal the model's at each position, in random recordings."""
 
 import random
 
@@ -10,6 +10,7 @@ from netrev_machine.program import replay
 from netrev_machine.session import recording_of
 from netrev_words.writing import write_plain
 from nrdb.interrupts import Interrupts
+from nrdb.recording import Recording
 from nrdb.scout import Scout
 from nrdb.timeline.runs import QUEUES, Window, runs_of, value_at
 
@@ -36,7 +37,7 @@ def test_runs_are_what_the_model_shows() -> None:
         scout, changes = Scout(lambda: Modelled(model, Interrupts(), lambda _: None)), changes_in(text)
         length = len(replayed.worlds) - 1
         for window in (Window(0, length), Window(length // 3, length // 2), Window(length, length)):
-            runs, _ = runs_of(scout, changes, window)
+            runs, _ = runs_of(Recording(text), scout, changes, window)
             for position in range(window.first, window.last + 1):
                 right = dict.fromkeys(runs, "absent") | shown(replayed.worlds[position])
                 assert {cell: value_at(run, position) for cell, run in runs.items()} == right

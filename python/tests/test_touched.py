@@ -1,4 +1,4 @@
-"""Whose the steps of a part of a recording are, by the part alone, is what they are by all steps from the first one."""
+"""The owners of the steps in a part of a recording, found from the part alone, equal those found from all steps."""
 
 import random
 from collections import Counter
@@ -16,7 +16,7 @@ PARTS = 12
 
 
 def recording_of(seed: int) -> Recording:
-    """A random recording: every fourth one is of connections, whose goroutines wait for long."""
+    """A random recording: every fourth one has connections, whose goroutines wait for a long time."""
     if seed % 4 == 0:
         return Recording(Traffic(seed, list(Bug)[seed % len(Bug)], 600).run().text())
     return PlayedSteps(Author(random.Random(f"touched {seed}")).recording(300)[0].steps)

@@ -1,5 +1,5 @@
-"""The trace for Perfetto: its events have what the form wants, slices of a thread are in each other or one after the other, and each
-flow leads from a slice to one; statuses are those of the machine's model."""
+"""The trace for Perfetto: its events have the right form, slices of a thread are nested or consecutive, and each
+flow leads from a slice to one; statuses equal the model's."""
 
 import json
 import random
@@ -55,7 +55,7 @@ def slices_of(events: list[Event]) -> dict[tuple[int, int], list[Event]]:
 
 
 def faults_of(events: list[Event]) -> list[str]:
-    """What isn't of the form."""
+    """Violations of the form."""
     faults = [f"lacks a field: {event}" for event in events if not REQUIRED[event["ph"]] <= set(event)]
     threads = slices_of(events)
     for slices in threads.values():
@@ -79,7 +79,7 @@ def faults_of(events: list[Event]) -> list[str]:
 
 
 def traced(recording: Recording) -> list[Event]:
-    """The events of the trace of a recording, as JSON gives them back."""
+    """The events of the trace of a recording, parsed from JSON."""
     changes = changes_in(recording.data)
     told = chain(
         Tracing(recording, changes).events("run.jsonl", lambda: None),
@@ -89,7 +89,7 @@ def traced(recording: Recording) -> list[Event]:
 
 
 class Looking(Scout):
-    """Looks at what the changes say."""
+    """Compares with the changes."""
 
     def __init__(self, changes: RecordedChanges) -> None:
         self._changes = changes
@@ -99,7 +99,7 @@ class Looking(Scout):
 
 
 def statuses_of(events: list[Event], length: int) -> list[dict[int, str]]:
-    """Of each position the statuses of those goroutines that do something."""
+    """For each position the statuses of the goroutines that do something."""
     found: list[dict[int, str]] = [{} for _ in range(length + 1)]
     for event in events:
         if event.get("cat") == "status":

@@ -1,5 +1,6 @@
-"""What is said of programs in which a goroutine doesn't do what another waits for, by recordings of tools/go/samples/turns (tests.go_caused made
-them): the line of the bug with its reason; and nothing of the runs without the bug."""
+"""Programs in which a goroutine doesn't do what another waits for, in recordings of tools/go/samples/turns
+(tests.go_caused made them): the output has the line of the bug with its reason, and nothing for the runs without
+the bug."""
 
 import unittest
 
@@ -90,7 +91,7 @@ class Turns(unittest.TestCase):
                     self.assertRegex("\n".join(said), f"(?m){reason.replace('{}', bug_line(name))}")
 
     def test_of_good_runs_nothing_is_said(self) -> None:
-        """But for the Dial that is to fail."""
+        """Except for the Dial that must fail."""
         for name in REASONS:
             with self.subTest(name):
                 self.assertEqual(len(self.said(name, "good")), 2 if name == "undone" else 0)

@@ -1,4 +1,4 @@
-"""A descriptor's number is used again: what is told of its first use is never told of the next one."""
+"""A reused descriptor number: facts about its first use are never reported for the next one."""
 
 import unittest
 
@@ -11,7 +11,7 @@ LATE: Steps = [["setdeadline", 0, 0, "r", 3], ["tick", 9], ["pop"]]
 
 
 class UsedAgain(unittest.TestCase):
-    """Socket 0 had descriptor 0, which is socket 1's now."""
+    """Socket 0 had descriptor 0, which is now socket 1's."""
 
     def test_a_timer_that_is_run_late_is_of_the_socket_that_set_it(self) -> None:
         recording = recording_of(OPEN + LATE + USED_AGAIN + [["fire", 0]])

@@ -1,4 +1,5 @@
-"""scripts/verdicts.py and its rule: a verdict counts for the files that it is of, and differs from the page where it does."""
+"""scripts/verdicts.py and its rule: a verdict counts for the files that it belongs to, and is compared with the
+page."""
 
 import unittest
 

@@ -1,4 +1,4 @@
-"""netrev_words.version has the version, and all that says one says that."""
+"""netrev_words.version has the version, and all programs print it."""
 
 import json
 import re

@@ -1,5 +1,5 @@
-"""The wait-for graph at a recording's end: what all wait for is said first, then who waits for that; cycles are deadlocks, and what may have
-nothing to do comes last."""
+"""The wait-for graph at a recording's end: what all goroutines wait for comes first, then the goroutines that wait
+for it; cycles are deadlocks, and waits that may be normal come last."""
 
 import json
 import tempfile
@@ -142,13 +142,14 @@ class Roots(unittest.TestCase):
         self.assertEqual(graph.count, 1)
 
     def test_a_goroutine_that_sleeps_for_good_may_have_nothing_to_do(self) -> None:
-        """A program's main goroutine may do so, and one that a test has left behind."""
+        """A program's main goroutine may do so, and one that a test has left running."""
         for kind, is_quiet in (("a select without cases", True), ("a nil channel", False)):
             graph = graph_of(self.BLOCKED, [[7, 0, 2, kind, 5, -1]])
             self.assertEqual([hang.is_quiet for hang in graph.shown], [False, is_quiet], kind)
 
     def test_what_nobody_waits_for_is_no_cause_where_the_program_ended_by_itself(self) -> None:
-        """A session opens with it as with what may have nothing to do, but not where others wait for it, or the program was killed."""
+        """A session opens with it as with a wait that may be normal, but not if others wait for it, or the program
+        was killed."""
         left = [[6, 0, 2, "room in a channel", 5, -1]]
         waited_for = [[3, 4, 3, WAITS_AT, 5, 2], *left, [7, 0, 3, WAITS_AT, 5, -1]]
         quiet = "1 goroutine waits at the end, at hub.go:15 in (*hub).names: info hangs"
@@ -185,7 +186,7 @@ class Programs(unittest.TestCase):
     """Recordings of tools/go/samples/roots."""
 
     def first(self, name: str) -> list[str]:
-        """The first paragraph of what is printed first."""
+        """The first paragraph of the first output."""
         recording = Recording.read(str(CAUSED / f"{name}-bad.jsonl"))
         recording.lines.written = float("inf")  # (a clone's files are newer than the recording)
         with in_the_folder_of_the_source(source_of(name)):

@@ -1,5 +1,5 @@
-"""Who waits for a lock, and who has it: the same, however many wait, by as many questions and by one search of the recording's
-text; and by its steps from the end as by all of them."""
+"""The goroutines that wait for a lock, and its holder: the result is the same however many wait, with as many
+queries and one search of the recording's text; and by its steps from the end as by all of them."""
 
 import io
 import json
@@ -47,7 +47,7 @@ class Asked(unittest.TestCase):
         self.folder = folder_of(self)
 
     def session(self, text: str, asked: Counter[str]) -> tuple[Session, io.StringIO]:
-        """A session at the end of a recording, what it prints, and a count of what netrev is asked."""
+        """A session at the end of a recording, its output, and a count of the queries to netrev."""
         path = self.folder / "recording.jsonl"
         path.write_text(text)
         model, interrupts, out = recording_at(path), Interrupts(), io.StringIO()
@@ -115,8 +115,8 @@ class Asked(unittest.TestCase):
         self.assertIn("dump rq 0", many)
 
     def searched(self, count: int, sockets: int, with_lines: bool) -> tuple[int, int, int]:
-        """Of `info goroutines` where so many wait at each of so many sockets: how many questions are asked beside the statuses,
-        how many searches of the text are begun, and how many pieces of text are searched."""
+        """For `info goroutines` with so many waiters at each of so many sockets: how many queries it makes besides
+        the statuses, how many searches of the text it begins, and how many pieces of text it searches."""
         asked, begun = Counter[str](), mock.Mock()
         text = waiters(count, sockets)
         if with_lines:
@@ -165,7 +165,7 @@ class Asked(unittest.TestCase):
 
 class Backwards(unittest.TestCase):
     def worlds(self) -> Iterator[World]:
-        """Recordings at positions here and there, which may be spelled with blanks or escapes."""
+        """Recordings at various positions, which may be spelled with blanks or escapes."""
         dice = random.Random("taken")
         for number in range(60):
             text = visit(f"taken-nrdb-{number}").recording

@@ -1,4 +1,4 @@
-"""Who waits outside of the poller: by points of the recorder, in NAME.where, and as it is said of a call that hangs."""
+"""Waits outside of the poller: by points of the recorder, in NAME.where, and in the text about a hanging call."""
 
 import json
 import unittest

@@ -1,5 +1,5 @@
-"""The page's server under requests that aren't the page's: each is refused, and the session goes on. Over real sockets, with a
-session that only writes down what it is asked."""
+"""The page's server under requests that aren't the page's: each is refused, and the session continues. Over real
+sockets, with a session that only writes down its lines."""
 
 import base64
 import hashlib
@@ -68,7 +68,7 @@ class Served(unittest.TestCase):
         self.addCleanup(server.stop)
 
     def expect_that_it_goes_on(self) -> None:
-        """The page is there, a line is accepted, and events come."""
+        """The page is served, a line is accepted, and events come."""
         self.assertEqual(self.address.get(f"/?token={TOKEN}").status, 200)
         with Listener(self.address) as listener:
             self.assertEqual(self.address.type("stepi", Netrev_Browser=str(listener.you["number"])).status, 202)

@@ -1,5 +1,5 @@
-"""The session behind the page, with a netrev that the model plays: who moved and to where, what the page doesn't do, and what is
-said while netrev is gone and when it is there again."""
+"""The session behind the page, with a modelled netrev: who moved and to where, what the page refuses, and the
+messages while netrev is gone and when it is back."""
 
 import json
 import sys
@@ -49,7 +49,7 @@ class Streams:
         return self.browsers
 
     def take(self) -> list[dict[str, Any]]:
-        """The events since the last time."""
+        """The events since the last call."""
         taken, self.events = self.events, []
         return taken
 
@@ -87,7 +87,7 @@ class Played(unittest.TestCase):
         return [text for event in self.types(line) if event["event"] == "said" for text in event["lines"]]
 
     def look(self) -> list[dict[str, Any]]:
-        """The events of a look at what others did."""
+        """The events of a check for moves of others."""
         self.running.turn()
         return self.streams.take()
 

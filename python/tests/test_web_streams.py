@@ -1,4 +1,5 @@
-"""The page's server with many at once: requests, connections that say nothing, and event streams; what streams tell; and its end."""
+"""The page's server with many clients at once: requests, silent connections, and event streams; the contents of
+streams; and its end."""
 
 import socket
 import threading

@@ -1,4 +1,5 @@
-"""NAME.where, whatever is in it: it is used, or not, and it is said why. Files that are written are whole, and never the recording."""
+"""NAME.where with any contents: it is used, or rejected with the reason. Files are written completely, and never
+over the recording."""
 
 import json
 import os

@@ -64,23 +64,23 @@ class Address(NamedTuple):
         return "".join(f"{line}\r\n" for line in [*lines, ""]).encode("latin-1") + body
 
     def send(self, data: bytes) -> Answer:
-        """What these bytes are answered."""
+        """The answer to these bytes."""
         with self.connect() as connection:
             with suppress(ConnectionError):
                 connection.sendall(data)
             return Answer.of(rest_of(connection))
 
     def get(self, target: str, **headers: str) -> Answer:
-        """What a GET is answered."""
+        """The answer to a GET."""
         return self.send(self.request("GET", target, **headers))
 
     def type(self, line: str, **headers: str) -> Answer:
-        """What a line is answered: that it is taken, or why not."""
+        """The answer to a line: that it is accepted, or why not."""
         return self.send(self.request("POST", "/line", line.encode("utf-8"), **headers))
 
 
 def rest_of(connection: socket.socket) -> bytes:
-    """All that comes up to the connection's end."""
+    """Everything that comes up to the connection's end."""
     data = b""
     with suppress(ConnectionError):
         while came := connection.recv(1 << 16):

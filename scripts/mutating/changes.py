@@ -1,6 +1,5 @@
-"""The mutants of a Python module: each changes one place of its text.
-
-The kinds are those of everyday mistakes: a comparison, a dropped case, swapped sides, off by one, a forgotten step."""
+"""The mutants of a Python module: each changes one place of its text. The kinds are everyday mistakes: a
+comparison, a dropped case, swapped sides, off by one, a forgotten step."""
 
 from __future__ import annotations
 
@@ -16,7 +15,7 @@ COMPARISON, CASE, SIDES, OFF_BY_ONE, FORGOTTEN = KINDS = (
     "off by one",
     "forgotten",
 )
-TOO_LONG, NOT_PUT_IN = "too long", "not put in"  # answers to trying a mutant
+TOO_LONG, NOT_PUT_IN = "too long", "not put in"  # results of trying a mutant
 COMPARED = {
     ast.Lt: ("<", "<="), ast.LtE: ("<=", "<"), ast.Gt: (">", ">="), ast.GtE: (">=", ">"), ast.Eq: ("==", "!="),
     ast.NotEq: ("!=", "=="), ast.Is: ("is", "is not"), ast.IsNot: ("is not", "is"), ast.In: ("in", "not in"),
@@ -49,8 +48,9 @@ class Mutant:
 
     file: str  # below the repository's folder
     line: int
-    function: str  # qualified; empty if it is of the module
-    is_inside: bool  # a function, and not its module's or class's body
+    function: str  # qualified name; empty for the module
+    code: str  # the innermost function's qualified name
+    is_inside: bool  # a function, rather than a module's or class's body
     kind: str
     begin: int
     end: int
@@ -59,7 +59,7 @@ class Mutant:
     source: str  # the line as it was
 
     def name(self) -> str:
-        """What stays when lines above it change."""
+        """A name that stays the same when lines above it change."""
         return f"{self.file}|{self.function}|{' '.join(self.source.split())}|{_brief(self.old)} -> {_brief(self.new)}"
 
     def applied(self, text: str) -> str:
@@ -96,10 +96,13 @@ class Finder(ast.NodeVisitor):
     def put(self, kind: str, begin: int, end: int, new: str) -> None:
         line = self.text.count("\n", 0, begin) + 1
         old = self.text[begin:end]
-        new += "\n" * (old.count("\n") - new.count("\n"))  # what stands below stays on its line
+        new += "\n" * (old.count("\n") - new.count("\n"))  # text below stays on its line
         function = ".".join(self.names).split(".<locals>")[0]
+        code = ".".join(self.names).removesuffix(".<locals>")
         source = self.lines[line - 1].strip()
-        self.found.append(Mutant(self.file, line, function, self.functions > 0, kind, begin, end, old, new, source))
+        self.found.append(
+            Mutant(self.file, line, function, code, self.functions > 0, kind, begin, end, old, new, source)
+        )
 
     def of_node(self, kind: str, node: ast.AST, new: str) -> None:
         self.put(kind, *self.span(node), new)
@@ -123,7 +126,7 @@ class Finder(ast.NodeVisitor):
         pass  # (its parts have no places of their own before Python 3.12)
 
     def visit_Raise(self, node: ast.Raise) -> None:
-        pass  # (what isn't seen of an error is its text, which stands in a table)
+        pass  # (an error's text, which is in a table, isn't tested)
 
     def visit_ClassDef(self, node: ast.ClassDef) -> None:
         self.names.append(node.name)
@@ -213,7 +216,7 @@ class Finder(ast.NodeVisitor):
         self.generic_visit(node)
 
     def elements(self, elements: list[ast.expr]) -> None:
-        """One of a set's elements is forgotten."""
+        """Forgets one of a set's elements."""
         for element in elements:
             if len(elements) > 1:
                 self.of_node(CASE, element, self.source(elements[0] if element is not elements[0] else elements[1]))
@@ -239,7 +242,7 @@ class Finder(ast.NodeVisitor):
         self.generic_visit(node)
 
     def is_kept_order(self, node: ast.Call) -> bool:
-        """Whether the order of the arguments is a matter of types, or doesn't matter."""
+        """Whether the order of the arguments doesn't matter, or types check it."""
         return isinstance(node.func, ast.Name) and node.func.id in (
             "isinstance", "issubclass", "min", "max", "map", "filter", "field", "getattr", "hasattr", "TypeVar",
         )  # fmt: skip
@@ -294,7 +297,7 @@ class Finder(ast.NodeVisitor):
         self.generic_visit(node)
 
     def forgotten(self, node: ast.stmt, target: ast.expr) -> None:
-        """An assignment that gives a new value to what has one."""
+        """Forgets an assignment that gives a new value to a variable."""
         if self.functions and not self.is_method_of_set_up and isinstance(target, (ast.Attribute, ast.Subscript)):
             self.of_node(FORGOTTEN, node, "pass")
 

@@ -1,4 +1,4 @@
-"""The command `mutants.py around`: draws mutants, tries them and prints a table of what survives."""
+"""The command `mutants.py around`: draws mutants, tries them and prints a table of the survivors."""
 
 from __future__ import annotations
 
@@ -12,20 +12,22 @@ from collections import Counter
 from pathlib import Path
 
 from . import equivalent
-from .changes import KINDS
-from .topics import MOST, read_topics
+from .changes import KINDS, Mutant
+from .topics import MOST, note_calls, read_topics
 
 from .trying import (
     FOUND, PACKAGES, ROOT, UNBUILT, Verdict, all_mutants, drawn, python_with_pytest, tried,
 )  # fmt: skip
 
 KEPT = ROOT / "out/mutants"
-USAGE = """scripts/mutants.py around [--seed N] [--count N] [--jobs N] [--tests N] [--list] [FILE ..]
+NOTES = KEPT / "called.jsonl"
+USAGE = """scripts/mutants.py around [--seed N] [--count N] [--jobs N] [--seconds N] [--again] [--list] [FILE ..]
 
 Tries mutants of nrdb, netrev_calls and netrev_go, or of the files and folders named: --count of them, drawn by --seed. Each is
-tried in a copy of the repository against the --tests files of tests that are nearest to its module (scripts/mutating/topics.py). What survives is printed as a
-table, and each verdict is kept in out/mutants. scripts/mutating/equivalent.txt has mutants that change nothing that a user sees, with the
-reasons; they aren't drawn.
+tried in a copy of the repository against --seconds of the tests that call the function which it changes, the quickest first; what
+each test calls is noted in out/mutants/called.jsonl, anew for a file of tests that has changed. What survives is printed as a table, and each
+verdict is kept in out/mutants; with --again those that weren't found by a seed are tried again. scripts/mutating/equivalent.txt has mutants that change
+nothing that a user sees, with the reasons; they aren't drawn.
 
 NETREV names the netrev that tests run. The status is 0 if at least --least of 100 mutants are found."""
 
@@ -35,15 +37,16 @@ def arguments(words: list[str]) -> argparse.Namespace:
     parser.add_argument("--seed", type=int, default=random.randrange(10**6))
     parser.add_argument("--count", type=int, default=200)
     parser.add_argument("--jobs", type=int, default=2)
-    parser.add_argument("--tests", type=int, default=MOST)
+    parser.add_argument("--seconds", type=float, default=MOST)
     parser.add_argument("--least", type=int, default=90)
+    parser.add_argument("--again", action="store_true")
     parser.add_argument("--list", action="store_true")
     parser.add_argument("files", nargs="*", metavar="FILE")
     return parser.parse_args(words)
 
 
 def table(verdicts: list[Verdict]) -> str:
-    """The mutants that weren't found, and of each kind how many were."""
+    """The survivors, and how many of each kind were found."""
     lines = ["| Mutant | Kind | Change | Verdict |", "|---|---|---|---|"]
     for one in sorted(verdicts, key=lambda one: (one.mutant.file, one.mutant.line)):
         if one.answer not in (FOUND, UNBUILT):
@@ -60,27 +63,36 @@ def table(verdicts: list[Verdict]) -> str:
     return "\n".join(lines)
 
 
+def not_found(mutants: list[Mutant], log: Path) -> list[Mutant]:
+    """The mutants that weren't found when they were last tried."""
+    answers = {name: answer for answer, name, *_ in map(json.loads, log.read_text(encoding="utf-8").splitlines())}
+    return [mutant for mutant in mutants if answers.get(mutant.name(), FOUND) not in (FOUND, UNBUILT)]
+
+
 def main(words: list[str]) -> int:
     given = arguments(words)
     known = equivalent.read()
     parts = [os.path.relpath(Path(file).absolute(), ROOT) for file in given.files] or PACKAGES
     mutants = [mutant for mutant in all_mutants(ROOT, parts) if mutant.name() not in known]
-    chosen = drawn(mutants, given.count, given.seed)
+    log = KEPT / f"{given.seed}.jsonl"
+    chosen = not_found(mutants, log) if given.again else drawn(mutants, given.count, given.seed)
     print(f"seed {given.seed}: {len(chosen)} of {len(mutants)} mutants", flush=True)
     if given.list:
         for mutant in chosen:
             print(f"{mutant.file}:{mutant.line}: {mutant.kind}: {mutant.name()}")
         return 0
     python = python_with_pytest()
+    note_calls(ROOT, NOTES, python)
+    topics = read_topics(NOTES, given.seconds)
     with tempfile.TemporaryDirectory(prefix="mutants-") as name:
         room = Path(name)
         verdicts = []
         KEPT.mkdir(parents=True, exist_ok=True)
-        with open(KEPT / f"{given.seed}.jsonl", "a", encoding="utf-8") as log:
-            for one in tried(chosen, read_topics(ROOT, given.tests), room, given.jobs, python):
+        with open(log, "a", encoding="utf-8") as kept:
+            for one in tried(chosen, topics, room, given.jobs, python):
                 verdicts.append(one)
                 row = one.answer, one.mutant.name(), one.mutant.line, one.mutant.kind, one.by, round(one.seconds, 1)
-                print(json.dumps(row), file=log, flush=True)
+                print(json.dumps(row), file=kept, flush=True)
                 print(f"{one.answer}: {one.mutant.file}:{one.mutant.line} {one.by} ({one.seconds:.0f} s)", flush=True)
     print(table(verdicts))
     found = sum(one.answer == FOUND for one in verdicts)

@@ -29,7 +29,7 @@ REPLACED: tuple[tuple[str, re.Pattern[str], str], ...] = (
 
 
 def go_mutants_of(root: Path, path: Path) -> Iterator[Mutant]:
-    """The mutants of a file within functions. A mutant that Go doesn't compile is found out when it is tried."""
+    """The mutants of a file within functions. A mutant that Go doesn't compile is detected when it is tried."""
     text = path.read_text(encoding="utf-8")
     masked = LEFT_ALONE.sub(lambda found: re.sub(r"[^\n]", "\0", found[0]), text)
     functions = list(FUNCTION.finditer(masked))
@@ -44,4 +44,4 @@ def go_mutants_of(root: Path, path: Path) -> Iterator[Mutant]:
             line = text.count("\n", 0, found.start()) + 1
             source = text.splitlines()[line - 1].strip()
             replaced = str(int(old) + 1) if new == "{next}" else new
-            yield Mutant(file, line, function, True, kind, found.start(), found.end(), old, replaced, source)
+            yield Mutant(file, line, function, function, True, kind, found.start(), found.end(), old, replaced, source)

@@ -1,19 +1,21 @@
-"""A plugin of pytest's that tries one mutant after the other, each in a process of its own that begins where all tests are loaded.
+"""A plugin of pytest that tries one mutant after the other, each in a process of its own that starts with all tests
+loaded.
 
-It reads requests, a line of JSON each, from the first of the two descriptors that NETREV_MUTANTS names: the file, its
-text before and behind the change, for how many seconds to try, and the test, if it is one alone. Into the second it writes what came of it: the test that failed, nothing, or
-"too long". A mutant's file lies changed on the disk meanwhile, for the processes that tests start; here the code of the function that it changes
-is put into the function that is there."""
+It reads requests, a line of JSON each, from the first of the two descriptors in NETREV_MUTANTS: the file, its text
+before and after the change, and the tests, each with its time limit in seconds. Into the second it writes the result:
+the test that failed, nothing, or "too long" and the test. Meanwhile the mutant's file is on the disk, for the processes
+that tests start; in this process the loaded function gets the code of the changed one.
+"""
 
 from __future__ import annotations
 
 import gc
+import io
 import json
 import os
 import select
 import signal
 import sys
-import time
 from collections.abc import Iterator
 from types import CodeType, FunctionType
 from typing import Any
@@ -25,7 +27,7 @@ from .changes import NOT_PUT_IN, TOO_LONG
 
 
 def codes_in(code: CodeType) -> Iterator[CodeType]:
-    """The codes of a code, itself first, in the order of the source."""
+    """The code objects in a code object, itself first, in the order of the source."""
     yield code
     for constant in code.co_consts:
         if isinstance(constant, CodeType):
@@ -37,14 +39,14 @@ def key(code: CodeType) -> tuple[str, int, str]:
 
 
 def changed_codes(file: str, before: str, behind: str) -> dict[tuple[str, int, str], CodeType]:
-    """The codes that a mutant changes, by where the old ones stand. A change may not add lines."""
+    """The code objects that a mutant changes, by the places of the old ones. A change may not add lines."""
     old, new = (list(codes_in(compile(text, file, "exec", dont_inherit=True))) for text in (before, behind))
     named: dict[tuple[str, int, str], CodeType] = {key(code): code for code in new}
     return {key(code): named[key(code)] for code in old if key(code) in named and named[key(code)] != code}
 
 
 def put_in(file: str, before: str, behind: str) -> bool:
-    """Gives the functions that are loaded the mutant's code. Whether that was done, or its module isn't loaded yet."""
+    """Gives the loaded functions the mutant's code. Whether that was done, or its module isn't loaded yet."""
     if not any(getattr(module, "__file__", None) == file for module in list(sys.modules.values())):
         return True
     changed = changed_codes(file, before, behind)
@@ -58,17 +60,18 @@ def put_in(file: str, before: str, behind: str) -> bool:
     return is_put_in
 
 
-def first_failed(items: list[pytest.Item]) -> str:
-    """Runs tests until one fails; its name."""
+def run_until_one_fails(items: list[pytest.Item], begun: int) -> str:
+    """Runs tests until one fails; its name. Writes a line into a descriptor as each begins."""
     for item, following in zip(items, [*items[1:], None]):
+        os.write(begun, b"\n")
         reports = runtestprotocol(item, log=False, nextitem=following)
         if any(report.failed for report in reports):
             return item.nodeid
     return ""
 
 
-def tried(request: dict[str, Any], items: list[pytest.Item]) -> str:
-    """The test that fails, in a process of its own."""
+def tried(request: dict[str, Any], items: list[tuple[pytest.Item, float]]) -> str:
+    """The test that fails, of these with the seconds that each may take, in a process of its own."""
     reading, writing = os.pipe()
     process = os.fork()
     if process == 0:
@@ -77,17 +80,15 @@ def tried(request: dict[str, Any], items: list[pytest.Item]) -> str:
             os.close(reading)
             os.setpgid(0, 0)
             if request["before"] == request["behind"] or put_in(request["file"], request["before"], request["behind"]):
-                failed = first_failed(items)
+                failed = run_until_one_fails([item for item, _ in items], writing)
             else:
                 failed = NOT_PUT_IN
         finally:
-            os.write(writing, failed.encode())
+            os.write(writing, f"{failed}.\n".encode())
             os._exit(0)
     os.close(writing)
-    failed = TOO_LONG
-    if select.select([reading], [], [], request["patience"])[0]:
-        failed = os.read(reading, 65_536).decode()
-    os.close(reading)
+    with open(reading, "rb", buffering=0) as lines:
+        failed = what_failed(lines, items)
     try:
         os.killpg(process, signal.SIGKILL)
     except ProcessLookupError:
@@ -96,15 +97,29 @@ def tried(request: dict[str, Any], items: list[pytest.Item]) -> str:
     return failed
 
 
+def what_failed(lines: io.FileIO, items: list[tuple[pytest.Item, float]]) -> str:
+    """What the process writes in its last line, unless a test takes too long."""
+    text, begun = b"", 0
+    while not text.strip():
+        item, patience = items[max(begun - 1, 0)]
+        if not select.select([lines], [], [], patience)[0]:
+            return f"{TOO_LONG}: {item.nodeid}"
+        part = lines.read(65_536)
+        if not part:
+            return item.nodeid  # (it ended the process)
+        text += part
+        begun = text.count(b"\n")
+    return text.strip().decode().removesuffix(".")
+
+
 def pytest_runtestloop(session: pytest.Session) -> bool:
-    """In place of running the tests: runs those of each request."""
+    """Runs the tests of each request, instead of all tests."""
     requests, answers = (int(number) for number in os.environ["NETREV_MUTANTS"].split(","))
+    items = {item.nodeid: item for item in session.items}
     with open(requests, encoding="utf-8") as lines, open(answers, "w", encoding="utf-8", buffering=1) as replies:
         print("ready", file=replies)
         for line in lines:
             request = json.loads(line)
-            begin = time.monotonic()
-            items = [item for item in session.items if request["only"] in ("", item.nodeid)]
-            reply = {"failed": tried(request, items), "seconds": round(time.monotonic() - begin, 2)}
-            print(json.dumps(reply), file=replies)
+            wanted = [(items[name], patience) for name, patience in request["tests"] if name in items]
+            print(json.dumps({"failed": tried(request, wanted) if wanted else ""}), file=replies)
     return True

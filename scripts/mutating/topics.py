@@ -1,80 +1,124 @@
-"""Which tests are tried against a mutant of a module: those that import it, the nearest first.
+"""The tests that are tried against a mutant: those that call the function that it changes, the quickest first.
 
-A file of tests that imports the module itself is nearest; after it come those that import a module that imports it, and so on.
-`topics.txt` names the tests of what no test imports, and others that a module needs."""
+One run of the tests records what each of them calls (`called.py`); a file of tests that has changed is run again. `topics.txt` names
+the tests of the recorder's Go, whose calls can't be recorded."""
 
 from __future__ import annotations
 
-import ast
+import hashlib
+import json
+import os
+import subprocess
 from collections import defaultdict
+from collections.abc import Iterable, Sequence
 from dataclasses import dataclass, field
 from fnmatch import fnmatch
 from pathlib import Path
 
+from .changes import Mutant
+
 OVERRIDES = Path(__file__).with_name("topics.txt")
-PACKAGES = ("nrdb", "netrev_calls", "netrev_go", "netrev_machine", "netrev_fuzz", "netrev_words", "tests")
-MOST = 8  # files of tests for a module
+NOTED = ("python/tests", "python/tests/program/nrdb")  # folders of tests whose calls are noted
+MOST = 60.0  # seconds of tests for a mutant
+
+
+@dataclass(frozen=True)
+class Test:
+    """A test, how long it took when its calls were noted, and the functions that it calls, each as `FILE|NAME`."""
+
+    name: str
+    seconds: float
+    functions: frozenset[str]
+
+    @property
+    def group(self) -> str:
+        """Its class or, for a function, its file: tests of a class share what takes long to make."""
+        return self.name.partition("[")[0].rpartition("::")[0]
 
 
 @dataclass
 class Topics:
-    """The tests of each module, by files below the repository's folder."""
+    """The tests of each function, of so many seconds."""
 
-    nearest: dict[str, list[str]] = field(default_factory=dict)
-    most: int = MOST
+    tests: Sequence[Test] = ()
+    most: float = MOST
     overrides: list[tuple[str, list[str]]] = field(default_factory=list)
 
-    def tests_of(self, file: str) -> list[str]:
-        for pattern, tests in self.overrides:
-            if fnmatch(file, pattern):
-                return tests[: self.most]
-        return self.nearest.get(file, [])[: self.most]
+    def __post_init__(self) -> None:
+        self._of_functions: dict[str, list[Test]] = defaultdict(list)
+        self._of_files: dict[str, list[Test]] = defaultdict(list)
+        for test in self.tests:
+            for function in test.functions:
+                self._of_functions[function].append(test)
+            for file in {function.partition("|")[0] for function in test.functions}:
+                self._of_files[file].append(test)
+
+    def tests_of(self, mutant: Mutant) -> list[Test]:
+        """The tests of a mutant of Python, those of a quick group first."""
+        called = self._of_functions[f"{mutant.file}|{mutant.code}"] if mutant.is_inside else self._of_files[mutant.file]
+        return quickest(called, self.most)
+
+    def files_of(self, file: str) -> list[str]:
+        """The files of tests that `topics.txt` names."""
+        return next((tests for pattern, tests in self.overrides if fnmatch(file, pattern)), [])
 
 
-def read_topics(root: Path, most: int = MOST) -> Topics:
-    """The topics of the repository, of so many files for a module."""
-    modules = modules_of(root / "python")
-    importers: dict[str, set[str]] = defaultdict(set)
-    for name, path in modules.items():
-        for imported in imports_of(name, path, modules):
-            importers[imported].add(name)
-    files = {name: str(path.relative_to(root)) for name, path in modules.items()}
-    nearest = {files[name]: [files[test] for test in tests_near(name, importers)] for name in modules}
-    return Topics(nearest, most, read_overrides(OVERRIDES.read_text(encoding="utf-8")))
+def quickest(tests: Iterable[Test], most: float) -> list[Test]:
+    """The tests of so many seconds, group by group, the quickest group first."""
+    groups: dict[str, list[Test]] = defaultdict(list)
+    for test in tests:
+        groups[test.group].append(test)
+    chosen: list[Test] = []
+    left = most
+    for group in sorted(groups.values(), key=lambda group: sum(test.seconds for test in group)):
+        for test in sorted(group, key=lambda test: test.seconds):
+            if test.seconds <= left:
+                chosen.append(test)
+                left -= test.seconds
+    return chosen
 
 
-def modules_of(folder: Path) -> dict[str, Path]:
-    """The modules below a folder, by their dotted names."""
-    found = {}
-    for package in PACKAGES:
-        for path in sorted((folder / package).rglob("*.py")):
-            parts = path.relative_to(folder).with_suffix("").parts
-            found[".".join(parts[:-1] if parts[-1] == "__init__" else parts)] = path
-    return found
+def digest(path: Path) -> str:
+    return hashlib.sha256(path.read_bytes()).hexdigest()
 
 
-def imports_of(name: str, path: Path, modules: dict[str, Path]) -> set[str]:
-    """The modules that a module imports."""
-    package = name if path.name == "__init__.py" else name.rpartition(".")[0]
-    found: set[str] = set()
-    for node in ast.walk(ast.parse(path.read_text(encoding="utf-8"))):
-        if isinstance(node, ast.Import):
-            found |= {one.name for one in node.names}
-        elif isinstance(node, ast.ImportFrom):
-            above = package.split(".")[: len(package.split(".")) - node.level + 1] if node.level else []
-            origin = ".".join([*above, *([node.module] if node.module else [])])
-            found |= {f"{origin}.{one.name}" if f"{origin}.{one.name}" in modules else origin for one in node.names}
-    return found & set(modules)
+def read_topics(notes: Path, most: float = MOST) -> Topics:
+    """The topics of the tests whose calls are noted."""
+    rows = [json.loads(line) for line in notes.read_text(encoding="utf-8").splitlines()] if notes.exists() else []
+    tests = [Test(row["test"], row["seconds"], frozenset(row["functions"])) for row in rows if "test" in row]
+    return Topics(tests, most, read_overrides(OVERRIDES.read_text(encoding="utf-8")))
 
 
-def tests_near(name: str, importers: dict[str, set[str]]) -> list[str]:
-    """The files of tests that import a module, the nearest first, without those that play the built program unless they alone do."""
-    known, edge, found = {name}, {name}, list[str]()
-    while edge and len(found) < MOST:
-        edge = {importer for one in edge for importer in importers[one]} - known
-        known |= edge
-        found += sorted(one for one in edge if one.rpartition(".")[2].startswith("test_") and ".program." not in one)
-    return found[:MOST]
+def files_of_tests(root: Path) -> list[str]:
+    return [str(path.relative_to(root)) for folder in NOTED for path in sorted((root / folder).glob("test_*.py"))]
+
+
+def note_calls(root: Path, notes: Path, python: str) -> None:
+    """Notes what the tests call, of those files of tests that have changed since."""
+    rows = [json.loads(line) for line in notes.read_text(encoding="utf-8").splitlines()] if notes.exists() else []
+    digests = {row["file"]: row["digest"] for row in rows if "file" in row}
+    files = {file: digest(root / file) for file in files_of_tests(root)}
+    changed = [file for file, now in files.items() if digests.get(file) != now]
+    if not changed:
+        return
+    notes.parent.mkdir(parents=True, exist_ok=True)
+    kept = [row for row in rows if _file_of(row) in files and _file_of(row) not in changed]
+    fresh = notes.with_suffix(".new")
+    fresh.write_text("".join(f"{json.dumps(row)}\n" for row in kept), encoding="utf-8")
+    starting = [str(root / "scripts"), str(root / "scripts/mutating/starting")]
+    environment = {**os.environ, "NETREV_CALLS": str(fresh), "PYTHONPATH": os.pathsep.join(starting)}
+    words = [python, "-m", "pytest", "-q", "-p", "mutating.called", "-m", "not alone", *changed]
+    status = subprocess.run(words, cwd=root, env=environment, stdin=subprocess.DEVNULL, check=False).returncode
+    if status not in (0, 1):
+        raise SystemExit(f"mutants.py: pytest ended with {status}, and no calls are noted")
+    with open(fresh, "a", encoding="utf-8") as file:
+        for name in changed:
+            print(json.dumps({"file": name, "digest": files[name]}), file=file)
+    fresh.rename(notes)
+
+
+def _file_of(row: dict[str, str]) -> str:
+    return row.get("file") or row["test"].partition("::")[0]
 
 
 def read_overrides(text: str) -> list[tuple[str, list[str]]]:

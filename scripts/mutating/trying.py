@@ -1,4 +1,4 @@
-"""Tries mutants: each in a copy of the repository, against the tests that call the function that it changes."""
+"""Tries mutants: each in a copy of the repository, against the tests that call the changed function."""
 
 from __future__ import annotations
 
@@ -20,20 +20,20 @@ from threading import Lock, Thread
 from .changes import KINDS, NOT_PUT_IN, TOO_LONG, Mutant, can_compile, mutants_of
 from .go_changes import go_mutants_of
 
-from .topics import Topics
+from .topics import Test, Topics
 
 ROOT = Path(__file__).resolve().parent.parent.parent
 PACKAGES = ("python/nrdb", "python/netrev_calls", "python/netrev_go")
-UNTOUCHED = ("messages",)  # modules of texts alone, and folders of them
-FOUND, SURVIVED, UNTESTED, UNBUILT = "found", "survives", "no test imports it", "can't be compiled"
+UNTOUCHED = ("messages",)  # modules that contain only texts, and folders of them
+FOUND, SURVIVED, UNTESTED, UNBUILT = "found", "survives", "no test calls it", "can't be compiled"
 FAILS_ANYWAY = "its test fails without it too"
 PATIENCE, GO_PATIENCE = 600, 1_800  # seconds
-SERVERS = 4  # that are kept
+LONGEST, TIMES = 30.0, 20.0  # seconds that any test may take, and how many times as long as when its calls were noted
 
 
 @dataclass
 class Verdict:
-    """What came of a mutant."""
+    """The result of a mutant."""
 
     mutant: Mutant
     answer: str
@@ -68,7 +68,7 @@ def all_mutants(root: Path, parts: Iterable[str] = PACKAGES) -> Iterator[Mutant]
 
 
 def drawn(mutants: Iterable[Mutant], count: int, seed: int) -> list[Mutant]:
-    """So many mutants, of each kind as many; fewer if there aren't so many."""
+    """So many mutants, the same number of each kind; fewer if not so many exist."""
     dice = random.Random(seed)
     piles: dict[str, list[Mutant]] = {kind: [] for kind in KINDS}
     for mutant in mutants:
@@ -88,21 +88,21 @@ def drawn(mutants: Iterable[Mutant], count: int, seed: int) -> list[Mutant]:
 
 
 def pytest_by(python: str) -> list[str]:
-    """How pytest is started."""
+    """The command that starts pytest."""
     return [python, "-m", "pytest", "-q"]
 
 
 class Server:
-    """A pytest that has loaded tests, and runs some of them for each mutant."""
+    """A pytest that has loaded all tests, and runs some of them for each mutant."""
 
-    def __init__(self, room: Path, python: str, tests: list[str]) -> None:
+    def __init__(self, room: Path, python: str, files: list[str]) -> None:
         requests, self._requests = os.pipe()
         self._replies, replies = os.pipe()
         environment = {**os.environ, "PYTHONHASHSEED": "0", "NETREV_MUTANTS": f"{requests},{replies}"}
         environment["PYTHONPATH"] = str(room / "scripts")
         self.output = tempfile.TemporaryFile()
         self.process = subprocess.Popen(
-            [*pytest_by(python), "-p", "mutating.server", *tests], cwd=room, env=environment, stdin=subprocess.DEVNULL,
+            [*pytest_by(python), "-p", "mutating.server", *files], cwd=room, env=environment, stdin=subprocess.DEVNULL,
             stdout=self.output, stderr=subprocess.STDOUT, pass_fds=(requests, replies), start_new_session=True,
         )  # fmt: skip
         os.close(requests)
@@ -112,9 +112,10 @@ class Server:
             self.output.seek(0)
             raise RuntimeError(f"pytest didn't load the tests: {self.output.read().decode()[-2_000:]}")
 
-    def first_failed(self, file: Path, before: str, behind: str, patience: float, only: str = "") -> str:
-        """The first test that fails with a mutant, of all or the only one; the empty text if none does."""
-        request = {"file": str(file), "before": before, "behind": behind, "patience": patience, "only": only}
+    def first_failed(self, file: Path, before: str, behind: str, tests: list[Test]) -> str:
+        """The first of the tests that fails with a mutant; the empty text if none does."""
+        patient = [(test.name, LONGEST + TIMES * test.seconds) for test in tests]
+        request = {"file": str(file), "before": before, "behind": behind, "tests": patient}
         os.write(self._requests, f"{json.dumps(request)}\n".encode())
         return str(json.loads(self._lines.readline())["failed"])
 
@@ -130,17 +131,17 @@ class Worker:
         self.room, self.topics, self.python = room, topics, python
         self.passing: dict[str, bool] = {}
         self.time = int(time.time())
-        self.servers: dict[tuple[str, ...], Server] = {}  # by the files of tests
+        self._server: Server | None = None
 
     def put(self, file: str, text: str) -> None:
-        """Writes a file with a time that no compiled module of it has."""
+        """Writes a file with a time that differs from those of its compiled modules."""
         path = self.room / file
         path.write_text(text, encoding="utf-8")
         self.time += 2
         os.utime(path, (self.time, self.time))
 
     def run_anew(self, tests: list[str], patience: float) -> str:
-        """The first of the tests that fails, in a new pytest; the empty text if none does."""
+        """The first of the tests, or files of them, that fails in a new pytest; the empty text if none does."""
         process = subprocess.Popen(
             [*pytest_by(self.python), "-x", *tests], cwd=self.room, env={**os.environ, "PYTHONHASHSEED": "0"},
             stdin=subprocess.DEVNULL, stdout=subprocess.PIPE, stderr=subprocess.STDOUT, start_new_session=True,
@@ -156,58 +157,71 @@ class Worker:
             return ""
         return failed[0].partition(" - ")[0] if failed else f"pytest ended with {process.returncode}"
 
-    def server(self, tests: list[str]) -> Server:
-        """The pytest that has loaded these files of tests; a few are kept."""
-        files = tuple(tests)
-        if files not in self.servers:
-            if len(self.servers) == SERVERS:
-                self.servers.pop(next(iter(self.servers))).end()
-            self.servers[files] = Server(self.room, self.python, tests)
-        return self.servers[files]
+    def server(self) -> Server:
+        """The pytest that has loaded the tests."""
+        if self._server is None:
+            files = sorted({test.name.partition("::")[0] for test in self.topics.tests})
+            self._server = Server(self.room, self.python, files)
+        return self._server
 
-    def first_failed(self, mutant: Mutant, text: str, tests: list[str]) -> str:
+    def first_failed(self, mutant: Mutant, text: str, tests: list[Test]) -> str:
         """The first of a mutant's tests that fails."""
         behind = mutant.applied(text)
-        is_python = mutant.file.endswith(".py")
-        server = self.server(tests) if mutant.is_inside and is_python else None
+        server = self.server() if mutant.is_inside else None
         self.put(mutant.file, behind)
         try:
             if server:
-                failed = server.first_failed(self.room / mutant.file, text, behind, PATIENCE)
+                failed = server.first_failed(self.room / mutant.file, text, behind, tests)
                 if failed != NOT_PUT_IN:
                     return failed
-            return self.run_anew(tests, PATIENCE if is_python else GO_PATIENCE)
+            return self.run_anew([test.name for test in tests], PATIENCE)
         finally:
             self.put(mutant.file, text)
 
-    def passes(self, test: str, tests: list[str]) -> bool:
-        """Whether a test of these files passes in the copy as it is, which is asked once."""
-        if test not in self.passing:
-            self.passing[test] = not self.server(tests).first_failed(self.room, "", "", GO_PATIENCE, test)
-        return self.passing[test]
+    def passes(self, name: str) -> bool:
+        """Whether a test passes in the unchanged copy, which is checked once."""
+        if name not in self.passing:
+            tests = [test for test in self.topics.tests if test.name == name]
+            self.passing[name] = not self.server().first_failed(self.room, "", "", tests)
+        return self.passing[name]
 
     def verdict(self, mutant: Mutant) -> Verdict:
         begin = time.monotonic()
         text = (self.room / mutant.file).read_text(encoding="utf-8")
-        tests = self.topics.tests_of(mutant.file)
+        if mutant.file.endswith(".go"):
+            return self.verdict_of_go(mutant, text, begin)
+        tests = self.topics.tests_of(mutant)
         if not tests:
             return Verdict(mutant, UNTESTED)
         failed = self.first_failed(mutant, text, tests)
         took = time.monotonic() - begin
-        if failed and mutant.file.endswith(".go") and self.is_unbuilt(mutant, text):
-            return Verdict(mutant, UNBUILT, "", took)
         if not failed:
             return Verdict(mutant, SURVIVED, "", took)
-        if "::" in failed and not self.passes(failed, tests):
+        if failed in {test.name for test in tests} and not self.passes(failed):
             return Verdict(mutant, FAILS_ANYWAY, failed, took)
         return Verdict(mutant, FOUND, failed, took)
 
+    def verdict_of_go(self, mutant: Mutant, text: str, begin: float) -> Verdict:
+        """The verdict of a mutant of the recorder's Go, which runs in the programs that tests record."""
+        files = self.topics.files_of(mutant.file)
+        if not files:
+            return Verdict(mutant, UNTESTED)
+        self.put(mutant.file, mutant.applied(text))
+        try:
+            failed = self.run_anew(files, GO_PATIENCE)
+        finally:
+            self.put(mutant.file, text)
+        took = time.monotonic() - begin
+        if failed and self.is_unbuilt(mutant, text):
+            return Verdict(mutant, UNBUILT, "", took)
+        return Verdict(mutant, FOUND if failed else SURVIVED, failed, took)
+
     def end(self) -> None:
-        for server in self.servers.values():
-            server.end()
+        if self._server:
+            self._server.end()
 
     def is_unbuilt(self, mutant: Mutant, text: str) -> bool:
-        """Whether Go's own check of types refuses the mutant."""
+        """Whether Go's type checker rejects the mutant."""
         path = self.room / mutant.file
         self.put(mutant.file, mutant.applied(text))
         ran = subprocess.run(["gofmt", "-e", str(path)], capture_output=True, check=False)

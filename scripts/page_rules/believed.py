@@ -1,7 +1,9 @@
-"""Which definitions a law rests on: those that it names, those that these name, and so on, over the crates' specs/.
+"""The definitions that a law rests on: those that it names, those that these name, and so on, over the crates'
+specs/.
 
-It reads words, and no types: a word that a definition has and imports, or that its file defines, counts as named. So it may take
-a definition too many, and it leaves out none that is named. Definitions of the toolchain's libraries aren't followed.
+It reads words, not types: a word that a definition contains and imports, or that its file defines, counts as named.
+So it may count a definition too many, and omits none that is named. Definitions of the toolchain's libraries aren't
+followed.
 """
 
 import re
@@ -123,7 +125,7 @@ def module_of(text: str) -> Module:
 
 
 class Beliefs:
-    """The definitions of a tree's crates, and those that some rest on."""
+    """The definitions of a tree's crates, and those that some of them rest on."""
 
     def __init__(self, tree: Tree) -> None:
         self.tree = tree

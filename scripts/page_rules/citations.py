@@ -1,7 +1,9 @@
-"""Each function, clause and definition that docs/proof/PROMISES.md cites is there, and so is what other pages name as theirs.
+"""Checks that each function, clause and definition that docs/proof/PROMISES.md cites exists, and each name of the
+sources in other pages.
 
-The right column of PROMISES names functions and, behind a colon, the labels of their clauses: `Snaps::load`: `film`, `good`.
-What comes behind "against", "over", "with" and the like is a definition. "The same" is what the table named before.
+The right column of PROMISES names functions and, after a colon, the labels of their clauses: `Snaps::load`: `film`,
+`good`. Names after "against", "over", "with" and the like are definitions. "The same" refers to the names of the
+row before.
 """
 
 import re
@@ -101,9 +103,9 @@ def promises(tree: Tree) -> Iterator[Finding]:
 
 # names of Go, Python and the system
 ELSEWHERE = {"TestMain", "RuntimeError", "O_NONBLOCK", "ReadTimeout"}
-# the page of the past, whose names needn't exist any more
+# the history page, whose names needn't exist any more
 HISTORY = "CHANGELOG.md"
-# a name that a page gives to something of the sources: with an owner, or of more than one word
+# a page's name for something in the sources: with an owner, or of more than one word
 OURS = re.compile(r"[A-Za-z]\w*(?:::\w+)+|[a-z]+(?:_[a-z0-9]+)+|(?:[A-Z][a-z0-9]+){2,}|[A-Z]+(?:_[A-Z]+)+")
 
 

@@ -39,7 +39,7 @@ def _leaning(tree: Tree, paths: list[str]) -> Iterator[Finding]:
 
 
 def leaning_docstrings(tree: Tree) -> Iterator[Finding]:
-    """Docstrings of Python that mean nothing without what is before them."""
+    """Docstrings of Python that mean nothing without the text before them."""
     return _leaning(tree, tree.matching("python/*.py", "scripts/*.py"))
 
 

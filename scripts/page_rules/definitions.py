@@ -1,7 +1,8 @@
-"""Definitions of the crates: which modules of specs/ a caller needs, and which names two crates have.
+"""The definitions of the crates: which modules of specs/ a caller needs, and which names two crates share.
 
-`specs/Lib.antt` of a crate names its modules under two headings: what callers need, and what is inside. A caller needs a module
-that another crate imports, or that a contract of the crate's public functions and types cites.
+`specs/Lib.antt` of a crate names its modules under two headings: those that callers need, and internal ones. A
+caller needs a module that another crate imports, or that a contract of the crate's public functions and types
+cites.
 """
 
 import re
@@ -20,7 +21,7 @@ FOR_CALLERS, INSIDE = "what callers need", "inner"
 IMPORT = re.compile(r"use Rattle\.(\w+)\.specs\.([A-Z]\w*)(?:\.\{([^}]*)\}| as (\w+))")
 EXPORT = re.compile(r"^pub (mod|use) ([^;]+);", re.MULTILINE)
 MEMBER = re.compile(r"^    ghost (\w+) = (.*(?:\n        .*)*)", re.MULTILINE)
-# members that no caller reads: laws, which are as in their trait, and what a type keeps to itself
+# members that no caller reads: laws, which are the same as in their trait, and private ones of a type
 NOT_READ = re.compile(
     r".*_is_unique|.*_unique|.*_are|refused_has_no_step|memory_is_.*|means_well_formed|allowance_is_within|invariant"
 )

@@ -1,6 +1,8 @@
-"""What CONTRIBUTING.md's table of Python says of imports is so: each package imports those that its row names, which are above it.
+"""Checks CONTRIBUTING.md's table of Python packages: each package imports those that its row names, which are above
+it.
 
-A row is a folder below python/, or some files of one, and a module is of the row whose path is longest. So no two import one another.
+A row is a folder below python/, or some files of one, and a module belongs to the row with the longest matching
+path. So no two packages import one another.
 """
 
 import ast

@@ -1,4 +1,4 @@
-"""Each path and each link of a page exists, and each anchor is a heading's."""
+"""Checks that each path and each link of a page exists, and that each anchor is a heading's."""
 
 import re
 from collections.abc import Iterator
@@ -9,22 +9,22 @@ from pathlib import PurePosixPath
 from page_rules.markdown import LINK, anchors, blocks, codes
 from page_rules.tree import Finding, Tree
 
-# what in code font is a path: folders, or a file with one of these endings
+# the form of a path in code font: folders, or a file with one of these endings
 PATH = re.compile(r"(?:[\w.*-]+/)+[\w.*-]*|[\w.*-]+\.(?:rt|antt|md|py|sh|edit|jsonl|script|replies|nrdb|session|where)")
 # a part of a path that a reader fills in
 FILLED_IN = re.compile(r"[A-Z][A-Z0-9_]*(?:-[\w-]+)?(?:\.\w+){0,2}|my\.\w+|\.\.\.")
-# folders that a program makes, packages of Go's own sources, and types of what is sent over HTTP
+# folders that a program makes, packages of Go's own sources, and media types
 ELSEWHERE = re.compile(
     r"(?:.*/)?out/|recordings/|(?:internal|runtime|net|encoding|go/parser|go/ast|std|text|application)(?:/|$)"
 )
 # names in an archive, examples of a page, and a reader's own files
 NAMED_ONLY = {"bin/nrdb", "src/m.rt", "bad.jsonl", "recording.jsonl", "recording.where", "now.jsonl", "bug.md", "./pkg"}
-# the page of the past: its files needn't exist any more
+# the history page, whose files needn't exist any more
 HISTORY = "CHANGELOG.md"
 
 
 def _leads_nowhere(tree: Tree, page: str, target: str) -> str | None:
-    """Why a link leads nowhere."""
+    """The reason why a link leads nowhere."""
     path, _, named = target.partition("#")
     place = normpath(str(PurePosixPath(page).parent / path)) if path else page
     if not tree.has(place):
@@ -59,7 +59,7 @@ def _is_path(word: str) -> bool:
 
 
 def paths(tree: Tree) -> Iterator[Finding]:
-    """Paths in code font that are no file and no folder."""
+    """Paths in code font that are neither a file nor a folder."""
     for page in tree.pages:
         for block, code in codes(tree.text(page)) if page != HISTORY else ():
             for word in filter(_is_path, code.split()):

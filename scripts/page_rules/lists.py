@@ -1,7 +1,9 @@
-"""What docs/internals/ARCHITECTURE.md lists: the files that name most kinds, cells or commands, all crates, and how these import one another.
+"""Checks the lists of docs/internals/ARCHITECTURE.md: the files that name most kinds, cells or commands, all
+crates, and their imports.
 
-Whoever adds a kind, a cell or a command changes the files that name all of them. The page has a list for each of the three, and
-so each file that names most of them has to be there, among those to change or among those that needn't be.
+A developer who adds a kind, a cell or a command changes the files that name all of them. The page has a list for
+each of the three, so each file that names most of them must be there, among those to change or among those that
+needn't be.
 """
 
 import re

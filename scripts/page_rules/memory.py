@@ -1,7 +1,7 @@
-"""Memory that is let go of, and memory that was refused.
+"""Finds values whose memory is never freed, and places that report refused memory.
 
-No contract says that what is undone gives its bytes back, so it is seen where a value is forgotten. And no contract says when an
-allocation is refused, so nobody may say that one was but where an error says so.
+No contract says that undoing frees memory, so each place that forgets a value is checked. And no contract says when
+an allocation is refused, so only code with the library's error may report a refusal.
 """
 
 import re
@@ -42,10 +42,8 @@ PRINTS = "crates/nr_recording/src/fault.rt"
 
 
 def refused(tree: Tree) -> Iterator[Finding]:
-    """Places of the program that say that memory was refused, where no error says so.
-
-    An error that says it carries the library's refusal. So one that has none at hand would have to make it, or to print the line itself.
-    """
+    """Places of the program that report refused memory without the library's refusal, by making one, or by printing
+    the line themselves."""
     for crate in verdict.below(tree, verdict.PROGRAM):
         for path in tree.matching(f"crates/{crate}/src/*.rt"):
             for number, line in enumerate(without_comments(tree.text(path)).split("\n"), 1):

@@ -1,8 +1,8 @@
-"""docs/proof/THEOREM.md and the computed sessions are what they are taken from, letter by letter.
+"""Checks that quotes in docs/proof/THEOREM.md and the computed sessions equal their sources, character by character.
 
-    quotes  each block of code of the page stands in the file that the line above the block names
-    texts   each file of examples/ that crates/nr_programs/specs/Examples.antt has as bytes
-    runs    each recording of examples/ and scripts/recordings/ whose run is there or in ShortRuns.antt, step by step
+    quotes  each block of code of the page is in the file that the line above the block names
+    texts   each file of examples/ equals its bytes in crates/nr_programs/specs/Examples.antt
+    runs    each recording of examples/ and scripts/recordings/ equals its run there or in ShortRuns.antt, step by step
 """
 
 import json

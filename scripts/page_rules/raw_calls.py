@@ -1,8 +1,10 @@
-"""The calls that get at a stream, a caller or a log are made where docs/proof/TRUSTED.md says so, and nowhere else.
+"""Checks that the calls that reach a stream, a caller or a log are made only in the places that
+docs/proof/TRUSTED.md lists.
 
-The laws speak of logs. A call past the logs, as of a reader that was taken out of its source, would be in none of them, and a
-note that no call stands behind would be in one. So each such call of the program's sources is listed here with the functions that
-make it, and those that no contract holds to the truth are the rows of TRUSTED's table of what is read by eye.
+The laws speak of logs. A call past the logs, such as of a reader that was taken out of its source, would be in none
+of them, and an entry without a call would be in one. So each such call of the program's sources is listed here with
+the functions that make it, and the functions that no contract checks are the rows of TRUSTED's table of code that
+is read by eye.
 """
 
 import re
@@ -51,7 +53,7 @@ CALLS: dict[str, dict[str, int]] = {
     ".forever(": {},
 }
 
-# the functions above that a contract holds to what they say; all others are read by eye
+# the functions above whose entries a contract checks; all others are read by eye
 HELD = {
     "Buffered::into_inner",
     "LoggedCallers::give_up",

@@ -1,10 +1,11 @@
-"""docs/proof/THEOREM.md has the reading list: the definitions that its laws rest on, by crate and file, and how many lines they are.
+"""Checks the reading list of docs/proof/THEOREM.md: the definitions that its laws rest on, by crate and file, and their lines.
 
-A file stands behind those that it rests on, and a crate behind those that it imports. Lines are those of definitions, without
-imports; a law's are counted without comments, and a file's with them, as it is read. What a law is only handed, as the premise that
-another contract has proved, counts and isn't opened: the law says what follows from it, whatever it says.
+A file comes after those that it rests on, and a crate after those that it imports. Lines are those of definitions, without imports; a
+law's are counted without comments, a file's with them. A definition that a law only receives, as a premise that another contract has
+proved, counts and isn't opened: the law says what follows from it, whatever it says.
 
-What the laws rest on stands in files of its own, which hold nothing else, and each crate lists these under one heading.
+The definitions that the laws rest on are in files of their own, which contain nothing else, and each crate lists these under one
+heading.
 """
 
 import re

@@ -8,7 +8,7 @@ from fnmatch import fnmatch
 from functools import cached_property
 from pathlib import Path
 
-# built or kept beside the committed files
+# folders with build results, or kept beside the committed files
 LEFT_OUT = {".git", "out", "__pycache__", ".mypy_cache", "build", "dist"}
 
 

@@ -1,8 +1,8 @@
-"""docs/proof/TRUSTED.md says what the verdict on the program takes as given, and nothing that the program calls has leave to wait.
+"""Checks that docs/proof/TRUSTED.md says what the verdict on the program takes as given, and that no function that it calls may wait.
 
-The last line of a crate's check is its verdict. The gate keeps it (scripts/verdicts.py), with a sum of the files that it is of. Of a
-crate that `rt ci` took from what an earlier run proved no line is printed: then the one that is kept counts, as long as these
-files are as they were. Where there is none, a note says so, and only what the page, README.md and crates.txt say is compared.
+The last line of a crate's check is its verdict. The gate stores it (scripts/verdicts.py), with a checksum of the crate's files. If `rt
+ci` reuses an earlier proof it prints no verdict; then the stored one counts, as long as the files are unchanged. Without one, a note says
+so, and only the page, README.md and crates.txt are compared.
 """
 
 import hashlib

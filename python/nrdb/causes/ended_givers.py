@@ -22,7 +22,7 @@ MOST = 50  # the most goroutines to examine
 
 
 def ended_giver(index: Index, wait: Waiting) -> Optional[Need]:
-    """The goroutines that perhaps should have given what is waited for, and ended; None if there are none."""
+    """The ended goroutines that perhaps should have given the awaited value or room; None if none are found."""
     own, recording = wait.stack.own(), index.recording
     is_select = wait.kind == A_SELECT
     if not own or own[0].of != OF_THE_PROGRAM or not wait.objects or wait.objects[0].use not in WORDS:

@@ -12,7 +12,7 @@ MOST_GIVEN = 50  # the most uses to examine
 
 
 def untouched(recording: Recording, wait: Waiting) -> list[str]:
-    """Says that no goroutine has yet done at a channel what is waited for."""
+    """Says that no goroutine has yet done the awaited operation at a channel."""
     uses = recording.lines.uses.get(wait.objects[0].object, ()) if len(wait.objects) == 1 else ()
     if wait.objects[0].use != FOR_ROOM or any(use.what == TOOK for use in uses):
         return []
@@ -20,8 +20,8 @@ def untouched(recording: Recording, wait: Waiting) -> list[str]:
 
 
 def have_ended(recording: Recording, wait: Waiting) -> list[str]:
-    """Says that only goroutines that have ended did at a channel what is waited for, and that no goroutine closed
-    it."""
+    """Says that only goroutines that have ended did the awaited operation at a channel, and that no goroutine
+    closed it."""
     at, lines = wait.objects[0], recording.lines
     uses, what = lines.uses.get(at.object, ()), GIVES.get(at.use, "")
     goids = {use.goid for use in uses if use.what == what}

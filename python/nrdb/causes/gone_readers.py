@@ -32,15 +32,26 @@ class GoneReader(NamedTuple):
 
 def gone_readers(index: Index, position: int) -> Iterator[GoneReader]:
     """The ended readers at a position, except at connections that were closed at this end."""
-    for socket, other in sorted(index.recording.lines.peers.items()):
-        calls = [one for one in index.by_socket.get(socket, ()) if one.first <= position]
-        reads = [one for one in calls if one.name == "Read"]
-        if not reads or len({one.goroutine for one in reads}) > 1 or any(one.name == CLOSE for one in calls):
-            continue
-        last, ended = reads[-1], ended_behind(index, reads[-1], position)
-        if ended is not None and not is_of_go(index.recording, last):
-            writes = (one for one in index.by_socket.get(other, ()) if one.name == "Write" and one.moved and one.last)
-            yield GoneReader(last, ended, next((one for one in writes if ended < one.first <= position), None))
+    for socket in sorted(index.recording.lines.peers):
+        gone = gone_reader(index, socket, position)
+        if gone is not None:
+            yield gone
+
+
+def gone_reader(index: Index, socket: int, position: int) -> Optional[GoneReader]:
+    """The ended reader of a socket at a position, except if it was closed at this end; None if it has none."""
+    other = index.recording.lines.peers.get(socket)
+    if other is None:
+        return None
+    calls = [one for one in index.by_socket.get(socket, ()) if one.first <= position]
+    reads = [one for one in calls if one.name == "Read"]
+    if not reads or len({one.goroutine for one in reads}) > 1 or any(one.name == CLOSE for one in calls):
+        return None
+    last, ended = reads[-1], ended_behind(index, reads[-1], position)
+    if ended is None or is_of_go(index.recording, last):
+        return None
+    writes = (one for one in index.by_socket.get(other, ()) if one.name == "Write" and one.moved and one.last)
+    return GoneReader(last, ended, next((one for one in writes if ended < one.first <= position), None))
 
 
 def ended_behind(index: Index, call: Call, position: int) -> Optional[int]:
@@ -63,7 +74,7 @@ def without_reader(index: Index) -> Iterator[Cause]:
 def ended_reader(index: Index, call: Call, other: int, position: int) -> list[str]:
     """Says, for a Read that waits for an answer, that the only goroutine that had read at the other end has ended, and
     by which lines it left its loop."""
-    gone = next((one for one in gone_readers(index, position) if one.read.socket == other), None)
+    gone = gone_reader(index, other, position)
     wrote = index.last_use(call.socket, position, ("Write",))
     if gone is None or gone.read.outcome is not Outcome.DONE or wrote is None or wrote.goroutine != call.goroutine:
         return []

@@ -119,8 +119,8 @@ def is_by_context(stack: Stack) -> bool:
 
 
 def cancelled(index: Index, every: list[Request], ended: Use, close: Use) -> Iterator[CancelledRequest]:
-    """The request that ended so: the last that its goroutine wrote before, if the goroutine then closed the
-    connection."""
+    """The request that a cancelled context ended: the last one that its goroutine wrote before, if the goroutine
+    then closed the connection."""
     lines = index.recording.lines
     own = [request for request in every if request.goid == ended.goid and request.time < close.begin]
     if not own or own[-1].name.is_goid:

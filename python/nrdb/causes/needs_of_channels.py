@@ -205,7 +205,7 @@ class NeedsOfChannels:
         return ended_giver(index_of(self._recording), wait) or Need([])
 
     def _of_the_past(self, wait: Waiting, given: list[Given], closing: Optional[Need]) -> Need:
-        """The need at a channel at which no waiting goroutine did what is waited for: the last that did."""
+        """The need at a channel at which no waiting goroutine did the awaited operation: the last one that did."""
         for one in given:
             loop = loop_words(self._recording, one.stack) if has_ended(self._recording, one.name) else ""
             did = f"{str(one.name).capitalize()} {GIVES_WORDS[one.what]}{place_in(one.stack)} (step {one.last}{loop})"
@@ -227,7 +227,7 @@ class NeedsOfChannels:
         return later
 
     def _given(self, at: At) -> list[Given]:
-        """The first goroutines that did at a channel what is waited for, those that wait first."""
+        """The first goroutines that did the awaited operation at a channel, those that wait first."""
 
         def find() -> list[Given]:
             every = list(self._ledger.given(at))
@@ -258,12 +258,12 @@ class NeedsOfChannels:
         return [ended_words(self._recording, kind, DID[what]) for kind in self._kinds_of(wait)]
 
     def _ended_siblings(self, wait: Waiting) -> tuple[Name, ...]:
-        """The goroutines of that `go` statement that ended without doing what is waited for."""
+        """The goroutines of that `go` statement that ended without the awaited operation."""
         return tuple(name_of_goid(self._recording.lines, goid) for kind in self._kinds_of(wait) for goid in kind.ended)
 
     def _kinds_of(self, wait: Waiting) -> list[Kind]:
-        """The first `go` statement of a function of the waiter's whose goroutines partly did what is waited for, and
-        partly ended without it."""
+        """The first `go` statement in a function of the waiter whose goroutines partly did the awaited operation,
+        and partly ended without it."""
         what = GIVES.get(wait.objects[0].use, "")
         if len(wait.objects) != 1 or not what:
             return []

@@ -18,15 +18,15 @@ WORDS = {FOR_VALUE: ("puts a value there", "puts a value into"), FOR_ROOM: ("tak
 
 
 class Giving(NamedTuple):
-    """A line that does at a channel what is waited for, and the lines of its function."""
+    """A line with the awaited operation at a channel, and the lines of its function."""
 
     number: int
     within: range
 
 
 def later_giver(recording: Recording, wait: Waiting, stacks: Iterable[tuple[Name, Stack]]) -> Optional[Need]:
-    """The goroutine that may later do what is waited for; else, if no line of the file does it, that fact. None if the
-    source isn't available."""
+    """The goroutine that may later do the awaited operation; else, if no line of the file does it, that fact. None
+    if the source isn't available."""
     own = wait.stack.own()
     if not own or own[0].of != OF_THE_PROGRAM or len(wait.objects) != 1 or wait.objects[0].use not in WORDS:
         return None
@@ -65,7 +65,7 @@ def is_deferred(lines: Lines, number: int) -> bool:
 
 
 def givings_at(recording: Recording, wait: Waiting) -> list[Giving]:
-    """The lines that give what is waited for at a channel, by the source."""
+    """The lines with the awaited operation at a channel, from the source."""
     own = wait.stack.own()
     mine, others = (TAKES, PUTS) if wait.objects[0].use == FOR_VALUE else (PUTS, TAKES)
     name = mine.search(text_at(recording, own[0])) if own else None

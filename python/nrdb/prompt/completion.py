@@ -35,7 +35,7 @@ def completions(line: str, session: Session) -> list[str]:
 
 def numbers_in(session: Session, of: Of) -> list[str]:
     """The numbers in use at the session's position."""
-    return [str(number) for number in range(min(made_at(session.netrev, of), MOST_NUMBERS))]
+    return [str(number) for number in range(made_at(session.netrev, of, MOST_NUMBERS))]
 
 
 def places_in(recording: Optional[Recording]) -> list[str]:

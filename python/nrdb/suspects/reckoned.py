@@ -1,5 +1,5 @@
-"""The facts of `netrev suspects` from nrdb's own notes, for candidates of `explore` and `reduce`, and for an older
-netrev. They have no lines of netrev. (For references and deadlines that were taken back the rules use the notes
+"""The facts of `netrev suspects` from nrdb's own notes, without netrev's lines, for candidates of `explore` and
+`reduce`, and for an older netrev. (For references and deadlines that were taken back the rules use the notes
 themselves.)"""
 
 from typing import Iterator, Optional

@@ -19,7 +19,7 @@ from .reckoned import by_the_notes
 
 SIDES = {"Read": "r", "Write": "w"}  # for calls that a deadline ends
 SHORT = 10  # a pause of so few steps proves nothing, however long others were
-TWICE = 2  # the factor over the longest ended pause or hold from which on one is too long
+TWICE = 2  # how many times as long as the longest ended one a pause or a hold must be to count as too long
 
 
 class Run:

@@ -107,7 +107,7 @@ def part_of(shown: Shown, window: Window) -> Data:
     """The data of a part of the run: netrev's values, and what is computed from them."""
     shown.begins(3)
     recording = shown.recording
-    runs, compared = runs_of(shown.scout, shown.changes, window)
+    runs, compared = runs_of(recording, shown.scout, shown.changes, window)
     connections = Connections(recording, window)
     return {
         "first": window.first,

@@ -2,6 +2,7 @@
 from the statuses of the goroutines in them."""
 
 from dataclasses import dataclass
+from functools import partial
 from typing import Iterable, Iterator
 
 from netrev_words.vocabulary import CELLS, Of
@@ -9,9 +10,10 @@ from netrev_words.vocabulary import CELLS, Of
 from ..messages import searches as messages
 from ..netrev import Netrev
 from ..recorded_changes import RecordedChanges
+from ..recording import Recording
 from ..scout import Scout
 from ..session import Misused
-from ..world import COUNTED_BY, made_at
+from ..world import COUNTED_BY, made_at, room_for
 
 Runs = dict[str, list[tuple[int, str]]]  # for each cell the positions at which its value changes, with the new value
 COMPARED = 16  # positions at which all cells are compared
@@ -33,9 +35,9 @@ class Window:
         return [*range(self.first, self.last, every), self.last]
 
 
-def runs_of(scout: Scout, changes: RecordedChanges, window: Window) -> tuple[Runs, int]:
+def runs_of(recording: Recording, scout: Scout, changes: RecordedChanges, window: Window) -> tuple[Runs, int]:
     """The runs of all cells and queues, and at how many positions they were compared with netrev's answers."""
-    cells = scout.look(window.last, cells_made)
+    cells = scout.look(window.last, partial(cells_made, recording))
     start = dict(zip(cells, shown_of(scout, cells, window.first)))
     queues = Queues(start)
     runs: Runs = {cell: [(window.first, value)] for cell, value in start.items()}
@@ -48,9 +50,9 @@ def runs_of(scout: Scout, changes: RecordedChanges, window: Window) -> tuple[Run
     return runs, len((first, *compared))
 
 
-def cells_made(netrev: Netrev) -> list[str]:
+def cells_made(recording: Recording, netrev: Netrev) -> list[str]:
     """All cells of the objects that exist at netrev's position, and the queues."""
-    made = {of: made_at(netrev, of) for of in COUNTED_BY}
+    made = {of: made_at(netrev, of, room_for(recording, of)) for of in COUNTED_BY}
     numbered = (f"{name} {number}" for of, count in made.items() for number in range(count) for name in NAMES[of])
     return [*NAMES[Of.ALL], *numbered]
 

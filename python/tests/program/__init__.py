@@ -1,1 +1,1 @@
-"""The built program, played from outside: what no contract says of it. `NETREV` names another program."""
+"""Tests of the built program from outside, for what no contract states. `NETREV` names another program."""

@@ -59,7 +59,7 @@ def ended(process, given=None):
 
 
 def limit_memory(size):
-    """For the next process: an address space of this many bytes, and no core file."""
+    """Limits the address space of the next process to this many bytes, without a core file."""
     resource.setrlimit(resource.RLIMIT_CORE, (0, 0))
     resource.setrlimit(resource.RLIMIT_AS, (size, size))
 
@@ -191,8 +191,8 @@ def play_memory(word, recording, right=b""):
 
 
 def kinds_met(play):
-    """What is met at a hundred sizes. If a stack has to grow and the address space has no room for it, the system kills
-    netrev; with more room it doesn't."""
+    """The results at a hundred sizes. If a stack has to grow and the address space has no room for it, the system
+    kills netrev; with more room it doesn't."""
     met = set()
     for size in a_hundred_sizes(play):
         what = play(size)

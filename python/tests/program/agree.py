@@ -1,15 +1,15 @@
-"""Plays netrev and netrev_plain, whose world is made of lists, with the same recordings and lines: both print the same, byte for byte.
-Each case has a name in plain words, which begins so:
+"""Compares netrev with netrev_plain, whose world is made of lists, on the same recordings and lines: both must print the same bytes. The
+name of each case begins with its sort:
 
-    recording  each recording that is here is checked, upgraded and walked, both ways
-    bad        recordings that are refused, each for the fault that `tests/program/hostile.py` has for it
-    sizes      as much of everything as a recording may have, in few steps
-    sides      writing alone is waited for, and the second of two firings goes first, is put back and goes again
-    random     random cases of the fuzzer's: each cell at each position both ways, random lines, damaged recordings, upgrades;
-               `--random N` says how many (`pytest python/tests/program/agree.py`), and `--seed` from which seed on
+    recording  each stored recording is checked, upgraded and walked in both directions
+    bad        refused recordings, one for each fault in `tests/program/hostile.py`
+    sizes      the greatest sizes of a recording, in few steps
+    sides      a wait for writing alone, and the second of two firings, which is run first, undone and run again
+    random     random cases of the fuzzer: each cell at each position in both directions, random lines, damaged recordings, upgrades;
+               `--random N` sets their number (`pytest python/tests/program/agree.py`), and `--seed` the first seed
 
-What is proved of both is the same text. Here it is seen of what compilers made of the two worlds: a mistake in one of them shows as a
-difference, wherever it is.
+Both are proved against the same text. This compares what compilers made of the two worlds: a mistake in one of them shows as a
+difference.
 """
 
 import os

@@ -1,8 +1,9 @@
-"""Every beginning of each short recording, byte by byte, as hostile.py plays them: it is read where it ends with a line, else
-refused at its last line.
+"""Tests every beginning of each short recording, byte by byte, for hostile.py: it is accepted if it ends with a line, else refused at its
+last line.
 
-There are some thirty thousand, and Python takes longer to start netrev than netrev to check one. So a shell is given many
-in a row, and as many shells run as there are processors."""
+There are some thirty thousand, and Python takes longer to start netrev than netrev to check one. So a shell runs many in a row, and as
+many shells run as the machine has processors.
+"""
 
 import os
 import signal

@@ -20,7 +20,7 @@ def callers():
 
 
 def ask_much(caller):
-    """Asks for 12 MB of replies, and reads the first bytes, so netrev is in the middle of them."""
+    """Requests 12 MB of replies, and reads the first bytes, so that netrev is still writing them."""
     caller.sendall(b"dump in 0\n" * 100)
     expect("a reply's beginning", b"in 0 = ab", caller.recv(9))
 
@@ -104,7 +104,7 @@ def what_comes_of_calling(port):
 
 
 def play_only_port_taken(_folder):
-    """What docs/guide/sharing.md says of a port that is taken: netrev ends at once, and tells no reason."""
+    """A port in use, as docs/guide/sharing.md describes it: netrev ends at once, without a reason."""
     taken = socket.socket()
 
     def take(first):
@@ -116,8 +116,8 @@ def play_only_port_taken(_folder):
 
 
 def play_late(folder):
-    """A front whose first caller comes when another has searched for long: it goes through all of that first, and answers what
-    is right then; and the other has its replies meanwhile."""
+    """A front whose first caller comes when another has searched for a long time: it makes all of that first, and
+    then gives the right replies, while the other front gets its own."""
     turns = 100
     with Server(file_of("large", LARGE.encode())(folder).decode(), fronts=2) as server:
         first = server.call(0)
@@ -138,8 +138,8 @@ def play_late(folder):
 
 
 def play_gone_with_lines(_folder):
-    """A caller who resets while another is served: its lines are still read, and its first replies can't be written. Then
-    no more of its lines are run."""
+    """A caller that resets while another is served: its lines are still read, and its first replies can't be
+    written. Then no more of its lines run."""
     lines = 2000
     with Server(FIRST, fronts=1, connections=3) as server:
         with server.call(0) as first:
@@ -158,7 +158,8 @@ def play_gone_with_lines(_folder):
 
 
 def play_request_of_a_page(_folder):
-    """What docs/guide/sharing.md warns of: a request's lines are no commands, and those of its body are."""
+    """The warning of docs/guide/sharing.md: the lines of an HTTP request aren't commands, but those of its body
+    are."""
     body = "\nstepi 3\nwatch lock 0\nquit\n"
     lines = ["POST / HTTP/1.1", "Host: 127.0.0.1", f"Content-Length: {len(body)}", "Origin: https://example.org", ""]
     with Server(FIRST, connections=2) as server:

@@ -1,11 +1,11 @@
-"""Plays `netrev changes` with the built program. Each case has a name in plain words, which begins so:
+"""Tests `netrev changes` with the built program. The name of each case begins with its sort:
 
-    stored     what the steps of three recordings changed, and the lines that are stored for it; of one whose recorded answer isn't the
-               machine's the lines before it
-    refused    faults, other words, a file that isn't there: the statuses are those of `check`
-    recording  each recording that is here: the lines are those of the fuzzer's model (python/netrev_machine), and of a short one
-               what `print` answers of each cell at each position
-    random     random recordings, each of them so too; `--random N` says how many (`pytest python/tests/program/changes.py`)
+    stored     the changes of three recordings, compared with stored lines; for one with an answer that isn't the machine's, the lines
+               before it
+    refused    faults, usage errors, a missing file: the statuses are those of `check`
+    recording  each stored recording: the lines are those of the fuzzer's model (python/netrev_machine), and for a short one those of
+               `print` for each cell at each position
+    random     random recordings, in the same way; `--random N` sets their number (`pytest python/tests/program/changes.py`)
 """
 
 import random

@@ -1,9 +1,10 @@
-"""Makes each call that takes memory with its requests for memory refused, one after the other.
+"""Tests each call that takes memory while its requests for memory are refused, one after the other.
 
-The program is crates/nr_refused, or what NR_REFUSED names. It makes the call of that name, and then the same once more
-with memory; scripts/refused.c is put before the C library. Of the first call the first request is refused, then in a run
-of its own the second, and so on until none is left to refuse; and then each together with all behind it. The program compares the results of both calls with the right answer and, if the first one was refused, what it must leave unchanged. So a call that was refused has to say so, and either it is right then or the next time; and one that gets no memory at
-all has to be refused, unless it takes none.
+The program is crates/nr_refused, or the one that NR_REFUSED names. It makes the call of that name, and then again with memory;
+scripts/refused.c is loaded before the C library. In the first run the first request of the first call is refused, in the next run the
+second, and so on until no request is left; then each together with all later ones. The program compares the results of both calls with
+the right answer and, after a refusal, the values that must stay unchanged. So a refused call must report it, and must be right
+then or the next time; and a call without any memory must be refused, unless it takes none.
 
 Each test prints how many requests its call makes, and how often it could do without, which `pytest -rP` shows.
 """

@@ -1,8 +1,8 @@
-"""Plays the built program for long.
+"""Runs the built program for many steps, copies and interruptions.
 
-No contract counts memory, nor how often a call may be interrupted. So that is played here: many steps to and fro over a read, and
-many copies of much that is held, in an address space that has room for it once; and reads and writes that are interrupted again
-and again, as by signals, for which it needs a C compiler.
+No contract counts memory, or how often a call may be interrupted. So these tests make many steps back and forth over a read, and many
+copies of a large state, in an address space with room for one; and interrupt reads and writes repeatedly, as signals do, for which
+they need a C compiler.
 """
 
 import subprocess
@@ -63,7 +63,7 @@ def test_steps_to_and_fro_over_a_read_take_no_more_memory(folder: Path) -> None:
 
 
 def test_copies_share_what_stays_as_it_is(folder: Path) -> None:
-    """Copies of what stays as it is share it: all of them would be eight times as large as the address space."""
+    """Copies share unchanged contents: unshared they would need eight times the address space."""
     path = folder / "held.jsonl"
     last = COPIES * EACH_COPY
     with open(path, "w", encoding="ascii") as file:

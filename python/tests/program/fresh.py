@@ -1,4 +1,4 @@
-"""Fresh places in which netrev's commands are tried: a clone without build results, and a toolchain that compiles in no
+"""Fresh places for trying netrev's commands: a clone without build results, and a toolchain that compiles in no
 time."""
 
 import os

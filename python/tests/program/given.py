@@ -1,6 +1,6 @@
-"""What cases are given: recordings and files; and what several modules do with them.
+"""The recordings and files of test cases, and functions that several modules use.
 
-    python3 python tests.program.given FILE    prints what `netrev upgrade` has to write of a recording
+    python3 python tests.program.given FILE    prints the text that `netrev upgrade` must write for a recording
 """
 
 import os
@@ -65,7 +65,7 @@ class Function:
 
 
 def file_of(name: Union[str, bytes], text: bytes) -> Callable[[Path], bytes]:
-    """A file of this name, which may be bytes, with this text."""
+    """A file with this name, which may be bytes, and this text."""
 
     def make(folder: Path) -> bytes:
         path = os.path.join(os.fsencode(folder), name if isinstance(name, bytes) else name.encode())
@@ -77,7 +77,7 @@ def file_of(name: Union[str, bytes], text: bytes) -> Callable[[Path], bytes]:
 
 
 def rest_of(caller: socket.socket) -> bytes:
-    """What a caller reads before netrev has ended, or resets."""
+    """The bytes that a caller reads before netrev has ended, or resets."""
     came = b""
     with caller:
         try:

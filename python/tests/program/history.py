@@ -1,16 +1,14 @@
-"""Finds one history for what all fronts of a session were answered, or that there is none.
+"""Finds a history for the replies of all fronts of a session, or reports that none exists.
 
-A history is an order of all lines in which each front's own order is kept, in which a line whose reply had been read
-before another line was sent comes before that one, and in which each reply is what netrev_machine's debugger answers
-in the state that the commands before it lead to. So a look shows a state between its sending and its reply, and none
-older than what its front was shown before; and once the session has placed as many commands as it has room for, each
-further one is answered so.
+A history is an order of all lines that keeps each front's own order, in which a line comes before another if its reply was read before
+the other was sent, and in which each reply is that of netrev_machine's debugger after the commands before it. So a query shows a state
+between its sending and its reply, and none older than its front has seen; and once the journal is full, each further command gets that
+reply.
 
-The search goes from the beginning and asks which front's line is next. A look or a fault that fits is taken at once,
-which loses no history: it changes nothing, and could stand as early in any of them. Where several commands fit it tries
-those first whose reply tells where they began, as that of `stepi` does. It doesn't leave a position for which lines are
-left that can't be reached for all of them any more, nor take away a mark that another line is still to show. And what
-it has left once, which lines were taken and what state they led to, it doesn't enter again.
+The search goes from the beginning and asks which front's line is next. A query or a fault that fits is taken at once, which loses no
+history, because it changes nothing and could come as early in any of them. If several commands fit, those whose reply shows where they
+began, such as that of `stepi`, are tried first. The search doesn't leave a position that remaining lines need and can't reach again, nor
+delete a mark that another line still shows. It doesn't enter the same state with the same lines twice.
 """
 
 from __future__ import annotations
@@ -31,11 +29,11 @@ POSITION = re.compile(r"at (\d+) of \d+ (forward|reverse)$")
 DELETED = re.compile(r"deleted (mark|checkpoint) (\d+)$")
 
 Name = tuple[str, int]  # a mark or a checkpoint, by its number
-Choice = tuple[int, State]  # a front, and the state behind its next line
+Choice = tuple[int, State]  # a front, and the state after its next line
 
 
 class Clue(NamedTuple):
-    """What a reply says about its place in a history, whatever the lines before it are."""
+    """The constraints that a reply puts on its place in a history, whatever the lines before it are."""
 
     leads_to: Optional[int] = None  # the position after it
     stands_at: frozenset[int] = frozenset()  # the positions at which it may have been answered, if there are few
@@ -114,13 +112,13 @@ class Search:
         self.are_full = not replies.isdisjoint({(MARKS_FULL,), (CHECKPOINTS_FULL,)})
 
     def read_clues(self) -> list[list[Clue]]:
-        """The clues of all lines, in which a line stands only at positions that some line leads to."""
+        """The clues of all lines, restricted to positions that some line leads to."""
         clues = [[Clue.of(one) for one in front] for front in self.fronts]
         reached = {0, *(clue.leads_to for front in clues for clue in front if clue.leads_to is not None)}
         return [[clue._replace(stands_at=clue.stands_at & reached) for clue in front] for front in clues]
 
     def count(self, front: int, at: int, more: int) -> None:
-        """Counts a line in or out of those that are left."""
+        """Adds a line to the remaining ones, or removes it."""
         clue = self.clues[front][at]
         self.unplaced += more * self.fronts[front][at].is_placed()
         if clue.leads_to is not None:
@@ -138,8 +136,8 @@ class Search:
         return self.clues[front][self.taken[front]]
 
     def open_fronts(self) -> list[int]:
-        """The fronts whose next line may come now: no caller had read a reply before it was sent whose line is still to
-        come."""
+        """The fronts whose next line may come now: when it was sent, no reply to a line that is still to come had
+        been read."""
         left = [front for front, at in enumerate(self.taken) if at < len(self.fronts[front])]
         first: int = min((self.known[front][self.taken[front]] for front in left), default=0)
         return [front for front in left if self.next_of(front).sent < first]
@@ -171,7 +169,7 @@ class Search:
         return leaves <= self.entries[here] and (self.entries[here] > 0 or not self.stays[here])
 
     def take(self, front: int, state: State) -> None:
-        """Goes over a front's next line."""
+        """Adds a front's next line to the history."""
         self.count(front, self.taken[front], -1)
         self.taken[front] += 1
         self.order.append(front)
@@ -202,8 +200,7 @@ class Search:
         return bool(self.clue_of(front).takes_away) and not self.are_full
 
     def worth(self, choice: Choice) -> tuple[bool, int]:
-        """How good it is to try a line first: lines that show where they began come first, and of these the one read
-        first."""
+        """The priority of a line: lines that show where they began come first, and of these the one read first."""
         front, _ = choice
         return bool(self.clue_of(front).stands_at), -self.next_of(front).read
 

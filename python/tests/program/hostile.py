@@ -1,15 +1,14 @@
-"""Bad recordings and bad command lines, played with the built program. Each case has a name in plain words, which begins so:
+"""Bad recordings and bad command lines for the built program. The name of each case begins with its sort:
 
-    reason     each reason for which a step doesn't apply, met once by `netrev check`. Three are left out, since no recording
-               of 1,000,000 steps reaches them: 6 (a full field of a lock word), 18 (a number at its last value) and 21 (a
-               corrupted descriptor). The tests of the crates meet those
-    line       a faulty line behind a header, and a faulty line behind a step that doesn't apply
-    header     what is no header
-    version    what each of the two versions has and the other hasn't: recorded answers, `closewrite`, large buffers
-    answer     recorded answers: what is none, one that isn't the machine's, and which of two faults is told
-    beginning  every beginning of each short recording, byte by byte: read where it ends with a line, else refused at its
-               last line
-    command    command lines that ask for nothing that there is
+    reason     each reason for which a step doesn't apply, once with `netrev check`. Three are left out, because no recording of
+               1,000,000 steps reaches them: 6 (a full field of a lock word), 18 (a number at its last value) and 21 (a corrupted
+               descriptor). The tests of the crates have those
+    line       a faulty line after a header, and a faulty line after a step that doesn't apply
+    header     first lines that aren't a header
+    version    the differences of the two versions: recorded answers, `closewrite`, large buffers
+    answer     recorded answers: malformed ones, one that isn't the machine's, and which of two faults is reported
+    beginning  every beginning of each short recording, byte by byte: accepted if it ends with a line, else refused at its last line
+    command    command lines that name nothing that exists
 """
 
 import subprocess
@@ -301,7 +300,7 @@ def faulty_headers():
 
 
 def versions_and_answers():
-    """Rows of version 2, and those of version 1 that only the other accepts."""
+    """The rows of version 2, and the rows of version 1 that version 2 rejects."""
     rows = [(f"version: {name}", *row) for name, *row in VERSIONS]
     rows += [(f"answer {name}", [SECOND, *steps], *fault) for name, steps, *fault in ANSWERS]
     for text in NO_ANSWERS:
@@ -324,7 +323,7 @@ def test_check(folder, lines, wanted):
 
 @pytest.mark.parametrize("lines, wanted", versions_and_answers())
 def test_check_and_upgrade(folder, lines, wanted):
-    """What `check` says of a text, and `upgrade` where that is a fault."""
+    """The output of `check` for a text, and that of `upgrade` if it is a fault."""
     expect("check", wanted, check(folder, text_of(lines)))
     if wanted[0]:
         expect("upgrade", wanted, printed(["upgrade", folder / "recording.jsonl"]))

@@ -1,10 +1,10 @@
-"""Plays the built program past the sizes that a body could have in mind. Each case has a name in plain words, which begins so:
+"""Tests the built program beyond ordinary sizes. The name of each case begins with its sort:
 
-    walk      recordings longer than the way back that is kept and than copies lie apart, walked both ways
-    dump      a buffer larger than what goes out at once
-    text      recordings of more than a megabyte, and steps with as many bytes as may be
-    limit     as many marks and checkpoints as there may be, and one more; no number is given again
-    journal   as many commands as `run` has room for, and one more
+    walk      recordings longer than the kept way back and than the distance between copies, walked in both directions
+    dump      a buffer larger than one write
+    text      recordings of more than a megabyte, and steps with the most bytes
+    limit     the most marks and checkpoints, and one more; no number is reused
+    journal   the most commands of `run`, and one more
 """
 
 import subprocess

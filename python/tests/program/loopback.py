@@ -1,22 +1,20 @@
-"""Plays sessions of the built program over the loopback:
+"""Tests sessions of the built program over the loopback:
 
-    table     two callers one after the other, whose replies are known, with journals of one word and of four
+    table     two callers one after the other, with known replies, and journals of one word and of four
     turns     three callers at each of two fronts, one after the other
-    stopped   one who is to serve without end is stopped by a signal; then another serves at the same ports
+    stopped   a server without an end is stopped by a signal; then another serves at the same ports
     elsewhere nobody is served at this machine's other addresses
     crowded   eight callers at the same time, with room for seven commands; two with a hundred commands each
-    silent    a caller who says nothing and reads nothing holds up nobody at the sixteen other fronts
-    hostile   callers who leave in the middle, send no end of a line, don't read, go on or stay behind `quit`, and a
-              port that is taken: the next caller is served as ever, netrev ends by itself, and its status says whether
-              a connection failed
-    histories callers at 64 fronts, two at each, send random lines. All replies have to be right by one order of all
-              lines (history.py), and `placed K` has to tell their number. Where all sorts of lines are sent, eight of
-              the fronts talk at the same time and the others' callers wait, since of more the search takes too long;
-              where steps forwards and looks are, all 64 do. Of two fronts, some fill the journal
-    altered   the search for that order can fail: each reply of one session, and each of a command in another, is altered
-              in turn, and none is believed
+    silent    a silent caller delays nobody at the sixteen other fronts
+    hostile   callers who leave in the middle, send a line without an end, don't read, or go on after `quit`, and a port in use: the
+              next caller is served, netrev ends by itself, and its status says whether a connection failed
+    histories callers at 64 fronts, two at each, send random lines. All replies must fit one order of all lines (history.py), and
+              `placed K` must be their number. With all sorts of lines, eight of the fronts talk at the same time, because the
+              search takes too long for more; with steps forwards and queries, all 64 do. Two fronts fill the journal
+    altered   the search for that order can fail: each reply of one session, and each of a command in another, is altered in
+              turn, and no order fits
 
-The random lines are those of pytest's option --seed.
+pytest's option --seed sets the seed of the random lines.
 """
 
 import errno
@@ -29,7 +27,7 @@ from dataclasses import replace
 from pathlib import Path
 
 import pytest
-from netrev_machine.debugger import FULL, Recording, is_command, read_line  # (it tells Python where nrdb is)
+from netrev_machine.debugger import FULL, Recording, is_command, read_line  # (Python needs it to find nrdb)
 from tests.program.history import GaveUp, Search
 from netrev_words.vocabulary import CELLS, DUMPS, KINDS, MOST, Of
 
@@ -68,7 +66,7 @@ def kept():
 
 @pytest.fixture(scope="module")
 def parked(kept):
-    """A short recording, read with what its positions show."""
+    """A short recording with the values at its positions."""
     path = kept / "parked.jsonl"
     path.write_text(PARKED, encoding="ascii")
     return Recording.read(NETREV, path, LOOKS)
@@ -76,7 +74,7 @@ def parked(kept):
 
 @pytest.fixture(scope="module")
 def lives(kept):
-    """A long one."""
+    """A long recording with the values at its positions."""
     path = kept / "lives.jsonl"
     shapes = ROOT / "bench/shapes.awk"
     with open(path, "wb") as out:
@@ -170,9 +168,9 @@ def commands_in(lines):
 
 
 def share_lines(recording, fronts, journal=4096, workers=1, windows=(1,), at_once=None):
-    """Plays the lines of each front's connections, each caller with one of the windows, and gives what each front
-    exchanged. All callers are connected from the beginning. The first one talks alone; then as many fronts as are said
-    do so at the same time, or all."""
+    """Sends the lines of each front's connections, each caller with one of the windows, and returns each front's
+    exchange. All callers connect at the beginning. The first one talks alone; then the given number of fronts do
+    so at the same time, or all."""
     at_once = at_once or len(fronts)
     with Server(recording.path, len(fronts), len(fronts[0]), journal, workers) as server:
         talkers = [
@@ -222,7 +220,7 @@ def test_table(parked):
 
 
 def test_turns(parked):
-    """Three callers a front, each of which finds the session as the one before left it."""
+    """Three callers at each front, each of which continues the session where the one before left it."""
     turns = (
         (0, ["stepi 3", "quit"], ["at 3", "bye"]),
         (0, ["info position", "break @5", "quit"], ["at 3 of 12 forward", "mark 1", "bye"]),
@@ -270,7 +268,7 @@ def test_elsewhere(parked):
 
 
 def other_addresses():
-    """Addresses of this machine that aren't 127.0.0.1: each of 127.0.0.0/8 is, and those that it has besides."""
+    """Addresses of this machine other than 127.0.0.1: all of 127.0.0.0/8, and those of its network."""
     found = [(socket.AF_INET, "127.0.0.2"), (socket.AF_INET, "127.255.255.254")]
     # nothing is sent: these only ask which address it would come from
     for family, far in ((socket.AF_INET, "192.0.2.1"), (socket.AF_INET6, "2001:db8::1"), (socket.AF_INET6, "::1")):
@@ -284,7 +282,7 @@ def other_addresses():
 
 
 def test_crowded(lives):
-    """Callers that step forwards at the same time: each place up to the journal's room is one command's."""
+    """Callers step forwards at the same time: each free place of the journal gets one command."""
     for fronts, each, journal in ((8, 1, 7), (2, 100, 4096)):
         exchanged = share_lines(lives, [[[b"stepi"] * each + [b"quit"]]] * fronts, journal, windows=(1000,))
         replies = [one.reply for front in exchanged for one in front if is_command(one.asked)]
@@ -294,7 +292,7 @@ def test_crowded(lives):
 
 
 def test_silent(parked, dice):
-    """Sixteen work to their end beside a silent one."""
+    """Sixteen callers finish beside a silent one."""
     for leave, status in ((socket.socket.close, 0), (reset, 3)):
         with Server(parked.path, fronts=17) as server:
             silent = server.call(0)
@@ -454,9 +452,9 @@ def other_reply(reply):
 
 
 def test_altered(parked, lives, dice):
-    """Of two who talk one after the other there is one history alone: so there is none where a reply is altered. Of
-    commands whose positions rise there is one order alone, whoever comes first: so there is none where a command's reply
-    is altered. A look that was shown something else may have come earlier or later."""
+    """If two callers talk one after the other, only one history exists, so none does after a reply is altered.
+    Commands with rising positions have only one order, whoever comes first, so none exists after a command's
+    reply is altered. A query with another result may have come earlier or later."""
     two = [[Lines(dice, parked).some(20)] for _ in range(2)]
     expect_no_other(parked, share_lines(parked, two, at_once=1), lambda one: True)
     expect_no_other(lives, race_forwards(lives, dice, fronts=8, connections=1), lambda one: is_command(one.asked))

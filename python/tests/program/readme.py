@@ -1,8 +1,9 @@
-"""README.md as a reader plays it: its commands, and what it shows of their output.
+"""Runs README.md's commands as a reader would, and compares their output with README.
 
 A block of README has four blanks before each line. `$ ` begins a command, and `(netrev) ` a line at the prompt that the last command
 opened. Other lines are output, and `...` is any lines. If the text above a block says that numbers differ from run to run, any number
-matches any other. A command of which no output is shown only has to end well."""
+matches any other. A command without shown output only has to succeed.
+"""
 
 import re
 from dataclasses import dataclass, field

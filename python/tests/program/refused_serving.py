@@ -1,18 +1,18 @@
-"""Plays `serve` of the built program with each of its allocations refused in turn.
+"""Tests `serve` of the built program with each of its allocations refused in turn.
 
-Two callers, at a front each, send fixed lines one after the other, so the right replies are known: first over a short
-recording, which one worker searches, then over one of more than three thousand steps, which three do; of that the
-allocations are refused behind which callers are served, since those that load a recording are alike. The order of the
-allocations is the same each time but for those of the threads that start; so each number is refused until there are as
-many as sessions at a time that no allocation has. A refused allocation is told once, and of nothing else:
+Two callers, each at its own front, send fixed lines one after the other, so the right replies are known: first over a short recording,
+which one worker searches, then over one of more than three thousand steps, which three do. There the allocations before callers are
+served aren't refused, because those that load a recording are alike. Their order is the same each time, except for those of threads
+that start; so each number is refused until as many sessions in a row as run at the same time have no such allocation. A refused
+allocation must be reported once, and in one of these ways:
 
-- before a caller is served as `fault 108 memory`, with status 1;
-- in place of a reply: of a look, or of a line before which another's search is to be made, as `fault 301 memory`, and
-  the line is sent again; of a search as `fault 302 memory, placed N`, whose reply `resume` gives, and no other line;
-- at the end in place of `placed K`, as `fault 108 memory` with status 1.
+- before a caller is served, as `fault 108 memory`, with status 1;
+- instead of a reply: to a query, or to a line that first has to make another's search, as `fault 301 memory`, and the line is sent again;
+  to a search as `fault 302 memory, placed N`, whose reply `resume` gives, and no other line;
+- at the end instead of `placed K`, as `fault 108 memory` with status 1.
 
-Then all other replies are the right ones, and so they all are where netrev could do without. So no command is lost or
-placed twice. Last, no thread can be started: then each front is served in its turn, and searches for itself.
+All other replies must be right, and all of them if netrev could do without. So no command is lost or placed twice. Last, no thread can
+be started: then fronts are served one after the other, and search by themselves.
 """
 
 from bisect import bisect_left

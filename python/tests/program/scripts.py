@@ -1,6 +1,5 @@
-"""Scripts that play the built program or look over the tree: each is a test, and says what it does itself.
-
-What one leaves out for want of a tool it says in a line for each: `left out: NAME: WHY`. Then it is skipped for that, and not passed."""
+"""Runs each script that tests the built program or the tree as a test. A script prints a line `left out: NAME: WHY`
+for each part that it leaves out for lack of a tool; then it is skipped, and hasn't passed."""
 
 import shlex
 import subprocess

@@ -1,7 +1,7 @@
-"""A netrev that serves, and callers who talk to it at the same time: what the scripts share that play `netrev serve`.
+"""A serving netrev and callers that talk to it at the same time, for the scripts that test `netrev serve`.
 
-Nobody here waits by sleeping: for a port by connecting until it is there, for replies by the socket, for the end by the
-process; and each wait has a limit.
+Nothing here waits by sleeping: for a port by connecting until it exists, for replies by the socket, for the end by the process; and each
+wait has a limit.
 """
 
 import os
@@ -68,7 +68,7 @@ def library_of(name, folder):
 
 
 class Ports:
-    """Ports that nobody has, none given twice. They lie below those that the system gives to callers. They come from
+    """Unused ports, none given twice. They are below those that the system gives to callers. They come from
     blocks whose first port is held as long as this script runs, so that two scripts don't take the same ones. No
     process may be started while a port is tried, since it would hold that port for a moment: `lock` is for both."""
 
@@ -119,9 +119,9 @@ PORTS = Ports()
 
 
 class Server:
-    """A netrev that serves a recording, at ports of its own, or from `port` on. `before` is called with the first one
-    before it is started, which is done by the words of `through`, if any. Each search of it has so many workers. With
-    no number of connections it serves until it is stopped."""
+    """A netrev that serves a recording, at its own ports, or from `port` on. `before` is called with the first port
+    before netrev is started, through the command `through`, if given. Each search uses the given number of
+    workers. Without a number of connections it serves until it is stopped."""
 
     def __init__(self, recording, fronts=1, connections=1, journal=4096, workers=1, through=(), before=None, port=None):
         self.errors = tempfile.TemporaryFile()

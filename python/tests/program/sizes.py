@@ -1,8 +1,8 @@
-"""Plays the built program at the greatest sizes that a recording and a session may have.
+"""Tests the built program at the greatest sizes of a recording and a session.
 
-A call may report that memory ran out, and a proof can't tell whether it was right to. So each is played here with ample memory
-and as much of everything as docs/reference/RECORDING.md allows: none may say that memory ran out, and all replies have to be right.
-It takes 1 GB of memory.
+A call may report that memory ran out, and a proof can't tell whether that is right. So each is tested here with ample memory and the
+most that docs/reference/RECORDING.md allows: none may report that memory ran out, and all replies must be right. It takes 1 GB of
+memory.
 """
 
 import socket
@@ -149,8 +149,8 @@ def crowd() -> tuple[list[str], int]:
 
 
 def crowded(folder: Path) -> tuple[Path, int, int]:
-    """A recording of that: behind it ticks, so that there are copies of it, and all timers fire. Where the crowd is there, and
-    the last position."""
+    """A recording of that crowd, followed by ticks, so that copies of it are kept, and all timers fire. The
+    position with the crowd, and the last position."""
     steps, _ = crowd()
     timers = 2 * DESCRIPTORS
     more = [f'["tick",{time}]' for time in range(1, 3001)] + [f'["tick",{3 * 10**9}]'] + ['["pop"]'] * timers
@@ -218,7 +218,7 @@ def ticks_in(file: Path) -> int:
 
 
 def play_idle_caller(folder: Path) -> None:
-    """Where each worker's report finds room, the front's own thread searches nothing that they have searched. It may be one of
+    """If each worker's report finds room, the front's own thread searches nothing a second time. It may be one of
     the workers; so it takes no more of the whole time than one of them does, and not as much as all together."""
     with Server(ticking(folder), workers=WORKERS) as server, server.call(0) as caller:
         caller.settimeout(WAITS)
@@ -263,8 +263,8 @@ def greatest_memory(path: Path, steps: int) -> int:
 
 
 def play_copies(folder: Path) -> None:
-    """What docs/reference/RECORDING.md says that a recording takes: the bytes held, once and not once a copy where they stay the same, and
-    some for each step. (The program itself, the rings and what lists grow by are in the rest.)"""
+    """The memory of a recording by docs/reference/RECORDING.md: the bytes held, once instead of once a copy if they
+    stay the same, and some for each step. (The rest is the program itself, the rings, and the growth of lists.)"""
     steps = 100 * EACH_COPY
     turn = ['["sysread",0,0,1,["got",1]]', '["arrive",0,"ab","done"]']
     for pieces, turns in ((0, False), (BUFFER // PIECE, False), (BUFFER // PIECE, True)):
@@ -299,7 +299,7 @@ CASES: dict[str, Case] = {
 
 @pytest.fixture(scope="module")
 def folder() -> Iterator[Path]:
-    """One for all cases, since several play the same recording."""
+    """One folder for all cases, because several use the same recording."""
     with tempfile.TemporaryDirectory() as name:
         yield Path(name)
 

@@ -1,14 +1,14 @@
-"""Plays `netrev suspects` with the built program. Each case has a name in plain words, which begins so:
+"""Tests `netrev suspects` with the built program. The name of each case begins with its sort:
 
-    stored     the lines that are stored for six recordings: of each hunt, of a recording whose recorded answer isn't the machine's, and of
-               one with a faulty line
-    refused    faults, other words, a file that isn't there: the statuses are those of `check`
-    recording  each recording that is here: the lines are those of the naive reading of the definitions (netrev_machine/suspects.py)
+    stored     the stored lines of six recordings: of each hunt, of one with an answer that isn't the machine's, and of one with a
+               faulty line
+    refused    faults, usage errors, a missing file: the statuses are those of `check`
+    recording  each stored recording: the lines are those of the naive reading of the definitions (netrev_machine/suspects.py)
     row        the small recordings at the boundaries of the definitions (tests/test_suspect_lines.py)
-    bad        the recordings that the rows of hostile.py refuse: the line is that of `check`, and the only one
+    bad        the recordings that hostile.py refuses: the only line is that of `check`
     traffic    a recording of each bug that the fuzzer plants
     greatest   a million steps, most of which end a call, with the greatest numbers
-    random     random recordings, of which many end where a goroutine is parked. The gate plays 300. More by hand, 2,000 in a few minutes:
+    random     random recordings, many of which end when a goroutine is parked. The gate runs 300. By hand, 2,000 take a few minutes:
 
         NETREV=FILE sh scripts/pytest.sh python/tests/program/suspects.py -k random --random 2000
 """

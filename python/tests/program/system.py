@@ -1,16 +1,16 @@
-"""Plays the built program against the operating system. Each case has a name in plain words, which begins so:
+"""Tests the built program against the operating system. The name of each case begins with its sort:
 
     output    standard output closed, full, or a pipe whose reader has gone: status 3, no signal, nothing on standard error
     input     standard input closed, a folder, empty, not there yet
-    words     what netrev is called with: words that ask for a program, and those that are bad usage
-    file      what else FILE may be: a folder, a pipe that comes in pieces, a name with spaces, nothing
-    lines     commands and recordings without a line feed, at their greatest length and one byte above, with bytes that
-              are no text. Some have less memory than they have bytes, so what is read isn't kept
-    signals   a signal ends `run` and `serve` with whole lines out and no port taken; a stop is none
-    callers   callers who reset, say nothing or send a byte now and then: the others are served; a request of a web page
+    words     command lines: those that ask for a program, and usage errors
+    file      unusual files: a folder, a pipe that comes in pieces, a name with spaces, a missing file
+    lines     commands and recordings without a line feed, of the greatest length and one byte more, with bytes that aren't text.
+              Some have less memory than bytes, so the input can't be kept
+    signals   a signal ends `run` and `serve` after whole lines, and no port stays in use; stopping a process isn't an end
+    callers   callers that reset, are silent or slow: the others are served; a request of a web page
     memory    address spaces of a hundred sizes, from too small for any program to ample: the right replies, or that memory
-              ran out, and below the size that the system can load the program in, the system's own message
-    upgrade   `upgrade` in all of these: its text goes out whole, or its first lines and what went wrong
+              ran out, and below the size in which the system can load the program, the system's own message
+    upgrade   `upgrade` in all of these: its whole text, or its first lines and the fault
     suspects  `suspects` with such outputs and files
 """
 
@@ -151,9 +151,9 @@ FULL = opened("/dev/full", os.O_WRONLY)
 
 @dataclass
 class Case:
-    """netrev with `word` and FILE; its standard input, as bytes, as one of the above or CLOSED; its standard output, which
-    is read where none is named; the memory that it may have, in all or beside what it is loaded in; and how it has to end.
-    """
+    """netrev with `word` and FILE; its standard input, as bytes, one of the above or CLOSED; its standard output,
+    which is read unless named; the memory that it may have, in all or beyond that for loading; and the expected
+    end."""
 
     name: str
     word: str
@@ -582,7 +582,7 @@ def leave_pipe(folder, first, ignored, recording=FIRST, word="run"):
 
 
 def play_errors(folder):
-    """The usage text can't be printed: the status says it."""
+    """The usage text can't be printed: the status shows it."""
     for into in (CLOSED, FULL, gone):
         stream = None if into is CLOSED else into(folder)
         close = (lambda: os.close(2)) if into is CLOSED else None

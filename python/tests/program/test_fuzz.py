@@ -28,13 +28,13 @@ from .sharing import NETREV
 
 
 def quietly(call, *arguments, **more):
-    """What a call gives, and what it printed."""
+    """The result of a call, and its output."""
     with redirect_stdout(io.StringIO()) as printed:
         return call(*arguments, **more), printed.getvalue()
 
 
 def decref_with_another_reason(world, g, s):
-    """`decref` with another reason where there is no reference."""
+    """A fault: `decref` without a reference has another reason."""
     try:
         return steps.decref(world, g, s)
     except Refused as refused:
@@ -42,17 +42,17 @@ def decref_with_another_reason(world, g, s):
 
 
 def error_stays(world, d, mode, error):
-    """An event that sets the event error and never clears it."""
+    """A fault: an event sets the event error and never clears it."""
     return EVENT(world, d, mode, error or world.descs[d].error)
 
 
 def sorts_compared(recorded, answer):
-    """Recorded answers of which the sort alone is compared, and not the number."""
+    """A fault: only the sorts of recorded answers are compared, and not their numbers."""
     return recorded[0] != answer[0]
 
 
 def shut_for_nothing(world, g, s, data):
-    """`syswrite` of which a shut socket takes bytes as any does."""
+    """A fault: `syswrite` to a shut socket takes bytes."""
     shut = s < len(world.sockets) and world.sockets[s].shut
     after, answer = WRITE(world.with_socket(s, shut=False) if shut else world, g, s, data)
     return (after.with_socket(s, shut=True) if shut else after), answer
@@ -77,7 +77,7 @@ REFUSED = b"step 11: fault 109 answer\n"
 
 @contextmanager
 def planted(name, out):
-    """The model with something planted; the folder of the one case that is found to differ and kept."""
+    """The model with a planted fault; the folder of the only case that differs and is kept."""
     seed, plant = PLANTED[name]
     with plant(), mock.patch("netrev_fuzz.__main__.MOST_DIFFERENCES", 1):
         found, printed = quietly(play, NETREV, seed, Met(), cases=WITHIN, out=out)
@@ -127,7 +127,7 @@ class Companion(unittest.TestCase):
     """Sessions of nrdb, disturbed."""
 
     def played(self, count):
-        """The faults of this many sessions, and what they met."""
+        """The faults of this many sessions, and their events."""
         met = Met()
         with tempfile.TemporaryDirectory() as folder:
             cases = map(visit, seeds("tested-nrdb", count))
@@ -155,11 +155,11 @@ class Pressing(unittest.TestCase):
         self.addCleanup(signal.signal, signal.SIGINT, signal.signal(signal.SIGINT, self.comes))
 
     def comes(self, *_):
-        """A Ctrl-C has come that no session and no case had."""
+        """Records a Ctrl-C that no session and no case handled."""
         self.came += 1
 
     def give_up(self, happens):
-        """Asks a netrev, of which the session is given up by what happens then, and ends it."""
+        """Sends a netrev a line while its session is given up, and ends it."""
         interrupts = Interrupts()
         with confined():
             netrev = Slow(NETREV, str(EXAMPLE), interrupts, happens)

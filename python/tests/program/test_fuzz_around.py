@@ -1,4 +1,4 @@
-"""The fuzzers of what is round netrev: a few cases of each sort find nothing, and a fault that is planted is found."""
+"""The fuzzers of the tools around netrev: a few cases of each sort find nothing, and a planted fault is found."""
 
 import io
 import random

@@ -1,5 +1,5 @@
-"""The outputs of `netrev-go test` from recordings after a run: a page beside each, and other schedules of those that
-passed. A script stands in for Go."""
+"""The outputs of `netrev-go test` that are made from recordings after a run: a page for each, and other schedules
+of those that passed. A script stands in for Go."""
 
 import json
 import pathlib
@@ -84,7 +84,7 @@ class Pages(Behind):
 
 
 class Explored(Behind):
-    """A green run of whose recording another schedule hangs."""
+    """A passing run whose recording hangs in another schedule."""
 
     def explored(self, *words: str, status: int = 0, recording: pathlib.Path = GOOD) -> tuple[int, str]:
         """The status and the output if this becomes the recording of TestGreen."""

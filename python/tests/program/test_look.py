@@ -42,7 +42,7 @@ def kept(clone: Path) -> list[str]:
 
 
 def looked(clone: Path, toolchain: Toolchain, *commands: str) -> str:
-    """What the prompt of `make look` prints, given these commands."""
+    """The output of the prompt of `make look` for these commands."""
     lines = "".join(f"{command}\n" for command in commands)
     ran = make(clone, "look", f"FILE={RECORDING}", lines=lines, PATH=toolchain.path())
     assert ran.returncode == 0, ran.stderr
@@ -50,7 +50,7 @@ def looked(clone: Path, toolchain: Toolchain, *commands: str) -> str:
 
 
 def with_built_netrev(clone: Path, *commands: str) -> str:
-    """What nrdb prints with the built netrev."""
+    """nrdb's output with the built netrev."""
     lines = "".join(f"{command}\n" for command in commands)
     command = [str(clone / "nrdb"), "--netrev", NETREV, RECORDING]
     return subprocess.run(command, cwd=clone, input=lines, capture_output=True, text=True, check=True).stdout

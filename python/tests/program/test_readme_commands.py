@@ -56,7 +56,7 @@ def skip_without_go() -> None:
 
 
 def by_their_paths(room: Room) -> None:
-    """Records as README does, but calls netrev-go by its path: what it says to type next has to run there too."""
+    """Records as README does, but calls netrev-go by its path: the command after `next:` must run there too."""
     if commands_of_go():
         assert room.run('export NETREV="$PWD/out/look/netrev"') == (0, "")
         command = "cp -r examples/toy other && cd other && ../tools/go/netrev-go test ./..."
@@ -90,7 +90,7 @@ def test_the_questions_that_a_look_has_to_answer_are_shown() -> None:
 
 @pytest.mark.long
 class Packages(unittest.TestCase):
-    """The archive and the Debian package, made of the tree as it is, without asking for a gate that passed."""
+    """The archive and the Debian package of the present tree, without a passed gate."""
 
     archive: Path
     deb: Path

@@ -31,7 +31,7 @@ class Installation(NamedTuple):
         return {**os.environ, "PATH": self.path, "NETREV": NETREV, "PYTHONPATH": str(self.packages)}
 
     def printed(self, folder: Path, *words: object) -> str:
-        """What a command prints that ends with status 0."""
+        """The output of a command that ends with status 0."""
         run = subprocess.run(
             list(map(str, words)), cwd=folder, env=self.environment(), stdin=subprocess.DEVNULL, capture_output=True,
             text=True, timeout=PATIENCE, check=False,
@@ -40,7 +40,7 @@ class Installation(NamedTuple):
         return run.stdout + run.stderr
 
     def typed(self, folder: Path, line: str) -> str:
-        """What a shell prints for a line that is typed in a folder."""
+        """The output of a shell for a line that is typed in a folder."""
         return self.printed(folder, "sh", "-c", line)
 
 
@@ -68,7 +68,7 @@ def installations(prefix: Path, tmp_path_factory: pytest.TempPathFactory) -> lis
 
 @pytest.fixture
 def log(tmp_path: Path) -> Path:
-    """A log in a folder whose name a shell would take apart."""
+    """A log in a folder whose name needs quoting in a shell."""
     file = tmp_path / "it's a log" / "log.17"
     file.parent.mkdir()
     file.write_bytes(from_text((EXAMPLES / "real/past.log").read_text())[0])

@@ -1,5 +1,5 @@
-"""What follows `netrev:` was printed by netrev itself, in every output of nrdb and netrev-go; what nrdb concludes follows `cause:`, and
-the command to type next `next:`."""
+"""Text after `netrev:` was printed by netrev itself, in every output of nrdb and netrev-go; nrdb's conclusions
+follow `cause:`, and the command to type next `next:`."""
 
 import json
 import re
@@ -30,14 +30,14 @@ REPLIES: dict[tuple[Path, str, str], str] = {}
 
 
 def reply_at(path: Path, position: str, cell: str) -> str:
-    """What netrev prints of a cell at a position."""
+    """netrev's output for a cell at a position."""
     if (path, position, cell) not in REPLIES:
         REPLIES[path, position, cell] = netrev(path, [f"restart 0\nstepi {position}", f"print {cell}"])[-1]
     return REPLIES[path, position, cell]
 
 
 def foreign_words(text: str, path: Path) -> list[str]:
-    """What follows `netrev:` in a text about a recording, and isn't what netrev prints."""
+    """Texts after `netrev:` in a text about a recording that aren't netrev's output."""
     lines = [line for program in ("check", "suspects") for line in printed(program, path).splitlines()]
     answers = [answer for found in SAYS.findall(text) for answer in found.replace("`", "").split("; ")]
     return [answer for answer in answers if not is_printed(answer, path) and answer not in lines]
@@ -59,7 +59,7 @@ def labels(text: str) -> list[str]:
 
 
 def told_by_netrev_go(path: Path, is_failed: bool = True) -> list[str]:
-    """What netrev-go prints of a recording, of a program that failed."""
+    """netrev-go's output about a recording of a program that failed."""
     recording = Recording.read(str(path))
     steps = [recording.step(number) for number in range(1, recording.length + 1)]
     last = [0] * recording.limits["gor"]

@@ -1,10 +1,10 @@
-"""Plays `netrev upgrade` with the built program. Each case has a name in plain words, which begins so:
+"""Tests `netrev upgrade` with the built program. The name of each case begins with its sort:
 
-    stored     what is upgraded, and the text that is stored for it; with a recorded answer that isn't the machine's
-    written    one way of writing, whatever the recording's was: compact, keys in alphabetical order, digits in lower case
-    refused    faults, other words, a file that isn't there: the statuses are those of `check`
-    recording  each recording that is here: its upgrade is the text that the fuzzer's model writes (python/netrev_machine), `check`
-               takes it, it has the same bytes when it is upgraded again, and `run` answers as it does over the recording
+    stored     upgraded recordings, compared with stored texts; with an answer that isn't the machine's
+    written    one form of text, whatever the recording's was: compact, keys in alphabetical order, digits in lower case
+    refused    faults, usage errors, a missing file: the statuses are those of `check`
+    recording  each stored recording: its upgrade is the text of the fuzzer's model (python/netrev_machine), `check` accepts it, another
+               upgrade gives the same bytes, and `run` gives the same replies for it
 """
 
 import subprocess

@@ -33,6 +33,7 @@ const (
 	netrevNotesBeginKind     = 139 // a is the number of the notes that begin here, b how many descriptors are known
 	netrevNotesEndKind       = 140 // a is the number of the notes that end here, b how many descriptors were noted, c how many there was no room for
 	netrevNotedNamedKind     = 141 // a, b and c are those of the socket's point netrevNamedKind
+	netrevDeadlineCallKind   = 142 // no note: a is the mode and b the deadline, and c the lock word, to which the call had a reference
 )
 
 // Places of a goroutine inside a wait.

@@ -68,6 +68,9 @@ func runtime_netrevIsCalled(descriptor uintptr, a, b, c int64)
 func runtime_netrevIsShut(descriptor uintptr)
 
 //go:noescape
+func runtime_netrevSetsDeadline(descriptor uintptr, word *uint64, d int64, mode int) bool
+
+//go:noescape
 func runtime_netrevAcquire(sema *uint32, read bool)
 
 //go:noescape
@@ -116,6 +119,17 @@ func netrevRelease(sema *uint32, read bool) {
 		return
 	}
 	runtime_netrevRelease(sema, read)
+}
+
+// netrevSetsDeadline sets a deadline, which takes a reference to the socket and drops it again, and says whether it has: all of it is one point then.
+func netrevSetsDeadline(fd *FD, d int64, mode int) bool {
+	if fd.pd.runtimeCtx == 0 {
+		return false
+	}
+	netrevSeenByRace(&fd.fdmu)
+	done := runtime_netrevSetsDeadline(fd.pd.runtimeCtx, &fd.fdmu.state, d, mode)
+	netrevSeenByRace(&fd.fdmu)
+	return done
 }
 
 // netrevInit is a descriptor that is about to be opened in the poller.

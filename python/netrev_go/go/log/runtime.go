@@ -79,7 +79,7 @@ const (
 // socket, and a point without a time that of the point before.
 const (
 	netrevStackedSteps  = 1<<3 | 1<<9 | 1<<10 | 1<<12 | 1<<netrevAcquire | 1<<netrevWaitBegin // sockopen, incref, increfclose, rwlock
-	netrevStackedOthers = 0x1f<<2 | 1<<8 | 1<<11 | 0x1f<<13
+	netrevStackedOthers = 0x1f<<2 | 1<<8 | 1<<11 | 0x1f<<13 | 1<<(netrevDeadlineCallKind-netrevOpenFailed)
 	netrevTimedSteps    = netrevStackedSteps | 1<<netrevSwap | 1<<netrevEventCame | 1<<31 // closewrite
 	netrevTimedOthers   = 0x3f<<1 | 1<<8 | 0x1f<<11 | 1<<17
 )
@@ -582,11 +582,45 @@ func netrevCommitted(gp *g, pd *pollDesc, word *atomic.Uintptr, mode int64) bool
 	return parks
 }
 
+// netrevSetting is of each of the first processors the descriptor whose deadline is being set in one section with its lock word, and that word.
+var netrevSetting [netrevNearEnd / netrevNearRows]struct {
+	descriptor uintptr
+	state      uint64
+	_          [48]byte
+}
+
 // netrevDeadline is a deadline that is set, with the one reading of the clock that it is made with.
 func netrevDeadline(pd *pollDesc, mode int, d int64) int64 {
 	now := nanotime()
-	netrevLog(netrevSetDeadline, netrevGoroutine(), uintptr(unsafe.Pointer(pd)), int64(mode), d, 0, now)
+	kind, state := uint64(netrevSetDeadline), uint64(0)
+	if near := netrevNearby(getg()); near < netrevNearEnd && netrevSetting[near].descriptor == uintptr(unsafe.Pointer(pd)) {
+		kind, state = netrevDeadlineCallKind, netrevSetting[near].state
+	}
+	netrevLog(kind, netrevGoroutine(), uintptr(unsafe.Pointer(pd)), int64(mode), d, int64(state), now)
 	return now
+}
+
+// A goroutine sets a deadline: the reference that it takes meanwhile, and drops, is no point of its own, as the lock word's lock is held all the time,
+// and the word is left as it is. It says whether that could be done. Delays are between these points.
+//
+//go:linkname poll_runtime_netrevSetsDeadline internal/poll.runtime_netrevSetsDeadline
+func poll_runtime_netrevSetsDeadline(descriptor uintptr, word *uint64, d int64, mode int) bool {
+	const closed, references = 1, (1<<20 - 1) << 3
+	if netrevSeed != 0 {
+		return false
+	}
+	netrevNotes()
+	l := netrevLockOf(word)
+	mp := netrevSpin(l)
+	near, state := netrevNearby(getg()), atomic.Load64(word)
+	isDone := near < netrevNearEnd && state&closed == 0 && state&references != references
+	if isDone {
+		netrevSetting[near].descriptor, netrevSetting[near].state = descriptor, state
+		poll_runtime_pollSetDeadline((*pollDesc)(unsafe.Pointer(descriptor)), d, mode)
+		netrevSetting[near].descriptor = 0
+	}
+	netrevUnspin(l, mp)
+	return isDone
 }
 
 func netrevClock(now int64) int64 {

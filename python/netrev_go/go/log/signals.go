@@ -1,8 +1,9 @@
 // netrev's copies of the log, for each SIGUSR2, if the program's environment has NETREV_SIGNAL=usr2. These functions are put behind those of
 // runtime/signal_unix.go in an overlaid Go.
 //
-// The program may run where netrev-go doesn't. A copy is LOG.snapshot, in place of the one before; it has that name once it is whole. A handler of
-// the program's gets the signal too, and without one it ends nothing. While it is made, for some milliseconds, the program has one more descriptor.
+// The program may run where netrev-go doesn't. A copy is LOG.snapshot, in place of the one before; it has that name once it is whole. If none can be
+// made, as on a full disk, the empty file LOG.snapshot.failed.ERROR is left: `netrev-go convert` says so. A handler of the program's gets the signal
+// too, and without one it ends nothing. While a copy is made, for some milliseconds, the program has one more descriptor.
 
 package runtime
 
@@ -22,6 +23,7 @@ var (
 	netrevSignal   uint32 // the signal's number; 0 where the program's owner didn't choose it
 	netrevSnapshot []byte // the name of a copy
 	netrevUnready  []byte // that of one that isn't whole
+	netrevUncopied []byte // that of the file that says why there is none, whose last digits are the system's error
 	netrevCopies   uint32 // 1 while one is made
 )
 
@@ -34,6 +36,7 @@ func netrevHeedsSignal() {
 	own := netrevOwn[:len(netrevOwn)-1]
 	netrevSnapshot = append(append([]byte{}, own...), ".snapshot\x00"...)
 	netrevUnready = append(append([]byte{}, own...), ".snapshot.part\x00"...)
+	netrevUncopied = append(append([]byte{}, own...), ".snapshot.failed.000\x00"...)
 	netrevSignal = userDefined2
 }
 
@@ -49,45 +52,66 @@ func netrevSignalled(sig uint32, isSent bool) bool {
 	return true
 }
 
-// netrevCopyLog copies the log. It runs on a signal's stack: the names are there already, and nothing is allocated. The ring comes right behind the
-// header, as new points take the places of the oldest; the mark says that some of these may be missing.
+// netrevCopyLog copies the log. It runs on a signal's stack: the names are there already, and nothing is allocated.
 func netrevCopyLog() {
-	name, part := uintptr(unsafe.Pointer(&netrevSnapshot[0])), uintptr(unsafe.Pointer(&netrevUnready[0]))
+	name, part, failed := uintptr(unsafe.Pointer(&netrevSnapshot[0])), uintptr(unsafe.Pointer(&netrevUnready[0])), uintptr(unsafe.Pointer(&netrevUncopied[0]))
 	netrevSystem(netrevUnlink, netrevHere, part, 0)
+	netrevSystem(netrevUnlink, netrevHere, failed, 0)
 	file, errno := netrevOpenFile(netrevUnready, netrevCreateAnew, 0600)
-	if errno != 0 {
+	if errno == 0 {
+		if errno = netrevWriteLog(file); errno == 0 {
+			_, errno = netrevSystem(netrevRenaming, netrevHere, part, netrevHere, name)
+		}
+		netrevSystem(netrevClosing, file)
+	}
+	if errno == 0 {
 		return
 	}
+	netrevSystem(netrevUnlink, netrevHere, part, 0)
+	for at, rest := len(netrevUncopied)-2, errno; at >= len(netrevUncopied)-4; at-- {
+		netrevUncopied[at] = byte('0' + rest%10)
+		rest /= 10
+	}
+	if file, errno = netrevOpenFile(netrevUncopied, netrevCreateAnew, 0600); errno == 0 {
+		netrevSystem(netrevClosing, file)
+	}
+}
+
+// netrevWriteLog writes the log to a file; its error. The ring comes right behind the header, as new points take the places of the oldest; the mark
+// says that some of these may be missing.
+func netrevWriteLog(file uintptr) uintptr {
 	ring, points := netrevRing-netrevBase, netrevPoints
 	if used := atomic.Load64(&netrevRoomed); used < points {
 		points = used
 	}
 	mark := uint64(netrevCopied)
-	isWhole := netrevWriteAt(file, netrevBase, 0, netrevHeaderBytes) &&
-		netrevWriteAt(file, uintptr(unsafe.Pointer(&mark)), netrevHeadCopied*8, 8) &&
-		netrevWriteAt(file, netrevRing, ring, uintptr(points)*netrevPointWords*8) &&
-		netrevWriteAt(file, netrevBase+netrevHeaderBytes, netrevHeaderBytes, ring-netrevHeaderBytes)
-	netrevSystem(netrevClosing, file)
-	if isWhole {
-		_, errno = netrevSystem(netrevRenaming, netrevHere, part, netrevHere, name)
+	if errno := netrevWriteAt(file, netrevBase, 0, netrevHeaderBytes); errno != 0 {
+		return errno
 	}
-	if !isWhole || errno != 0 {
-		netrevSystem(netrevUnlink, netrevHere, part, 0)
+	if errno := netrevWriteAt(file, uintptr(unsafe.Pointer(&mark)), netrevHeadCopied*8, 8); errno != 0 {
+		return errno
 	}
+	if errno := netrevWriteAt(file, netrevRing, ring, uintptr(points)*netrevPointWords*8); errno != 0 {
+		return errno
+	}
+	return netrevWriteAt(file, netrevBase+netrevHeaderBytes, netrevHeaderBytes, ring-netrevHeaderBytes)
 }
 
-// netrevWriteAt writes a part of the memory to a place of a file, and says whether there was room.
-func netrevWriteAt(file, from, at, size uintptr) bool {
-	const interrupted = 4
+// netrevWriteAt writes a part of the memory to a place of a file; the error.
+func netrevWriteAt(file, from, at, size uintptr) uintptr {
+	const interrupted, noSpace = 4, 28
 	for size > 0 {
 		written, errno := netrevSystem(netrevWritingAt, file, from, size, at)
 		if errno == interrupted {
 			continue
 		}
-		if errno != 0 || written == 0 {
-			return false
+		if errno != 0 {
+			return errno
+		}
+		if written == 0 {
+			return noSpace
 		}
 		from, at, size = from+written, at+written, size-written
 	}
-	return true
+	return 0
 }

@@ -43,6 +43,9 @@ func wanted() []fitting {
 	for _, r := range steps {
 		all = append(all, fitting{rule: r})
 	}
+	for _, r := range calls {
+		all = append(all, fitting{rule: r, without: ofDeadlines})
+	}
 	for _, w := range ways {
 		all = append(all, fitting{rule: w.rule, without: w.moves})
 	}

@@ -36,6 +36,7 @@ const (
 	lockWords = "internal/poll/fd_mutex.go"
 	sockets   = "internal/poll/fd_unix.go"
 	shutting  = "internal/poll/fd_posix.go"
+	deadlines = "internal/poll/fd_poll_runtime.go"
 	polling   = "runtime/netpoll.go"
 	epolling  = "runtime/netpoll_epoll.go"
 	queueing  = "runtime/sema.go"
@@ -66,6 +67,14 @@ func since121(before, since []edit) []variant {
 func orLogged(put string) string { return "(netrevOn == 0 && $0 || netrevOn != 0 && " + put + ")" }
 
 func one(how how, find string, put string) edit { return edit{how, find, 1, []string{put}} }
+
+const ofDeadlines = "that a call that sets a deadline is one point and not three"
+
+// A call that sets a deadline takes a reference to its socket first, and drops it in the end.
+var calls = []rule{
+	{deadlines, "setDeadlineImpl", all(
+		one(before, "fd.incref()", "if netrevOn != 0 && netrevSetsDeadline(fd, d, mode) { return nil }"))},
+}
 
 // The points of steps. None can be done without.
 var steps = []rule{

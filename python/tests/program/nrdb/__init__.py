@@ -1,1 +1,2 @@
-"""nrdb over the built program: its views against plain `print`s, its hints, its terminal, the sessions of docs/."""
+"""Tests of nrdb with the built program: its views against plain `print`s, its hints, its terminal, the sessions of
+docs/."""

@@ -1,5 +1,5 @@
-"""The forms of the messages that an adapter sends, as the Debug Adapter Protocol's published specification has them: which
-fields there have to be, which there may be (`?`), and their types. What isn't in a form isn't sent."""
+"""The forms of an adapter's messages in the Debug Adapter Protocol's published specification: their required fields, optional fields (`?`),
+and types. A message has no other fields."""
 
 from typing import Any, Iterable
 

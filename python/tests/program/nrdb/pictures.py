@@ -1,6 +1,9 @@
-"""Makes the pictures of docs/guide anew, which show the timeline's page in chromium:  python3 python tests.program.nrdb.pictures [FOLDER]
+"""Makes the pictures of docs/guide, which show the timeline's page in chromium:
 
-With the words `--real FOLDER` it makes those of all recordings of examples/real in place of them, light, dark and on a phone."""
+    python3 python tests.program.nrdb.pictures [FOLDER]
+
+With `--real FOLDER` it makes those of all recordings of examples/real instead, light, dark and on a phone.
+"""
 
 import sys
 import tempfile

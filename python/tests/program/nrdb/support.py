@@ -104,7 +104,7 @@ class Shown:
         return {cell: values[at :: len(cells) + 1] for at, cell in enumerate(cells)}
 
     def made(self, cell, position):
-        """The numbers of which that cell exists there."""
+        """The numbers for which that cell exists there."""
         values = self.at(position)
         numbers = (int(name.split()[1]) for name in values if name.startswith(f"{cell} "))
         return [number for number in numbers if values[f"{cell} {number}"] != "absent"]

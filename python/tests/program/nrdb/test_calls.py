@@ -1,5 +1,6 @@
-"""What nrdb tells of what happened, with netrev: what a move's last step changed is what plain `print`s show; whose timers are
-run; `next`, `finish`, `until` with two conditions, `commands`, several commands in a line; and groups of those who wait."""
+"""nrdb's answers about what happened, with netrev: the changes of a move's last step equal plain `print`s; the
+owners of timers; `next`, `finish`, `until` with two conditions, `commands`, several commands in a line; and
+groups of waiting goroutines."""
 
 import json
 import random

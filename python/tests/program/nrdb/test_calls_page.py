@@ -1,5 +1,5 @@
-"""The timeline's calls and stories: they are those of nrdb's other answers; and in chromium how they are drawn, folded, filtered, picked,
-saved and read on a phone. Left out where there is no chromium (Debian: apt-get install chromium)."""
+"""The timeline's calls and stories: they equal nrdb's other answers; and in chromium how they are drawn, folded,
+filtered, picked, saved and read on a phone. Skipped without chromium (Debian: apt-get install chromium)."""
 
 import json
 import shutil
@@ -40,7 +40,7 @@ STATES = ["done", "failed", "hangs", "open", "listens"]
 
 
 def opened(page: str) -> str:
-    """The page, of whose script a test may use `inside`."""
+    """The page, with access to the names inside its script."""
     end = "})(JSON.parse("
     assert page.count(end) == 1
     return page.replace(end, f"window.inside = {{ {NAMES} }};\n{end}")

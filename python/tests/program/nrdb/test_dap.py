@@ -1,4 +1,4 @@
-"""`nrdb --dap`: a scripted editor plays sessions over the examples. Each message is held against its form."""
+"""`nrdb --dap`: a scripted editor runs sessions over the examples, and the form of each message is checked."""
 
 import json
 import os

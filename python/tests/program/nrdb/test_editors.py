@@ -19,7 +19,8 @@ def conversation() -> list[tuple[str, dict[str, Any]]]:
 
 
 def as_told(message: dict[str, Any]) -> Any:
-    """A message as it is kept: without message numbers, and with the recording's name instead of its path."""
+    """A message in the form that is kept: without message numbers, and with the recording's name instead of its
+    path."""
     kept = {name: value for name, value in message.items() if name not in ("seq", "request_seq", "type")}
     return json.loads(json.dumps(kept).replace(json.dumps(str(EXAMPLES / RECORDING)), json.dumps(RECORDING)))
 

@@ -1,5 +1,5 @@
-"""nrdb and its adapter answer whatever is typed or sent, and go on: numbers of any length, file names with `;`, files
-that are too large, and unexpected errors."""
+"""nrdb and its adapter answer any input, and continue: numbers of any length, file names with `;`, files that are
+too large, and unexpected errors."""
 
 import io
 import os

@@ -1,5 +1,5 @@
-"""`explore` with netrev: what it keeps is accepted by netrev, ends with what it says, and is reduced; each finding says that it is
-possible; and `--explore`, whose exit status says whether there are any."""
+"""`explore` with netrev: netrev accepts the kept recordings, they end as reported, and are reduced; each finding
+says that it is possible; and `--explore`, whose exit status says whether there are any."""
 
 import json
 import os

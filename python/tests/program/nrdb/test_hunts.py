@@ -1,6 +1,5 @@
-"""The hunts of examples/hunts and examples/real, and two long ones that are made here: each bug that a rule knows is found by
-`info suspects` and the line that it says to type, which print just what is kept. A recording with an answer that isn't the
-machine's is refused, and nrdb explains that."""
+"""The hunts of examples/hunts and examples/real, and two long generated ones: `info suspects` and the line that it suggests find each bug
+that a rule knows, and print the stored text. A recording with an answer that isn't the machine's is refused, and nrdb explains that."""
 
 import json
 import tempfile

@@ -123,7 +123,7 @@ class Join(unittest.TestCase):
             self.assertEqual(said, "| the recording has 22 steps, but the session's has 10\n")
 
     def test_a_file_that_is_no_recording(self):
-        """It has as many lines as the session's, and netrev tells its fault."""
+        """It has as many lines as the session's recording, and netrev reports its fault."""
         with tempfile.TemporaryDirectory() as folder, serving() as server:
             file = f"{folder}/x.jsonl"
             with open(file, "w", encoding="ascii") as text:

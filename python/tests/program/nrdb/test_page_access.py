@@ -1,6 +1,6 @@
-"""The pages for people who use keys, or see little: each control has a name and shows its focus, and each text stands out from its
-background, light and dark. The tests check what the browser makes of the styles; nothing is fetched. Left out without chromium
-(Debian: apt-get install chromium)."""
+"""The pages for people who use keys, or have low vision: each control has a name and shows its focus, and each text
+has enough contrast, light and dark. The tests check the browser's computed styles; nothing is fetched. Skipped
+without chromium (Debian: apt-get install chromium)."""
 
 import tempfile
 from pathlib import Path
@@ -70,7 +70,7 @@ INKS = """
 
 
 def contrast(one: list[float], other: list[float]) -> float:
-    """The contrast of two colours, from 1 to 21, as WCAG 2.1 reckons it."""
+    """The contrast of two colours, from 1 to 21, by WCAG 2.1."""
     lights = sorted((luminance(one), luminance(other)))
     return (lights[1] + 0.05) / (lights[0] + 0.05)
 

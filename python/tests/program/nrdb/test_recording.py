@@ -1,5 +1,5 @@
-"""The text of recordings: steps by their numbers, whatever lines are between them; and the holders of references, by
-recordings written for that."""
+"""The text of recordings: steps by their numbers, whatever lines are between them; and the holders of references,
+in small recordings."""
 
 import json
 import tempfile

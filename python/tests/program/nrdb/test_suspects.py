@@ -1,5 +1,5 @@
-"""`info suspects` with netrev: its answers are what the rules reckon with, over the examples and over traffic with planted bugs,
-which netrev accepts; and `--suspects`, whose exit status says whether there are any."""
+"""`info suspects` with netrev: the rules use netrev's answers, over the examples and over traffic with planted
+bugs, which netrev accepts; and `--suspects`, whose exit status says whether there are any."""
 
 import json
 import re
@@ -33,12 +33,12 @@ LINE = re.compile(rf"at \d+ (?:{'|'.join(HUNTS)}) [^;]*; ")
 
 
 def printed(program: str, path: Path) -> str:
-    """What netrev prints of a file."""
+    """netrev's output for a file."""
     return subprocess.run([NETREV, program, path], capture_output=True, text=True, timeout=60, check=False).stdout
 
 
 def checked(path: Path) -> str:
-    """What `netrev check` prints of a file."""
+    """The output of `netrev check` for a file."""
     return printed("check", path)
 
 

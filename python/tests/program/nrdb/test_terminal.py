@@ -29,7 +29,7 @@ class Typist:
         environment.pop("NETREV_HISTORY", None)
         self.process, self.terminal = pty.fork()
         if self.process == 0:
-            signal.signal(signal.SIGINT, signal.SIG_DFL)  # (a shell's background job has it ignored)
+            signal.signal(signal.SIGINT, signal.SIG_DFL)  # (a background job of a shell ignores it)
             os.execve(NRDB, words, environment)
         self.screen = ""
 

@@ -1,4 +1,4 @@
-"""The timeline's data: they are what plain looks show; and the page needs nothing from outside."""
+"""The timeline's data equal plain queries, and the page needs no external files."""
 
 import json
 import random

@@ -1,5 +1,5 @@
-"""The timeline's page in chromium: wheel, keys, clicks, hovering, both colour schemes, a narrow screen; and texts of others, which
-stay texts. Left out where there is no chromium (Debian: apt-get install chromium)."""
+"""The timeline's page in chromium: wheel, keys, clicks, hovering, both colour schemes, a narrow screen; and text
+from outside, which stays text. Skipped without chromium (Debian: apt-get install chromium)."""
 
 import re
 import shutil
@@ -11,7 +11,7 @@ from .browser import CHROMIUM, DARK, LIGHT, used
 from .support import EXAMPLES, HUNTS, nrdb, shown
 
 MISSED = HUNTS / "missed-release.jsonl"
-OWED = 262  # the step from which on goroutine 14 owes
+OWED = 262  # the step since which goroutine 14 owes a release
 HOSTILE = "</script><img src=x onerror=\"document.title='obeyed'\"><b>\u202e`"
 
 
@@ -24,7 +24,7 @@ def page_of(path: Path, *words: str) -> str:
 
 
 def opened(page: str) -> str:
-    """The page, of whose script a test may use `inside`."""
+    """The page, with access to the names inside its script."""
     end = "})(JSON.parse("
     assert page.count(end) == 1
     return page.replace(end, f"window.inside = {{ arrows, drawRows, V, C }};\n{end}")

@@ -1,5 +1,6 @@
-"""The page of a part of a long recording, in chromium: it begins where its values are; and the sides of a descriptor that is used again and
-again are one row each. Left out where there is no chromium (Debian: apt-get install chromium)."""
+"""The page of a part of a long recording, in chromium: it begins where its values are; and the sides of a
+descriptor that is reused many times are one row each. Skipped without chromium (Debian: apt-get install
+chromium)."""
 
 import subprocess
 from pathlib import Path
@@ -36,7 +37,7 @@ for (const [socket, rows] of inside.GROUPS) for (const row of rows.filter((row) 
 
 @pytest.fixture(scope="module")
 def mix(tmp_path_factory: pytest.TempPathFactory) -> Path:
-    """A recording in which a socket uses a descriptor again and again."""
+    """A recording in which a socket reuses a descriptor many times."""
     file = tmp_path_factory.mktemp("mix") / "mix.jsonl"
     words = ["awk", "-v", "shape=mix", "-v", f"n={STEPS}", "-f", str(ROOT / "bench/shapes.awk")]
     file.write_bytes(subprocess.run(words, stdin=subprocess.DEVNULL, stdout=subprocess.PIPE, check=True).stdout)
@@ -44,7 +45,7 @@ def mix(tmp_path_factory: pytest.TempPathFactory) -> Path:
 
 
 def seen(path: Path, *words: str, place: str = "") -> dict[str, Any]:
-    """What the page shows when it opens, of a recording that is long for it."""
+    """The contents of the page when it opens, for a recording that is too long for it."""
     with mock.patch.object(picture, "MOST", PART), mock.patch.object(picture, "AT_ONCE", PART):
         page = page_of(path, *words)
     end = "})(JSON.parse("
@@ -54,7 +55,7 @@ def seen(path: Path, *words: str, place: str = "") -> dict[str, Any]:
 
 @pytest.fixture(scope="module")
 def page(mix: Path) -> dict[str, Any]:
-    """What the page of the recording shows when it opens."""
+    """The contents of the recording's page when it opens."""
     return seen(mix)
 
 

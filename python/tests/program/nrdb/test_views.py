@@ -1,4 +1,4 @@
-"""What nrdb makes of netrev's replies agrees with plain `print`s, at positions here and there in each recording."""
+"""nrdb's views of netrev's replies agree with plain `print`s, at various positions of each recording."""
 
 import random
 import re
@@ -16,20 +16,21 @@ FIELDS = (r"^\d+ references?$", r"waiting to read$", r"waiting to write$")
 
 
 def lock_fields(value):
-    """The lock word's fields by shifts: closed, locks, references, readers and writers who wait."""
+    """The lock word's fields by shifts: closed, locks, references, waiting readers and writers."""
     word = int(value)
     return [word & 1, word >> 1 & 1, word >> 2 & 1, word >> 3 & 0xFFFFF, word >> 23 & 0xFFFFF, word >> 43 & 0xFFFFF]
 
 
 def told_fields(words):
-    """The same fields, read from what nrdb says of the word."""
+    """The same fields, read from nrdb's text about the word."""
     parts = words.split(", ")
     counted = [next((int(part.split()[0]) for part in parts if re.search(what, part)), 0) for what in FIELDS]
     return [int("closed" in parts), int("read lock" in parts), int("write lock" in parts), *counted]
 
 
 def open_descriptors(recording, position):
-    """How often each descriptor was opened and not freed, by its steps' text, and the socket of the last opening."""
+    """How often each descriptor was opened and not freed, from the text of the steps, and the socket of the last
+    opening."""
     count: dict[int, int] = {}
     socket: dict[int, int] = {}
     free: list[int] = []
@@ -48,7 +49,8 @@ def open_descriptors(recording, position):
 
 
 def balance(recording, words, position):
-    """How many references of a socket each goroutine has, by how its lock word's count changed at that one's steps."""
+    """How many references of a socket each goroutine has, from the changes of its lock word's count at that
+    goroutine's steps."""
     references = [0 if word == "absent" else lock_fields(word)[3] for word in words]
     held: Counter[int] = Counter()
     for step in range(1, position + 1):

@@ -1,5 +1,5 @@
-"""The timeline's rows of goroutines that touch no socket, with what each waits for; and its search for lines, functions, connections and
-goroutines, in chromium. Left out where there is no chromium (Debian: apt-get install chromium)."""
+"""The timeline's rows of goroutines without sockets, with what each waits for; and its search for lines, functions,
+connections and goroutines, in chromium. Skipped without chromium (Debian: apt-get install chromium)."""
 
 import re
 import unittest
@@ -20,7 +20,7 @@ BODIES = HUB.with_name("bodies-bad.jsonl")
 
 
 def opened(page: str) -> str:
-    """The page, of whose script a test may use `inside`."""
+    """The page, with access to the names inside its script."""
     end = "})(JSON.parse("
     assert page.count(end) == 1
     return page.replace(end, f"window.inside = {{ V, CALLS, GROUPS, headOf, xOf }};\n{end}")

@@ -1,5 +1,5 @@
-"""`nrdb --web`: people who listen to a session's events and type lines, a terminal at another front of it, and a netrev
-that is killed. tests.test_web has the requests that aren't the page's."""
+"""`nrdb --web`: people who listen to a session's events and type lines, a terminal at another front, and a killed
+netrev. tests.test_web has the requests that aren't the page's."""
 
 import json
 import socket

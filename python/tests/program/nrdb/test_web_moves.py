@@ -1,6 +1,6 @@
-"""The page of `nrdb --web` as one works with it: moves by buttons and keys, words completed, what nrdb says to look at, lines that outlive a
-reload, a page that says what it waits for, and a long run whose parts come as one zooms. Left out where there is no chromium (Debian:
-apt-get install chromium)."""
+"""Working with the page of `nrdb --web`: moves by buttons and keys, completion, nrdb's suggestions, lines that
+survive a reload, the reason why a page waits, and a long run whose parts load on zooming. Skipped without
+chromium (Debian: apt-get install chromium)."""
 
 import subprocess
 import tempfile

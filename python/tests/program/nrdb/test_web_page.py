@@ -1,5 +1,6 @@
-"""The page of `nrdb --web` in chromium: two browsers and a terminal in one session, what is said while netrev is gone, another page
-that tries its luck, and texts of others, which stay texts. Left out where there is no chromium (Debian: apt-get install chromium)."""
+"""The page of `nrdb --web` in chromium: two browsers and a terminal in one session, messages while netrev is gone,
+an attack from another page, and text from outside, which stays text. Skipped without chromium (Debian: apt-get
+install chromium)."""
 
 import shutil
 import signal
@@ -78,7 +79,7 @@ class Together(InChromium):
         page.until(f"{busy} === ''")
 
     def expect_gone_and_back(self, server: Server, one: Page, other: Page) -> None:
-        """netrev is killed: the pages say so, and that a line isn't answered. When it is there again they go on."""
+        """netrev is killed: the pages report that, and that a line isn't answered. When it is back they continue."""
         server.process.kill()
         server.process.wait()
         for page in (one, other):

@@ -1,0 +1,312 @@
+"""The rules of causes at their boundaries: a row for each side of one, over a few lines of source and made-up calls and waits."""
+
+from types import SimpleNamespace as Made
+from typing import Any, cast
+
+import pytest
+
+from nrdb.causes import (
+    conditions, cut_datagrams, dropped_notices, group_counts, groups, http_requests, leftovers, locks, needs_elsewhere,
+    package_source, source_functions, unfinished_replies, unused_sockets, wait_graph,
+)  # fmt: skip
+from nrdb.causes.index import Index
+from nrdb.causes.need import Certainty
+from nrdb.one_call import OPEN
+from nrdb.where import OF_GO, OF_THE_PROGRAM, Call
+
+Patch = pytest.MonkeyPatch
+
+
+def line_of(number: int, function: str = "main.serve", file: str = "a.go", of: str = OF_THE_PROGRAM) -> Call:
+    return Call(function, file, number, of)
+
+
+def stacks(*calls: Call) -> Any:
+    """A recording each of whose steps has these calls of the program."""
+    return Made(lines=Made(of=lambda step: Made(own=lambda: list(calls), calls=list(calls))))
+
+
+@pytest.mark.parametrize(
+    "lines, found",
+    [
+        (["for {", "\tif a.full { // for b.empty", "\t\tbreak", "\t}", "\tc.Wait() // if d", "}"], ["if a.full {"]),
+        (["for {", "\tfor a.full() {", "\t}", "}"], ["for a.full() {"]),
+        (["for !a.full {", "\tif a.full {", "\t}", "}"], []),
+    ],
+)
+def test_conditions_in_the_body_of_a_loop_that_has_none(lines: list[str], found: list[str]) -> None:
+    assert conditions.conditions_of(tuple(lines), 1) == found
+
+
+@pytest.mark.parametrize(
+    "waits, have",
+    [("1a 2a", True), ("1a 1a", False), ("1a", False), ("1a 2b", False), ("1b 2b 3b 1a 2a", True), ("1b 2b", False)],
+)
+def test_several_goroutines_have_waited_for_a_condition(waits: str, have: bool, monkeypatch: Patch) -> None:
+    of: dict[str, list[Any]] = {}
+    for wait in waits.split():
+        of.setdefault(wait[0], []).append(Made(name=wait[0], objects=wait[1]))
+    monkeypatch.setattr(conditions, "waits_of", lambda recording: Made(of=of))
+    assert conditions.have_waited(cast(Any, None), cast(Any, Made(objects="a"))) is have
+
+
+@pytest.mark.parametrize(
+    "line, made", [(2, ""), (3, " (a.go:3)"), (6, " (a.go:3)"), (7, " (a.go:7)"), (9, " (a.go:7)")]
+)
+def test_the_last_line_before_a_read_that_makes_its_buffer(line: int, made: str, monkeypatch: Patch) -> None:
+    monkeypatch.setattr(cut_datagrams, "text_at", lambda recording, call: "\tn, _, err := c.ReadFrom(buf)")
+    monkeypatch.setattr(cut_datagrams, "found_in", lambda recording, call, makes: [(3, None), (7, None), (10, None)])
+    index = cast(Index, Made(recording=stacks(line_of(line))))
+    assert cut_datagrams.made_at(index, cast(Any, Made(first=5))) == made
+
+
+@pytest.mark.parametrize(
+    "text, places, drops",
+    [
+        ("\tcase x.left <- v:", (None, None), True), ("\tcase x.right <- v:", (None, None), False),
+        ("\tcase x.left <- v:", ("p.Hub", "p.Hub"), True), ("\tcase x.left <- v:", ("p.Hub", "p.Pool"), False),
+        ("\tcase x.left <- v:", ("p.Hub", None), True), ("\tcase <-x.left:", (None, None), False),
+    ],
+)  # fmt: skip
+def test_a_case_that_drops_what_is_put_into_a_field(text: str, places: Any, drops: bool, monkeypatch: Patch) -> None:
+    by_name = dict(zip(("h.left", "x.left"), places))
+    monkeypatch.setattr(dropped_notices, "place_of_variable", lambda recording, call, name: by_name.get(name))
+    for default, is_dropping in (("\tdefault:", drops), ("\tcase <-done:", False)):
+        lines = ("\tselect {", text, default, "\t}")
+        assert dropped_notices.is_dropping(cast(Any, None), line_of(9), "h.left", line_of(2), lines) is is_dropping
+
+
+@pytest.mark.parametrize(
+    "lines, number, end",
+    [
+        (["f(func() {", "\tg()", "})"], 1, 3), (["f(func() {", "\tg()", "})", "h()"], 1, 3), (["f(func() {", "\tg()", ""], 1, 0),
+        (["f(func() {", "\tg()"], 1, 0), (["f()", "\tgo func() { // run", "\t\tg()", "\t}()"], 2, 4), (["f() // func() {", "})"], 1, 0),
+        (["f(func() { g() })", "h()"], 1, 0),
+    ],
+)  # fmt: skip
+def test_the_last_line_of_a_function_literal(lines: list[str], number: int, end: int) -> None:
+    assert locks.end_of_literal(tuple(lines), number) == end
+
+
+@pytest.mark.parametrize(
+    "text, is_whole",
+    [
+        ("f(func() { g() })", True), ("f(func() { g() }) // {", True), ("f(func() {", False), ("f(func() { // }", False),
+        ("f(func())", False), ("g() // func() {}", False), ("g() {}", False),
+    ],
+)  # fmt: skip
+def test_a_function_literal_of_one_line(text: str, is_whole: bool) -> None:
+    assert source_functions.is_literal_of_one_line(text) is is_whole
+
+
+@pytest.mark.parametrize(
+    "made, next_one",
+    [("f9 f10 f12", 10), ("f12 f11", 11), ("f9 g11", None), ("f9 g10 f13", 13), ("", None)],
+)
+def test_the_next_go_statement_of_the_function_that_added(made: str, next_one: int | None) -> None:
+    kinds = [Made(made=line_of(int(one[1:]), one[0])) for one in made.split()]
+    recording = Made(lines=Made(stacks={4: Made(own=lambda: [line_of(10, "f")])}))
+    found = group_counts.next_behind(cast(Any, recording), cast(Any, Made(added=[Made(stack=4)])), cast(Any, kinds))
+    assert [kind.made.line for kind in found] == ([next_one] if next_one else [])
+
+
+@pytest.mark.parametrize("until, moved", [(0, 0), (1, 7), (8, 7), (9, 9), (99, 9)])
+def test_the_bytes_that_calls_of_a_name_moved_up_to_a_step(until: int, moved: int) -> None:
+    rows = [("Read", 1, 7), ("Read", 9, 2), ("Read", 5, None), ("Read", 0, 40), ("Write", 3, 80)]
+    calls = [Made(name=name, last=last, moved=count) for name, last, count in rows]
+    index = cast(Any, Made(by_socket={3: calls}))
+    assert Index.moved(index, 3, "Read", until) == moved and Index.moved(index, 4, "Read", until) == 0
+
+
+@pytest.mark.parametrize(
+    "text, is_last, when",
+    [("\tdefer wg.Done()", False, " as it ends"), ("\twg.Done()", False, ""), ("\twg.Done()", True, " as it ends")],
+)
+def test_when_a_goroutine_calls_done(text: str, is_last: bool, when: str, monkeypatch: Patch) -> None:
+    found = groups.DONE.search(text)
+    other = groups.DONE.search("\tdefer wg.Done()")
+    monkeypatch.setattr(groups, "found_in", lambda recording, call, pattern: [(3, other), (5, found)])
+    monkeypatch.setattr(groups, "is_last_line", lambda recording, call, number: is_last)
+    member = groups.Member(cast(Any, None), line_of(1), 5)
+    assert groups.Groups._when(cast(Any, Made(_recording=None)), member) == when
+
+
+@pytest.mark.parametrize(
+    "goids, failed, odd, named",
+    [
+        ([5], [], [], ""), ([5], [5], [], "5"), ([5, 6], [], [], ""), ([5, 6], [6], [], "6"), ([5, 6], [5, 6], [], ""), ([5, 6, 7], [5, 7], [], "5 and 7"),
+        ([5, 6, 7], [5], [[6], [7]], "6"),
+    ],
+)  # fmt: skip
+def test_goroutines_that_ended_without_done(
+    goids: list[int], failed: list[int], odd: list[list[int]], named: str, monkeypatch: Patch
+) -> None:
+    monkeypatch.setattr(groups, "odd_ones", lambda recording, goids: odd)
+    monkeypatch.setattr(groups, "lines_words", lambda recording, some, others: "")
+    monkeypatch.setattr(groups, "name_of_goid", lambda lines, goid: str(goid))
+    monkeypatch.setattr(groups, "of_names", lambda names: " and ".join(names))
+    own = Made(_recording=Made(lines=None), _failed_dial=lambda goid: "its Dial failed" if goid in failed else "")
+    says = groups.Groups._ended_words(cast(Any, own), line_of(4), goids)
+    assert ("All " in says[0]) is (len(goids) > 1)
+    dial = "; its Dial failed" if named and int(named[0]) in failed else ""
+    assert says[1:] == ([f"Perhaps {named} ended without Done{dial}."] if named else [])
+
+
+@pytest.mark.parametrize("closes, closed", [((), None), ((9,), None), ((10,), 10), ((12, 15), 12)])
+def test_the_close_after_a_request_was_cancelled(
+    closes: tuple[int, ...], closed: int | None, monkeypatch: Patch
+) -> None:
+    monkeypatch.setattr(http_requests, "timer_of", lambda recording, request, close: None)
+    monkeypatch.setattr(http_requests, "name_of_goid", lambda lines, goid: goid)
+    calls = [Made(name="Close", socket=socket, first=step) for step in closes for socket in (8, 2)]
+    calls.append(Made(name="Read", socket=2, first=11))
+    index = Made(recording=Made(lines=Made(stacks={0: None})), by_goroutine={1: calls})
+    name = Made(is_goid=False, number=1)
+    every = [Made(goid=7, time=time, name=name, socket=socket) for time, socket in ((3, 4), (5, 2), (20, 6))]
+    close = Made(begin=20, last=9, goid=1, stack=0)
+    found = list(http_requests.cancelled(cast(Any, index), cast(Any, every), cast(Any, Made(goid=7)), cast(Any, close)))
+    assert [(one.closed.first, one.request) for one in found] == ([(closed, every[1])] if closed else [])
+
+
+def test_the_function_of_the_program_that_makes_a_call() -> None:
+    call = cast(Any, Made(first=3))
+    for calls, place in (
+        ((line_of(4, "f"), line_of(9, "g")), ("f", 4)),
+        ((), ("", 0)),
+        ((line_of(4, of=OF_GO),), ("", 0)),
+    ):
+        assert tuple(leftovers.place_of_function(stacks(*calls), call)) == place
+
+
+@pytest.mark.parametrize(
+    "change, reader",
+    [
+        ({}, "reader"), ({"is_goid": True}, None), ({"is_new": False}, None), ({"is_for_values": False}, None), ({"is_dialed": False}, None),
+        ({"wrote": "Read"}, None), ({"wrote_last": 0}, None), ({"reads": "Write"}, None), ({"socket": 4}, None), ({"is_asking": True}, None),
+    ],
+)  # fmt: skip
+def test_a_reader_of_answers_for_a_goroutine_that_wrote(
+    change: dict[str, Any], reader: str | None, monkeypatch: Patch
+) -> None:
+    usual: dict[str, Any] = {
+        "is_goid": False, "is_new": True, "is_for_values": True, "is_dialed": True, "wrote": "Write", "wrote_last": 6, "reads": "Read",
+        "socket": 3, "is_asking": False,
+    }  # fmt: skip
+    case = Made(**(usual | change))
+    monkeypatch.setattr(needs_elsewhere, "is_for_values", lambda wait: case.is_for_values)
+    monkeypatch.setattr(needs_elsewhere, "is_dialed", lambda index, socket: case.is_dialed and socket == 3)
+    monkeypatch.setattr(needs_elsewhere, "back", lambda calls, step: iter(calls))
+    wrote = Made(name=case.wrote, last=case.wrote_last, socket=3)
+    reading = Made(name="reader", call=Made(name=case.reads, socket=case.socket, is_asking=case.is_asking))
+    own = Made(
+        _channels=Made(is_new=lambda wait: case.is_new), _index=Made(by_goroutine={1: [wrote]}),
+        _waiters={0: Made(name="other", call=None), 1: reading},
+    )  # fmt: skip
+    wait = Made(name=Made(is_goid=case.is_goid, number=1), first=9)
+    assert needs_elsewhere.NeedsElsewhere._reader_for(cast(Any, own), cast(Any, wait)) == reader
+
+
+@pytest.mark.parametrize("line, inside", [(3, ""), (4, ""), (5, "first"), (6, "first last"), (7, "first last")])
+def test_the_types_of_a_function_s_variables(line: int, inside: str) -> None:
+    lines = (
+        "type server struct {", "}", "func (s *server) run(c net.Conn, n, m int) {", "\tfirst := &reader{} // {", "\tlast := pool{}",
+        "\tuse(first) // other := pool{}", "}",
+    )  # fmt: skip
+    made = {"first": "reader", "last": "pool"}
+    types = {"s": "server", "c": "net.Conn", "n": "int", "m": "int"} | {name: made[name] for name in inside.split()}
+    assert package_source.variables_of(cast(Any, None), lines, line_of(line)) == types
+    assert package_source.variables_of(cast(Any, None), lines, line_of(2)) == {}
+
+
+def test_connections_that_a_goroutine_has_dialed_since_and_never_used(monkeypatch: Patch) -> None:
+    index = cast(Any, Made(recording=Made(lines=Made(of=lambda step: step)), by_goroutine={1: [
+        Made(name=name, first=step, socket=socket)
+        for name, step, socket in ((OPEN, 5, 2), (OPEN, 6, 3), (OPEN, 7, 4), (OPEN, 8, 5), ("Read", 9, 3), (OPEN, 10, 6), (OPEN, 11, 7))
+    ]}))  # fmt: skip
+    monkeypatch.setattr(unused_sockets, "is_dialed", lambda one, socket: one is index and socket != 4)
+    monkeypatch.setattr(unused_sockets, "is_used", lambda one, socket: one is index and socket == 5)
+    monkeypatch.setattr(
+        unused_sockets, "place_in", lambda step: "" if step == 11 else " at a.go:1" if step < 10 else " at a.go:2"
+    )
+    said = unused_sockets.unused_since(index, cast(Any, Made(goroutine=1)), 5)
+    assert said == [
+        "Goroutine 1 has dialed since at a.go:1, and never used socket 3.",
+        "Goroutine 1 has dialed since at a.go:2, and never used socket 6.",
+    ]
+
+
+@pytest.mark.parametrize(
+    "reads, has",
+    [
+        ([(1, 5, 9)], True), ([(2, 5, 9)], False), ([(1, 0, 9)], False), ([(1, 5, 9), (2, 6, 9)], False), ([(1, 5, 9), (2, 6, 0)], True),
+        ([(1, 5, 9), (2, 0, 9)], True), ([(1, 4, 9)], False), ([(1, 8, 9)], False), ([], False),
+    ],
+)  # fmt: skip
+def test_a_part_that_came_of_what_was_written_last(reads: list[tuple[int, int, int]], has: bool) -> None:
+    calls = [Made(name="Read", goroutine=g, first=3, last=last, moved=moved) for g, last, moved in reads]
+    call, wrote = Made(socket=3, goroutine=1, first=8), Made(first=4)
+    index = Made(
+        by_socket={3: [Made(name="Write", goroutine=1, last=7, moved=2), *calls]}, recording=stacks(line_of(4))
+    )
+    assert unfinished_replies.has_part(cast(Any, index), cast(Any, call), cast(Any, wrote)) is has
+
+
+@pytest.mark.parametrize(
+    "change, is_idle",
+    [
+        ({}, True), ({"call": None}, False), ({"reads": "Write"}, False), ({"is_kept": False}, False), ({"last": "Read"}, False),
+        ({"by": 2}, False), ({"first": "Write"}, False), ({"certainty": Certainty.PERHAPS}, False), ({"none": True}, False),
+    ],
+)  # fmt: skip
+def test_a_goroutine_that_has_answered_and_reads_where_nothing_may_come(
+    change: dict[str, Any], is_idle: bool, monkeypatch: Patch
+) -> None:
+    usual = {
+        "reads": "Read",
+        "is_kept": True,
+        "first": "Read",
+        "last": "Write",
+        "by": 1,
+        "certainty": Certainty.KNOWN,
+        "none": False,
+    }
+    case = Made(**(usual | change))
+    calls = [
+        Made(name=case.first, goroutine=1, last=3, moved=4), Made(name="Read", goroutine=2, last=4, moved=4),
+        Made(name=case.last, goroutine=case.by, last=5, moved=4), Made(name="Read", goroutine=1, last=0, moved=4),
+        Made(name="Read", goroutine=1, last=6, moved=0), Made(name="Control", goroutine=1, last=7, moved=1),
+    ]  # fmt: skip
+    monkeypatch.setattr(wait_graph, "index_of", lambda recording: Made(by_socket={3: [] if case.none else calls}))
+    call = None if "call" in change else Made(name=case.reads, socket=3, goroutine=1)
+    own = Made(
+        waiters={"a": Made(call=call)},
+        recording=None,
+        needs={"a": Made(certainty=case.certainty), "b": Made(is_kept=case.is_kept)},
+    )
+    assert bool(wait_graph.WaitGraph._is_idle(cast(Any, own), cast(Any, "a"), cast(Any, "b"))) is is_idle
+
+
+def hang(**change: Any) -> Any:
+    usual = {
+        "is_deadlock": True, "certainty": Certainty.KNOWN, "until": 0, "roots": [Made(call=Made(name="Read"))], "has_reason": True,
+        "waiting": 2, "needs": [Made(is_odd=False)], "is_of_go": False, "is_quiet": False, "root": Made(since=7),
+    }  # fmt: skip
+    return Made(**(usual | change))
+
+
+ACCEPT, NO_CALL = [Made(call=Made(name="Accept"))], [Made(call=None)]
+READ_AND_MORE = [Made(call=Made(name="Read")), Made(call=Made(name="Accept"))]
+
+
+@pytest.mark.parametrize(
+    "change, rank",
+    [
+        ({}, 0), ({"has_reason": False}, 2), ({"has_reason": False, "roots": ACCEPT}, 0), ({"has_reason": False, "roots": NO_CALL}, 0),
+        ({"has_reason": False, "roots": READ_AND_MORE}, 0), ({"certainty": Certainty.PERHAPS}, 1), ({"until": 5}, 1),
+        ({"is_deadlock": False}, 1), ({"is_deadlock": False, "waiting": 0}, 3), ({"is_deadlock": False, "waiting": 1}, 1),
+        ({"is_deadlock": False, "waiting": 0, "needs": [Made(is_odd=True)]}, 1), ({"is_deadlock": False, "has_reason": False}, 3),
+        ({"certainty": Certainty.PERHAPS, "has_reason": False}, 3),
+    ],
+)  # fmt: skip
+def test_the_order_of_hangs(change: dict[str, Any], rank: int) -> None:
+    assert wait_graph.order(hang(**change)) == (False, False, rank, -change.get("waiting", 2), 7)
