@@ -328,7 +328,7 @@ class Sentences(Tool):
             (("run", "main.go"), {"PATH": f"{python}:/nowhere:{self.tools()}"}, "apt-get install golang-go"),
             (("run", "-overlay=x.json", "main.go"), {}, "remove yours"),
             (("run", "main.go"), {"GOFLAGS": "-overlay=x.json"}, "remove yours"),
-            (("run", "main.go"), {"GOARCH": "arm64"}, "records linux/amd64 alone"),
+            (("run", "main.go"), {"GOARCH": "arm64"}, "records only linux/amd64"),
             (("run", "main.go"), nowhere, "XDG_CACHE_HOME names another folder"),
             (("--points", "5", "run", "main.go"), {}, "--points is from 16384 to 16777216"),
             (("--pid", "1", "convert"), {}, "process 1"),
