@@ -44,13 +44,14 @@ WAYS: dict[str, dict[str, str] | None] = {
     "with a log and lines": {"NETREV_LINES": "1", "NETREV_ORDERS": "0"},
     "with all three": {"NETREV_LINES": "1", "NETREV_ORDERS": "1"},
 }
-# The ways of a server: whether it has the overlay, whether it has a log, and how it traces itself.
-SERVED = {
-    "without the overlay": (False, False, ""),
-    "with it, no log": (True, False, ""),
-    "recording": (True, True, ""),
-    "runtime/trace": (False, False, "trace"),
-    "FlightRecorder": (False, False, "flight"),
+# The ways of a server: whether it has the overlay, what is set for its log (None: there is none), and how it traces itself.
+SERVED: dict[str, tuple[bool, dict[str, str] | None, str]] = {
+    "without the overlay": (False, None, ""),
+    "with it, no log": (True, None, ""),
+    "recording": (True, {}, ""),
+    "recording, no orders": (True, {"NETREV_ORDERS": "0"}, ""),
+    "runtime/trace": (False, None, "trace"),
+    "FlightRecorder": (False, None, "flight"),
 }
 FLIGHT_RECORDER = (1, 25)  # the first release that has it
 CONNECTIONS = (20, 200)
@@ -176,9 +177,9 @@ class Served:
                 self.measure_one(logs, connections, way)
 
     def measure_one(self, logs: pathlib.Path, connections: int, way: str) -> None:
-        has_overlay, has_log, trace = SERVED[way]
+        has_overlay, of_log, trace = SERVED[way]
         settings = {name: value for name, value in os.environ.items() if not name.startswith("NETREV_")}
-        settings |= {"NETREV_LOG": str(logs / "log")} if has_log else {}
+        settings |= {"NETREV_LOG": str(logs / "log")} | of_log if of_log is not None else {}
         words: list[str | pathlib.Path] = [self.programs[has_overlay], str(connections), str(self.requests)]
         words += [trace] if trace else []
         run = subprocess.run(words, env=settings, capture_output=True, text=True, check=False)
@@ -189,7 +190,7 @@ class Served:
         self.took[connections, way].append(took)
         self.kept[connections, way].append(traced)
         for log in logs.iterdir():
-            if has_log and ".program" not in log.name:
+            if of_log is not None and ".program" not in log.name:
                 with log.open("rb") as file:
                     points = Header(file.read(HEADER_BYTES)).passed / (self.requests + self.requests // WARMING)
                 self.points[connections, way].append(points)

@@ -16,10 +16,11 @@ from .folders import folder_of
 SERVER = """#!/bin/sh
 [ -z "${NETREV_LOG-}" ] || cp "$0.log" "$NETREV_LOG.7"
 [ -z "${NETREV_LOG-}" ] || : > "$NETREV_LOG.program.1.2"
-case "$3${NETREV_LOG:+log}" in
+case "$3${NETREV_LOG:+log}${NETREV_ORDERS-}" in
 trace) echo 150000 257 ;;
 flight) exit %d ;;
 log) echo 160000 0 ;;
+log0) echo 140000 0 ;;
 *) echo 125000 0 ;;
 esac
 """
@@ -49,9 +50,10 @@ class Requests(unittest.TestCase):
             "| 1.27.3 | 20 | without the overlay | 125.0 (125.0 to 125.0) | +0.0 % |  |  |",
             "| 1.27.3 | 20 | with it, no log | 125.0 (125.0 to 125.0) | +0.0 % |  |  |",
             "| 1.27.3 | 20 | recording | 160.0 (160.0 to 160.0) | +28.0 % | 2,560 | 40.0 |",
+            "| 1.27.3 | 20 | recording, no orders | 140.0 (140.0 to 140.0) | +12.0 % | 2,560 | 40.0 |",
             "| 1.27.3 | 20 | runtime/trace | 150.0 (150.0 to 150.0) | +20.0 % | 257 |  |",
         ])  # fmt: skip
-        self.assertEqual(len(rows), 4 * len(CONNECTIONS))
+        self.assertEqual(len(rows), 5 * len(CONNECTIONS))
 
     def test_a_way_is_compared_with_the_first_one_of_the_same_round(self) -> None:
         served = Served("1.27.3", (pathlib.Path(), pathlib.Path()), 1_000, list(SERVED))
