@@ -1,9 +1,9 @@
 #!/usr/bin/env python3
 """Finds the numbers that no proof needs:  scripts/bounds.py [--list] [CRATE ..]
 
-Each constant and each bound of a loop is made one less in a copy of the repository, where `rt must-fail` tries it as an edit. A number
-whose change is refused is fixed by a contract. One whose crate is still proved rests on the source alone: a smaller one is slower, or gives
-up earlier, and no theorem says so.
+Each constant and each bound of a loop is made one less in a copy of the repository, where `rt ci` tries it as an edit that must fail. A
+number whose change is refused is fixed by a contract. One whose crate is still proved rests on the source alone: with a smaller one netrev is
+slower, or gives up earlier, and no theorem says so.
 
 Without names it tries the crates of netrev. With --list it prints what it would change. A crate takes minutes. The status is 0 if each
 change was tried, else 1.
@@ -77,7 +77,7 @@ def verdicts(numbers: list[Number]) -> dict[tuple[str, str], str]:
             path = copy / "crates" / number.crate / "must-fail" / f"{number.name}.edit"
             path.parent.mkdir(exist_ok=True)
             path.write_text(number.edit, "utf-8")
-        command = ["rt", "must-fail", *dict.fromkeys(number.crate for number in numbers)]
+        command = ["rt", "ci", *dict.fromkeys(number.crate for number in numbers)]
         output = subprocess.run(command, cwd=copy, capture_output=True, text=True, check=False)
     return {(found[1], found[2]): found[3] for found in VERDICT.finditer(output.stdout + output.stderr)}
 
