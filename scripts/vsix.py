@@ -91,7 +91,8 @@ def faults(file: Path) -> list[str]:
 
 
 def faults_of_parts(data: dict[str, bytes]) -> Iterator[str]:
-    """The faults of the names of its parts: each has a type, and is where extensions are unpacked."""
+    """The faults of the parts' names: each ending needs a type, and each part must be in the folder that is
+    unpacked."""
     known = {one.get("Extension") for one in ElementTree.fromstring(data[TYPES]).iter(f"{OF_TYPES}Default")}
     for name in data:
         if name != TYPES and Path(name).suffix not in known:

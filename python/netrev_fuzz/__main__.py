@@ -29,11 +29,11 @@ OF_NRDB = "-nrdb"
 def arguments(words: Optional[Sequence[str]]) -> argparse.Namespace:
     parser = argparse.ArgumentParser(prog="fuzz", description="random cases for netrev, held against a model")
     parser.add_argument("--minutes", type=float, default=5)
-    parser.add_argument("--cases", type=int, help="at most so many")
+    parser.add_argument("--cases", type=int, help="the greatest number of cases")
     parser.add_argument("--seed", default="")
-    parser.add_argument("--of", choices=("netrev", "nrdb"), help="plays cases for this alone")
-    parser.add_argument("--case", metavar="SEED", help="plays this one")
-    parser.add_argument("--again", type=Path, metavar="FOLDER", help="plays the case that was kept there")
+    parser.add_argument("--of", choices=("netrev", "nrdb"), help="runs only cases for this program")
+    parser.add_argument("--case", metavar="SEED", help="runs this case")
+    parser.add_argument("--again", type=Path, metavar="FOLDER", help="runs the case in this folder again")
     return parser.parse_args(words)
 
 

@@ -93,7 +93,7 @@ def fault_of(seed: str, program: str) -> str:
 
 
 def seeds(seed: str, sorts: Sequence[str], cases: Optional[int], until: float) -> Iterator[str]:
-    """The seeds to play: this many of each sort, or all until the time is up, each sort for the same time."""
+    """The seeds to run: this many of each sort, or without end until the time is up, each sort for the same time."""
     spent, played = dict.fromkeys(sorts, 0.0), Counter[str]()
     while time.monotonic() < until:
         left = [sort for sort in sorts if cases is None or played[sort] < cases]
@@ -107,7 +107,7 @@ def seeds(seed: str, sorts: Sequence[str], cases: Optional[int], until: float) -
 
 
 def play(program: str, all_seeds: Iterator[str]) -> tuple[Counter[str], int]:
-    """Plays cases and prints each fault; returns the numbers of cases by sort, and the number of faults."""
+    """Runs cases and prints each fault; returns the numbers of cases by sort, and the number of faults."""
     played, found = Counter[str](), 0
     for seed in all_seeds:
         played[seed.rsplit("-", 2)[1]] += 1
@@ -122,10 +122,10 @@ def play(program: str, all_seeds: Iterator[str]) -> tuple[Counter[str], int]:
 def main(words: Optional[Sequence[str]] = None) -> int:
     parser = argparse.ArgumentParser(prog="fuzz around", description="random cases for what is round netrev")
     parser.add_argument("--minutes", type=float, default=5)
-    parser.add_argument("--cases", type=int, help="at most so many of each sort")
+    parser.add_argument("--cases", type=int, help="the greatest number of cases of each sort")
     parser.add_argument("--seed", default="")
-    parser.add_argument("--of", choices=tuple(SORTS), action="append", help="plays cases of this sort alone")
-    parser.add_argument("--case", metavar="SEED", help="plays this one")
+    parser.add_argument("--of", choices=tuple(SORTS), action="append", help="runs only cases of this sort")
+    parser.add_argument("--case", metavar="SEED", help="runs this case")
     asked = parser.parse_args(words)
     program = os.environ.get("NETREV") or str(ROOT / "crates/netrev/out/netrev")
     if not Path(program).is_file():

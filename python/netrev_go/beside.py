@@ -44,8 +44,9 @@ class Beside:
     ends: list[tuple[int, int, int]] = field(default_factory=list)  # sockets with the numbers of both ends' names
     # for datagram sockets their addresses, and those that they are connected to
     addresses: list[tuple[int, str, str]] = field(default_factory=list)
-    sent: list[tuple[int, str]] = field(default_factory=list)  # the steps after which datagrams went to addresses
-    # the steps after which bytes were read or written that count fewer, with their number
+    # the steps after which datagrams were sent, with the addresses
+    sent: list[tuple[int, str]] = field(default_factory=list)
+    # the steps whose reads and writes moved more bytes than the recording counts, with the true number
     sizes: list[tuple[int, int]] = field(default_factory=list)
     # for each path the sockets that were accepted and dialed there, with the goroutines that did so
     _unix: dict[int, tuple[list[tuple[int, int]], list[tuple[int, int]]]] = field(default_factory=dict)

@@ -55,7 +55,7 @@ SERVED: dict[str, tuple[bool, dict[str, str] | None, str]] = {
 }
 FLIGHT_RECORDER = (1, 25)  # the first release that has it
 CONNECTIONS = (20, 200)
-REQUESTS, WARMING = 10_000, 10  # and of so many requests one more before, as samples/served has it
+REQUESTS, WARMING = 10_000, 10  # one warm-up request for every ten, as in samples/served
 ROUND_POINTS, DEADLINE_POINTS = 8, 1
 # samples/cost measures these after the calls of the poller, each as a round:
 ROUNDS = (

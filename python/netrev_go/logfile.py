@@ -24,7 +24,7 @@ MAGIC = 0x31676F6C7665726E
 HEADER_BYTES = 4096
 STACK_WORDS = 32
 HOLDER_WORDS = 16
-HOLDER_CALL = 4  # the word of the first call
+HOLDER_CALL = 4  # the first call in a row of the table of locked mutexes
 POINT_WORDS = 8
 WORD = 8
 PAGE = 4_096
@@ -64,7 +64,7 @@ class Header:
         self.has_orders = words[11] == 1
         self.holders = words[12]
         self.knows_holders = words[14] == 1 and not words[13]
-        self.rows, self.queue = words[15:17]  # (0 in logs of before)
+        self.rows, self.queue = words[15:17]  # (0 in older logs)
         self.is_copy = words[17] == 1  # made while the program wrote
         self.is_sparse = words[18] == 1  # points without a time have that of the point before
         are_possible = 0 < self.points <= MOST_POINTS and self.stacks <= MOST_STACKS and self.holders <= MOST_HOLDERS
@@ -112,9 +112,8 @@ def read_holders(file: BinaryIO, count: int, stacks: dict[int, Stack]) -> list[H
             stacks[number] = Stack(0, 0, struct.unpack_from(f"<{calls}Q", text, HOLDER_CALL * WORD))
         holder = Holder(address, whose >> 1, whose & 1 == 1, passed, number)
         key = address, row if holder.is_reader else -1
-        if (
-            key not in found or found[key].passed < passed
-        ):  # (the memory of a mutex that was left locked may be another's)
+        # (the memory of a mutex that was left locked may have been reused)
+        if key not in found or found[key].passed < passed:
             found[key] = holder
     return list(found.values())
 
@@ -176,7 +175,7 @@ def points_of(text: bytes, first: int, latest: int = NEVER) -> list[Point]:
 
 
 def timed(times: array[int], latest: int) -> Iterable[int]:
-    """The times, and for each 0 the greatest before it; if none is known before, as they are."""
+    """The times, with each 0 replaced by the greatest earlier time, if there is one."""
     if latest == NEVER:
         return times
     greatest = accumulate(times, max, initial=latest)
@@ -184,7 +183,8 @@ def timed(times: array[int], latest: int) -> Iterable[int]:
 
 
 def are_whole(first: int, heads: array[int], columns: list[array[int]], lasts: array[int]) -> bool:
-    """Whether all of these points are: each column is one great number, as that is much faster than point by point."""
+    """Whether all these points are whole. Each column is tested as one great number, which is much faster than
+    point by point."""
     kinds, low, ones, counted = masks(len(heads))
     total = counted + first * ones
     if as_one(heads) & ~kinds != total + ones << 8:

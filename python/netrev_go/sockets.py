@@ -67,7 +67,8 @@ class Socket:
     note: Note | None = None  # the note of its state, if its opening isn't in the log
     leads: list[Lead] = field(default_factory=list)  # the steps that lead to that state
     is_filled: bool = False  # a noted socket whose output a write found full
-    whole: dict[int, int] = field(default_factory=dict)  # how many bytes points moved that count fewer
+    # by point, the bytes that it moved, if the recording counts fewer
+    whole: dict[int, int] = field(default_factory=dict)
 
     def capacity(self) -> int:
         """The capacity of its output: so large that it was full when Go first found it full, else that of the
@@ -178,7 +179,7 @@ class Owners:
 
 
 def of_few(point: Point) -> Point:
-    """A read or a write, counted as one of few bytes."""
+    """The point of a read or a write, with at most FEW_BYTES bytes."""
     number, kind, goroutine, at, asked, moved, failed, time, stack = point
     if kind == WRITE:
         asked = min(asked, FEW_BYTES)
@@ -186,7 +187,8 @@ def of_few(point: Point) -> Point:
 
 
 def points_of_call(point: Point, socket: Socket) -> list[tuple[Point, Socket]]:
-    """The three points that a call is which sets a deadline: it takes a reference to the socket first, and drops it in the end."""
+    """The three points of a call that sets a deadline: it takes a reference to the socket, sets the deadline, and
+    gives the reference back."""
     number, _, g, at, mode, deadline, state, time, stack = point
     held, word = state + REFERENCE, socket.word
     return [

@@ -45,11 +45,11 @@ class Deadlines:
 
     def __init__(self) -> None:
         self.descriptors: dict[int, Descriptor] = {}
-        self.heap: list[tuple[int, int, Timer]] = []  # and timers that were stopped since
+        self.heap: list[tuple[int, int, Timer]] = []  # including stopped timers
         self._room = FEWEST  # the number above which it is swept
         self.firings: list[Timer] = []
-        self._keys: list[tuple[int, int, int]] = []  # of each firing its descriptor, side and sequence
-        self._counts: dict[tuple[int, int, int], int] = defaultdict(int)  # of each of these, how many are in the list
+        self._keys: list[tuple[int, int, int]] = []  # the descriptor, side and sequence of each firing
+        self._counts: dict[tuple[int, int, int], int] = defaultdict(int)  # how often each of these is in the list
         self.armings = 0
         self.most_firings = 0
 

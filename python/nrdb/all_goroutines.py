@@ -9,9 +9,9 @@ if TYPE_CHECKING:
 OF_GOROUTINES = frozenset(
     ("goroutines", "parks", "objects", "uses", "timers", "left_out", "channels", "failed_dials", "held")
 )  # lines of the file
-STILL = -1  # of a wait, instead of its end
+STILL = -1  # the end of a wait that lasts to the end of the recording
 # What goroutines wait for outside of the poller.
-A_RECEIVER = "a receiver at a channel"  # instead of room, if it has none of its own
+A_RECEIVER = "a receiver at a channel"  # for a channel without a buffer
 A_VALUE, ROOM, A_SELECT, A_CONDITION = "a value from a channel", "room in a channel", "a select", "a condition"
 A_SLEEP, A_MUTEX, A_READ_LOCK, A_WRITE_LOCK = "time.Sleep", "a mutex", "a read lock", "a write lock"
 A_WAIT_GROUP, A_SEMAPHORE, A_NIL_CHANNEL, NO_CASES = (
@@ -70,7 +70,7 @@ class Park(NamedTuple):
 
 
 class Object(NamedTuple):
-    """What goroutines wait at: a channel, with how many values it has room for (-1: not known), or what else `sort` says."""
+    """An object at which goroutines wait: its number, its sort, and for a channel its capacity (-1: unknown)."""
 
     object: int
     sort: str

@@ -256,7 +256,8 @@ def writes(book: Book, notes: Notes, g: int, s: int, digits: str) -> Look:
 
 
 def names_control(name: Callable[[str], str]) -> Maker:
-    """A step that tells what its `incref` began as a `Control`: `setdeadline`, by its mode, and `closewrite`."""
+    """A step that gives a call its name, which was `Control` after its `incref`: `setdeadline`, by its mode, and
+    `closewrite`."""
 
     def of(book: Book, notes: Notes, g: int, which: int, mode: str = "", *_: object) -> Look:
         calls = book.open[g]

@@ -24,7 +24,7 @@ class Reference:
 
 
 class Holding(NamedTuple):
-    """A reference on the way there, by the number of its step."""
+    """A reference during the count of taken and released ones; `number` is the step that took it."""
 
     number: int
     goroutine: int

@@ -20,7 +20,7 @@ class Outcome(Enum):
     BROKEN_PIPE = "broken pipe"
     SYSTEM_ERROR = "system error"  # an error that no step shows, from NAME.where
 
-    is_error: bool  # whether the program has an error for it: of the end of a file it has one that every reader expects
+    is_error: bool  # whether the program gets an error: at the end of a file it gets one that every reader expects
 
     def __init__(self, words: str) -> None:
         self.is_error = words not in ("done", "end of file")

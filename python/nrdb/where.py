@@ -39,7 +39,7 @@ class Stack(NamedTuple):
     made: Optional[Call]
 
     def own(self) -> Optional[tuple[Call, str]]:
-        """The innermost call of the program, else of a library, with the function that is called there."""
+        """The innermost call of the program, or else of a library, with the function that it calls."""
         for wanted in ((OF_THE_PROGRAM,), (OF_THE_PROGRAM, OF_A_LIBRARY)):
             inner = ""
             for call in self.calls:
@@ -130,7 +130,8 @@ class Lines(AllGoroutines):
         # for datagram sockets their addresses, and those that they are connected to
         self.addresses: dict[int, tuple[str, str]] = {}
         self.sent: dict[int, str] = {}  # the address that a datagram was sent to, by a step of the call
-        self.sizes: dict[int, int] = {}  # how many bytes a read or a write had that counts fewer, by its step
+        # by its step, the bytes that a read or a write moved, if the recording counts fewer
+        self.sizes: dict[int, int] = {}
         self.errors: dict[int, str] = {}  # the system's errors, by the step after which a goroutine's call had them
         self.waits: dict[int, list[Wait]] = {}  # waits outside of the poller, by goroutine
         # the times of the steps, in nanoseconds from the start of the log; empty if the recorder had none
@@ -185,7 +186,7 @@ class Lines(AllGoroutines):
             self._add_of_sockets(line)
         elif "times" in line:
             self.times.extend(accumulate(_later(line["times"]), initial=self.times[-1] if self.times else 0))
-            del self.times[-len(line["times"]) - 1]  # (the one from which it is counted)
+            del self.times[-len(line["times"]) - 1]  # (the time that the sums start from)
         elif "waits" in line:
             for values in line["waits"]:
                 wait = Wait(*map(typed, values, (int, int, int, str, int, int)))

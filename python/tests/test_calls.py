@@ -82,7 +82,7 @@ class Calls(unittest.TestCase):
         assert one is not None, made
         found = seen(one)
         if found.name == "Control" and (found.outcome is Outcome.CLOSED or not found.last):
-            found = found._replace(name=made.name)  # (that it is about a deadline is seen where it sets one)
+            found = found._replace(name=made.name)  # (a call shows that it is about a deadline only when it sets one)
         if not made.last:  # (it hasn't ended, or its last step is made, and its goroutine had no turn since)
             made = made._replace(last=found.last, outcome=found.outcome)
         self.assertEqual(found, made)
@@ -134,7 +134,7 @@ class Calls(unittest.TestCase):
             at = recording.length // 2
             table = errors_table(recording, at, None)
             failed = {made.first for made in traffic.told if made.last and made.outcome in ENDS.values()}
-            rows = [row for row in table.rows if row.values]  # (those without say why)
+            rows = [row for row in table.rows if row.values]  # (rows without values give reasons)
             told = {row.values["first"] for row in rows}
             self.assertLessEqual(failed, told)
             self.assertTrue(all(row.values["outcome"] for row in rows))

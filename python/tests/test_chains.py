@@ -210,7 +210,7 @@ def edited(recording: Recording, folder: Path, line: str, new: str) -> str:
             "header",
             "size, err := strconv.Atoi(string(header))",
             "size, err := sizeOf(header)",
-        ),  # of no length that is known
+        ),  # of unknown length
         ("header", "count, err := end.Read(body) // BUG header", "count, err := io.ReadFull(end, body)"),
         ("probed", 'text, err := ask(end, "ready")', 'text, err := keep(end, "ready")'),
         ("fanned", "return <-answers\n", "return take(answers)\n"),

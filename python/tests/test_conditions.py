@@ -79,7 +79,7 @@ def test_conditions_are_listed_and_saved(prompt: Prompt, tmp_path: Path) -> None
     assert f"| mark 1 stops if {STATUS} is parked*\n" in listed and f"| mark p1 stops if {STATUS} is idle\n" in listed
     prompt(f"save breakpoints {tmp_path / 'marks'}")
     other = Prompt()
-    other("watch clock")  # so numbers are others there
+    other("watch clock")  # so the numbers differ there
     other(f"source {tmp_path / 'marks'}")
     assert other.session.conditions == {"2": Condition(STATUS, "parked*"), "p1": Condition(STATUS, "idle")}
     prompt("delete")

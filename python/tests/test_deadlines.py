@@ -7,7 +7,7 @@ from netrev_machine.deadlines import READING, WRITING, Deadlines
 
 class Firings(unittest.TestCase):
     def gone_off(self, *descriptors: int) -> Deadlines:
-        """Deadlines of reading, of which those of these descriptors have passed."""
+        """Read deadlines; those of these descriptors have passed."""
         deadlines = Deadlines()
         for number in descriptors:
             deadlines.open(number)

@@ -33,13 +33,13 @@ from nrdb.suspects.ranking import suspects_of
 from tests.test_suspects import COMES, LOOKS, OPEN, PARK, READ, recording_of
 
 EXAMPLES = Path(__file__).resolve().parents[2] / "examples"
-REFUSED = ("other-answer", "early-arrival")  # netrev doesn't take these, so they are no run of the machine
+REFUSED = ("other-answer", "early-arrival")  # netrev rejects these, so they aren't runs of the machine
 ENDS = [["rwunlock", 1, 0, "r"]]
 # a read is ended by a deadline in the past, which is taken back when the read has ended
 SETS = [["incref", 0, 0], ["setdeadline", 0, 0, "r", -1], ["decref", 0, 0]]
 TAKES_BACK = [["incref", 0, 0], ["setdeadline", 0, 0, "r", 0], ["decref", 0, 0]]
 GOOD = OPEN + READ + PARK + SETS + LOOKS + ENDS + TAKES_BACK
-SEEDS = [19, 20, 24, 26, 33]  # those of the first forty that find it
+SEEDS = [19, 20, 24, 26, 33]  # the seeds among the first forty that find it
 NOBODYS = ("spawn", "sockopen", "arrive", "drain", "peerclose", "pollevent", "tick", "pop", "fire")
 TRAFFIC, LENGTH = range(720, 724), 800  # seeds of good runs, and how long they are
 HEALTHY = ("answers", "first", "temporary-break", "shut-write-side", "real/half", "real/leak")

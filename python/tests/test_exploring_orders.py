@@ -132,7 +132,7 @@ class Hanging(unittest.TestCase):
         self.assertEqual([steps[at - 1].step[-1] for at in (set_at, moved_at)], [-1, 0])
 
     def test_who_waits_for_another_that_hangs_is_no_finding(self) -> None:
-        never = script_with([(ENDED, SET)])  # (an order that can't be, as if the deadline weren't set)
+        never = script_with([(ENDED, SET)])  # (an impossible order, as if the deadline weren't set)
         self.assertEqual([key for key in explored(never, 200).found if key[0] == HANG], [])
 
 

@@ -29,7 +29,7 @@ TRAFFIC, LENGTH = (720, 726), 400  # seeds, and how long those are
 
 
 class PlainBoard(Board):
-    """It has the machine make each step, and a snapshot of it too."""
+    """A board that lets the machine make each step and a snapshot after it."""
 
     def make(self, step: Step, number: int) -> Made:
         behind = apply(self.world(), step)
@@ -54,7 +54,7 @@ class PlainPlayer(Player):
 
 
 class PlainExploring(Exploring):
-    """It plays each schedule from the beginning to the end."""
+    """An exploration that runs each schedule from its beginning to its end."""
 
     def ends_of(self, delays: tuple[Delay, ...]) -> Optional[Played]:
         player = PlainPlayer(self.script, delays)

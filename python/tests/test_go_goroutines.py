@@ -254,7 +254,7 @@ class Written(unittest.TestCase):
             objects = [read.objects[park.objects[0].object] for park in parks]
             self.assertEqual(len(set(objects[:4])), 1)
             self.assertEqual([one.sort for one in objects[3:]], ["RWMutex", "WaitGroup", "semaphore"])
-        points = Points().add(Kind.PARKS, 11, 0, OTHER, stack=1)  # as a log of before has it
+        points = Points().add(Kind.PARKS, 11, 0, OTHER, stack=1)  # as in an older log
         self.assertEqual(written(points.found(), stacks).parks[11][0].reason, where.A_MUTEX)
 
     def test_lines_of_no_such_form_are_a_fault(self) -> None:

@@ -99,7 +99,7 @@ class Table(unittest.TestCase):
 
 
 def held_of(holders: Optional[list[Holder]]) -> Optional[list[Held]]:
-    """What is held by a log of no points of the steps of `STEPS`."""
+    """The held mutexes of a log without points, for a recording with the steps of `STEPS`."""
     return goroutines_of([], STEPS, 0, holders).held
 
 

@@ -280,7 +280,7 @@ class Statuses(Run):
 
 
 class Sizes(unittest.TestCase):
-    """What a log of a few points may ask for."""
+    """The sizes that a log of a few points may request."""
 
     def test_bytes_are_written_out_last(self) -> None:
         recording = make(Log(Points().opened().add(Kind.READ, 1, WORD, 65_536, 2**28).points))
@@ -327,7 +327,7 @@ class Sizes(unittest.TestCase):
 
     def test_steps_that_cannot_be_reckoned_are_counted(self) -> None:
         log = Points().opened()
-        for time in range(10):  # each has a tick besides
+        for time in range(10):  # each also has a tick
             log.add(Kind.SET_DEADLINE, 1, 900, ord("r"), 10**9, 0, 100 * (time + 1))
         log.opened(701, 901).add(Kind.INCREF, 1, 701, 0, 8, 2)
         for room, sockets, steps in ((25, 2, 25), (24, 1, 3)):
@@ -337,7 +337,7 @@ class Sizes(unittest.TestCase):
 
     def test_what_is_converted_again_is_as_at_first(self) -> None:
         log, alone = Points().opened(), Points()
-        for time in range(10):  # each has a tick besides
+        for time in range(10):  # each also has a tick
             log.add(Kind.SET_DEADLINE, 1, 900, ord("r"), 10**9, 0, 100 * (time + 1))
         for points in (log, alone):
             points.opened(701, 901).add(Kind.WRITE, 1, 701, 9, 5).add(Kind.WRITE, 1, 701, 9, -1, 1)

@@ -238,7 +238,7 @@ class Reading(unittest.TestCase):
 
 
 def damaged(whole: bytes, chance: random.Random) -> bytes:
-    """A log that is cut, or has other bytes, or points that were taken away, moved or put together from others."""
+    """A log that is cut, or has changed bytes, or whose points were removed, moved or mixed with each other."""
     data = bytearray(whole)
     ring = HEADER_BYTES + STACKS * 256
     sort = chance.randrange(5)

@@ -13,7 +13,7 @@ from netrev_go.orders import orders_of
 from netrev_go.points import Kind, Point
 from netrev_go.waits import WAITED_FOR, Wait, waits_of
 
-Edges = dict[int, set[int]]  # of a point, those right before it
+Edges = dict[int, set[int]]  # for a point, those that directly precede it
 Pairs = list[tuple[int, int]]
 
 
@@ -25,7 +25,7 @@ class Synchronized:
         self.points: list[Point] = []
         self.steps: dict[int, int] = {}  # the goroutine of each point that is a step
         self.edges: Edges = {}
-        self.last: dict[int, set[int]] = {}  # of each goroutine, the points that its next one comes behind
+        self.last: dict[int, set[int]] = {}  # for a goroutine, the points that its next one follows
         self.rooms = {900 + at: self.dice.randint(1, 3) for at in range(2)}
         self.sent: dict[int, list[int]] = {channel: [] for channel in self.rooms}
         self.received: dict[int, list[int]] = {channel: [] for channel in self.rooms}

@@ -71,7 +71,7 @@ def test_ctrl_c_stops_the_making_of_recordings_and_says_where_the_logs_are(folde
     running.send_signal(signal.SIGINT)
     _, errors = running.communicate(timeout=PATIENCE)
     assert running.returncode == 130 and re.search(r"nothing is lost: `\S*netrev-go -o NAME convert ", errors)
-    assert stand_in.call("doctor")[1].count("recover") == 0  # it was told, so it isn't offered
+    assert stand_in.call("doctor")[1].count("recover") == 0  # it was reported, so it isn't offered
 
 
 def at_a_terminal(stand_in: StandIn, *words: str) -> tuple[int, int]:

@@ -391,7 +391,7 @@ class Forms(unittest.TestCase):
 
 @pytest.mark.alone
 class Signals(unittest.TestCase):
-    """A signal is for netrev-go's one thread: a process of pytest-xdist has two."""
+    """Signals go to netrev-go's only thread; a process of pytest-xdist has two."""
 
     def setUp(self) -> None:
         for number in SIGNALS:
@@ -400,7 +400,7 @@ class Signals(unittest.TestCase):
         self.folder = folder_of(self)
 
     def ended(self, script: str, called: Optional[list[bool]] = None) -> tuple[int, bool]:
-        """How a command ended, and whether that was since it was cancelled."""
+        """The status of a command, and whether it was cancelled before its end."""
         runner = Runner(["sh", "-c", script], self.folder, Limits())
         status = runner.wait(lambda: (called if called is not None else []).append(True))
         return status, runner.cancelled

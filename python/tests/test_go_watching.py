@@ -106,7 +106,7 @@ class Stuck(unittest.TestCase):
             ([reads(2, 3)], False, 0),
             ([reads(3, 3)], False, 0),
             ([writes(3, 3)], False, 53),
-            ([reads(4, 3)], False, 0),  # whose line isn't known
+            ([reads(4, 3)], False, 0),  # its line is unknown
             ([writes(4, 3)], False, 54),
         ):
             self.assertEqual(self.stuck(rows, calls, only_writes), expected)

@@ -96,9 +96,8 @@ class Ended(unittest.TestCase):
             lines.timers[0] += [timer._replace(goid=99, due=timer.due - 1) for timer in some]
 
         says = says_with(twice)
-        self.assertRegex(
-            says[0], r"its client's Timeout passed .* It counts from the call at"
-        )  # its goroutine made one alone
+        # its goroutine made only one
+        self.assertRegex(says[0], r"its client's Timeout passed .* It counts from the call at")
         self.assertRegex(says[1], r"ended because a deadline of its context passed \(step \d+\)\.$")
 
     def test_a_deadline_that_is_later_is_not_the_one(self) -> None:

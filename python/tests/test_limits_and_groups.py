@@ -91,11 +91,11 @@ class OfClients(unittest.TestCase):
 
 
 class OfGroups(unittest.TestCase):
-    """Goid 7 waits in `main.walk`, which it was itself started by."""
+    """Goid 7 waits in `main.walk`, which also started goid 7 itself."""
 
     def says(self, *others: tuple[int, int], waiter: int = 0, maker: int = 1) -> str:
-        """What it waits for, if `main.walk` started it and others, each by Go's name with that of who called it; or what another of them
-        does, asked after it."""
+        """The text about the wait of a goroutine that `main.walk` started with others; `others` are pairs of a
+        goroutine's number and its maker's."""
         made = with_lines(TWO_ENDS)
         go = line(4, "walk")
         stack = Stack((line(9, "walk"),), go)

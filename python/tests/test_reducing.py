@@ -94,7 +94,7 @@ class Playing(unittest.TestCase):
         player, units, events = player_of(recording_of(OPEN + READ + PARK + COMES + LOOKS[:1] + PAST[:1]))
         without = {at for at, unit in enumerate(units) if events.all[unit.events[0]].kind != "arrive"}
         left = player.settle(without)
-        self.assertLess(len(left), len(without))  # (the read that was woken isn't)
+        self.assertLess(len(left), len(without))  # (the read that waited is left out too)
         self.assertNotIn("blockswap", [step[0] for step, _ in player.steps])
 
     def test_goes_back_alike_with_few_copies(self) -> None:

@@ -22,11 +22,11 @@ def test_a_netrev_that_was_lent_looks_first_and_is_given_back() -> None:
     lent = opens()
     scout, own = Scout(opens, lent), Scout(opens)
     assert scout.values(7, ["lock 0"]) == own.values(7, ["lock 0"])
-    assert len(opened) == 2  # (of which the second looked for the scout that was lent none)
+    assert len(opened) == 2  # (the second one belongs to the scout without a lent one)
     scout.drop()
     own.drop()
     assert [one.has_ended for one in opened] == [False, True]
-    assert scout.values(7, ["gor 0"]) and len(opened) == 3  # (it looks on by its own)
+    assert scout.values(7, ["gor 0"]) and len(opened) == 3  # (the first scout has to start its own)
     scout.drop()
     assert [one.has_ended for one in opened] == [False, True, True]
 

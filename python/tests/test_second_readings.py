@@ -217,7 +217,7 @@ def all_of(use: Use) -> list[object]:
 
 
 def side_of(before: World, kind: str, g: int, arguments: list[Any]) -> tuple[int, str]:
-    """The descriptor and the side that a step of a wait is of."""
+    """The descriptor and the side of a step of a wait."""
     if kind in ("pollreset", "waitbegin"):
         return arguments[1], arguments[2]
     _, d, side = before.goroutines[g]
@@ -318,7 +318,8 @@ def test_notes_are_what_the_states_say(seed: int) -> None:
 
 @pytest.mark.parametrize("seed", range(30))
 def test_each_step_is_of_the_socket_that_it_names(seed: int) -> None:
-    """Or to that of its descriptor, its timer or its event's tag, or to the one that its goroutine named last."""
+    """A step belongs to the socket that it names, or to that of its descriptor, its timer or its event's tag, or to
+    the one that its goroutine named last."""
     text, worlds = random_text(f"whose {seed}", {**LOCKING, **TIMING, **WAITING}, ALONE)
     recording, named, tags = Recording(write_plain(text)), dict[int, tuple[int, int]](), dict[tuple[int, int], int]()
     of_timers, expected = timers(steps_of(text, worlds)), []

@@ -182,7 +182,7 @@ def test_what_is_nearly_a_bug_is_none(steps: Steps, rule: str) -> None:
 
 
 class Row(NamedTuple):
-    """Steps whose only suspect has this weight, and says this."""
+    """Steps with only one suspect, of this weight and with this sentence."""
 
     steps: Steps
     weight: int

@@ -484,7 +484,7 @@ ALL: dict[str, Rows] = {
     TIMEOUT: ENDED,
     TAKEN_BACK: BACK,
 }
-# hunts whose rows have lines of others: a deadline passes before it is taken back, and what is lost may still be there
+# hunts whose rows have lines of other hunts: a deadline passes before it is taken back, and what is lost may still be there
 TOGETHER = {(TAKEN_BACK, PASSED_DEADLINE), (LOST_WAKE_UP, ASLEEP), (ASLEEP, LOST_WAKE_UP)}
 ROWS = [pytest.param(hunt, *row, id=f"{hunt}: {name}") for hunt, rows in ALL.items() for name, row in rows.items()]
 

@@ -186,7 +186,8 @@ class Backwards(unittest.TestCase):
                 held = holders_of(world.recording, changes, socket, world.position)
                 for side in "rw":
                     found = [one.step for one in held if one.side == [side]][-1:]
-                    if found:  # (a `decref` of somebody who has a lock alone takes that for what it gives up)
+                    # (a `decref` by a goroutine that only has a lock counts as giving back the lock's reference)
+                    if found:
                         right[socket, side] = found[0]
                     met[bool(found)] += 1
             self.assertEqual(takings(world.recording, world.position, list(right)), right, world.position)

@@ -31,12 +31,12 @@ TYPE = re.compile(
 )
 # its name anywhere else makes one, or renames it
 MADE = re.compile(r"\bAllocError\b")
-# a library's own word for a refused allocation, which carries none
+# a library's own name for a refused allocation, without the type that carries the refusal
 SAID = re.compile(r"\b(?:\w+::OutOfMemory|Category::Memory)\b.*=>")
 # the output after refused memory
 PRINTED = re.compile(r'"fault 108 memory')
 MESSAGE = re.compile(r"\s*#\[error\(")
-# the type that carries a refusal, and the places of the types that are printed so, each of which carries one
+# the file of the type that carries a refusal, and that of the types that are printed so, each of which contains one
 CARRIES = "crates/nr_rev/src/memory.rt"
 PRINTS = "crates/nr_recording/src/fault.rt"
 

@@ -46,8 +46,8 @@ def ended_hand(index: Index, wait: Waiting) -> Optional[Need]:
 
 @lru_cache(maxsize=256)
 def hands_at(index: Index, line: Call) -> tuple[EndedHand, ...]:
-    """The goroutines that put values into channels from which others took them at a line, in the order of their last
-    ones."""
+    """The goroutines that put values into channels from which others took them at a line, ordered by their last
+    values."""
     lines, found = index.recording.lines, dict[Name, EndedHand]()
     taken = [
         uses

@@ -18,12 +18,13 @@ class Certainty(IntEnum):
 
 
 class Need(NamedTuple):
-    """Why a waiter waits, in sentences; the goroutine that could end that, a sentence about it (`{by}` is its name),
-    and how certain that is; the last step of a goroutine that could have gone on and is in no call any more; sentences
-    for a deadlock too; whether goroutines of one `go` statement differ in what is needed; the ended goroutine that gave
-    it before; goroutines that ended without giving it; others that may be the one in `by`; whether finished calls have
-    kept what is needed, so that no waiter has it; sentences to add if the goroutine itself waits for another; and
-    whether `more` says only up to where it reads."""
+    """A waiter's need. `says` are sentences about it. `by` is the goroutine that could end the wait, `how` a
+    sentence about that one (`{by}` is its name), and `certainty` the evidence. `stopped` is the last step of a
+    goroutine that could have gone on and is in no call any more. `more` are sentences for a deadlock too, and
+    `is_plain` says that they only say up to where it reads. `is_odd`: goroutines of one `go` statement differ in
+    what is needed. `gone` is the ended goroutine that gave it before, `ended` are those that ended without
+    giving it, and `others` those that may be the one in `by`. `is_kept`: finished calls have kept what is
+    needed, so no waiter has it. `beside` are sentences to add if `by` itself waits for another."""
 
     says: list[str]
     by: Optional[Name] = None

@@ -1,4 +1,4 @@
-"""Timers and tickers from which nothing comes any more: one that was stopped and not reset, and a timer whose one value
+"""Timers and tickers that will send nothing more: one that was stopped and not reset, and a timer whose one value
 was taken."""
 
 import re
@@ -21,8 +21,8 @@ LATE = 20_000_000  # nanoseconds by which a timer may go off late
 
 
 class Silent(NamedTuple):
-    """A timer from which nothing comes any more: what it is, its making, and its stop; None if it has gone off.
-    `was_due` says whether it was due before the stop, which then stopped nothing."""
+    """A timer that will send nothing more: its name, where it was made, and where it was stopped; None if it went
+    off. `was_due` says whether it was due before the stop, which then had no effect."""
 
     name: str
     made: Timer
@@ -35,8 +35,8 @@ def is_by(stack: Stack, functions: tuple[str, ...]) -> bool:
 
 
 def silent_at(recording: Recording, number: int, begin: int = 0) -> Optional[Silent]:
-    """The timer of a channel, if nothing comes from it any more; None if something may, or if unknown. A goroutine that
-    waits there since `begin`, a time when the timer had gone off, found it empty, so its value had been taken."""
+    """The timer of a channel, if it will send nothing more; None if it may, or if unknown. A goroutine that waits
+    there since `begin`, a time when the timer had gone off, found it empty, so its value had been taken."""
     lines = recording.lines
     timers = lines.timers.get(number, [])
     if not timers:
@@ -70,7 +70,7 @@ def silent_says(recording: Recording, silent: Silent) -> str:
 
 
 def of_timers(recording: Recording, wait: Waiting) -> Optional[Need]:
-    """The need of a goroutine that waits only for a timer from which nothing comes any more."""
+    """The need of a goroutine that waits only for a timer that will send nothing more."""
     own = wait.stack.own()
     silent = silent_at(recording, wait.objects[0].object, wait.begin) if len(wait.objects) == 1 else None
     if not silent or not own or own[0].of != OF_THE_PROGRAM:
@@ -79,7 +79,7 @@ def of_timers(recording: Recording, wait: Waiting) -> Optional[Need]:
 
 
 def timers_of_select(recording: Recording, wait: Waiting) -> list[str]:
-    """The timers among the cases of a select from which nothing comes any more."""
+    """The timers among the cases of a select that will send nothing more."""
     some = (silent_at(recording, at.object, wait.begin) for at in wait.objects) if len(wait.objects) > 1 else ()
     silent = next((one for one in some if one), None)
     if silent is None:

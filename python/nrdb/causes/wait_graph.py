@@ -43,10 +43,10 @@ class Branch(NamedTuple):
 
 
 class Hang(NamedTuple):
-    """A root: the goroutine that others wait for, or goroutines that wait for one another; what each of them needs, the
-    branches that wait for them, and the number of those goroutines, and how many of these only perhaps. `alike` are
-    similar roots, and `beside` others that wait for the same ended goroutine. `is_loose`: it isn't known which root
-    waits for which. `until`: a call of the roots with a deadline to come, so that they don't wait for ever."""
+    """A root: the goroutine that others wait for, or goroutines that wait for one another; what each of them needs,
+    the branches that wait for them, and the number of those goroutines, and how many of these only perhaps.
+    `alike` are similar roots, and `beside` others that wait for the same ended goroutine. `is_loose`: it isn't
+    known which root waits for which. `until`: a call of the roots whose deadline will end the wait."""
 
     roots: list[Waiter]
     needs: list[Need]
@@ -222,8 +222,8 @@ class WaitGraph:
         return Hang(roots, needs, branches, count, count - sure, certainty, alike, beside)
 
     def _branches(self, names: list[Name], seen: set[Name], depth: int = 0) -> list[Branch]:
-        """The branches that wait for these, equal ones together, those with the most known first. Below some depth all
-        that are left are one level."""
+        """The branches that wait for these, equal ones merged, the best-known ones first. Below a certain depth the
+        rest form one level."""
         alike: dict[Hashable, list[Name]] = defaultdict(list)
         upcoming = list(names)
         while upcoming:

@@ -45,8 +45,7 @@ class Outcome(NamedTuple):
 
 
 class Adapter:
-    """Serves one editor, whose requests come from `source`. `program` is netrev; no message can name another
-    program."""
+    """Serves one editor, whose requests come from `source`. `program` is netrev's; no message can change it."""
 
     def __init__(self, wire: Wire, source: Source, program: str):
         self._wire, self._source, self._program = wire, source, program
@@ -74,8 +73,7 @@ class Adapter:
         }  # fmt: skip
 
     def serve(self, begun: Sequence[Request] = ()) -> None:
-        """Answers requests until the editor has gone or disconnects. The given requests came already; `initialize`
-        was answered then."""
+        """Answers requests until the editor is gone. `begun` came before, and its `initialize` was answered then."""
         with closing(self._source), self._opened:
             for request in begun:
                 self._initialize(request) if request.command == "initialize" else self._guarded(request)

@@ -1,5 +1,5 @@
-"""Whether a schedule has returned to the recorded run, so that both continue in the same way: the same except for the numbers of
-sockets and descriptors, and for values that nothing can read any more."""
+"""Whether a schedule has returned to the recorded run, so that both continue in the same way. The states may differ
+in the numbers of sockets and descriptors, and in values that nothing can read any more."""
 
 from typing import NamedTuple
 

@@ -69,7 +69,7 @@ class Waiting:
             self.network.append(which)
 
     def settle(self, now: Key) -> None:
-        """The network has checked again before that."""
+        """The network checked again before this time."""
         if self.again is not None and self.again < now:
             self.again = None
             if self.later:
@@ -77,7 +77,8 @@ class Waiting:
                 self.network = []
 
     def look_again(self, due: Key) -> int:
-        """All check again without success; how many of the network's do so when they are due, from then on."""
+        """All check again without success. Returns how many of the network's will from now on check when they are
+        due."""
         for actor, which in self.later:
             (self.first if actor == GOROUTINE else self.network).append(which)
         self.later = []
@@ -114,7 +115,7 @@ class Passing:
         return made
 
     def is_as(self, other: "Passing") -> bool:
-        """Whether the same wait for the same."""
+        """Whether the same ones wait for the same goroutines."""
         rows, its_rows = ({g: one.row() for g, one in each.waiting.items()} for each in (self, other))
         return rows == its_rows
 

@@ -14,7 +14,7 @@ MOST_TRIES = 200
 
 
 class Others:
-    """The progress of each of them."""
+    """The progress of each of these actors."""
 
     def __init__(self, script: Script) -> None:
         self.script = script

@@ -1,4 +1,4 @@
-"""Removes units as long as the target shows: first all but those near it, then whole goroutines, sockets and runs
+"""Removes units while the target still shows: first all but those near it, then whole goroutines, sockets and runs
 of units, half of them at a time and then fewer."""
 
 from typing import Iterable, Iterator, Optional
@@ -107,7 +107,7 @@ class Shrinking:
         return self.units[unit].events[0] < self.target.until
 
     def _window(self, scope: set[int], window: int) -> set[int]:
-        """Those of the units that are near the steps of the target."""
+        """The units that are near the steps of the target."""
         first, last = min(self.target.steps) - window, max(self.target.steps) + window
         return {
             unit

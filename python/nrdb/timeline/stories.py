@@ -43,7 +43,7 @@ def causes_data(recording: Recording) -> Iterator[Data]:
     index = index_of(recording)
     first = failures_of(recording)[:MOST_CAUSES]
     said = {cause.call.first for cause in first}
-    quiet = {hang.root.since for hang in hangs if hang.is_quiet} - {0}  # (those that may be unrelated are one story)
+    quiet = {hang.root.since for hang in hangs if hang.is_quiet} - {0}  # (hangs that may be normal are one story)
     for cause in first:
         yield cause_data(recording, cause, {*cause.steps, cause.call.last})
     for hang in hangs:

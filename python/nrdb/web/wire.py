@@ -72,7 +72,7 @@ class Wire:
             raise ConnectionAbortedError from None
 
     async def gone(self) -> None:
-        """Returns when the other end has gone, or says something though it has said all."""
+        """Returns when the other end has gone, or sends more than its request."""
         with suppress(ConnectionError):
             await self._reader.read(1)
 

@@ -98,7 +98,7 @@ def what_comes_of_calling(port):
             except ConnectionRefusedError:
                 return "refused"
             except ConnectionError:
-                pass  # let in, and reset when the port was closed
+                pass  # accepted, and reset when the port was closed
         time.sleep(0.02)
     return "let in"
 

@@ -152,7 +152,7 @@ HEADERS = (
     (HEADER.replace("16", "65536"), 0),
 )
 
-# lines after a header, and the faulty one among the recording's: blank ones count
+# the lines after a header, the number of the faulty one (blank ones count), and its fault
 PLACES = (
     (["", " \t\r", '["jump"]'], 4, "103 unknown step"),
     (['["spawn"]', '["spawn"]]', "["], 3, "102 not JSON"),

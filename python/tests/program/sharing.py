@@ -27,7 +27,7 @@ LOOPBACK = "127.0.0.1"
 
 @dataclass
 class Exchange:
-    """A line and the lines that it was answered. Sending and reading are told by numbers that rise over all fronts."""
+    """A line and its reply. `sent` and `read` number the sending and reading over all fronts, in rising order."""
 
     asked: Asked
     line: bytes

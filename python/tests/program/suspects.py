@@ -40,7 +40,7 @@ LOST, LEAKED, STALE, FIRED, ANSWERS, OTHER = (
         "examples/other-answer",
     )
 )
-# a recording, the status, and the lines, each of which is of a hunt
+# a recording, the status, and the lines of one hunt
 STORED = (
     (
         LOST,

@@ -500,7 +500,8 @@ def play_output_of_serve(into, _folder):
 
 
 def play_nothing_open(_folder):
-    """Its ports and callers have the numbers of the streams then, and none is written to as a stream."""
+    """netrev starts without open streams, so its ports and callers get their descriptors; none is written to as a
+    stream."""
     with Server(FIRST, fronts=2, through=["sh", "-c", 'exec "$@" <&- >&- 2>&-', "sh"]) as server:
         first, second = server.call(0), server.call(1)
         expect("the replies of front 0", ["at 3", "bye"], talk(first, ["stepi 3", "quit"]))

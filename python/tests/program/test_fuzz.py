@@ -59,7 +59,7 @@ def shut_for_nothing(world, g, s, data):
 
 
 EVENT, WRITE = polling.event, steps.syswrite
-# what is planted in the model, and a seed whose first cases show it (a change of how cases are made wants other seeds)
+# the fault planted in the model, and a seed whose first cases show it (if cases are generated differently, find other seeds)
 PLANTED: dict[str, tuple[str, Callable[[], ContextManager[object]]]] = {
     "a decref with another reason": ("86", lambda: mock.patch.dict(steps.OF_KIND, decref=decref_with_another_reason)),
     "a mark that stays": ("17", lambda: mock.patch.object(polling, "event", error_stays)),

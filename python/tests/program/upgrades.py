@@ -43,7 +43,7 @@ SPELLED = b"""
 \t \r
 ["arrive",0,"AbCd"%s]
 ["\\u0073yswrite",0,0,"ABcdEF"%s]"""
-# how it is written, and what is written of it
+# the form of the recording, its text, and the text of the upgrade
 WRITTEN = (
     ("version 1 with blanks, an escape and upper case", SPELLED % (1, b"", b"", b""), PLAIN),
     (
@@ -96,7 +96,7 @@ def ended(words, given=b""):
 
 
 def played(words, status, output, errors=b""):
-    """Plays the words, and sees that they end so."""
+    """Runs netrev with the words, and checks the status, the output and the errors."""
     expect("status, output and errors", (status, output, errors), ended(words))
 
 

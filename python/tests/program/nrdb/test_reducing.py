@@ -16,7 +16,7 @@ from .support import EXAMPLES, HUNTS, ROOT, netrev, nrdb
 from .test_suspects import checked
 from tests.folders import folder_of
 
-# the least that was reached of these, and a little more
+# the smallest sizes that were reached, and a little more
 MOST = {
     "hunts/blocked-control": 20,
     "hunts/extended-deadline": 24,
