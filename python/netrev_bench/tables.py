@@ -14,8 +14,8 @@ Cases = dict[str, Figures]  # for each recording, by its name
 
 @dataclass
 class Measurement:
-    """Figures of one sort, such as times: for each shape and number of steps those of each measured program, by program
-    and figure. The titles are those of a table for each figure."""
+    """Figures of one sort, such as times, by shape and number of steps, and then by program and figure. There is a
+    table for each figure; `titles` are the tables' titles."""
 
     sort: str
     titles: dict[str, str]

@@ -51,7 +51,7 @@ class Converter:
         self.stacks: list[int] = []
         self.goroutines: dict[int, int] = {}
         self.last_steps: list[int] = []  # of each goroutine
-        self.names: list[int] = []  # Go's own, of each goroutine
+        self.names: list[int] = []  # Go's number of each goroutine
         self.ended: list[int] = []  # the number of steps after each point
         self.made: list[Made] = []  # the goroutines' steps, by Go's names
         self._number = 0  # of the point

@@ -40,7 +40,7 @@ BEHIND = 2**64, 0, 0  # a step after the last point
 
 
 class At(NamedTuple):
-    """The address of an object at which a goroutine waits, and for what there: VALUE, ROOM, or 0."""
+    """The address of an object at which a goroutine waits, and the operation that it waits for: VALUE, ROOM, or 0."""
 
     address: int
     use: int

@@ -14,7 +14,7 @@ from .steps import OF_KIND
 ONE_OF_MANY = ("goroutines", "sockets", "descs")
 STATE = World._fields
 Itself = TypeVar("Itself", bound="Machine")
-WHOLE = -1  # the place of the single parts
+WHOLE = -1  # the place of all other parts, each of which is replaced as a whole
 
 
 class Change(NamedTuple):

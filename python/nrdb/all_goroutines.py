@@ -42,7 +42,8 @@ class GoGoroutine(NamedTuple):
 
 
 class At(NamedTuple):
-    """The number of an object at which a goroutine waits, and for what there: FOR_VALUE, FOR_ROOM, or empty."""
+    """The number of an object at which a goroutine waits, and the operation that it waits for: FOR_VALUE, FOR_ROOM,
+    or empty."""
 
     object: int
     use: str

@@ -147,7 +147,7 @@ class Disturbances(unittest.TestCase, Generic[Of]):
                 told = self.told_by(played, command)
                 played.weather.left = None
                 self.settle()
-                played.session.stands()  # (only here may a netrev be found gone)
+                played.session.stands()  # (netrev may be found to be gone only here)
                 yield point, played, told, True
             except (GivenUp, Ended):
                 played.weather.left = None

@@ -91,7 +91,7 @@ def _below(tree: Tree, crate: str) -> set[str]:
 
 
 def drawn(tree: Tree) -> str:
-    """The crates of the program as a diagram: each beside those it imports that none of these imports."""
+    """The program's crates as a diagram. An arrow that a longer path implies is left out."""
     rows = ["flowchart TD"]
     shown = {PROGRAM, *_below(tree, PROGRAM)} if PROGRAM in tree.crates else set(tree.crates)
     for crate, imports in reversed(tree.crates.items()):

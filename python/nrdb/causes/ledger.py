@@ -31,7 +31,7 @@ class Ledger:
         self._lines = recording.lines
         self._locked: dict[int, list[Waiting]] = defaultdict(
             list
-        )  # for each object that isn't a channel the waits, by their ends
+        )  # the waits at each object that isn't a channel, by their ends
         for some in waits.of.values():
             for wait in some:
                 for at in wait.objects:

@@ -48,8 +48,8 @@ class Waiting:
     def __init__(self) -> None:
         self.first: list[int] = []  # goroutines
         self.network: list[int] = []  # sockets, after those
-        self.later: list[tuple[int, int]] = []  # after both, by actor and number
-        self.until = NEVER  # its first operation after which one of the goroutines continues
+        self.later: list[tuple[int, int]] = []  # checked after both: actors and numbers
+        self.until = NEVER  # the operation after which the first of the goroutines continues
         self.again: Optional[Key] = None  # when the network checks again
 
     def copy(self) -> "Waiting":

@@ -327,7 +327,7 @@ def half_a_line_and_reset(caller):
 
 
 def line_without_end(caller):
-    """Ten million bytes without an end of the line, which is one fault."""
+    """Ten million bytes without a line feed count as one fault."""
     caller.sendall(b"x" * 10_000_000)
     caller.shutdown(socket.SHUT_WR)
     expect("the reply", ["fault 203 line too long"], read_to_end(caller))
@@ -374,7 +374,8 @@ def stays_behind_quit(caller):
 
 
 def test_hostile(parked):
-    """After each of these the next caller of the front is served at the front's position, and then it ends."""
+    """Each of these callers leaves badly. The next caller of the front is served at the front's position, and the
+    session ends."""
     for leave, status, position, placed in (
         (half_a_line, 0, 3, 2),
         (half_a_line_and_reset, 3, 3, 1),

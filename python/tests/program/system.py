@@ -712,7 +712,7 @@ def patience():
 
 @pytest.fixture
 def signals_of_a_terminal():
-    """Netrev has these as a terminal gives them, however pytest was started."""
+    """In this test SIGNALS have their default handlers, even if pytest was started with them ignored."""
     before = [(one, signal.signal(one, signal.SIG_DFL)) for one in SIGNALS]
     yield
     for one, handler in before:
