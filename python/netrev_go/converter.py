@@ -230,9 +230,9 @@ class Converter:
             self.of(g, socket, stack, put_line(g, number, count))
 
     def close_write(self, point: Point, socket: Socket) -> None:
-        """Closes the write side. Points are logged after their system calls: a write that was made before may have its point later. It is
-        one at most, as the next one has to wait for that, and its goroutine has been in that call since a point before this one.
-        """
+        """Closes the write side. Points are logged after their system calls, so a write that was made before may have a
+        later point: at most one, because the next write has to wait for it, and its goroutine was in that call before
+        this point."""
         g, last = self.goroutine(point.goroutine), socket.last_write
         if last and last.number > point.number and last.number not in self.early:
             self.write(last, socket)
