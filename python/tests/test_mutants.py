@@ -12,7 +12,7 @@ from mutating.called import name_of, qualified
 from mutating.changes import FORGOTTEN, KINDS, Mutant, can_compile, mutants_of
 from mutating.go_changes import go_mutants_of
 from mutating.server import changed_codes, codes_in
-from mutating.topics import OVERRIDES, Test, Topics, read_overrides
+from mutating.topics import OVERRIDES, Test, Topics, digest, read_overrides
 from mutating.trying import all_mutants, drawn
 
 ROOT = Path(__file__).resolve().parents[2]
@@ -136,3 +136,16 @@ def test_mutants_that_change_nothing_exist_and_have_reasons() -> None:
         mutant.name() for file in {name.partition("|")[0] for name in known} for mutant in all_mutants(ROOT, [file])
     }
     assert all(reason and name in names for name, reason in known.items())
+
+
+def test_a_file_of_tests_has_changed_if_its_code_has(tmp_path: Path) -> None:
+    path = tmp_path / "test_waits.py"
+    found = []
+    for text in (
+        '"""One."""\n\ndef test() -> None:\n    """Two."""\n    assert 1\n',
+        "def test() -> None:\n    assert 1  # three\n",
+        "assert 1\n",
+    ):
+        path.write_text(text)
+        found.append(digest(path))
+    assert found[0] == found[1] != found[2]

@@ -5,6 +5,7 @@ the tests of the recorder's Go, whose calls can't be recorded."""
 
 from __future__ import annotations
 
+import ast
 import hashlib
 import json
 import os
@@ -79,7 +80,12 @@ def quickest(tests: Iterable[Test], most: float) -> list[Test]:
 
 
 def digest(path: Path) -> str:
-    return hashlib.sha256(path.read_bytes()).hexdigest()
+    """The digest of a module's code, without comments and docstrings."""
+    tree = ast.parse(path.read_text(encoding="utf-8"))
+    for node in ast.walk(tree):
+        if isinstance(node, (ast.Module, ast.ClassDef, ast.FunctionDef)) and ast.get_docstring(node) is not None:
+            del node.body[0]
+    return hashlib.sha256(ast.dump(tree).encode()).hexdigest()
 
 
 def read_topics(notes: Path, most: float = MOST) -> Topics:
