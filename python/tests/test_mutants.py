@@ -102,7 +102,14 @@ def test_the_tests_of_a_mutant_call_its_function_and_the_quickest_class_comes_fi
 def test_the_tests_of_a_mutant_of_a_module_call_any_function_of_it() -> None:
     topics, mutant = of_tests()
     assert "c.py::test_other" in names_of(topics, replace(mutant, is_inside=False, code=""))
-    assert names_of(topics, replace(mutant, code="unknown")) == []
+    assert names_of(topics, replace(mutant, code="new")) == ["c.py::test_other", *names_of(topics, mutant)]
+    topics, mutant = of_tests(8)
+    assert names_of(topics, replace(mutant, code="new")) == [
+        "c.py::test_other",
+        "b.py::Kept::test_those[1]",
+        "b.py::Kept::test_that",
+    ]
+    assert names_of(topics, replace(mutant, file="python/nrdb/words.py")) == []
 
 
 def test_the_first_pattern_that_fits_names_the_tests_of_a_file_of_go() -> None:

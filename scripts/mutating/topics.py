@@ -21,6 +21,7 @@ from .changes import Mutant
 OVERRIDES = Path(__file__).with_name("topics.txt")
 NOTED = ("python/tests", "python/tests/program/nrdb")  # folders of tests whose calls are noted
 MOST = 60.0  # seconds of tests for a mutant
+FEW = 4  # the part of these for a function that no test called
 
 
 @dataclass(frozen=True)
@@ -55,9 +56,12 @@ class Topics:
                 self._of_files[file].append(test)
 
     def tests_of(self, mutant: Mutant) -> list[Test]:
-        """The tests of a mutant of Python, those of a quick group first."""
-        called = self._of_functions[f"{mutant.file}|{mutant.code}"] if mutant.is_inside else self._of_files[mutant.file]
-        return quickest(called, self.most)
+        """The tests of a mutant of Python, those of a quick group first. Of a function that no test called, which may be new since,
+        a few of its file."""
+        called = self._of_functions[f"{mutant.file}|{mutant.code}"] if mutant.is_inside else []
+        if called:
+            return quickest(called, self.most)
+        return quickest(self._of_files[mutant.file], self.most / FEW if mutant.is_inside else self.most)
 
     def files_of(self, file: str) -> list[str]:
         """The files of tests that `topics.txt` names."""
