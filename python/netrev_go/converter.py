@@ -17,10 +17,10 @@ from netrev_machine.polling import deadline_of
 from . import messages
 from .answering import BROKEN_PIPE, Unconvertible, can_answer, mode_of, parts
 from .beside import OF_UNIX, Beside
-from .leading import lead
+from .leading import close_write, lead
 from .orders import Made
 from .points import LOCKING, Kind, Point
-from .prelude import NOBODY
+from .prelude import NOBODY, Lead
 from .repeated import REPEATED, read_line, repeated_line
 from .sockets import AGAIN, BUFFER, FEW_BYTES, Socket
 from .zeros import Line, arrival, drained, put_line, written
@@ -64,6 +64,7 @@ class Converter:
         self.deadlines = Deadlines()
         self.later_fires = {(socket, *self.firing(point)) for point, socket in points if point[1] == FIRE}
         self.early: dict[int, int] = {}  # of writes whose points a closewrite overtook, the number of steps after each
+        self.closings: dict[int, Lead] = {}  # by the points of writes that a noted closewrite overtook: that step
         self.beside = Beside()
         if any(socket.note for _, socket in points):
             self.goroutine(NOBODY)
@@ -209,10 +210,14 @@ class Converter:
         self.of(g, socket, point.stack, read_line(g, socket.number, point.a, answer))
 
     def write(self, point: Point, socket: Socket) -> None:
-        """A write, unless its steps were made with a closewrite whose point overtook it."""
-        passed, _, identity, _, asked, put, error, _, stack = point
-        if passed in self.early:
-            return
+        """A write, unless its steps were made with a closewrite whose point overtook it; then the closewrite that a note overtook."""
+        if point.number not in self.early:
+            self.make_write(point, socket)
+            if closing := self.closings.get(point.number):
+                close_write(self, socket, closing)
+
+    def make_write(self, point: Point, socket: Socket) -> None:
+        _, _, identity, _, asked, put, error, _, stack = point
         g, number = self.goroutine(identity), socket.number
         if put <= 0:
             if not can_answer(socket, point):

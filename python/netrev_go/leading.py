@@ -42,6 +42,11 @@ def lead(converter: Converter, socket: Socket) -> None:
             soon = max(soon, set_deadline(converter, socket, step, g))
         elif step.kind == "passes":
             passes(converter, socket, step.arguments[0], soon)
+        elif step.kind == "closewrite" and is_written_later(socket):
+            assert socket.last_write
+            converter.closings[socket.last_write.number] = step
+        elif step.kind == "closewrite":
+            close_write(converter, socket, step)
         elif step.kind == "syswrite":
             put(converter, socket, step, g, written(g, socket.number, step.arguments[0], of_json(answer_of(step))))
         else:
@@ -52,6 +57,19 @@ def lead(converter: Converter, socket: Socket) -> None:
     assert socket.note
     reading, writing = converter.deadlines.descriptors[socket.descriptor].sequences
     socket.sequences = socket.note.sequences[READING] - reading, socket.note.sequences[WRITING] - writing
+
+
+def is_written_later(socket: Socket) -> bool:
+    """Whether the point of a write comes after the note. If its write side was closed by then, the write was made before that."""
+    assert socket.note
+    return socket.last_write is not None and socket.last_write.number > socket.note.number
+
+
+def close_write(converter: Converter, socket: Socket, step: Lead) -> None:
+    """Closes the write side, as it was noted."""
+    socket.shut = True
+    g = converter.goroutine(step.goroutine)
+    put(converter, socket, step, g, of_json(["closewrite", g, socket.number, answer_of(step)]))
 
 
 def answer_of(step: Lead) -> object:

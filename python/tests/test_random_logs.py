@@ -9,7 +9,12 @@ from netrev_go.making import make
 from netrev_go.points import Kind, Log
 from tests.test_go_converting import DESCRIPTOR, WORD, Points
 
-KEPT = ("85-programs-1718", "85-programs-4489")  # seeds whose recordings were refused, or had another end
+KEPT = (
+    "85-programs-1718",
+    "85-programs-4489",
+    "87-programs-59424",
+    "87-programs-63649",
+)  # seeds whose recordings were refused, or had another end
 
 
 @pytest.mark.parametrize("seed", [*map(str, range(60)), *KEPT])

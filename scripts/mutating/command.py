@@ -84,7 +84,7 @@ def main(words: list[str]) -> int:
     python = python_with_pytest()
     note_calls(ROOT, NOTES, python)
     topics = read_topics(NOTES, given.seconds)
-    with tempfile.TemporaryDirectory(prefix="mutants-") as name:
+    with tempfile.TemporaryDirectory(prefix="mutants-", ignore_cleanup_errors=True) as name:
         room = Path(name)
         verdicts = []
         KEPT.mkdir(parents=True, exist_ok=True)
