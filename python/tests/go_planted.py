@@ -58,11 +58,11 @@ PLANTED: dict[str, tuple[list[Change], str]] = {
                 },
             )
         ],
-        " refuses the recording: step ",
+        " the recording: step ",
     ),
     "bits of a lock word that changed places": (
         [(MUTEX, {"mutexRLock   = 1 << 1": "mutexRLock   = 1 << 2", "mutexWLock   = 1 << 2": "mutexWLock   = 1 << 1"})],
-        "trial: this Go is not recorded: GOMAXPROCS=1: a lock word differs: step ",
+        "trial: this Go can't be recorded: GOMAXPROCS=1: a lock word differs: step ",
     ),
     "a swap of a lock word elsewhere": (
         [
@@ -90,7 +90,7 @@ PLANTED: dict[str, tuple[list[Change], str]] = {
                 },
             )
         ],
-        "trial: this Go is not recorded: GOMAXPROCS=1: the program read and wrote ",
+        "trial: this Go can't be recorded: GOMAXPROCS=1: the program read and wrote ",
     ),
 }
 
