@@ -108,6 +108,10 @@ def test_the_next_go_statement_of_the_function_that_added(made: str, next_one: i
     recording = Made(lines=Made(stacks={4: Made(own=lambda: [line_of(10, "f")])}))
     found = group_counts.next_behind(cast(Any, recording), cast(Any, Made(added=[Made(stack=4)])), cast(Any, kinds))
     assert [kind.made.line for kind in found] == ([next_one] if next_one else [])
+    recording.lines.stacks[4] = Made(own=lambda: None)
+    assert (
+        group_counts.next_behind(cast(Any, recording), cast(Any, Made(added=[Made(stack=4)])), cast(Any, kinds)) == []
+    )
 
 
 @pytest.mark.parametrize("until, moved", [(0, 0), (1, 7), (8, 7), (9, 9), (99, 9)])

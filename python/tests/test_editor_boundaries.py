@@ -6,8 +6,12 @@ from typing import Any, Optional, cast
 
 import pytest
 
-from nrdb.dap import memory
+from nrdb.dap import filters, memory, moving
+from nrdb.dap.filters import Failure, Filter, Filters
 from nrdb.dap.messages import Request, Unanswerable
+from nrdb.dap.moving import AT_THE_END, Moves, Stop, text_of
+from nrdb.one_call import Outcome
+from nrdb.shapes import Move
 
 
 class Asked:
@@ -59,3 +63,56 @@ def test_memory_that_has_no_bytes(named: str, count: int) -> None:
 )
 def test_the_buffer_whose_bytes_a_cell_counts(cell: str, buffer: Optional[str]) -> None:
     assert memory.reference_of(cell) == buffer
+
+
+@pytest.mark.parametrize(
+    "reason, says, length, text",
+    [
+        ("exception", "a timeout", 20_001, "a timeout"), ("step", AT_THE_END, 20_000, "what hangs"), ("step", AT_THE_END, 20_001, ""),
+        ("step", "at 5", 7, ""), ("exception", AT_THE_END, 7, AT_THE_END),
+    ],
+)  # fmt: skip
+def test_the_text_of_a_stop(reason: str, says: str, length: int, text: str, monkeypatch: pytest.MonkeyPatch) -> None:
+    monkeypatch.setattr(moving, "root_sentence", lambda recording: "what hangs")
+    assert text_of(Stop(reason, says), cast(Any, Made(length=length))) == text
+
+
+@pytest.mark.parametrize("line, reply", [("stepi", "at 6"), ("reverse-stepi", "at 4")])
+def test_a_step_of_an_editor_is_netrev_s(line: str, reply: str) -> None:
+    arrived: list[Any] = []
+    faced: list[str] = []
+    own = Made(
+        _face_forwards=lambda: faced.append(line), _session=Made(ask=lambda asked: {line: reply}[asked]), _end_or=lambda *why: why,
+        _arrived=lambda *came: arrived.append(came),
+    )  # fmt: skip
+    Moves.step(cast(Any, own), line)
+    move = Move(int(reply.split()[1]), False, ())
+    assert faced and arrived == [(line, reply, move, [], ("step", move))]
+
+
+def test_what_went_wrong_by_filters(monkeypatch: pytest.MonkeyPatch) -> None:
+    suspects = [
+        Made(is_shown=shown, step=step, rule="rule", sentence=lambda: "says")
+        for shown, step in ((True, 9), (False, 3), (True, 5))
+    ]
+    calls = [
+        Made(last=last, outcome=outcome, goroutine=1, words=lambda: "Read")
+        for last, outcome in (
+            (8, Outcome.TIMED_OUT),
+            (4, Outcome.TIMED_OUT),
+            (0, Outcome.CLOSED),
+            (7, Outcome.CLOSED),
+            (6, Outcome.DONE),
+        )
+    ]
+    monkeypatch.setattr(filters, "suspects_of", lambda recording: Made(suspects=suspects))
+    monkeypatch.setattr(filters, "book_of", lambda recording: Made(calls=calls))
+    own = Made(_recording=None)
+    found = cast(Any, Filters._all).func(own)
+    steps = {name: [failure.step for failure in failures] for name, failures in found.items()}
+    assert steps == dict.fromkeys(Filter, list[int]()) | {
+        Filter.SUSPECTS: [5, 9],
+        Filter.TIMEOUTS: [4, 8],
+        Filter.ERRORS: [7],
+    }
+    assert found[Filter.SUSPECTS][0] == Failure(5, "rule", "says")

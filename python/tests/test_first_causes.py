@@ -67,6 +67,26 @@ class ByNetrev(unittest.TestCase):
         self.assertIsNone(printed_changes.printed_changes(str(self.netrev), BAD, self.recording))
 
 
+class Printed(unittest.TestCase):
+    def printed(self, *words: str) -> tuple[int, str, str]:
+        """The exit status and the output of `python3 python nrdb.causes` with these words."""
+        said, complained = io.StringIO(), io.StringIO()
+        with contextlib.redirect_stdout(said), contextlib.redirect_stderr(complained):
+            status = causes.main([*words])
+        return status, said.getvalue(), complained.getvalue()
+
+    def test_without_one_file_its_usage(self) -> None:
+        for words in ((), (BAD, BAD)):
+            status, said, complained = self.printed(*words)
+            self.assertEqual((status, said), (2, ""))
+            self.assertIn("python3 python nrdb.causes FILE", complained)
+
+    def test_a_file_that_cannot_be_read(self) -> None:
+        status, said, complained = self.printed("none\x1b.jsonl")
+        self.assertEqual((status, said), (3, ""))
+        self.assertRegex(complained, r"^none[^\x1b]*\.jsonl: .*No such file or directory")
+
+
 class AtTheStart(unittest.TestCase):
     def test_what_hangs_is_that_of_the_end(self) -> None:
         recording = Recording.read(str(CAUSED / "bodies-bad.jsonl"))

@@ -8,7 +8,9 @@ from typing import Any, Optional, cast
 import pytest
 
 from netrev_calls.flow import BY_STATUS, Sort
+from netrev_go import cli as recorder
 from netrev_go.asking import hanging, never_closed
+from nrdb.cli import session_of
 from nrdb.commands import parts_of, whole_words
 from nrdb.dap.looking import NETWORK, thread_of
 from nrdb.dap.moving import Moves
@@ -28,7 +30,7 @@ from nrdb.session import Misused, Session
 from nrdb.shapes import is_shaped
 from nrdb.suspects.keeping import Kept
 from nrdb.timeline.drawing import LETTER, Drawing, fitted
-from nrdb.timeline.trace import write_events
+from nrdb.timeline.trace import END, write_events
 
 
 # sockets and goroutines at the end
@@ -325,3 +327,44 @@ def test_events_are_written_as_one_list() -> None:
     file = io.StringIO()
     write_events(file, iter([["{1}", "{2}"], ["{3}"]]))
     assert file.getvalue() == '{"displayTimeUnit":"ns","traceEvents":[\n{1},\n{2},\n{3}\n]}\n'
+    assert int(END[0]) > 10**9  # (after each step that a recording can have)
+
+
+# the command lines
+
+
+@pytest.mark.parametrize("command", ["snapshot", "watch"])
+def test_a_running_process_is_copied_or_watched(command: str, monkeypatch: pytest.MonkeyPatch) -> None:
+    called: list[tuple[str, str]] = []
+
+    def noting(by: str) -> Any:
+        def note(options: Any, *_: object) -> int:
+            called.append((by, options.command))
+            return 7
+
+        return note
+
+    monkeypatch.setattr(recorder.gc, "disable", lambda: None)
+    for name in ("snapshot", "watch"):
+        monkeypatch.setattr(recorder, name, noting(name))
+    for name in ("check", "offer", "of_a_process"):
+        monkeypatch.setattr(recorder, name, lambda *_: None)
+    for name in ("go_if_any", "wish_of"):
+        monkeypatch.setattr(recorder, name, lambda *_: None)
+    assert recorder.main([command, "1"]) == 7 and called == [(command, command)]
+
+
+def test_a_session_without_a_file_has_no_recording() -> None:
+    given = Made(
+        file=None,
+        join="localhost:1",
+        netrev="netrev",
+        lines=[],
+        suspects=False,
+        trace="",
+        timeline="",
+        batch=True,
+        json=False,
+    )
+    made = session_of(cast(Any, given), cast(Any, None), cast(Any, None), cast(Any, Made(note=print)))
+    assert (made.recording, made.path, made.program) == (None, "", "netrev")

@@ -112,7 +112,7 @@ def wanted_by(session: Session, words: list[str]) -> Wanted:
     length = session.text().length
     if not words:
         return Wanted(1, "", "", length)
-    if len(words) == 1 and (number := number_of(words[0])) is not None:
+    if (number := number_of(" ".join(words))) is not None:
         return Wanted(number, "", "", length)
     cell = cell_of(words[:2]) or cell_of(words[:1])
     value = " ".join(words[2 if cell_of(words[:2]) else 1 :])

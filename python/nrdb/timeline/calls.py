@@ -109,9 +109,8 @@ class Telling:
         return self._known[alike]
 
     def _told(self, call: Call, stack: int) -> tuple[int, ...]:
-        name = name_of(self._recording, call) if self._recording.lines else call.name
         came, state = self.texts[self._came(call)], state_of(self._index, call)
-        return self.texts[name], came, self._line(stack), state, self._calls_of(stack)
+        return self.texts[name_of(self._recording, call)], came, self._line(stack), state, self._calls_of(stack)
 
     def _came(self, call: Call) -> str:
         """The result of a call, as text; a call that accepts a connection has no bytes."""
