@@ -85,7 +85,8 @@ def first_step(sort: Sort, g: int, which: int, side: str, values: tuple[Any, ...
 class Came(Enum):
     """The consequence of an answer."""
 
-    OVER = auto()  # the operation, or a part of it, is over: what is left to read, to write or to release decides
+    # the operation, or a part of it, is over; it goes on if something is left to read, to write or to release
+    OVER = auto()
     STAYS = auto()  # the status determines the next step
     WAITS = auto()  # it waits first
     READY = auto()  # the wait is over

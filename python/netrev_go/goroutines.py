@@ -221,7 +221,7 @@ class Passing:
         self._ready: dict[int, int] = {}
         self._cases: dict[int, tuple[At, ...]] = {}
         self._uses: dict[tuple[int, int, str, int], list[int]] = {}
-        self._keys: dict[int, int] = {}  # of channels that were made at an address, the last one's
+        self._keys: dict[int, int] = {}  # for an address, the key of the last channel that was made there
 
     def point(self, point: Point, step: int) -> None:
         """Processes the next point; `step` is the last step before it."""

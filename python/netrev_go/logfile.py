@@ -209,7 +209,7 @@ def as_one(column: array[int]) -> int:
 def behind_the_last_gap(points: list[Point]) -> list[Point]:
     """The points after the last gap that is too large for points that were being written."""
     if points and points[-1].number - points[0].number < len(points) - 1 + UNDER_WAY:
-        return points  # fewer are missing in all
+        return points  # fewer points are missing than may have been under way
     for index in range(len(points) - 1, 0, -1):
         if points[index].number - points[index - 1].number > UNDER_WAY:
             return points[index:]

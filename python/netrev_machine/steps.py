@@ -1,8 +1,8 @@
 """The 31 kinds of step: each a function of the state and the arguments that returns the next state and the answer,
 or raises Refused with the first reason, in the order of the table of docs/internals/MACHINE.md.
 
-Answers have their names of docs/internals/MACHINE.md in lower case; a number, a code, `got` and `put` include
-theirs.
+Answers are those of docs/internals/MACHINE.md in lower case; `number`, `code`, `got` and `put` come with their
+number.
 """
 
 from typing import Callable

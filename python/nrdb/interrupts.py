@@ -48,8 +48,8 @@ class Interrupts:
 
     @contextmanager
     def shielded(self) -> Iterator[None]:
-        """Context in which Ctrl-C is remembered, so that nothing is left half done. Two of them give the session up
-        here too."""
+        """Context in which Ctrl-C is remembered, so that nothing is left half done. A second Ctrl-C gives the
+        session up."""
         self._shields += 1
         try:
             yield

@@ -136,7 +136,7 @@ class Recording:
         return self.data[: self._starts[number - 1]]
 
     def before_step(self, number: int) -> bytes:
-        """The lines before that of a step, from 1 to one more than the last."""
+        """The lines before the line of step `number`, which may be one more than the last."""
         return self.before_line(self._numbers[number]) if number <= self.length else self.data
 
     def between(self, first: int, last: int) -> bytes:

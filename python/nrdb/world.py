@@ -64,7 +64,7 @@ class Opened:
         self.now: dict[int, int] = earlier.now.copy() if earlier else {}
 
     def after(self, recording: Recording, first: int, last: int) -> "Opened":
-        """Which are open after the steps that lead from one position to another."""
+        """The descriptors that are open after the steps from one position to another."""
         opened = Opened(self)
         for closed, socket in closings_and_openings(recording, first, last):
             if closed:
@@ -87,7 +87,7 @@ class Opened:
 
 @lru_cache(maxsize=128)
 def opened_after(recording: Recording, blocks: int) -> Opened:
-    """Which descriptors are open after so many blocks of steps."""
+    """The descriptors that are open after this many blocks of steps."""
     if not blocks:
         return Opened()
     return opened_after(recording, blocks - 1).after(recording, (blocks - 1) * BLOCK, blocks * BLOCK)

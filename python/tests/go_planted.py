@@ -22,7 +22,7 @@ CHECKED = """		errcode = netpollcheckerr(pd, int32(mode))
 			return errcode
 		}
 """
-# the changes by file, each text wherever it occurs, and the doctor's message
+# for each change: the replacements in files, each wherever its text occurs, and the doctor's message
 PLANTED: dict[str, tuple[list[Change], str]] = {
     "a renamed call": (
         [(POLL, {"netpollcheckerr(": "netpollerror("})],

@@ -67,7 +67,7 @@ AT_THE_DESCRIPTOR: tuple[tuple[Kind, tuple[int, ...], list[object]], ...] = (
     (Kind.WAIT_CHECK, (114, 1), ["waitcheck", 0, ["code", 1]]),
     (Kind.EVENT, (114 + 119, 1), ["pollevent", 0, 1, "rw", 1, "done"]),
 )
-# what a lock word was and became, Go's own answer and whether it was for reading, and what is recorded then
+# the kind, the lock word before and after, two bits (1: for reading, 2: Go's function returned true), and the recorded answer
 RETURNED = (
     (Kind.INCREF, 0, 8, 2, "yes"),
     (Kind.INCREF, 1, 1, 0, "no"),

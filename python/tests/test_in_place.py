@@ -38,7 +38,8 @@ def in_order(cells: set[str]) -> list[str]:
 
 class InPlace(unittest.TestCase):
     def made(self, machine: Machine, world: World, step: tuple[Any, ...]) -> World:
-        """Both make a step, or refuse it for the same reason, and are equal then: the state after it."""
+        """Checks that both make a step, or refuse it for the same reason, and are equal afterwards; the state after
+        it."""
         try:
             after, answer = apply(world, step)
         except Refused as refused:

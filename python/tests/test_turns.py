@@ -91,7 +91,7 @@ class Turns(unittest.TestCase):
                     self.assertRegex("\n".join(said), f"(?m){reason.replace('{}', bug_line(name))}")
 
     def test_of_good_runs_nothing_is_said(self) -> None:
-        """Except for the Dial that must fail."""
+        """The first output of good runs is empty, except for the Dial that must fail."""
         for name in REASONS:
             with self.subTest(name):
                 self.assertEqual(len(self.said(name, "good")), 2 if name == "undone" else 0)

@@ -1,5 +1,6 @@
-"""The goroutines that wait for a lock, and its holder: the result is the same however many wait, with as many
-queries and one search of the recording's text; and by its steps from the end as by all of them."""
+"""The goroutines that wait for a lock, and its holder: the number of queries and of searches of the recording's text
+doesn't grow with the number of waiters, and a search from the end of the recording finds the same as one of all
+steps."""
 
 import io
 import json

@@ -17,7 +17,7 @@ from nrdb.web.streams import Streams
 
 from .web_client import LOOPBACK, Address, Listener
 
-SVG = 'xmlns="http://www.w3.org/2000/svg"'  # a name, never fetched, of what the page saves
+SVG = 'xmlns="http://www.w3.org/2000/svg"'  # a namespace in what the page saves; nothing is fetched from it
 TOKEN = "right-token"
 DATA = b'{"cells":{}}'
 

@@ -1,8 +1,8 @@
 """Checks the reading list of docs/proof/THEOREM.md: the definitions that its laws rest on, by crate and file, and their lines.
 
 A file comes after those that it rests on, and a crate after those that it imports. Lines are those of definitions, without imports; a
-law's are counted without comments, a file's with them. A definition that a law only receives, as a premise that another contract has
-proved, counts and isn't opened: the law says what follows from it, whatever it says.
+law's are counted without comments, a file's with them. A definition that a law has only in a premise, which
+another contract proves, counts, but the definitions that it uses don't: the law only says what follows from the premise.
 
 The definitions that the laws rest on are in files of their own, which contain nothing else, and each crate lists these under one
 heading.

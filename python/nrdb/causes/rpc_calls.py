@@ -1,5 +1,5 @@
-"""Calls of net/rpc that are done and were dropped: its client puts a call into the channel that Go was given only if
-there is room."""
+"""Calls of net/rpc that are done but weren't delivered: its client puts a finished call into the channel that the
+caller of Go passed only if that channel has room."""
 
 import re
 

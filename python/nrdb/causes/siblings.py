@@ -15,7 +15,7 @@ from .source_functions import text_at
 from .words import short
 
 MOST_LINES = 2
-DEFERRED = ".deferwrap"  # part of the names of functions that run when another ends, in any case
+DEFERRED = ".deferwrap"  # part of the names of Go's functions for `defer`, which run however a function ends
 
 
 class Kind(NamedTuple):

@@ -11,7 +11,7 @@ from netrev_calls.flow import Sort
 from .runs import Delay
 from .scripts import Operation, Script
 
-NEAR = 4  # steps of others about the same thing that a pause may wait for
+NEAR = 4  # how many steps of other actors about the same thing a pause may wait for
 AROUND = 40  # steps within which several delays are drawn
 IN_VAIN = 2_000  # seeds without a new schedule after which the search ends
 LOCK, WAIT, BYTES = "lock", "wait", "bytes"  # the things of a socket that a step is about
@@ -25,7 +25,7 @@ OF_THING = {
 }
 THING_OF = {kind: thing for thing, kinds in OF_THING.items() for kind in kinds}
 SIDE_OF = {"arrive": "r", "peerclose": "r", "sysread": "r", "drain": "w", "syswrite": "w", "closewrite": "w"}
-# of two steps about a wait, one must be such a step, because no other goroutine enters meanwhile
+# a pair of steps about a wait has at least one of these, because no other goroutine enters meanwhile
 TO_OTHERS = frozenset(("setdeadline", "evict", "pollevent", "fire"))
 
 Thing = tuple[int, str, str]  # a socket, which thing of it, and the side

@@ -72,7 +72,7 @@ class Clue(NamedTuple):
 
 
 def earliest(numbers: list[int]) -> list[int]:
-    """For each place the least of the numbers from there on."""
+    """For each place the least number from that place on."""
     least: list[int] = list(accumulate(reversed(numbers), lambda one, other: min(one, other)))
     return least[::-1]
 

@@ -76,19 +76,19 @@ class Client:
             self.events.append(message)
 
     def move(self, command: str, **arguments: Any) -> Body:
-        """Makes a move; the body of the event that it stopped."""
+        """Makes a move; the body of the `stopped` event."""
         self.events.clear()
         self(command, **arguments)
         return self.stopped()
 
     def stopped(self) -> Body:
-        """The body of the next event that it stopped; `thread` is then the one that is shown."""
+        """The body of the next `stopped` event; `thread` is then the one that is shown."""
         body = self.event("stopped")
         self.thread = body["threadId"]
         return body
 
     def begin(self, recording: str, **launch: Any) -> Body:
-        """Launches a recording; the body of the event that it stopped first."""
+        """Launches a recording; the body of the first `stopped` event."""
         self("initialize", adapterID="netrev", linesStartAt1=True, columnsStartAt1=True)
         self("launch", program=recording, **launch)
         self.event("initialized")

@@ -13,7 +13,7 @@ from nrdb.recorded_changes import RecordedChanges
 from .support import EXAMPLES, HUNTS, nrdb, recordings, shown
 
 SEED = 20261125
-SVG = 'xmlns="http://www.w3.org/2000/svg"'  # a name, never fetched, of what the page saves
+SVG = 'xmlns="http://www.w3.org/2000/svg"'  # a namespace in what the page saves; nothing is fetched from it
 
 
 def page_of(path, *words):
