@@ -90,7 +90,7 @@ PLANTED: dict[str, tuple[list[Change], str]] = {
                 },
             )
         ],
-        "trial: this Go can't be recorded: GOMAXPROCS=1: the program read and wrote ",
+        "trial: this Go can't be recorded: GOMAXPROCS=1: the program counted ",
     ),
 }
 
