@@ -13,7 +13,7 @@ import sys
 from array import array
 from collections.abc import Callable, Iterable
 from functools import lru_cache, partial
-from itertools import accumulate, compress
+from itertools import accumulate, compress, takewhile
 from typing import BinaryIO, cast
 from operator import xor
 
@@ -40,7 +40,7 @@ HOLDER_BEGUN = 1  # instead of an address, in a row that is being written
 # As many points may be under way on other processors while one is written.
 UNDER_WAY = 64
 LOW = 2**32 - 1
-NEVER = -1  # instead of a time
+NEVER, UNKNOWN = -1, 0  # instead of a time
 OF_KINDS = bytes(KINDS)
 
 
@@ -127,7 +127,9 @@ def whole_points(file: BinaryIO, header: Header) -> tuple[list[Point], int]:
     first = max(0, header.passed - header.points)
     turn = first % header.points
     points: list[Point] = []
-    latest = header.begin if header.is_sparse else NEVER
+    latest = NEVER
+    if header.is_sparse:
+        latest = header.begin if not first else UNKNOWN
     for begin, end, number in ((turn, held, first), (0, min(turn, held), first + header.points - turn)):
         end = min(end, begin + max(0, header.passed - number))
         for place in range(begin, end, AT_ONCE):
@@ -138,7 +140,15 @@ def whole_points(file: BinaryIO, header: Header) -> tuple[list[Point], int]:
                 points += found
                 if header.is_sparse and found:
                     latest = max(latest, found[-1].time)
-    return points, held
+    return with_first_times(points) if header.is_sparse else points, held
+
+
+def with_first_times(points: list[Point]) -> list[Point]:
+    """The points, of which the first ones, if they have no time, have that of the next one that has: the point before them is lost."""
+    untimed = len(list(takewhile(lambda point: point.time == UNKNOWN, points)))
+    if untimed in (0, len(points)):
+        return points
+    return [point._replace(time=points[untimed].time) for point in points[:untimed]] + points[untimed:]
 
 
 # The same as Point._make, but without a check of the number of values.

@@ -99,6 +99,14 @@ class Times(unittest.TestCase):
         self.assertEqual([point.time for point in log.points], [1_000, 1_020, 1_020, 1_015, 1_020, 1_300])
         self.assertEqual(make(log).times, [0, 20, 20, 20, 20, 300])
 
+    def test_if_the_point_before_is_lost_it_has_the_next_one_s(self) -> None:
+        times = [0, 1_020, 0, 0, 1_300, 0]
+        points = [point._replace(time=time) for point, time in zip(opened(3), times)]
+        log = read(binary(points[2:], begin=1_000, room=4, is_sparse=True))
+        self.assertEqual(
+            [(point.number, point.time) for point in log.points], [(2, 1_300), (3, 1_300), (4, 1_300), (5, 1_300)]
+        )
+
     def test_of_a_sparse_log_so_do_those_behind_a_point_that_is_missing(self) -> None:
         times = [1_010, 0, 5_000, 0, 1_300, 0]
         points = [point._replace(time=time) for point, time in zip(opened(3), times)]
