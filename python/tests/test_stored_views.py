@@ -1,0 +1,108 @@
+"""All that nrdb prints at some positions of a few recordings, the data of their timelines, and their traces.
+
+`/usr/bin/python3 python tests.test_stored_views` stores what it prints now, with a Python that has pytest; read the difference before
+committing it."""
+
+import json
+import sys
+from pathlib import Path
+
+import pytest
+
+from nrdb.collecting import Collecting
+from nrdb.interrupts import Interrupts
+from nrdb.prompt.answers import ANSWERS
+from nrdb.recording import Recording
+from nrdb.scout import Scout
+from nrdb.session import Session
+from nrdb.timeline.beside import beside
+from nrdb.timeline.picture import Shown, collected
+from nrdb.timeline.trace import Tracing
+
+from .modelled import Modelled, changes_at, recording_at
+
+ROOT = Path(__file__).resolve().parents[2]
+STORED = Path(__file__).with_name("views")
+NAMES = (
+    "examples/first", "examples/lost-wakeup", "examples/real/half", "examples/real/leak", "python/tests/caused/pool-bad",
+    "python/tests/caused/partly-bad",
+)  # fmt: skip
+EVERYWHERE = (
+    "info position", "info goroutines", "info sockets", "info descriptors", "info timers", "info holders 0", "list", "where",
+    "info errors", "info hangs",
+)  # fmt: skip
+ONCE = (
+    "info suspects", "info requests", "history gor 0", "history lock 0", "history rg 0", "calls", "calls sock 0", "calls gor 0", "goto 1",
+    "next", "finish", "step", "reverse-next", "until lock 0", "break pollevent", "watch lock 0", "display clock", "continue", "continue",
+    "info breakpoints", "reverse-continue", "delete 1", "commands 2", "info gor 0", "end", "continue", "goroutine 1", "frame", "print lock 0",
+    "dump in 0", "help", "help goto", "apropos lock", "info commands", "tbreak fire", "condition 2", "info display", "undisplay clock",
+    "checkpoint", "restart 1", "info checkpoints", "shoe", "print", "print gor", "goto x", "steps gor 0", "list 3",
+)  # fmt: skip
+
+
+def session_of(name: str) -> tuple[Session, Collecting]:
+    """A session over the recording, whose netrev is the model."""
+    path = ROOT / f"{name}.jsonl"
+    recording, model, interrupts = Recording.read(str(path)), recording_at(path), Interrupts()
+
+    def modelled() -> Modelled:
+        return Modelled(model, interrupts, lambda _: None)
+
+    changes, printer = changes_at(path), Collecting()
+    recording.changes = changes
+    session = Session(modelled(), recording, Scout(modelled), printer, interrupts, ANSWERS, recorded=changes)
+    session.path = path.name
+    session.begin(session.ask("info position"))
+    return session, printer
+
+
+def printed(name: str) -> list[str]:
+    """What lines are answered, each with its line before it."""
+    session, printer = session_of(name)
+    length = session.text().length
+    lines = [line for at in (0, length // 3, 2 * length // 3, length) for line in (f"goto {at}", *EVERYWHERE)]
+    said = printer.take().splitlines()
+    for line in (*lines, *ONCE):
+        session.attempt(line)
+        said += [f"> {line}", *printer.take().splitlines()]
+    return said
+
+
+def traced(name: str) -> list[str]:
+    session, _ = session_of(name)
+    recording, changes, scout = session.text(), session.changes(), session.looks()
+    return [*Tracing(recording, changes).events("it", lambda: None), *beside(recording, changes, scout)]
+
+
+def pictured(name: str) -> list[str]:
+    session, _ = session_of(name)
+    data = collected(Shown.by(session, lambda _: None))
+    return [f"{key}: {json.dumps(value, ensure_ascii=False, sort_keys=True)}" for key, value in sorted(data.items())]
+
+
+SORTS = {"printed": printed, "traced": traced, "pictured": pictured}
+
+
+def file_of(name: str, sort: str) -> Path:
+    return STORED / f"{Path(name).name}.{sort}"
+
+
+@pytest.mark.parametrize("sort", SORTS)
+@pytest.mark.parametrize("name", NAMES)
+def test_nrdb_shows_what_is_stored(name: str, sort: str) -> None:
+    assert SORTS[sort](name) == file_of(name, sort).read_text(encoding="utf-8").split("\n")[:-1]
+
+
+def test_nothing_else_is_stored() -> None:
+    assert {path.name for path in STORED.iterdir()} == {file_of(name, sort).name for name in NAMES for sort in SORTS}
+
+
+def main() -> int:
+    for name in NAMES:
+        for sort, shown in SORTS.items():
+            file_of(name, sort).write_text("".join(f"{line}\n" for line in shown(name)), encoding="utf-8")
+    return 0
+
+
+if __name__ == "__main__":
+    sys.exit(main())
