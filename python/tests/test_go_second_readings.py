@@ -216,7 +216,7 @@ def test_waits_of_a_recording_are_those_with_a_step_in_them(seed: int) -> None:
 
 
 def overlap(begin: int, end: Optional[int], first: int, last: int) -> bool:
-    """Whether two times have a moment in common; a wait that doesn't end goes on."""
+    """Whether two spans of time overlap; a wait without an end lasts to the end of the log."""
     moments = range(begin, (2_000 if end is None else end) + 1)
     return any(first <= moment and (last == UNENDED or moment <= last) for moment in moments)
 

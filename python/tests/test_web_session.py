@@ -223,7 +223,7 @@ class Gone(Played):
     GONE = "netrev has ended: lines aren't answered until it is back"
 
     def test_it_is_said_and_lines_arent_answered(self) -> None:
-        self.running.post("browser 2", "print clock")  # which was taken before anybody knew
+        self.running.post("browser 2", "print clock")  # accepted before the page knows that netrev has ended
         self.netrev.has_ended = True
         self.assertEqual(
             self.look()[-2:], [{"event": "netrev", "there": False, "says": self.GONE}, self.unanswered("print clock")]

@@ -150,7 +150,7 @@ def perhaps_of(index: Index, timers: list[Timer]) -> str:
 
 
 def limit_says(index: Index, timers: list[Timer]) -> str:
-    """Says that the limit of a context had passed, from the timers of which one was the context's."""
+    """Says that the limit of a context had passed; one of the timers was the context's."""
     lines, timer = index.recording.lines, timers[0]
     return (
         f"the limit of a context, {perhaps_of(index, timers)}{duration(timer.due - timer.time)}, had passed since that was "

@@ -71,7 +71,7 @@ def unsent_requests(index: Index) -> Iterator[Unsent]:
 
 
 def request_of(index: Index, closed: Call) -> Optional[Use]:
-    """The last request that the goroutine took that closed a connection."""
+    """The last request that was taken by the goroutine that closed a connection."""
     lines, goid = index.recording.lines, index.recording.lines.goid_of(closed.goroutine, closed.first)
     found = list[Use]()
     for uses in lines.uses.values():

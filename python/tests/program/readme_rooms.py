@@ -66,8 +66,8 @@ class Room:
         return ran.returncode, ran.stdout
 
     def play(self, command: Command) -> str:
-        """Runs a command of README, compares the output with README's, and returns it. Each command that it says to
-        type next must run, and whatever it gives as netrev's answer must be netrev's."""
+        """Runs a command of README, compares the output with README's, and returns it. Each command after `next:`
+        must run, and each answer after `netrev:` must be netrev's."""
         status, printed = self.run(command.text, "".join(f"{typed.text}\n" for typed in command.prompts))
         if status != command.fails():
             raise ReadmeError(f"README.md:{command.line}: {command.text}: status {status}\n{printed}")
@@ -122,7 +122,7 @@ def commands_of_go() -> Optional[Path]:
 
 def settings_of(home: Path, *folders: Path) -> dict[str, str]:
     """The environment of a user with this home, who has these folders on the PATH. Go's caches are those of the user who runs the
-    tests. Logs have a folder of their own: what an interrupted run left in memory isn't README's."""
+    tests. Logs have their own folder, so that logs that an interrupted run left in memory aren't reported."""
     go = commands_of_go()
     logs = home / "logs"
     logs.mkdir(exist_ok=True)
