@@ -27,17 +27,8 @@ NAMES = (
     "examples/first", "examples/lost-wakeup", "examples/real/half", "examples/real/leak", "python/tests/caused/pool-bad",
     "python/tests/caused/partly-bad",
 )  # fmt: skip
-EVERYWHERE = (
-    "info position", "info goroutines", "info sockets", "info descriptors", "info timers", "info holders 0", "list", "where",
-    "info errors", "info hangs",
-)  # fmt: skip
-ONCE = (
-    "info suspects", "info requests", "history gor 0", "history lock 0", "history rg 0", "calls", "calls sock 0", "calls gor 0", "goto 1",
-    "next", "finish", "step", "reverse-next", "until lock 0", "break pollevent", "watch lock 0", "display clock", "continue", "continue",
-    "info breakpoints", "reverse-continue", "delete 1", "commands 2", "info gor 0", "end", "continue", "goroutine 1", "frame", "print lock 0",
-    "dump in 0", "help", "help goto", "apropos lock", "info commands", "tbreak fire", "condition 2", "info display", "undisplay clock",
-    "checkpoint", "restart 1", "info checkpoints", "shoe", "print", "print gor", "goto x", "steps gor 0", "list 3",
-)  # fmt: skip
+# the lines that are typed at four positions, and those that are typed once after these
+LINES = STORED / "lines.txt"
 
 
 def session_of(name: str) -> tuple[Session, Collecting]:
@@ -60,9 +51,10 @@ def printed(name: str) -> list[str]:
     """What lines are answered, each with its line before it."""
     session, printer = session_of(name)
     length = session.text().length
-    lines = [line for at in (0, length // 3, 2 * length // 3, length) for line in (f"goto {at}", *EVERYWHERE)]
+    everywhere, once = (part.splitlines() for part in LINES.read_text(encoding="utf-8").split("\n\n"))
+    lines = [line for at in (0, length // 3, 2 * length // 3, length) for line in (f"goto {at}", *everywhere)]
     said = printer.take().splitlines()
-    for line in (*lines, *ONCE):
+    for line in (*lines, *once):
         session.attempt(line)
         said += [f"> {line}", *printer.take().splitlines()]
     return said
@@ -94,7 +86,8 @@ def test_nrdb_shows_what_is_stored(name: str, sort: str) -> None:
 
 
 def test_nothing_else_is_stored() -> None:
-    assert {path.name for path in STORED.iterdir()} == {file_of(name, sort).name for name in NAMES for sort in SORTS}
+    files = {file_of(name, sort) for name in NAMES for sort in SORTS}
+    assert set(STORED.iterdir()) == {LINES, *files}
 
 
 def main() -> int:
