@@ -314,3 +314,26 @@ READ_AND_MORE = [Made(call=Made(name="Read")), Made(call=Made(name="Accept"))]
 )  # fmt: skip
 def test_the_order_of_hangs(change: dict[str, Any], rank: int) -> None:
     assert wait_graph.order(hang(**change)) == (False, False, rank, -change.get("waiting", 2), 7)
+
+
+@pytest.mark.parametrize(
+    "moved, is_asking",
+    [
+        ([("Write", 1)], True), ([], False), ([("Write", 2)], False), ([("Read", 1)], False), ([("Write", 1), ("Read", 1), ("Write", 1)], True),
+        ([("Read", 1), ("Write", 1)], False), ([("Write", 1), ("Read", 1)], False), ([("Write", 1), ("Write", 2)], False),
+        ([("Write", 2), ("Write", 1)], True),
+    ],
+)  # fmt: skip
+def test_a_goroutine_that_asked_and_waits_for_the_answer(moved: list[tuple[str, int]], is_asking: bool) -> None:
+    calls = [Made(name=name, goroutine=g, last=3, moved=4, first=2) for name, g in moved]
+    call = Made(socket=3, goroutine=1, first=9, name="Read")
+    index = Made(by_socket={3: [*calls, Made(name="Read", goroutine=1, last=0, moved=0, first=9)]})
+    assert bool(leftovers.is_asking(cast(Any, index), cast(Any, call))) is is_asking
+
+
+@pytest.mark.parametrize(
+    "line, within", [(1, range(1, 3)), (2, range(1, 3)), (3, None), (4, range(4, 7)), (5, range(4, 7)), (6, range(4, 7)), (7, range(7, 8)), (8, None)]
+)  # fmt: skip
+def test_the_lines_of_the_function_around_a_line(line: int, within: range | None) -> None:
+    lines = ("func f() {", "}", "", "func g() {", "\tx()", "}", "func h() { y() }", "")
+    assert source_functions.range_of(lines, line_of(line)) == within

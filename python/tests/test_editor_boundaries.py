@@ -6,7 +6,7 @@ from typing import Any, Optional, cast
 
 import pytest
 
-from nrdb.dap import filters, memory, moving
+from nrdb.dap import filters, looks, memory, moving
 from nrdb.dap.filters import Failure, Filter, Filters
 from nrdb.dap.messages import Request, Unanswerable
 from nrdb.dap.moving import AT_THE_END, Moves, Stop, text_of
@@ -116,3 +116,25 @@ def test_what_went_wrong_by_filters(monkeypatch: pytest.MonkeyPatch) -> None:
         Filter.ERRORS: [7],
     }
     assert found[Filter.SUSPECTS][0] == Failure(5, "rule", "says")
+
+
+@pytest.mark.parametrize(
+    "text, column, first, labels, start",
+    [
+        ("info go", 8, 1, ["goroutines"], 6), ("info go", 7, 1, ["goroutines"], 6), ("info go", 7, 0, ["goroutines"], 5), ("inf", 4, 1, ["info"], 1),
+        ("info shoe", 10, 1, [], 6), ("info go", 3, 1, ["info"], 1),
+    ],
+)  # fmt: skip
+def test_completions_of_a_word(text: str, column: int, first: int, labels: list[str], start: int) -> None:
+    target = cast(Any, Made(debuggee=Made(numbers=lambda of: [])))
+    found = cast(Any, looks.completions(target, cast(Any, Made(first=first)), request(text=text, column=column)))
+    assert [one["label"] for one in found["targets"]] == labels
+    assert {(one["start"], one["length"]) for one in found["targets"]} == (
+        {(start, column - start)} if labels else set()
+    )
+
+
+def test_completions_before_the_first_column_are_those_of_an_empty_line() -> None:
+    target = cast(Any, Made(debuggee=Made(numbers=lambda of: [])))
+    found = cast(Any, looks.completions(target, cast(Any, Made(first=1)), request(text="info go", column=0)))
+    assert {"info", "stepi"} <= {one["label"] for one in found["targets"]}

@@ -14,6 +14,7 @@ from nrdb.cli import session_of
 from nrdb.commands import parts_of, whole_words
 from nrdb.dap.looking import NETWORK, thread_of
 from nrdb.dap.moving import Moves
+from nrdb.exploring import arrivals
 from nrdb.exploring.control import Place, is_about
 from nrdb.exploring.failing import _of_socket
 from nrdb.exploring.others import Others
@@ -368,3 +369,39 @@ def test_a_session_without_a_file_has_no_recording() -> None:
     )
     made = session_of(cast(Any, given), cast(Any, None), cast(Any, None), cast(Any, Made(note=print)))
     assert (made.recording, made.path, made.program) == (None, "", "netrev")
+
+
+@pytest.mark.parametrize(
+    "kind, value, held, peer_closed, is_made",
+    [
+        ("arrive", b"1234", 4, False, True), ("arrive", b"12345", 4, False, None), ("arrive", b"1", 7, False, True), ("arrive", b"1", 8, False, None),
+        ("arrive", b"1", 0, True, False), ("drain", 2, 2, False, True), ("drain", 3, 2, False, None), ("drain", 2, 2, True, True),
+        ("peerclose", None, 0, False, True), ("peerclose", None, 0, True, False),
+    ],
+)  # fmt: skip
+def test_bytes_that_come_or_go_as_there_is_room(
+    kind: str, value: Any, held: int, peer_closed: bool, is_made: Optional[bool]
+) -> None:
+    others = Others(cast(Any, None))
+    buffers = (b"x" * held, b"") if kind == "arrive" else (b"", b"x" * held)
+    board = Made(sockets=[Made(peer_closed=peer_closed, buffers=buffers, capacities=(8, 3))])
+    values = () if value is None else (value,)
+    item = Made(event=Made(kind=kind, arguments=(0, *values), number=5))
+    found = others._moves(cast(Any, item), cast(Any, board), 0)
+    assert found == ([(kind, 0, *values)] if is_made else [] if is_made is False else None)
+    assert others.tries == ({5: 1} if is_made is None else {})
+
+
+@pytest.mark.parametrize(
+    "told, every, in_vain, due",
+    [
+        ([8], [7, 12], [7], 8), ([], [12], [], 20), ([8], [], [], 20), ([8, 11], [12], [], 20), ([8, 13], [12], [], 8), ([6, 8], [12], [7], 8),
+        ([7, 8], [12], [7], 8), ([8], [12], [9], 20), ([8], [12], [8], 20), ([10, 13], [12], [], 20), ([8, 9], [12], [], 8),
+    ],
+)  # fmt: skip
+def test_when_what_came_is_due(told: list[int], every: list[int], in_vain: list[int], due: int) -> None:
+    events = [Made(number=number, arguments=(0, 1, "r")) for number in told] + [Made(number=9, arguments=(0, 1, "w"))]
+    item = Made(due=20, event=Made(number=10, kind="arrive"))
+    found = arrivals._due(cast(Any, item), cast(Any, events), cast(Any, Made(all=every, in_vain=in_vain)))
+    assert found == (20 if due == 20 else due - arrivals.JUST_BEFORE)
+    assert arrivals._due(cast(Any, item), cast(Any, events), None) == 20
