@@ -24,7 +24,8 @@ DEADLINE_CALL, INCREF, SET_DEADLINE, DECREF = map(
     int, (Kind.DEADLINE_CALL, Kind.INCREF, Kind.SET_DEADLINE, Kind.DECREF)
 )
 UNLIKE = {READ, WRITE, NAMED, NOTED, NOTED_NAMED, DEADLINE_CALL}  # these are more than one step of their socket
-REFERENCE, RETURNS_TRUE = 8, 2  # of a lock word; what Go's function returned, as points of lock words have it
+# one reference in a lock word; the bit of a point that says that Go's function returned true
+REFERENCE, RETURNS_TRUE = 8, 2
 INIT, OPEN, OPEN_FAILED, CLOSE = int(Kind.INIT), int(Kind.OPEN), int(Kind.OPEN_FAILED), int(Kind.CLOSE)
 EVENT, FIRE = int(Kind.EVENT), int(Kind.FIRE)
 # points at the descriptor's newest use
@@ -275,7 +276,7 @@ def owned(points: list[Point], all_bytes: bool = True) -> Owned:
     cut = calls = 0
     for point in points:
         kind, at = point[1], point[3]
-        # (the same as `of` for nearly all points, because there may be a million)
+        # (there may be a million points: nearly all are handled without the call of `of`)
         socket = words.get(at) if kind in AT_A_WORD else used[-1] if kind in AT_USE and (used := uses.get(at)) else None
         if socket is None or socket.closed:
             socket = of(point)

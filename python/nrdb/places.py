@@ -63,7 +63,7 @@ def descriptors_table(world: World, numbers: Optional[Iterable[int]] = None, is_
 
 
 def rest_words(every: list[int], left: int, name: str, all_of_them: str) -> str:
-    """The line about rows that aren't shown, or that nothing exists."""
+    """The number of rows that aren't shown, or a message that none exists; empty if all are shown."""
     if not every:
         return f"no {name} exists yet"
     return f"{left} {all_of_them}" if left else ""

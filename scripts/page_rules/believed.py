@@ -142,7 +142,7 @@ class Beliefs:
         return self.module(place).definitions.get(place.name)
 
     def _elsewhere(self, path: str, name: str) -> Iterator[Place]:
-        """A name of another file, or a type that a source declares: that one's module is `declared`."""
+        """The places of a name of another file. A type that a source declares has the module `declared`."""
         crate, _, module = path.partition(".specs.")
         if crate in self.tree.crates and module:
             yield Place(crate, module, name)

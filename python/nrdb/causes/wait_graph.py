@@ -43,10 +43,10 @@ class Branch(NamedTuple):
 
 
 class Hang(NamedTuple):
-    """A root: the goroutine that others wait for, or goroutines that wait for one another; what each of them needs,
-    the branches that wait for them, and the number of those goroutines, and how many of these only perhaps.
-    `alike` are similar roots, and `beside` others that wait for the same ended goroutine. `is_loose`: it isn't
-    known which root waits for which. `until`: a call of the roots whose deadline will end the wait."""
+    """A root: the goroutine that others wait for, or goroutines that wait for one another. `needs` has the need of
+    each, `waiting` is the number of goroutines that wait for them, and `perhaps` the number of those that aren't
+    certain to. `alike` are similar roots, and `beside` others that wait for the same ended goroutine. `is_loose`: it isn't known which root waits for which.
+    `until`: a call of the roots whose deadline will end the wait."""
 
     roots: list[Waiter]
     needs: list[Need]
