@@ -28,7 +28,8 @@ WORDS = {"refused": "fixed by a contract", "NOT REFUSED": "**the source alone**"
 
 
 class Number(NamedTuple):
-    """A number in the source of a crate: its file, the line that has it, and the text that is made one less."""
+    """A number in the source of a crate: its file, the line that has it, and the text of the number, which is reduced
+    by one."""
 
     crate: str
     name: str

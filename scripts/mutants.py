@@ -6,8 +6,9 @@
 Otherwise the edits of a crate are tried, many in one check.
 
 The gate tries each edit of crates/CRATE/must-fail alone, over the whole crate. Here the edits of different functions go into one
-copy of the repository, and only their functions are checked, each for itself, because the proof of a function doesn't rest on
-another's body. So all edits of a crate are tried in minutes. This is a tool for developers, and no part of the gate.
+copy of the repository, and only their functions are checked, each separately, because the proof of a function doesn't
+rest on another's body. So all edits of a crate are tried in minutes. This is a tool for developers, and no part of the
+gate.
 
 An edit counts as refused if a function that it changes isn't proved because of a goal of its own; a call of another function
 that isn't proved doesn't count. An edit that changes more than bodies (a constant, a type, a definition) is named and left to
@@ -125,7 +126,7 @@ def place_functions(crate, folder, edit):
 
 
 def batches_of(edits):
-    """The edits in as few checks as possible, no two of one function in the same."""
+    """The edits in as few batches as possible; no batch has two edits of one function."""
     batches: list[list[Edit]] = []
     for edit in edits:
         for batch in batches:

@@ -185,7 +185,7 @@ def stop(process: subprocess.Popen[bytes]) -> None:
 
 
 def await_program(process: subprocess.Popen[bytes], pipe: str, log: IO[bytes], say: Say) -> Path:
-    """Waits until the compiled program runs; its file. If `rt try` ends before, its output is the error."""
+    """Waits until the compiled program runs, and returns its file. If `rt try` ends first, its output is the error."""
     began = reminded = time.monotonic()
     while (program := running_program(process.pid, pipe)) is None:
         now = time.monotonic()

@@ -21,7 +21,7 @@ from .explored import explored, is_good, named, read, recorded
 ROOT = Path(__file__).resolve().parents[2]
 SEED = 55
 LEAST, GREATEST = 60, 6_000  # steps
-# packages, and how many of their tests
+# the number of tests for each package
 WANTED = {
     Suite("net"): 3,
     Suite("net/http"): 5,

@@ -159,7 +159,7 @@ def side_by_side(title: str, sorts: dict[str, Cases], has_mean: bool) -> str:
 
 
 def has_figure(cases: Cases, name: str) -> bool:
-    """Whether a figure was measured of these cases."""
+    """Whether a figure was measured for all of these cases."""
     return all(name in figures[NOW] for figures in cases.values())
 
 
@@ -177,8 +177,8 @@ def mean_cell(cases: Cases, name: str) -> str:
 
 
 def growth_table(title: str, name: str, limits: dict[str, Cases]) -> str:
-    """A figure by the limits of the header, from the least to the greatest: a row for each shape, and for each program
-    the figure with each of the limits, and the ratio of the greatest to the least."""
+    """How a figure grows with the limits in the header. Each row is a shape. For each program it has the figure at each
+    limit, smallest first, and the ratio of the last to the first."""
     least, *_, greatest = limits.values()
     programs = [program for program in PROGRAMS if all(program in figures for figures in least.values())]
     head = [title]

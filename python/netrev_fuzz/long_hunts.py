@@ -34,7 +34,7 @@ class Hunt(Program):
         self.planted: Optional[tuple[int, int]] = None  # the goroutine and the socket with the bug
 
     def run(self) -> "Hunt":
-        """Runs it to its length."""
+        """Adds steps until the recording has the wanted length."""
         while len(self.steps) < self.length:
             self.move()
         return self
@@ -176,7 +176,7 @@ class Refused(Hunt):
             pass
 
     def control(self, g: int, s: int, may_leak: bool) -> Turns:
-        """`RawConn.Control`. The bug: after a write that failed, it once keeps its reference."""
+        """`RawConn.Control`. The bug: once, after a failed write, it doesn't release its reference."""
         if self.do("incref", g, s)[0] != "yes":
             return (yield)
         for _ in range(4):

@@ -86,7 +86,7 @@ class Judge:
         return ""
 
     def wrong_note(self, line: str, event: Event) -> str:
-        """Remarks: a walk was stopped, or nothing was found because there is nothing."""
+        """Checks a note: a move was stopped, or a search found nothing because nothing matches."""
         text, words = event["text"], line.split()
         if text in DISTURBED or text.startswith("at "):
             return ""

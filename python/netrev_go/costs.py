@@ -137,7 +137,7 @@ class Measured:
             self.trips[way].append(int(ran(self.load, way, logs, "64", "20000", "0")[-3]))
 
     def best(self) -> dict[str, list[int]]:
-        """The least figures of each way."""
+        """The smallest figures for each way of recording."""
         return {way: [min(values) for values in zip(*calls)] for way, calls in self.calls.items()}
 
     def tell(self) -> None:

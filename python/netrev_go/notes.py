@@ -22,7 +22,7 @@ INCREF, INCREF_CLOSE, DECREF, RW_LOCK, RW_UNLOCK, RELEASE, ACQUIRE, EVICT = map(
     int,
     (Kind.INCREF, Kind.INCREF_CLOSE, Kind.DECREF, Kind.RW_LOCK, Kind.RW_UNLOCK, Kind.RELEASE, Kind.ACQUIRE, Kind.EVICT),
 )
-# Places of a goroutine inside a wait, as go/log/notes.go numbers them.
+# Stages of a wait, as go/log/notes.go numbers them.
 ENTERING, ARMED, PARKING, PARKED, SWAPPING, CHECKING = range(1, 7)
 # Words of a descriptor there.
 NIL, READY, WAIT, GOROUTINE = range(4)
@@ -34,7 +34,7 @@ READING, WRITING = 0, 1
 
 
 class Inside(NamedTuple):
-    """A goroutine inside a wait, its place there, and the stack with which it began."""
+    """A goroutine inside a wait, the stage that the wait has reached, and the stack at its start."""
 
     goroutine: int
     place: int

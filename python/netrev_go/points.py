@@ -105,8 +105,8 @@ NUMBER, KIND, GOROUTINE, TIME = (
 
 
 class Stack(NamedTuple):
-    """The return addresses of the calls, innermost first; that of the `go` statement that started the goroutine, and that of the
-    goroutine's function."""
+    """The return addresses of the calls, innermost first; then the address of the `go` statement that started the
+    goroutine, and the address of the goroutine's function."""
 
     made: int
     started: int
@@ -145,5 +145,5 @@ class Log:
         return bytes(map(KIND, self.points))
 
     def of_kinds(self, wanted: frozenset[int]) -> Iterator[Point]:
-        """The points of these kinds. (There may be a million points: no loop of Python's goes over all of them.)"""
+        """The points of these kinds. (There may be a million points, so this avoids a Python loop over them.)"""
         return compress(self.points, self.kinds.translate(bytes(kind in wanted for kind in range(256))))

@@ -168,8 +168,8 @@ class Runner:
         return self.process.returncode
 
     def finish_first(self) -> None:
-        """From here on recordings are made of what ran, and only Ctrl-C stops that. The other signals stay blocked,
-        also in the programs that make them."""
+        """Prepares for the conversion of logs, which only Ctrl-C stops. The other signals stay blocked, also in the
+        child processes that convert logs."""
         signal.signal(signal.SIGUSR1, signal.SIG_IGN)
         signal.signal(signal.SIGINT, signal.default_int_handler)
         signal.pthread_sigmask(signal.SIG_UNBLOCK, (signal.SIGINT, signal.SIGUSR1))

@@ -1,4 +1,4 @@
-"""The output of `netrev changes` for a recording, by the machine in place: the cells that each step changed."""
+"""The output of `netrev changes` for a recording, computed by the model: the cells that each step changed."""
 
 from typing import cast
 
@@ -23,7 +23,8 @@ def _shown(machine: Machine, cell: str) -> object:
 
 
 def changes(recording: bytes, observer: Observer) -> tuple[list[str], bool]:
-    """The lines including the last one, and whether there is no fault; raises Doubtful if the model can't decide."""
+    """The lines of all steps and the final line, and whether the recording has no fault. Raises Doubtful if the model
+    can't decide."""
     lines: list[str] = []
     try:
         text = read_text(recording)

@@ -70,7 +70,7 @@ def whole_text(value: object) -> None:
 
 
 def depth(text: str) -> int:
-    """How deep the text nests arrays and objects, outside of texts in quotes."""
+    """How deep the text nests arrays and objects; brackets in strings don't count."""
     deepest = now = 0
     for bracket in re.findall(r'"(?:[^"\\]|\\.)*"|[\[\]{}]', text):
         now += (bracket in "[{") - (bracket in "]}")

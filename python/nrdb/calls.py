@@ -220,7 +220,7 @@ def checks(book: Book, notes: Notes, g: int, d: int, side: str) -> Look:
 
 
 def checks_again(book: Book, notes: Notes, g: int) -> Look:
-    """`waitcheck`: the side is that of the wait that it ends."""
+    """`waitcheck`, which ends a wait and has the same side."""
     goroutine, calls = notes.goroutine(g), book.open[g]
 
     def look(step: int) -> None:

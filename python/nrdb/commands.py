@@ -247,7 +247,8 @@ def whole_words(words: list[str]) -> list[str]:
 
 
 def parts_of(line: str) -> list[str]:
-    """The commands of a line. The name of a file may have a `;` in it, so a command that takes one has the rest of the line."""
+    """The commands of a line. A file's name may contain a `;`, so a command that takes a file takes the rest of the
+    line."""
     parts = []
     rest = line
     while rest:

@@ -119,11 +119,11 @@ def call_row(recording: Recording, call: Call, position: int) -> Row:
 
 
 class Stay(Exception):
-    """No destination exists: the reason."""
+    """Raised, with the reason, if no destination exists."""
 
 
 class Goal(NamedTuple):
-    """A destination, and the call that is passed on the way, if a whole one is."""
+    """A destination, and the call that the move passes from its start to its end, if any."""
 
     position: int
     call: Optional[Call] = None
@@ -168,7 +168,8 @@ def finish_goal(recording: Recording, goroutine: int, position: int) -> Goal:
 
 
 def return_goal(recording: Recording, goroutine: int, position: int) -> Goal:
-    """Before the goroutine's first step outside of the function of the program in which it is."""
+    """The position before the first step that the goroutine makes after it has left its current function of the
+    program."""
     found = position_of_return(recording, goroutine, position)
     if found is not None:
         return Goal(found)

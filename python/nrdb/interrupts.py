@@ -1,5 +1,5 @@
-"""Ctrl-C. While netrev is asked, nrdb reads the whole reply before it stops; a long walk checks for Ctrl-C between
-two queries. A second Ctrl-C, while netrev doesn't answer, gives the session up."""
+"""Ctrl-C. During a query, nrdb stops only after it has read the whole reply; a long walk checks for Ctrl-C between two
+queries. A second Ctrl-C, while netrev doesn't answer, ends the session."""
 
 import signal
 from contextlib import contextmanager

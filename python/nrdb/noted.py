@@ -18,7 +18,8 @@ class Setting(NamedTuple):
 
 
 class Due(NamedTuple):
-    """The origin of a side's deadline: its last setting, and the first later one of the other side alone."""
+    """The origin of a side's deadline: the last call that set it, and the first later call that set only the other
+    side's."""
 
     setting: Setting
     moved: Optional[Setting]

@@ -14,7 +14,7 @@ DESCRIPTOR_CELLS = ("info", "rg", "wg", "rd", "wd", "fdseq")
 
 
 def sockets_table(world: World, numbers: Optional[Iterable[int]] = None, is_all: bool = False) -> Table:
-    """The sockets that aren't at rest, or all, or those of these numbers."""
+    """The sockets that aren't at rest; or all; or the ones with these numbers."""
     every = list(range(world.made(Of.SOCKET)) if numbers is None else numbers)
     cells = world.of_each(every, *SOCKET_CELLS)
     owners = {socket: descriptor for descriptor, socket in world.sockets_of_open().items()}
@@ -52,7 +52,7 @@ def _socket_row(number: int, values: list[str], queues: list[list[int]], descrip
 
 
 def descriptors_table(world: World, numbers: Optional[Iterable[int]] = None, is_all: bool = False) -> Table:
-    """The open descriptors, or all, or those of these numbers."""
+    """The open descriptors; or all; or the ones with these numbers."""
     sockets = world.sockets_of_open()
     every = list(range(world.made(Of.DESCRIPTOR)) if numbers is None else numbers)
     shown = [number for number in every if is_all or numbers is not None or number in sockets]

@@ -231,7 +231,7 @@ class Session:
         self.printer.reply(line, reply, words)
 
     def words_of(self, cell: str, value: str, is_dump: bool = False) -> str:
-        """The meaning of a value."""
+        """A value's meaning, as text."""
         if value == "absent":
             return absent_words(cell, self.recording.limits if self.recording else {})
         return dump_words(cell, value) if is_dump else in_words(cell, value) if cell_of(cell.split()) else ""
@@ -248,7 +248,7 @@ class Session:
         self.show_displays()
 
     def hit(self, numbers: Sequence[str], stood: Sequence[Listed]) -> list[Listed]:
-        """The marks of these numbers, as they are listed, or were before the move."""
+        """The marks with these numbers, as listed now or before the move."""
         listed = {mark.number: mark for mark in [*stood, *self.netrev.marks()]} if numbers else {}
         return [listed[number] for number in numbers if number in listed]
 

@@ -61,10 +61,9 @@ class OfDeadline(NamedTuple):
 
 
 class Listed:
-    """The suspects of a list: lost wake-ups, the lines of goroutines that sleep although their side has to be
-    answered, by goroutine, descriptor and side, held references by socket and goroutine, and the effects of
-    deadlines: those that passed, the calls that ended, by step, and those that were taken back, by step,
-    descriptor and side."""
+    """The entries of a list of suspects. Lost wake-ups, in order. Goroutines that sleep although their side is ready,
+    by goroutine, descriptor and side. Held references, by socket and goroutine. Deadlines that passed, in order; the
+    calls that they ended, by step; and those that were withdrawn, by step, descriptor and side."""
 
     def __init__(self, lines: Iterable[str] = ()) -> None:
         self.lost_wake_ups: list[LostWakeUp] = []

@@ -10,7 +10,7 @@ from .whose import AS_BEFORE, NONE, OF_A_DESCRIPTOR, OF_A_SOCKET, Place, row_of
 
 
 class Touched(Counter[Place]):
-    """How many of the steps from `first` to `last` each goroutine made about each socket."""
+    """How many of the steps from `first` to `last` each goroutine made on each socket."""
 
     def __init__(self, notes: Notes, first: int, last: int) -> None:
         super().__init__()

@@ -139,8 +139,8 @@ class Waits:
 
 
 def goroutines_table(world: World, numbers: Optional[Iterable[int]] = None, is_all: bool = False) -> Table:
-    """The goroutines that do something or wait for something, or all, or those of these numbers. Those without a step in the recording come
-    last, if they wait."""
+    """The goroutines that do something or wait for something; or all; or the ones with these numbers. Those without a
+    step in the recording come last, if they wait."""
     every = list(range(world.made(Of.GOROUTINE)) if numbers is None else numbers)
     statuses = {number: status for number, (status,) in world.of_each(every, "gor").items()}
     elsewhere = {wait.name: wait for wait in waits_of(world.recording).all_at(world.position)}

@@ -7,7 +7,7 @@ from netrev_machine.deadlines import READING, WRITING, Deadlines
 
 class Firings(unittest.TestCase):
     def gone_off(self, *descriptors: int) -> Deadlines:
-        """Read deadlines; those of these descriptors have passed."""
+        """Read deadlines of these descriptors, all of which have passed."""
         deadlines = Deadlines()
         for number in descriptors:
             deadlines.open(number)

@@ -103,7 +103,7 @@ class Answering(unittest.TestCase):
 
     def test_a_write_that_a_closewrite_overtook_stands_before_it(self) -> None:
         log = Points().opened().add(Kind.CLOSE_WRITE, 2, WORD)
-        # (the goroutine that closed it goes on, and the other has its point later)
+        # (the goroutine that closed the side continues before the write's point is logged)
         log.add(Kind.RW_LOCK, 2, WORD, 9, 17, 0).add(Kind.WRITE, 1, WORD, 3, 3, 0).add(Kind.WRITE, 1, WORD, 3, -1, 2)
         made = log.made()
         self.assertEqual(

@@ -1,5 +1,5 @@
-"""The output about a server's cost, with programs that print fixed figures and leave a log of so many points. No Go
-is needed."""
+"""The output about a server's cost. The programs print fixed figures and leave a log with a given number of points, so
+no Go is needed."""
 
 import io
 import pathlib

@@ -56,7 +56,7 @@ def goid(number: int) -> Name:
 
 
 class Book:
-    """A recording with the program's source, whose mutex is locked by some goroutines, and for which others wait."""
+    """A recording with the program's source. Some goroutines have locked its mutex, and others wait for it."""
 
     def __init__(self, folder: Path, *held: Held) -> None:
         file = folder / "book.go"

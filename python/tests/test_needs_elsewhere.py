@@ -21,8 +21,8 @@ A_VALUE = "a value from a channel"
 
 
 def waiting(before: int, now: int, steps: Steps = TWO_ENDS) -> Recording:
-    """Two goroutines wait for values: one at channel `now`, after the other ended its wait at the same line, at
-    channel `before`."""
+    """Two goroutines that wait for values. The first waits at channel `now`; at the same line it waited at channel
+    `before`, until the second one ended that wait."""
     recording = with_lines(steps)
     lines = recording.lines
     lines.stacks[2], lines.stacks[3] = (

@@ -43,8 +43,8 @@ def test_readme_has_the_limits() -> None:
 
 
 def test_readme_names_targets_and_options_that_exist() -> None:
-    """Of what is in code font; tests/program/test_readme_commands.py runs what is in blocks. Options of netrev-go come before its command,
-    since all after it is Go's."""
+    """Checks the text in code font; tests/program/test_readme_commands.py runs the code blocks. Options of netrev-go
+    come before its command, since everything after the command belongs to Go."""
     named = [code.split() for code in CODE.findall(README)]
     assert {words[0] for words in named} == {"make", "nrdb", "netrev-go"} and len(named) >= 12
     for program, *words in named:

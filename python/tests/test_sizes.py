@@ -30,7 +30,7 @@ def test_unix_sockets_of_one_connection(order: str, peers: list[tuple[int, int]]
 
 
 def calls_of(recording: Recording, name: str) -> list[int]:
-    """The sizes of the calls of a name on the sockets of a recording, in their order."""
+    """The sizes of the calls with a name on the sockets of a recording, in order."""
     index = index_of(recording)
     return [size_of(index, call) for call in index.book.calls if call.name == name and call.moved]
 

@@ -9,7 +9,7 @@ MOST_COLUMNS = 100
 
 # the first line of a comment: of a doc comment, of one of a definition, of a docstring
 FIRST = re.compile(r"^(?P<indent>\s*)(?P<mark>///|--|\"\"\") ?(?P<text>\S.*)$")
-# beginnings of comments that mean nothing alone
+# first words of a comment that need another text to have a meaning
 LEANS = re.compile(
     r"the same(?! \w)|the same (of|for|where|with|in|but|by)\b|so (are|is|do|does|did|has|have|can|may)\b"
     r"|those (who|that|which)\b|likewise\b|ditto\b"

@@ -32,7 +32,7 @@ def _cells(line: int, row: str, heading: str) -> Iterator[Block]:
 
 
 def blocks(text: str) -> Iterator[Block]:
-    """The parts of a page, in their order."""
+    """The parts of a page, in order."""
     heading, kept, began, fenced = "", [""], 0, False
     kept.clear()
     for number, line in enumerate(text.split("\n") + [""], 1):

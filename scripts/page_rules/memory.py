@@ -13,12 +13,12 @@ from page_rules.tree import Finding, Tree
 
 # calls that keep a value's memory from being freed
 FORGETS = re.compile(r"\bmem::forget\b|\bManuallyDrop\b|\b(?:Box|Vec|String)::leak\b|\.leak\(\)|\binto_raw\b")
-# the place that gets a value without keeping a way back
+# the only file that may forget a value
 MAY_FORGET = "crates/nr_rev/src/keeper.rt"
 
 
 def forgotten(tree: Tree) -> Iterator[Finding]:
-    """Values of the crates that are forgotten elsewhere than in the one allowed place."""
+    """Code of the crates that forgets a value, except in the one file that may."""
     for path in tree.matching("crates/*/src/*.rt"):
         for number, line in enumerate(without_comments(tree.text(path)).split("\n"), 1):
             if path != MAY_FORGET and (found := FORGETS.search(line)):

@@ -137,7 +137,7 @@ class ReadingList:
         return sum(len(definition.lines) for definition in found if definition)
 
     def count(self, places: set[Place]) -> Count:
-        """The count for some places."""
+        """The amount of text to read at these places."""
         here = self.defined(places)
         comments = sum(definition.comments for definition in map(self.beliefs.definition, here) if definition)
         types = {(place.crate, *f"{place.module}.{place.name}".split(".")[1:3]) for place in places if _is_type(place)}

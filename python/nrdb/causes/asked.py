@@ -11,8 +11,8 @@ SYSREAD = "sysread"
 
 
 class Asked:
-    """For each Read the bytes that its first system call asked for, and the Read of the same goroutine and socket
-    before it."""
+    """For each Read, the number of bytes that its first system call asked for, and the previous Read of the same
+    goroutine and socket."""
 
     def __init__(self, index: Index) -> None:
         self._asked: dict[int, int] = {}  # keyed by the first step of a call
@@ -43,7 +43,7 @@ class Asked:
         return self._asked.get(call.first)
 
     def before(self, call: Call) -> Optional[Call]:
-        """The Read of the same goroutine and socket before this one."""
+        """The previous Read of the same goroutine and socket."""
         return self._before.get(call.first)
 
     def begin_of(self, call: Call) -> Call:

@@ -1,5 +1,5 @@
 """Channels from which goroutines take a value and give it back in the same function: a pool of connections, or a
-semaphore. For each goroutine how often it did either, and which calls gave back twice or never."""
+semaphore. For each goroutine, how often it took and gave back, and which calls gave back twice or never."""
 
 from collections import Counter, defaultdict
 from operator import attrgetter
@@ -201,7 +201,7 @@ def has_ended(recording: Recording, name: Name) -> bool:
 
 
 def current_in(function: str, path: Path, stack: Optional[Stack]) -> Optional[tuple[Call, Frames]]:
-    """The place of a goroutine now in a call of the function from the same caller's line, and its whole stack."""
+    """The current place of a goroutine in a call of the function from the same caller's line, and its whole stack."""
     frames = program_frames(stack) if stack else ()
     for at, call in enumerate(frames):
         if call.function == function and frames[at + 1 :] == path:

@@ -56,8 +56,8 @@ def one_alone(recording: Recording, wait: Waiting, waiting: int) -> list[str]:
 
 
 def mistaken_signal(recording: Recording, wait: Waiting) -> list[str]:
-    """Says, for a loop that tests an entry of its own, that a Signal perhaps wakes another goroutine, whose entry it
-    isn't."""
+    """Says, for a loop that tests an entry of its own, that a Signal may wake a goroutine that waits for another
+    entry."""
     own = wait.stack.own()
     lines = source_of(recording, own[0].file) if own else None
     head = head_of(lines, own[0]) if own and lines else 0
@@ -96,7 +96,7 @@ def have_waited(recording: Recording, wait: Waiting) -> bool:
 
 
 def head_of(lines: Lines, call: Call) -> int:
-    """The line of the loop around a call; 0 if it is in none."""
+    """The line of the loop around a call; 0 if the call is in no loop."""
     within = range_of(lines, call)
     return loop_round(lines, within, call.line) if within else 0
 

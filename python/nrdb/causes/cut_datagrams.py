@@ -72,7 +72,7 @@ def cut_at(index: Index, socket: int) -> Iterator[CutDatagram]:
 
 
 def sent_to(index: Index, socket: int) -> list[Call]:
-    """The Writes of datagrams to a socket's address, in their order."""
+    """The Writes of datagrams to a socket's address, in order."""
     own, peer = index.recording.lines.addresses.get(socket, ("", ""))
     if not own:
         return []
@@ -96,8 +96,8 @@ def cause_of(index: Index, pair: CutDatagram, others: int) -> Cause:
 
 
 def cut_says(index: Index, call: Call, position: int) -> list[str]:
-    """Says, for a Read that waits for a datagram, that the last datagram of its goroutine was cut and what the reader
-    did then; else that the last one which that goroutine got was cut."""
+    """Says, for a Read that waits for a datagram, that the last datagram that its goroutine sent was cut, and what the
+    reader did then; otherwise, that the last datagram that it received was cut."""
     wrote = index.last_use(call.socket, call.first, ("Write",)) if is_datagram(index, call.socket) else None
     pair = next((one for one in cut_datagrams(index) if wrote and one.wrote is wrote), None)
     if pair is None or pair.wrote.goroutine != call.goroutine or pair.read.last > position:
@@ -116,7 +116,7 @@ def cut_says(index: Index, call: Call, position: int) -> list[str]:
 
 
 def writes_of(index: Index, read: Call) -> set[Stack]:
-    """The stacks from which the goroutine of a Read has written at its socket."""
+    """The stacks of the Writes by a Read's goroutine to the same socket."""
     calls = (one for one in index.by_socket[read.socket] if one.goroutine == read.goroutine and one.name == "Write")
     return {index.recording.lines.of(one.first) for one in calls}
 

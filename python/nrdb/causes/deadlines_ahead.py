@@ -23,7 +23,7 @@ class Setting(NamedTuple):
 
 @lru_cache(maxsize=2)
 def settings_of(recording: Recording) -> dict[int, list[Setting]]:
-    """The settings of each descriptor, in their order."""
+    """The calls that set each descriptor's deadlines, in order."""
     found: dict[int, list[Setting]] = defaultdict(list)
     for step in recording.steps_of(("setdeadline",), recording.length):
         named = (step.argument(name) for name in ("d", "g", "mode", "time"))

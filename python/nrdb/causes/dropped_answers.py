@@ -54,8 +54,8 @@ def dropped_answer(index: Index, wait: Waiting, hands: Mapping[int, list[Hand]])
 
 def hands_of(recording: Recording, wait: Waiting, waiters: Mapping[Name, Waiter]) -> list[Hand]:
     """The goroutines that wait to read and put values into channels from which others took them at the waiter's line,
-    or that are in the function in which another does so; if none ever has, those in a function that does so by its
-    source."""
+    or that are in the function in which another does so. If no goroutine has done so, the ones in a function whose
+    source does so."""
     readers = {name: waiter for name, waiter in waiters.items() if waiter.call and waiter.call.name == "Read"}
     lines, own = recording.lines, wait.stack.own()
     taken = {

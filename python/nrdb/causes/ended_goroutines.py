@@ -154,7 +154,7 @@ def loop_round(lines: Lines, within: range, line: int) -> int:
 
 
 def is_endless(text: str) -> bool:
-    """Whether a loop has no condition, or may be over a channel's values."""
+    """Whether a loop has no condition, or may range over a channel."""
     head = text.partition("//")[0].strip()
     return head == "for {" or re.match(r"for (\w+ :?= )?range [\w.]+ \{\Z", head) is not None
 

@@ -164,7 +164,8 @@ def context_says(index: Index, call: Call, by: Optional[Call]) -> list[str]:
 
 
 def served_says(index: Index, call: Call, step: int) -> list[str]:
-    """What the goroutine that served the request of a call's connection did at a step; empty if unknown."""
+    """Sentences on the goroutine that served the request on a call's connection: what it did at a step. Empty if
+    unknown."""
     server, served = server_of(index, call.socket, step), under_way(index, call, step)
     chain = chain_says(index, call, Need([served], server), step) if server else []
     return list(map(in_the_past, [*([served] if served else []), *chain]))

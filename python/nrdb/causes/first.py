@@ -160,7 +160,7 @@ def hangs_of(graph: WaitGraph, has_failures: bool) -> list[Hang]:
 
 
 def is_waited_for(hang: Hang) -> bool:
-    """Whether a goroutine of the program, not only of Go's own, waits for a root."""
+    """Whether at least one of the goroutines that wait for a root runs the program's code, not just Go's own."""
     roots = {waiter.name for waiter in hang.every_root}
     return any(waiter.name not in roots and not waiter.is_of_go for waiter in waiters_of(hang))
 

@@ -54,7 +54,8 @@ class Index:
         self._under_way: dict[tuple[int, int], list[Call]] = {}
 
     def by_goid(self, goid: int) -> list[Call]:
-        """The calls of the goroutine that has a number at the end, by Go's number."""
+        """The calls of the goroutine with this number of Go's, if the goroutine still has its number in the recording
+        at the end."""
         lines = self.recording.lines
         number = lines.number_of(goid)
         calls = self.by_goroutine.get(number, []) if number >= 0 else []

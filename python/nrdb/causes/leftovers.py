@@ -1,6 +1,6 @@
 """What may be wrong if no call failed and none hangs: a reader that has ended, bytes that no goroutine read before
-their connection was closed, an early end of a stream, sockets left open, and writes between two of another goroutine's.
-None of it is a fault by itself, so each begins with `Perhaps`."""
+their connection was closed, an early end of a stream, sockets left open, and a write between two writes of another
+goroutine. None of it is a fault by itself, so each begins with `Perhaps`."""
 
 from typing import Iterator, NamedTuple, Optional
 

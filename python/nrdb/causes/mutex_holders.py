@@ -19,7 +19,7 @@ from .waiters import Waiter
 from .words import place_in, short
 
 MUTEX_OF_GO, READS, WRITES = "sync.(*Mutex).", "sync.(*RWMutex).RLock", "sync.(*RWMutex).Lock"
-A_MOMENT = 50_000_000  # nanoseconds in which a goroutine that got a mutex may not have run yet
+A_MOMENT = 50_000_000  # nanoseconds; a goroutine that got a mutex more recently may not have run yet
 
 
 class Holder(NamedTuple):

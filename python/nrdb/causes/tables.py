@@ -58,7 +58,8 @@ def error_rows(recording: Recording, call: Call, row: Row) -> list[Row]:
 
 def hangs_table(recording: Recording, position: int) -> Table:
     """The roots of the waits at a position that don't end in the recording, each with the reason, the goroutines that
-    wait for it, and the line to type next. At the start, where a session opens, they are those at the end."""
+    wait for it, and the line to type next. At position 0, where a session opens, the table shows the waits at the
+    end."""
     graph = graph_at(recording, position or recording.length)
     at = f"at position {position}" if position else "at the end"
     rest = [] if graph.shown else [f"no call hangs {at}, but for those that wait for connections"]

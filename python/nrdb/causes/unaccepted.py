@@ -16,7 +16,7 @@ DATAGRAMS = ("dialUDP", "listenUDP", "DialUDP", "ListenUDP")
 
 
 class Listener(NamedTuple):
-    """A listener that is open, the last Accept there, and whether that was certainly for the connection."""
+    """An open listener, its last Accept, and whether that Accept was certainly for the connection."""
 
     socket: int
     accept: Optional[Call]
@@ -24,8 +24,8 @@ class Listener(NamedTuple):
 
 
 def unaccepted(index: Index, call: Call, position: int) -> Optional[Need]:
-    """The need of a call at a connection whose other end isn't known: what the goroutine does that should accept it.
-    None if it may have been accepted."""
+    """The need of a call at a connection whose other end isn't known: what the goroutine that should accept it does
+    instead. None if it may have been accepted."""
     if not is_dialed(index, call.socket):
         return None
     listener = listener_of(index, call.socket, position)

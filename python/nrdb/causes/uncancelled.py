@@ -83,7 +83,7 @@ def cancels_of(source: Lines, call: Call, context: str) -> list[Cancelling]:
 
 
 def cancel_in(source: Lines, stack: Stack, file: str, cancels: list[Cancelling]) -> Optional[Cancelling]:
-    """The line at which a goroutine cancels later: after its own line, or when a function ends that it is in."""
+    """The line at which a goroutine cancels later: after its current line, or when a function that it is in returns."""
     for call in stack.calls:
         for cancel in cancels if call.file == file else ():
             is_there = call.line in cancel.within and is_inside(source, call, cancel.within)

@@ -75,8 +75,8 @@ def parts_of(index: Index, wrote: Call, now: Call) -> Iterator[Part]:
 
 
 def loops_of(lines: Lines, call: LineCall) -> Iterator[Part]:
-    """The loops of a function, up to a line, that write only on some of their paths, and after which nothing is
-    written, which would end the reply."""
+    """The loops of a function, up to a line, that write only on some of their paths, if no later line writes the end of
+    the reply."""
     within = range_of(lines, call) or range(0)
     for head in (number for number in within if number < call.line and LOOP.match(code(lines, number))):
         body = list(body_of(lines, head))

@@ -25,8 +25,8 @@ def given_up_says(index: Index, call: Call, by: Optional[Call]) -> list[str]:
 
 
 def found_says(index: Index, call: Call) -> list[str]:
-    """Further facts about a Read or a Write under a deadline that others had kept: not what it waited for, but why that
-    didn't come."""
+    """Further facts about a Read or a Write whose deadline other calls had met: why what it waited for didn't
+    come."""
     if index.is_listening(call) or not call.first < call.last:
         return []
     need = Needs(index, {}, call.last).of_call(call)

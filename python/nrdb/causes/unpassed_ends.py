@@ -59,7 +59,7 @@ def last_write_of_relay(index: Index, met: Call) -> Optional[Call]:
 
 
 def is_over(index: Index, met: Call) -> bool:
-    """Whether a goroutine would have closed the other socket by now: it has ended, or enough steps came since."""
+    """Whether a goroutine had its chance to close the other socket: it has ended, or enough steps came since."""
     return index.recording.length - met.last >= SETTLED or has_ended(index.recording, Name(met.goroutine))
 
 

@@ -1,5 +1,5 @@
-"""Connections that no goroutine uses: sockets that were dialed and then neither written, read nor closed, and those of
-goroutines whose result was never taken from a channel."""
+"""Connections that no goroutine uses: sockets that were dialed and then neither written, read nor closed, and sockets
+of goroutines whose result no goroutine took from a channel."""
 
 from collections import defaultdict
 from typing import Iterator

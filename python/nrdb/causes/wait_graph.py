@@ -76,7 +76,7 @@ class Hang(NamedTuple):
 
     @property
     def is_of_mutexes(self) -> bool:
-        """Whether each of its roots waits for a mutex."""
+        """Whether each of the hang's roots waits for a mutex."""
         return all(is_at_mutex(root) for root in self.roots)
 
     @property

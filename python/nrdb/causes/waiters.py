@@ -14,8 +14,8 @@ TICKERS = ("time.NewTicker", "time.Tick", "time.(*Ticker).Reset")
 
 
 class Waiter(NamedTuple):
-    """A goroutine that waits and doesn't go on: the step since which it waits, its stack, and its call of a socket or
-    its other wait."""
+    """A goroutine that waits and doesn't go on: the step at which the wait began, its stack, and its call on a socket
+    or its other wait."""
 
     name: Name
     since: int

@@ -75,8 +75,8 @@ def place_in(stack: Stack) -> str:
 
 
 def caller_of(stack: Stack, own: LineCall) -> str:
-    """The line at which the program called the function that it is in, if that is the program's own function and
-    another calls it."""
+    """The line at which the program called its current function, if that is the program's own and has a caller in the
+    program."""
     own_calls = [call for call in stack.calls if call.of == OF_THE_PROGRAM and call.file != OF_TESTS]
     behind = own_calls[own_calls.index(own) + 1 :] if own in own_calls else []
     is_main = bool(behind) and behind[0].function == "main.main"
@@ -89,7 +89,7 @@ def is_of_a_lock(stack: Stack) -> bool:
 
 
 def waits_words(wait: Waiting) -> str:
-    """What a goroutine does that waits outside the poller: `waits at main.go:44 in take for a value from a channel`."""
+    """What a goroutine that waits outside the poller does: `waits at main.go:44 in take for a value from a channel`."""
     does, what = wait.does.partition(" for ")[::2]
     return f"{does}{place_in(wait.stack)}" + (f" for {what}" if what else "")
 
@@ -119,8 +119,8 @@ def told(recording: Recording, call: Call) -> str:
 
 
 def place_of_step(recording: Recording, step: int, goroutine: Optional[int] = None) -> str:
-    """The place of a step, its goroutine if given, and its number: ` at pool.go:20 in ping (goroutine 0, step 8)`. A step
-    that leads to where the recording begins has neither: its number is no goroutine's."""
+    """The place of a step, its goroutine if given, and its number: ` at pool.go:20 in ping (goroutine 0, step 8)`. A
+    step that leads to the beginning of the recording has neither, because its number names no goroutine."""
     if 0 < step <= begins_at(recording):
         return " before the recording begins"
     whose = "" if goroutine is None else f"goroutine {goroutine}, "

@@ -28,7 +28,7 @@ class Marks:
         self._counted: dict[Wish, list[int]] = {}  # the positions at which breakpoints with a hit count stop
 
     def replace(self, sort: Sort, wishes: Sequence["Wish | Unset"]) -> list[Body]:
-        """Replaces the breakpoints of a kind; the protocol's answer for each, in their order."""
+        """Replaces the breakpoints of a kind. Returns the protocol's answer for each, in order."""
         standing = {mark.number for mark in self._session.netrev.marks()}  # some may have been deleted in the console
         self._numbers = {mark: number for mark, number in self._numbers.items() if number in standing}
         wanted = {wish.what for wish in wishes if isinstance(wish, Wish)}

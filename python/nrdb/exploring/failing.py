@@ -102,7 +102,7 @@ def _until(before: int, later: Iterator[int]) -> list[Delay]:
 
 
 def _of_socket(script: Script, sort: Sort) -> dict[int, list[tuple[int, Operation]]]:
-    """The operations of a sort that have steps, by socket, each with its goroutine, in their order."""
+    """The operations of a sort that have steps, in order, by socket, each with its goroutine."""
     found: dict[int, list[tuple[int, Operation]]] = {}
     for g, operations in enumerate(script.goroutines):
         for operation in operations:

@@ -180,7 +180,7 @@ class Passing:
 
 
 def causes_of(goroutines: list[list[Operation]], kinds: Sequence[str]) -> list[Cause]:
-    """The steps that another actor may answer, in their order."""
+    """The steps that another actor may answer, in order."""
     return sorted(
         Cause(number, g, at, place)
         for g, operations in enumerate(goroutines)

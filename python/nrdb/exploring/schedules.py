@@ -61,7 +61,7 @@ class Touched(NamedTuple):
 
 
 def touched(script: Script) -> dict[Thing, list[Touched]]:
-    """The steps about each thing, in their order."""
+    """The steps on each object, in order."""
     found: dict[Thing, list[Touched]] = {}
 
     def note(socket: int, sides: str, step: Touched) -> None:

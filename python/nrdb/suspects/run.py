@@ -83,7 +83,7 @@ class Run:
         return wait.goroutine if place in INSIDE and at == [str(use.descriptor), side] else None
 
     def unread(self, s: int) -> str:
-        """What is unread in a socket at the end, in words; empty if nothing is."""
+        """A socket's unread bytes at the end, or the close by its peer, as text; empty if it has neither."""
         if number := int(self.notes.now[f"in {s}"]):
             return f"{counted(number, 'byte')} unread"
         return f"the peer closed at step {self.notes.peer[s]}" if s in self.notes.peer else ""

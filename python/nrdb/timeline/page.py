@@ -64,7 +64,7 @@ def told_at_the_terminal(text: str) -> None:
 
 
 def page(data: Data) -> str:
-    """The page of these data."""
+    """The HTML page for this data."""
     told = plain_json(data).replace("<", "\\u003c")
     script = "\n".join(read_part(f"{name}.js") for name in SCRIPTS)
     text = read_part("timeline.html").replace("/*STYLE*/", read_part("timeline.css")).replace("/*SCRIPT*/", script)

@@ -87,5 +87,5 @@ def story_data(recording: Recording, rule: str, step: int, says: list[str], look
 
 
 def steps_data(recording: Recording, steps: set[int]) -> Data:
-    """The steps of a story, in their order, and their texts."""
+    """The steps of a story, in order, and their texts."""
     return {"steps": sorted(steps), "texts": [str(recording.step(step)) for step in sorted(steps)]}

@@ -205,7 +205,7 @@ def kinds_met(play):
 
 
 def a_hundred_sizes(play):
-    """Eighty sizes up to an ample one, which is searched for, and those near the least in which the program loads."""
+    """Eighty sizes up to one that is found to be ample, and twenty near the smallest in which the program loads."""
     least = loads_in()
     ample = least
     while play(ample) != "whole":

@@ -220,7 +220,7 @@ def test_table(parked):
 
 
 def test_turns(parked):
-    """Three callers at each front, each of which continues the session where the one before left it."""
+    """Six callers at two fronts take turns; each continues from the state that the previous one left."""
     turns = (
         (0, ["stepi 3", "quit"], ["at 3", "bye"]),
         (0, ["info position", "break @5", "quit"], ["at 3 of 12 forward", "mark 1", "bye"]),
@@ -453,9 +453,9 @@ def other_reply(reply):
 
 
 def test_altered(parked, lives, dice):
-    """If two callers talk one after the other, only one history exists, so none does after a reply is altered.
-    Commands with rising positions have only one order, whoever comes first, so none exists after a command's
-    reply is altered. A query with another result may have come earlier or later."""
+    """If two callers talk one after the other, only one history exists, so an altered reply leaves none. Commands with
+    rising positions have only one possible order, so an altered reply of a command leaves none either. An altered query
+    may have a place earlier or later."""
     two = [[Lines(dice, parked).some(20)] for _ in range(2)]
     expect_no_other(parked, share_lines(parked, two, at_once=1), lambda one: True)
     expect_no_other(lives, race_forwards(lives, dice, fronts=8, connections=1), lambda one: is_command(one.asked))

@@ -89,7 +89,7 @@ def full_pipe_that_never_waits(_folder):
 
 
 def empty_pipe_that_never_waits(_folder):
-    """An empty pipe, whose reads fail where others wait. Its writer stays."""
+    """An empty pipe whose reads fail instead of waiting. Its writer stays."""
     reader, writer = os.pipe()
     os.set_blocking(reader, False)
     KEPT.append(writer)
@@ -656,7 +656,7 @@ def play_held_run(_folder):
 
 
 def play_held_serve(_folder):
-    """While one front waits for its caller, one for a line, and one for its caller to close."""
+    """One front waits for its caller, one waits for a line, and one waits for its caller to close."""
     with Server(FIRST, fronts=3) as server:
         first, last = server.call(0), server.call(2)
         last.sendall(b"quit\n")

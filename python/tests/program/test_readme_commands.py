@@ -45,7 +45,7 @@ QUESTIONS = (
 
 
 def play(room: Room, *names: str) -> list[str]:
-    """Plays these sections of README, and the one that records if Go is here; the commands."""
+    """Runs these sections of README, and the one that records if Go is installed. Returns the commands."""
     return list(played(room, *names, *([RECORD] if commands_of_go() else [])))
 
 

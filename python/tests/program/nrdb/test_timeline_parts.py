@@ -1,6 +1,5 @@
-"""The page of a part of a long recording, in chromium: it begins where its values are; and the sides of a
-descriptor that is reused many times are one row each. Skipped without chromium (Debian: apt-get install
-chromium)."""
+"""The page of a part of a long recording, in chromium. It opens at the part that has values, and each side of a
+descriptor that is reused many times has one row. Skipped without chromium (Debian: apt-get install chromium)."""
 
 import subprocess
 from pathlib import Path

@@ -11,7 +11,7 @@ from .support import NRDB, PATIENCE
 
 
 class Web:
-    """A page that is served, from `with` to its end."""
+    """A running `nrdb --web`, which the end of the `with` block stops."""
 
     def __init__(self, *words: object):
         called = [NRDB, "--web", "0", *map(str, words)]
