@@ -220,7 +220,7 @@ def parent_of(folder: Path) -> int:
 
 
 def is_below(process: int, ancestor: int, parents: dict[int, int]) -> bool:
-    """Whether a process is another one or descends from it."""
+    """Whether a process is the given ancestor or descends from it."""
     while process and process != ancestor:
         process = parents.get(process, 0)
     return process == ancestor

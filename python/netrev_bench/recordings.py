@@ -101,7 +101,7 @@ def large_name(shape: str, sockets: int) -> str:
 
 
 def give_limits(file: Path, large: Path, sockets: int) -> None:
-    """Writes the same steps after a header with room for this many sockets and descriptors, if it has less."""
+    """Writes the same steps after a header that has room for at least this many sockets and descriptors."""
     with open(file, "rb") as steps, open(large, "wb") as out:
         header = json.loads(steps.readline())
         header |= {key: max(header[key], sockets) for key in ("sock", "desc")}

@@ -54,18 +54,19 @@ def seeds(seed: str, most: Optional[int]) -> Iterator[str]:
 
 
 def case_of(seed: str) -> Case:
-    """The case of a seed: those of `7-nrdb` are sessions of nrdb."""
+    """The case of a seed. Seeds such as `7-nrdb-0` give sessions of nrdb."""
     return visit(seed) if seed.rpartition("-")[0].endswith(OF_NRDB) else make(seed)
 
 
 def wanted_seeds(seed: str, cases: Optional[int], of: str) -> Iterator[str]:
-    """The seeds to run: this many for netrev, or without end, for one program or for both for the same time."""
+    """The seeds to run: those of the chosen program; netrev's if only a number of cases is given; otherwise endless seeds
+    of both, with the same time for each."""
     of_netrev, of_nrdb = seeds(seed, cases), seeds(f"{seed}{OF_NRDB}", cases)
     return of_nrdb if of == "nrdb" else of_netrev if of or cases else by_turns(of_netrev, of_nrdb)
 
 
 def by_turns(*ways: Iterator[str]) -> Iterator[str]:
-    """Seeds of several sorts, without end, so that each sort takes the same time."""
+    """Endless seeds of several sorts; each sort gets the same time."""
     spent = dict.fromkeys(range(len(ways)), 0.0)
     while True:
         least = min(spent, key=lambda way: spent[way])

@@ -1,5 +1,5 @@
-"""Cases for the views of nrdb: a random recording that netrev accepts, with a file of lines beside it that may be
-anything. Each command ends, prints no terminal controls, and writes only the files that it names."""
+"""Cases for the views of nrdb: a random recording that netrev accepts, and a file of lines for it, with any contents.
+Each command ends, prints no terminal controls, and writes only the files that it names."""
 
 import io
 import json

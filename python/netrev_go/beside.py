@@ -11,7 +11,8 @@ from .sockets import AGAIN
 from .answering import BROKEN_PIPE
 from .waits import Wait
 
-# Errors that end a call of the program. After others Go tries again in another way, such as when a file can't be spliced.
+# Errors that end a call of the program. After other errors, Go tries another way,
+# for example if it can't splice a file.
 OF_CONNECTIONS = frozenset(
     (
         errno.EPIPE, errno.ECONNRESET, errno.ECONNABORTED, errno.ECONNREFUSED, errno.ETIMEDOUT, errno.EHOSTUNREACH,

@@ -21,7 +21,7 @@ def environment(is_of_others: bool, **settings: str) -> dict[str, str]:
 
 
 def ran(go: Go, words: list[str], program: pathlib.Path, what: str, is_of_others: bool) -> bool:
-    """Runs `go WORDS WHAT` to build a program that records; whether that succeeded."""
+    """Runs `go WORDS WHAT` to build a program that records. Returns whether that succeeded."""
     command = [go.program, *words, "-overlay", str(ready(go)), "-o", str(program), what]
     settings = environment(is_of_others)
     run = subprocess.run(command, cwd=program.parent, env=settings, capture_output=True, text=True, check=False)

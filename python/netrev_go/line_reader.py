@@ -17,7 +17,7 @@ PACKAGE = "cmd/addr2line"
 
 
 def shipped(go: Go) -> pathlib.Path:
-    """The path of Go's own, if Go comes with it."""
+    """The path of the addr2line that some releases of Go contain."""
     return go.root / "pkg/tool" / go.system.replace("/", "_") / NAME
 
 

@@ -81,7 +81,7 @@ class Notes:
         self.timeouts: list[Timeout] = []
         # those after a CloseWrite: the step, the goroutine, and the socket
         self.refused_writes: list[tuple[int, int, int]] = []
-        self.longest_holds: dict[str, int] = {}  # of each kind, for those that ended
+        self.longest_holds: dict[str, int] = {}  # the longest finished hold of each kind
         self._has_answers, self._rows = recording.has_answers, recording.rows(self._row)
         self._go_through()
         self.goroutines = dict(sorted(self.goroutines.items()))

@@ -61,7 +61,7 @@ class OfDeadline(NamedTuple):
 
 
 class Listed:
-    """The entries of a list of suspects. Lost wake-ups, in order. Goroutines that sleep although their side is ready,
+    """The entries of a list of suspects. Lost wake-ups, in order. Goroutines that sleep although their side must be answered,
     by goroutine, descriptor and side. Held references, by socket and goroutine. Deadlines that passed, in order; the
     calls that they ended, by step; and those that were withdrawn, by step, descriptor and side."""
 

@@ -29,8 +29,8 @@ def figures(steps: int, times: float, programs: tuple[str, ...]) -> Figures:
 
 
 def measured(*programs: str, sizes: tuple[int, ...] = (1_000, 10_000)) -> Measurement:
-    """Two shapes: in the second the baseline takes a fourth of its figures in the first, the other programs the
-    same."""
+    """Two shapes. From the first to the second, the baseline's figures fall to a quarter, and the other programs' stay
+    the same."""
     found = {}
     for steps in sizes:
         found["locks", steps] = figures(steps, 1, programs)

@@ -82,7 +82,8 @@ class Shells(unittest.TestCase):
                 (self.folder / f"of_{shell}" / f"_{name}").write_bytes(made)
 
     def completes(self, shell: str) -> None:
-        """The typed text becomes the expected one: the programs are functions here that print their words."""
+        """Checks that the shell completes the typed text as expected. Shell functions that print their arguments
+        replace the programs."""
         command, loads = SHELLS[shell]
         if not shutil.which(shell):
             self.skipTest(f"no {shell} is here (Debian: apt-get install {shell})")

@@ -47,7 +47,8 @@ WAITS_AT = "a value from a channel"
 
 
 def lines_with(steps: Steps, stacks: dict[int, list[int]], of_steps: int, waits: list[list[Any]], file: str) -> Lines:
-    """Lines of NAME.where: stacks of the source's lines, that of the steps, and waits. Line 0 is the wait for a mutex."""
+    """Lines of NAME.where: stacks of source lines, the stack of all steps, and waits. Line 0 is the wait for a
+    mutex."""
     told: list[Any] = [
         {"where": 1, "steps": len(steps)},
         {"call": 1, "function": LOCKS, "file": "sync/mutex.go", "line": 7, "of": "go"},

@@ -121,8 +121,8 @@ class Groups:
         return [count_says(self._recording, count), *ended] if count and ended else []
 
     def _in_order(self, members: list[Member], count: Optional[Count]) -> list[Member]:
-        """The goroutines that may call Done, those that haven't yet first. If a goroutine that added started one of
-        them afterwards, all others are left out."""
+        """The goroutines that may call Done, those that haven't yet first. If the goroutines that called Add started
+        some of them afterwards, the others are left out."""
         if count is None:
             return members
         started = started_by(self._recording, count)

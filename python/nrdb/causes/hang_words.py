@@ -86,7 +86,7 @@ def ahead_says(graph: WaitGraph, hang: Hang) -> list[list[str]]:
 
 
 def beside_words(graph: WaitGraph, hang: Hang) -> list[str]:
-    """The other roots that wait for the same ended goroutine, a sentence for those that wait alike."""
+    """Sentences on the other roots that wait for the same ended goroutine, one for each group that waits alike."""
     alike: dict[object, list[Waiter]] = defaultdict(list)
     for waiter in hang.beside:
         alike[kind_of(graph.recording, waiter)].append(waiter)

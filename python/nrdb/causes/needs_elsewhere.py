@@ -177,7 +177,7 @@ class NeedsElsewhere:
         return Need([], by, how, Certainty.PERHAPS) if by else Need([])
 
     def _of_requests(self, waiter: Waiter) -> Need:
-        """The need of a Shutdown of net/http: that its goroutine serves a request itself, or which one perhaps does."""
+        """The need of a Shutdown of net/http: its own goroutine serves a request, or another goroutine perhaps does."""
         if has(waiter.stack, SERVE):
             return Need([], more=["It serves a request itself, for whose end Shutdown waits."])
         serving = [
@@ -208,7 +208,7 @@ class NeedsElsewhere:
         return Need(says, server, "{by} serves the request", Certainty.LIKELY, more=held, beside=beside)
 
     def _reads_on(self, server: Name) -> bool:
-        """Whether a goroutine of a server waits for the next request, so that it serves none."""
+        """Whether a server's goroutine waits for the next request, and so serves none."""
         now = self._waiters.get(server)
         return now is not None and now.is_of_go and now.call is not None and now.call.name in READING
 

@@ -1,5 +1,5 @@
-"""Goroutines that wait for what only they would read: each is in the function that reads a connection, as one that
-serves its requests itself, and bytes are unread there."""
+"""Goroutines that wait for bytes that only they would read: such a goroutine is in the function that reads a
+connection, for example because it serves the requests itself, and the connection has unread bytes."""
 
 from typing import Optional
 

@@ -115,7 +115,7 @@ class Passing:
         return made
 
     def is_as(self, other: "Passing") -> bool:
-        """Whether the same ones wait for the same goroutines."""
+        """Whether in both the same goroutines wait for the same others."""
         rows, its_rows = ({g: one.row() for g, one in each.waiting.items()} for each in (self, other))
         return rows == its_rows
 

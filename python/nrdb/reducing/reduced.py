@@ -122,8 +122,8 @@ def wanted_by(session: Session, words: list[str]) -> Wanted:
 
 
 def _last_with(session: Session, cell: str, value: str) -> int:
-    """The session's position, if the cell has such a value there, else the last position at which it has. A missing
-    object has no value."""
+    """The session's position if the cell has such a value there; otherwise the last position at which it does. A
+    missing object has no value."""
     changes, length = session.changes(), session.text().length
 
     def is_wanted(shown: str) -> bool:

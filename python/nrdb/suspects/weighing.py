@@ -19,7 +19,7 @@ CONTROLS = frozenset(
 )
 OF_THE_PROGRAM = frozenset(f"internal/poll.(*FD).Raw{name}" for name in ("Read", "Write", "Control"))
 ACCEPT = "internal/poll.(*FD).Accept"
-UNSHOWN = OF_THE_PROGRAM | {ACCEPT}  # calls whose tries are missing from a recording, all or some
+UNSHOWN = OF_THE_PROGRAM | {ACCEPT}  # calls some or all of whose tries aren't in a recording
 
 
 def of_a_holder(run: Run, suspect: Suspect) -> Suspect:
