@@ -54,7 +54,7 @@ def seeds(seed: str, most: Optional[int]) -> Iterator[str]:
 
 
 def case_of(seed: str) -> Case:
-    """The case of a seed. Seeds such as `7-nrdb-0` give sessions of nrdb."""
+    """The case of a seed. Seeds such as `7-nrdb-1` give sessions of nrdb."""
     return visit(seed) if seed.rpartition("-")[0].endswith(OF_NRDB) else make(seed)
 
 

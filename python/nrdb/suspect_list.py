@@ -61,9 +61,9 @@ class OfDeadline(NamedTuple):
 
 
 class Listed:
-    """The entries of a list of suspects. Lost wake-ups, in order. Goroutines that sleep although their side must be answered,
-    by goroutine, descriptor and side. Held references, by socket and goroutine. Deadlines that passed, in order; the
-    calls that they ended, by step; and those that were withdrawn, by step, descriptor and side."""
+    """The entries of a list of suspects. Lost wake-ups, in order. Goroutines that sleep although their side must be
+    answered, by goroutine, descriptor and side. Held references, by socket and goroutine. Deadlines that passed, in
+    order; the calls that they ended, by step; and those that were withdrawn, by step, descriptor and side."""
 
     def __init__(self, lines: Iterable[str] = ()) -> None:
         self.lost_wake_ups: list[LostWakeUp] = []
