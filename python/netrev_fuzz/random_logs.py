@@ -374,7 +374,7 @@ def wrong(seed: str) -> str:
 
 
 def wrong_with(program: Program, asked: Asked = lambda _: "") -> str:
-    """The fault by the model, or by another checker that is asked too."""
+    """The fault that the model finds, or else a second checker, if one is given."""
     log = log_of(program)
     try:
         recording = make(log)

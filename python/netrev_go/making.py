@@ -96,8 +96,8 @@ def make(
     part: Part | None = None,
     first: int = 0,
 ) -> Recording:
-    """The recording of a log's newest sockets, at most this many, whose bytes take at most this many megabytes of
-    text; or of a given part of them. A socket whose lock word has the address `first` is kept before all others."""
+    """The recording of a log's newest sockets, or of those that `part` chooses: at most `most` sockets, and at most
+    `megabytes` of text for their bytes. A socket whose lock word has the address `first` is kept before all others."""
     window = window_of(log, all_bytes)
     found = window.found
     notes = [*log.notes, *window.notes]

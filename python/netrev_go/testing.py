@@ -40,7 +40,7 @@ UNTESTED = re.compile(r"--?(?:test\.)?(?:bench|fuzz)(?:=.|\Z)")  # flags that ru
 class Came:
     """The result of all runs."""
 
-    status: int = 0  # the first that isn't 0, in a shell's form
+    status: int = 0  # the first exit status that isn't 0, in a shell's form
     suspected: bool = False
     possible: bool = False
     all_recorded: bool = True

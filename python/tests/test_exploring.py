@@ -75,7 +75,7 @@ def script_at(name: str) -> Script:
 
 
 def explored(script: Script, most: int) -> Exploring:
-    """The result of so many schedules."""
+    """The result of this many schedules."""
     exploring = Exploring(script, lambda number: "")
     exploring.run(most, lambda: None)
     return exploring

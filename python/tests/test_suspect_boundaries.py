@@ -27,12 +27,12 @@ def ticks(count: int, clock: int = 0) -> Steps:
 
 
 def pauses(g: int, length: int, count: int) -> Steps:
-    """So many pauses of so many steps, each of which ends with a read."""
+    """`count` pauses of `length` steps, each of which ends with a read."""
     return [*ticks(length - 1), ["sysread", g, 0, 1]] * count
 
 
 def owes(ended: int, length: int) -> Steps:
-    """Releases that goroutine 0 owed for so many steps."""
+    """Releases that goroutine 0 owed for `length` steps."""
     takes: Steps = [["rwlock", 0, 0, "r"], ["rwlock", 1, 0, "r"], ["rwunlock", 0, 0, "r"]]
     gets: Steps = [["acquire", 1], ["rwlock", 1, 0, "r"], ["rwunlock", 1, 0, "r"]]
     return [*takes, *ticks(length - 1), ["release", 0], *gets] * ended

@@ -116,8 +116,8 @@ class Asked(unittest.TestCase):
         self.assertIn("dump rq 0", many)
 
     def searched(self, count: int, sockets: int, with_lines: bool) -> tuple[int, int, int]:
-        """For `info goroutines` with so many waiters at each of so many sockets: how many queries it makes besides
-        the statuses, how many searches of the text it begins, and how many pieces of text it searches."""
+        """The work of `info goroutines` with `count` waiters at each of `sockets` sockets: its queries besides the
+        statuses, the searches of the text that it begins, and the pieces of text that it searches."""
         asked, begun = Counter[str](), mock.Mock()
         text = waiters(count, sockets)
         if with_lines:

@@ -40,7 +40,7 @@ class Test:
 
 @dataclass
 class Topics:
-    """The tests of each function, of so many seconds."""
+    """The tests of each function. The tests of one mutant take at most `most` seconds together."""
 
     tests: Sequence[Test] = ()
     most: float = MOST
@@ -56,8 +56,8 @@ class Topics:
                 self._of_files[file].append(test)
 
     def tests_of(self, mutant: Mutant) -> list[Test]:
-        """The tests of a mutant of Python, those of a quick group first. Of a function that no test called, which may be new since,
-        a few of its file."""
+        """The tests for a mutant of Python code, the quickest group first. If no test called the function, perhaps
+        because it is new, a few tests of its file."""
         called = self._of_functions[f"{mutant.file}|{mutant.code}"] if mutant.is_inside else []
         if called:
             return quickest(called, self.most)
@@ -69,7 +69,7 @@ class Topics:
 
 
 def quickest(tests: Iterable[Test], most: float) -> list[Test]:
-    """The tests of so many seconds, group by group, the quickest group first."""
+    """Tests that take at most `most` seconds together, group by group, the quickest group first."""
     groups: dict[str, list[Test]] = defaultdict(list)
     for test in tests:
         groups[test.group].append(test)

@@ -142,7 +142,7 @@ class Player:
         return tuple(step)
 
     def _is_next(self, event: Event) -> bool:
-        """Whether the timer that is due first is that of the event."""
+        """Whether the first due timer belongs to the event."""
         assert event.timer
         first = self.world.timers[0] if self.world.timers else None
         return first is not None and (self.numbers["d"].get(event.timer[0]), event.timer[1]) == (first.desc, first.side)

@@ -217,7 +217,7 @@ class Tracing:
         return f'{{"ph":"X","pid":{GOROUTINES},"tid":{g},"ts":{since},"dur":{until - since},"name":"{words}","cat":"status"}}'
 
     def _flow(self, number: int, where: str, woken: int, events: list[str]) -> None:
-        """The flow from the step that wakes a goroutine to the status in which that one continues."""
+        """The flow from the step that wakes a goroutine to the status in which the goroutine continues."""
         self.flows += 1
         about = f'"id":{self.flows},"name":"wakes","cat":"wake"'
         events.append(f'{{"ph":"s",{where},"ts":{number - 1},{about}}}')

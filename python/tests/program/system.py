@@ -80,7 +80,7 @@ def gone(_folder):
 
 
 def full_pipe_that_never_waits(_folder):
-    """A full pipe, whose writes fail where others wait. Its reader stays."""
+    """A full pipe whose writes fail instead of waiting. Its reader stays."""
     reader, writer = os.pipe()
     os.set_blocking(writer, False)
     KEPT.append(reader)
