@@ -143,15 +143,20 @@ class Reducing(unittest.TestCase):
         self.assertFalse(out.exists())
         self.assertIn("accepted by netrev", nrdb("--batch", "-ex", f"reduce {out} lock 0 *", path))
 
-    def test_the_page_has_what_is_left_of_recordings(self) -> None:
-        text = (ROOT / "docs/reference/NRDB.md").read_text(encoding="utf-8")
-        rows = re.findall(r"^\| `((?:hunts|real)/[\w-]+)` \| ([\d,]+) \| (\d+) \|$", text, re.MULTILINE)
-        self.assertGreater(len(rows), 8)
-        for name, steps, left in rows:
-            self.assertEqual(Recording.read(str(EXAMPLES / f"{name}.jsonl")).length, int(steps.replace(",", "")))
-            self.assertLessEqual(int(left), MOST[name])
-            if name.startswith("real/"):
-                self.assertEqual(self.reduced(EXAMPLES / f"{name}.jsonl").length, int(left))
+    def test_the_page_says_what_is_left_of_recordings(self) -> None:
+        text = " ".join((ROOT / "docs/reference/NRDB.md").read_text(encoding="utf-8").split())
+        ranges = r"of ([\d,]+) to ([\d,]+)(?: steps)?, keep (\d+) to (\d+)"
+        found = re.search(rf"The four of `examples/hunts`, {ranges}; five of `examples/real`, {ranges}\.", text)
+        assert found
+        numbers = [int(number.replace(",", "")) for number in found.groups()]
+        for folder, (least, most, least_left, most_left) in (("hunts/", numbers[:4]), ("real/", numbers[4:])):
+            names = [name for name in MOST if name.startswith(folder)]
+            lengths = [Recording.read(str(EXAMPLES / f"{name}.jsonl")).length for name in names]
+            self.assertEqual((min(lengths), max(lengths)), (least, most))
+            self.assertLessEqual(most_left, max(MOST[name] for name in names))
+            if folder == "real/":
+                left = [self.reduced(EXAMPLES / f"{name}.jsonl").length for name in names]
+                self.assertEqual((len(left), min(left), max(left)), (5, least_left, most_left))
 
     def test_what_cannot_be_reduced_is_said(self) -> None:
         path = EXAMPLES / "first.jsonl"
