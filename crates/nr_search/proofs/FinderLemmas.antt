@@ -14,12 +14,12 @@ use Rattle.nr_search.specs.declared.found.Found.{Found}
 use Rattle.nr_search.specs.declared.found.Found.TheVariants.{Hit, Nothing}
 use Rattle.nr_search.proofs.NearestLemmas.{first_hit_of-found, first_hit_of-is, last_hit_below-found, last_hit_below-is}
 
--- so many positions lie behind n
+-- the number of positions after n
 behind : (n last : ℕ) → n ≤ last → n + 1 + (last - n) ≡ last + 1
 behind n last within = omega arith
 
 module _ (r : Recording) (marks : List NumberedMark) (n : ℕ) where
-  -- what is found forwards, and backwards
+  -- the result forwards, and backwards
   pub forward-is : n ≤ length r.steps → IsFound Forward (hits_at r marks) (n + 1) (length r.steps + 1) (nearest_hit Forward r marks n)
   forward-is within =
       subst (λ high. IsFound Forward (hits_at r marks) (n + 1) high (nearest_hit Forward r marks n)) (behind n (length r.steps) within)
@@ -43,7 +43,7 @@ module _ (r : Recording) (marks : List NumberedMark) (n : ℕ) where
   if-found-backward direction (Ok found) way is = last_hit_below-found (hits_at r marks) n found is ∙ ap (λ d. nearest_hit d r marks n) (sym way)
   if-found-backward direction (Err e) way is = tt
 
--- without marks none hits
+-- without marks, no mark hits
 none-hit : (r : Recording) (marks : List NumberedMark) → length marks ≡ 0 → (q : ℕ) → hits_at r marks q ≡ []
 none-hit r [] none q = refl
 none-hit r (m ∷ marks) none q = absurd (omega arith)
@@ -52,7 +52,7 @@ pub nothing-found : (r : Recording) (marks : List NumberedMark) (n : ℕ) (direc
 nothing-found r marks n Forward none within = forward-found r marks n within Nothing (record { none = λ q a b. none-hit r marks none q })
 nothing-found r marks n Backward none within = last_hit_below-found (hits_at r marks) n Nothing (record { none = λ q a b. none-hit r marks none q })
 
--- numbers of present marks rise, wherever they hit
+-- the numbers of present marks rise at each position
 hits-rise : (r : Recording) (marks : List NumberedMark) (made p : ℕ) → RisesWithin 0 (numbers_of marks) made → RisesWithin 0 (hits_at r marks p) made
 hits-rise r marks made p rising =
     RisesWithin-filter (λ m. mark_hits (world_at r (p - 1)) (world_at r p) (numbered p (slice_get r.steps p)) m.item) 0 marks made rising

@@ -13,13 +13,13 @@ use Rattle.nr_search.specs.declared.direction.Direction.TheVariants.{Backward}
 abbrev one : ℕ → Cell → List NumberedMark
 one number c = record { number = number; item = Watch c } ∷ []
 
--- what is found at a position, by whether the value there is the one before
+-- the result at a position, by whether its value is the one before
 by_value : (r : Recording) (number q : ℕ) (c : Cell) (b : Bool)
     → same_value (cell (world_at r (q - 1)) c) (cell (world_at r q) c) ≡ b
     → hits_at r (one number c) q ≡ map (λ m. m.number) (cond (not b) (one number c) [])
 by_value r number q c b is = ap (λ v. map (λ (m : NumberedMark). m.number) (cond (not v) (one number c) [])) is
 
--- where the watch doesn't hit, the value is the one before
+-- if the watch doesn't hit, the value is the one before
 quiet : (r : Recording) (number q : ℕ) (c : Cell) → hits_at r (one number c) q ≡ []
     → cell (world_at r (q - 1)) c ≡ cell (world_at r q) c
 quiet r number q c none = go (same_value (cell (world_at r (q - 1)) c) (cell (world_at r q) c)) refl

@@ -1,4 +1,4 @@
--- Where no mark can hit, none hits, and each watches what it watched.
+-- If no mark can hit at a position, none does, and the watched values stay.
 use Rattle.std.proofs.Common.{◌≡◌, ℕ, ◌+◌, Bool, true, false, not, ◌||◌, cond, inl, inr, ◌<◌, ◌≤◌, length, set, get_or, arith, List, [], ◌∷◌, filter, map, slice_get, Option, Some, None, Ok, Err, refl, sym, ap, ◌∙◌, zero, suc}
 use Rattle.std.specs.Option.{option_and_then}
 use Rattle.nr_rev.specs.Cell.{cell, same_value}
@@ -39,7 +39,7 @@ step-keeps r n step answer read gives c cannot = go (outcome (world_at r n) step
         ∙ step_keeps_cell (world_at r n) step left.0 left.1 c is cannot
     go (Err reason) is = let none : None ≡ Some answer = sym (ap answer_of is) ∙ sym (ap (option_and_then (λ s. answer_of (outcome (world_at r n) s))) read) ∙ gives in cc
 
--- the step that was made, by its kind
+-- what a step before the position keeps, by its kind
 abbrev pub Keeps : NextStep → World → World → Type 0
 Keeps made before after = (c : Cell) → can_change made.kind c ≡ false → cell after c ≡ cell before c
 
@@ -56,13 +56,13 @@ made-keeps r n made answer before after b a is gives = λ c cannot. ap (λ w. ce
         same_step : (x y : NextStep) → ◌≡◌ {A = Option NextStep} (Some x) (Some y) → x ≡ y
         same_step x y e = cc
 
--- what a mark watches stays
+-- the watched value of a mark stays
 watched-kept : (made : NextStep) (before after : World) (m : Mark) → Keeps made before after → is_changed_by made.kind m ≡ false → watched after m ≡ watched before m
 watched-kept made before after (mark.Break wanted) keeps none = refl
 watched-kept made before after (mark.TemporaryBreak wanted) keeps none = refl
 watched-kept made before after (mark.Watch c) keeps none = keeps c none
 
--- the mark misses
+-- a mark misses
 missed : (made : NextStep) (next : Option NextStep) (before after : World) (m : Mark) → Keeps made before after → is_changed_by made.kind m ≡ false → is_stopped_by next m ≡ false
     → mark_hits before after next m ≡ false
 missed made next before after (mark.Break wanted) keeps none stops = stops
@@ -73,7 +73,7 @@ neither : (a b : Bool) → (a || b) ≡ false → (a ≡ false) × (b ≡ false)
 neither true b none = cc
 neither false b none = (refl, none)
 
--- so do all
+-- all marks miss
 pub all-missed : (made : NextStep) (next : Option NextStep) (before after : World) (marks : List NumberedMark) → Keeps made before after → any_changed made.kind marks ≡ false
     → any_stopped next marks ≡ false → [] ≡ hits_between before after next marks
 all-missed made next before after [] keeps none stops = refl
@@ -84,7 +84,7 @@ all-missed made next before after (m ∷ marks) keeps none stops =
     ∙ ap (λ here. map (λ (x : NumberedMark). x.number) (cond here (m ∷ filter (λ (x : NumberedMark). mark_hits before after next x.item) marks) (filter (λ (x : NumberedMark). mark_hits before after next x.item) marks)))
     (sym (missed made next before after m.item keeps a.0 b.0))
 
--- the values stay right
+-- the remembered values stay right
 pub remembers-on : (made : NextStep) (before after : World) (marks : List NumberedMark) (values : List CellValue) → Keeps made before after → any_changed made.kind marks ≡ false → Remembers before marks values
     → Remembers after marks values
 remembers-on made before after marks values keeps none remembered =
@@ -95,11 +95,11 @@ remembers-on made before after marks values keeps none remembered =
     at (x ∷ ms) zero m none read = let same : x ≡ m = cc in ap (λ (y : NumberedMark). is_changed_by made.kind y.item) (sym same) ∙ (neither _ _ none).0
     at (x ∷ ms) (suc i) m none read = at ms i m (neither (is_changed_by made.kind x.item) _ none).1 read
 
--- a kind is found by its number, and no other is
+-- the kind of a number is the only one with that number
 pub numbered-same : (n : ℕ) (kind found : Kind) → n ≡ kind_number kind → kind_numbered n ≡ Some found → found ≡ kind
 numbered-same n kind found is at = let both : Some found ≡ Some kind = sym at ∙ ap kind_numbered is ∙ kind_counted kind in cc
 
--- so each number of a kind has one
+-- the number of each kind is in the table
 pub numbered-some : (n : ℕ) (kind : Kind) → n ≡ kind_number kind → kind_numbered n ≡ None → ⊥
 numbered-some n kind is none = let both : None ≡ Some kind = sym none ∙ ap kind_numbered is ∙ kind_counted kind in cc
 
@@ -107,7 +107,7 @@ pub number-below : (kind : Kind) → kind_number kind < 32
 number-below Kind.Spawn = omega arith
 number-below _ = omega arith
 
--- the kinds with numbers below this one are known
+-- true if the table is right about the kinds with numbers below this one
 pub record AreChangingBelow (marks : List NumberedMark) (number : ℕ) (changing : List Bool) : Type 0 where
   pub each : (kind : Kind) → kind_number kind < number → slice_get changing (kind_number kind) ≡ Some (any_changed kind marks)
 
@@ -124,7 +124,7 @@ changing-more marks number changing here within is before =
 pub changing-all : (marks : List NumberedMark) (number : ℕ) (changing : List Bool) → 32 ≤ number → AreChangingBelow marks number changing → AreChanging marks changing
 changing-all marks number changing all known = record { each = λ kind. known.each kind (let below = number-below kind in omega (arith, all, below)) }
 
--- where no mark is a break, none stops
+-- if no mark is a break, none names the next step
 pub none_stopped : (next : Option NextStep) (marks : List NumberedMark) → any_break marks ≡ false → any_stopped next marks ≡ false
 none_stopped next [] none = refl
 none_stopped next (m ∷ marks) none =
@@ -136,7 +136,7 @@ none_stopped next (m ∷ marks) none =
     watch (mark.TemporaryBreak wanted) is = cc
     watch (mark.Watch c) is = refl
 
--- where the table says that a kind can change no watched cell, it can't
+-- if the table says that a kind can change no watched cell, it can't
 pub unchanged_at : (marks : List NumberedMark) (changing : List Bool) (kind : Kind) (number : ℕ) → AreChanging marks changing → number ≡ kind_number kind → get_or changing number false ≡ false
     → any_changed kind marks ≡ false
 unchanged_at marks changing kind number known is read =

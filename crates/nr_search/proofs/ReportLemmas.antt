@@ -1,4 +1,4 @@
--- What is known of segments as reports are noted.
+-- What is known about segments as reports are noted.
 use Rattle.std.proofs.Common.{◌≡◌, ◌≢◌, ◌⊎◌, inl, inr, ℕ, ◌+◌, ◌<◌, ◌≤◌, false, All, List, [], ◌∷◌, ◌++◌, length, map, take, get_or, replicate, Some, Result, Ok, Err, refl, sym, ap, ◌∙◌, subst, arith}
 use Rattle.std.specs.Prelude.{OnErr}
 use Rattle.std.proofs.lemmas.List.{get_or-replicate, length-replicate, map_more, take_more}
@@ -13,9 +13,9 @@ use Rattle.nr_search.specs.declared.slot.Slot.{Slot}
 use Rattle.nr_search.specs.declared.slot.Slot.TheVariants.{Unknown, Refused, Searched}
 use Rattle.nr_search.proofs.SegmentLemmas.{nth-within}
 
--- ---- what is said first
+-- ---- what the first report says
 
--- nothing is said
+-- no report says anything
 first_known-none : (slot : Slot) → first_known slot Unknown ≡ slot
 first_known-none Unknown = refl
 first_known-none (Refused _) = refl
@@ -35,7 +35,7 @@ said-other report s other = grind arith
 said-here : (report : Report) (s : ℕ) → s ≡ report.segment → said_by report s ≡ report.slot
 said-here report s here = grind arith
 
--- what all reports say and one more
+-- the reports so far, and one more
 said-more : (before : List Report) (report : Report) (s : ℕ) → said_in (before ++ report ∷ []) s ≡ first_known (said_in before s) (said_by report s)
 said-more [] report s = first_known-none (said_by report s)
 said-more (first ∷ before) report s =
@@ -55,7 +55,7 @@ same-or-other a b = grind arith
 pub adds-none : (slots : List Slot) → AddsTo slots (λ s. Unknown) slots
 adds-none slots = record { each = λ s within. sym (first_known-none (slot_of slots s)); count = refl }
 
--- what is said behind what was said
+-- reports noted after other reports
 adds-next : (slots slots' slots'' : List Slot) (said more all : ℕ → Slot) → ((s : ℕ) → all s ≡ first_known (said s) (more s)) → AddsTo slots said slots' → AddsTo slots' more slots''
     → AddsTo slots all slots''
 adds-next slots slots' slots'' said more all both first second =
@@ -82,7 +82,7 @@ module _ {X : Type 0} (items : X → List Report) where
       adds-next slots slots' slots'' (noted (map items (take i by_worker))) (said_in (items one_worker)) (noted (map items (take (i + 1) by_worker)))
       (λ s. ap (λ rs. noted rs s) more ∙ noted-more (map items (take i by_worker)) (items one_worker) s)
 
--- a table in which nothing was known has what is said
+-- an empty table holds, after noting, what the reports say
 blank : (n s : ℕ) → s < n → slot_of (replicate n Unknown) s ≡ Unknown
 blank n s within =
     ap or_unknown (slice_get-get_or (replicate n Unknown) s Unknown (omega (arith, length-replicate n Unknown, within)) ∙ ap Some (get_or-replicate n s Unknown Unknown within))
@@ -91,7 +91,7 @@ pub table-is : (n : ℕ) (said : ℕ → Slot) (table : List Slot) → AddsTo (r
 table-is n said table adds s within =
     adds.each s (omega (arith, length-replicate n Unknown, within)) ∙ ap (λ slot. first_known slot (said s)) (blank n s within)
 
--- ---- what is known is true
+-- ---- what is known is right
 
 module _ (span : Span) (hits : ℕ → List ℕ) where
   unknown-true : (s : ℕ) → IsTrue span hits s Unknown
@@ -135,7 +135,7 @@ module _ (span : Span) (hits : ℕ → List ℕ) where
           ];
         }
 
--- ---- what is left open
+-- ---- what stays open
 
 pub open-like : (span : Span) (known known' : ℕ → Slot) → ((s : ℕ) → s < span.first + span.count → known s ≡ known' s) → IsLeftOpen span known → IsLeftOpen span known'
 open-like span known known' same open_ =

@@ -11,7 +11,7 @@ use Rattle.nr_search.specs.declared.found.Found.{Found}
 use Rattle.nr_search.specs.declared.found.Found.TheVariants.{Hit, Nothing}
 use Rattle.nr_search.specs.declared.segments.Span.{Span}
 
--- each segment has a position that is searched
+-- each segment has a position of the search
 pub some-between : (after last every first count s : ℕ) → after < last → first * every ≤ after → after < (first + 1) * every → (first + count) * every < last + every → first ≤ s → s < first + count
     → from_of after every s < to_of last every s
 some-between after last every first count s some begins enters needed low high =
@@ -22,17 +22,17 @@ some-between after last every first count s some begins enters needed low high =
 split : (a b : ℕ) → (a < b) ⊎ (b ≤ a)
 split a b = grind arith
 
--- the segment up to which none hits when k segments are decided: forwards all before it, backwards it and all behind it
+-- the segment up to which no mark hits after k decided segments: forwards all before it, backwards it and all after it
 abbrev pub border : Direction → ℕ → ℕ → ℕ → ℕ
 border Forward first count k = first + k
 border Backward first count k = first + (count - k)
 
--- of the positions of a search none hits on this side of a segment's copy
+-- true if no position of the search on this side of a segment's copy has a hit
 abbrev pub Passed : Direction → (ℕ → List ℕ) → ℕ → ℕ → ℕ → Type 0
 Passed Forward hits after last copy = (q : ℕ) → after < q → q ≤ last → q ≤ copy → hits q ≡ []
 Passed Backward hits after last copy = (q : ℕ) → after < q → q ≤ last → copy < q → hits q ≡ []
 
--- none hits in the first k segments on the way
+-- true if no mark hits in the first k segments on the way
 abbrev pub ArePassed : Span → (ℕ → List ℕ) → ℕ → Type 0
 ArePassed span hits k = Passed span.direction hits span.after span.last (border span.direction span.first span.count k * span.every)
 
@@ -119,17 +119,17 @@ module _ (hits : ℕ → List ℕ) where
       let same : first ≡ first + (count - count) = omega arith in
       record { none = λ q a b. passed q (omega arith) (omega arith) (subst (λ s. s * every < q) same (omega arith)) }
 
-  -- of no segments none hits
+  -- in no segments, no mark hits
   pub passed-first : (span : Span) → ArePassed span hits 0
   passed-first span = none-first span.direction span.after span.last span.every span.first span.count span.begins span.ends
 
-  -- one segment more, where nothing is found
+  -- one segment more, without a hit
   pub passed-next : (span : Span) (k : ℕ) (found : Found) → k < span.count → is_hit found ≡ false → ArePassed span hits k
       → IsFoundIn span hits (nth_on_way span.direction span.first span.count k) found → ArePassed span hits (k + 1)
   passed-next span k Nothing below miss passed found = next-passed span.direction span.after span.last span.every span.first span.count k below passed found
   passed-next span k (Hit p) below miss passed found = cc
 
-  -- and where there is a hit
+  -- one segment more, with a hit
   pub passed-hit : (span : Span) (k : ℕ) (found : Found) → k < span.count → is_hit found ≡ true → ArePassed span hits k → IsFoundIn span hits (nth_on_way span.direction span.first span.count k) found
       → IsFound span.direction hits (span.after + 1) (span.last + 1) found
   passed-hit span k Nothing below hit passed found = cc

@@ -1,4 +1,4 @@
--- What is known of the segments that a search goes through.
+-- What is known about the segments that a search goes through.
 use Rattle.std.specs.Prelude.{◌≡◌, ℕ, ◌+◌, ◌<◌, Bool, true, false, List, slice_get, Option, None, Some}
 use Rattle.nr_search.specs.Auxiliary.Nearest.{IsFound}
 use Rattle.nr_search.specs.Search.{is_hit, nth_on_way}
@@ -8,59 +8,60 @@ use Rattle.nr_search.specs.declared.segments.Span.{Span}
 use Rattle.nr_search.specs.declared.slot.Slot.{Slot}
 use Rattle.nr_search.specs.declared.slot.Slot.TheVariants.{Unknown, Refused, Searched}
 
--- what is found is the nearest hit of the segment
+-- true if the result is the nearest hit of the segment
 abbrev pub IsFoundIn : Span → (ℕ → List ℕ) → ℕ → Found → Type 0
 IsFoundIn span hits s found =
     IsFound span.direction hits (from_of span.after span.every s + 1)
     (to_of span.last span.every s + 1) found
 
--- what is said of a segment is true: where it is said to be searched, this is found there
+-- true if the slot is right about the segment: if it says that the segment was searched, its result
+-- is the segment's
 pub record IsTrue (span : Span) (hits : ℕ → List ℕ) (s : ℕ) (slot : Slot) : Type 0 where
   pub found : (found : Found) → slot ≡ Searched found → IsFoundIn span hits s found
 
--- what is said of each segment is true
+-- true if each slot is right about its segment
 pub record AreTrue (span : Span) (hits : ℕ → List ℕ) (known : ℕ → Slot) : Type 0 where
   pub each : (s : ℕ) → IsTrue span hits s (known s)
 
--- what is known of a segment, by its number: nothing where there is no such slot
+-- what is known about a segment: `Unknown` if it has no slot
 abbrev pub or_unknown : Option Slot → Slot
 or_unknown (Some slot) = slot
 or_unknown None = Unknown
 
--- the slot of a segment, unknown where there is none
+-- the slot of a segment by its number, `Unknown` if the list has none
 abbrev pub slot_of : List Slot → ℕ → Slot
 slot_of slots s = or_unknown (slice_get slots s)
 
--- something is known of the segment
+-- true if something is known about the segment
 abbrev pub is_known : Slot → Bool
 is_known (Searched found) = true
 is_known (Refused _) = true
 is_known Unknown = false
 
--- the segment is searched
+-- true if the segment is searched
 abbrev pub is_searched : Slot → Bool
 is_searched (Searched found) = true
 is_searched (Refused _) = false
 is_searched Unknown = false
 
--- it is searched, and has a hit
+-- true if the segment is searched and has a hit
 abbrev pub has_hit : Slot → Bool
 has_hit (Searched found) = is_hit found
 has_hit (Refused _) = false
 has_hit Unknown = false
 
--- what is found is what is known, where the segment is searched
+-- true if the result is the known one, or the segment isn't searched
 abbrev pub Agrees : Slot → Found → Type 0
 Agrees (Searched known) found = found ≡ known
 Agrees (Refused _) found = Unit {0}
 Agrees Unknown found = Unit {0}
 
--- the segment that comes behind k others on the way
+-- the segment that comes after k others on the way
 abbrev pub nth_of : Span → ℕ → ℕ
 nth_of span k = nth_on_way span.direction span.first span.count k
 
--- What is known leaves the search open: a segment on the way isn't searched, and no nearer one is
--- known to have a hit.
+-- True if what is known leaves the search open: a segment on the way isn't searched, and no nearer
+-- one is known to have a hit.
 pub record IsLeftOpen (span : Span) (known : ℕ → Slot) : Type 0 where
   pub place : ℕ
   pub within : place < span.count

@@ -1,4 +1,4 @@
--- Where no mark can hit, as the kinds of the steps around a position show.
+-- Positions at which no mark can hit, judged by the kinds of the steps before and after them.
 use Rattle.std.specs.Prelude.{◌≡◌, Bool, false, not, List, slice_get, Option, Some}
 use Rattle.std.specs.List.{list_any}
 use Rattle.nr_rev.specs.Kind.{kind_number}
@@ -11,41 +11,41 @@ use Rattle.nr_marks.specs.declared.mark.Mark.TheVariants as mark
 use Rattle.nr_marks.specs.declared.mark.NextStep.{NextStep}
 use Rattle.nr_search.specs.declared.quiet.Outlook.{Outlook}
 
--- A mark watches a cell that a step of this kind can change.
+-- True if a mark watches a cell that a step of this kind can change.
 abbrev pub is_changed_by : Kind → Mark → Bool
 is_changed_by kind (mark.Break wanted) = false
 is_changed_by kind (mark.TemporaryBreak wanted) = false
 is_changed_by kind (mark.Watch c) = can_change kind c
 
--- A mark is a break that names the step that comes next.
+-- True if a mark is a break that names the next step.
 abbrev pub is_stopped_by : Option NextStep → Mark → Bool
 is_stopped_by next (mark.Break wanted) = break_hits wanted next
 is_stopped_by next (mark.TemporaryBreak wanted) = break_hits wanted next
 is_stopped_by next (mark.Watch c) = false
 
--- One of the marks watches such a cell.
+-- True if one of the marks watches such a cell.
 abbrev pub any_changed : Kind → List NumberedMark → Bool
 any_changed kind marks = list_any (λ m. is_changed_by kind m.item) marks
 
--- One of the marks is such a break.
+-- True if one of the marks is such a break.
 abbrev pub any_stopped : Option NextStep → List NumberedMark → Bool
 any_stopped next marks = list_any (λ m. is_stopped_by next m.item) marks
 
--- For each kind, at its number: whether one of the marks watches a cell that such a step can
--- change.
+-- True if the table says, for each kind at its number, whether one of the marks watches a cell that
+-- a step of that kind can change.
 pub record AreChanging (marks : List NumberedMark) (changing : List Bool) : Type 0 where
   pub each : (kind : Kind) → slice_get changing (kind_number kind) ≡ Some (any_changed kind marks)
 
--- One of the marks is a break.
+-- True if one of the marks is a break.
 abbrev pub any_break : List NumberedMark → Bool
 any_break marks = list_any (λ m. not (is_watch m.item)) marks
 
--- What is known of the marks is true.
+-- True if the outlook is right about the marks.
 pub record IsOutlook (marks : List NumberedMark) (outlook : Outlook) : Type 0 where
   pub changing : AreChanging marks outlook.changing
   pub any_break : outlook.any_break ≡ any_break marks
 
--- No mark can hit behind the step that was made and before the one that comes next.
+-- True if no mark can hit between the step `made` and the step `next`.
 pub record IsQuiet (marks : List NumberedMark) (made next : Option NextStep) : Type 0 where
   pub step : NextStep
   pub is : made ≡ Some step

@@ -1,4 +1,4 @@
--- What workers report of segments, and what is noted of that.
+-- What workers report about segments, and what is noted of it.
 use Rattle.std.specs.Prelude.{◌≡◌, ℕ, ◌<◌, ◌==◌, true, List, [], ◌∷◌, length, Result, Ok, Err, if◌then◌else◌}
 use Rattle.nr_search.specs.Known.{IsTrue, is_known, slot_of}
 use Rattle.nr_search.specs.declared.found.Found.{Found}
@@ -8,38 +8,38 @@ use Rattle.nr_search.specs.declared.slot.Slot.{Slot}
 use Rattle.nr_rev.specs.declared.memory.Memory.{Memory}
 use Rattle.nr_search.specs.declared.slot.Slot.TheVariants.{Unknown, Refused, Searched}
 
--- what a search of a segment makes known of it
+-- what the result of a search says about its segment
 abbrev pub slot_from : Result Found Memory → Slot
 slot_from (Ok found) = Searched found
 slot_from (Err refused) = Refused refused
 
--- a report says something of its segment, and that is true
+-- true if a report says something about its segment, and is right
 pub record IsReport (span : Span) (hits : ℕ → List ℕ) (report : Report) : Type 0 where
   pub known : is_known report.slot ≡ true
   pub holds : IsTrue span hits report.segment report.slot
 
--- what is known already, or else what is said then
+-- the first slot if it knows something, or else the second
 abbrev pub first_known : Slot → Slot → Slot
 first_known (Searched found) said = Searched found
 first_known (Refused refused) said = Refused refused
 first_known Unknown said = said
 
--- what a report says of segment s
+-- what a report says about segment s
 abbrev pub said_by : Report → ℕ → Slot
 said_by report s = if report.segment == s then report.slot else Unknown
 
--- What one worker's reports say of segment s: what the first report of it says.
+-- What one worker's reports say about segment s: what the first report on it says.
 abbrev pub said_in : List Report → ℕ → Slot
 said_in [] s = Unknown
 said_in (report ∷ reports) s = first_known (said_by report s) (said_in reports s)
 
--- What is noted of segment s by the reports of all workers, a row for each: what the first report
--- of it says, in the rows' order.
+-- What the reports of all workers, a row for each, say about segment s: what the first report on it
+-- says, in the order of the rows.
 abbrev pub noted : List (List Report) → ℕ → Slot
 noted [] s = Unknown
 noted (one_worker ∷ by_worker) s = first_known (said_in one_worker s) (noted by_worker s)
 
--- Of each segment is known what was known, or else what is said of it.
+-- True if each new slot holds what the old one knew, or else what is said about its segment.
 pub record AddsTo (slots : List Slot) (said : ℕ → Slot) (slots' : List Slot) : Type 0 where
   pub each : (s : ℕ) → s < length slots → slot_of slots' s ≡ first_known (slot_of slots s) (said s)
   pub count : length slots' ≡ length slots

@@ -1,4 +1,4 @@
--- How a search goes on its way, from one position to the next.
+-- How a search goes from one position to the next on its way.
 use Rattle.std.specs.Prelude.{◌≡◌, ℕ, ◌+◌, ◌-◌, Bool, true, false, List, slice_get, Some}
 use Rattle.nr_rev.specs.World.{World}
 use Rattle.nr_rev.specs.declared.cell_value.CellValue.{CellValue}
@@ -9,23 +9,23 @@ use Rattle.nr_search.specs.declared.direction.Direction.TheVariants.{Forward, Ba
 use Rattle.nr_search.specs.declared.found.Found.{Found}
 use Rattle.nr_search.specs.declared.found.Found.TheVariants.{Hit, Nothing}
 
--- something is found
+-- true if the result is a hit
 abbrev pub is_hit : Found → Bool
 is_hit (Hit h) = true
 is_hit Nothing = false
 
--- no position farther forward is nearer
+-- true if no position farther forward is nearer
 abbrev pub is_decided : Direction → Found → Bool
 is_decided Forward (Hit h) = true
 is_decided Forward Nothing = false
 is_decided Backward found = false
 
--- Of so many neighbours, from the first on, the one that comes behind k others on the way.
+-- The neighbour that comes after k others on the way, of `count` neighbours from the first on.
 abbrev pub nth_on_way : Direction → ℕ → ℕ → ℕ → ℕ
 nth_on_way Forward first count k = first + k
 nth_on_way Backward first count k = first + (count - 1 - k)
 
--- The values, one by one, are those that the marks watch in the world.
+-- True if the values are, one by one, those that the marks watch in the world.
 pub record Remembers (w : World) (marks : List NumberedMark) (values : List CellValue) : Type 0
   where
     pub each : (i : ℕ) (m : NumberedMark) → slice_get marks i ≡ Some m

@@ -1,19 +1,19 @@
-//! Which way.
+//! The direction of a search.
 
 ghost use Rattle.std.specs.Prelude.{◌≡◌, ◌<◌, ◌+◌, ◌^◌};
 ghost use Rattle.nr_search.specs.Search.{nth_on_way};
 
-/// Which way through a recording, after GDB's `exec-direction`.
+/// The direction in which to go through a recording, named after GDB's `exec-direction`.
 #[derive(Clone, Copy, Debug, PartialEq, Eq)]
 pub enum Direction {
-    /// As it was recorded.
+    /// In the order in which the run was recorded.
     Forward,
     /// Back to the start.
     Backward,
 }
 
 impl Direction {
-    /// Of so many neighbours, from the first on, the one that comes behind k others that way.
+    /// Returns the neighbour that comes after k others in this direction, of `count` neighbours from `first` on.
     pub(crate) fn nth(self, first: usize, count: usize, k: usize) -> usize
         requires within { k < count }
         requires fits { first + count < 2 ^ 64 }

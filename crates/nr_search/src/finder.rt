@@ -20,35 +20,34 @@ use nr_snaps::Film;
 use std::marker::PhantomData;
 use std::thread::Threads;
 
-/// How a search is done. `nearest_hit` takes any way and returns the same for each, so who calls it can stay generic over
-/// the ways that there are.
+/// A way to search. `nearest_hit` returns the same for each, so its callers can stay generic over the ways to search.
 pub trait Finder {
-    /// What starts the threads.
+    /// The runtime that starts the threads.
     type Runtime: Threads + Sync;
 
-    /// What learns who searches.
+    /// The gate that learns which worker searches.
     type Gate: Gate + Sync;
 
-    /// How many workers search: 1 where the caller's thread searches alone.
+    /// The number of workers: 1 if the caller's thread searches alone.
     ghost count: { Self → ℕ };
 
-    /// The workers; `None` where the caller's thread searches alone.
+    /// Returns the workers, or `None` if the caller's thread searches alone.
     fn workers(&self) -> Option<&ManyWorkers<Self::Runtime, Self::Gate>>
         ensures many { IfSome result (λ many. many.now ≡ count self.now) }
         ensures alone { IfNone result (count self.now ≡ 1) };
 
-    /// What they begin a search with. Whatever it is, they find the same.
+    /// Returns the claims that a search begins with. The result of the search doesn't depend on them.
     fn claims(&self) -> Claims;
 }
 
-/// Searches alone, in the caller's thread. The runtime that could start threads is a type alone.
+/// A search in the caller's thread alone. The runtime, which could start threads, is a type parameter only.
 #[derive(Clone, Copy, Debug)]
 pub struct OneWorker<R> {
     _runtime: PhantomData<R>,
 }
 
 impl<R: Threads + Sync> OneWorker<R> {
-    /// One worker.
+    /// Makes a search by one worker.
     pub fn new() -> OneWorker<R> {
         OneWorker {
             _runtime: PhantomData,
@@ -104,10 +103,11 @@ impl<F: Finder> Finder for &F {
     }
 }
 
-/// The nearest position from n where a mark hits, with the numbers of the marks that hit there: forwards the least above n,
-/// up to the end; backwards the greatest below n. Where a mark is a watch, copies of the film's worlds take memory, and what
-/// several workers report. Breaks alone are searched by the steps, in the caller's thread, and that takes none. Nor does a
-/// search where no position but the start lies that way.
+/// Returns the nearest position to n at which a mark hits, with the numbers of the marks that hit there: forwards the
+/// least above n, up to the end; backwards the greatest below n. If a mark is a watch, the search takes memory for
+/// copies of the film's worlds and for the reports of several workers. A search by breaks alone runs in the caller's
+/// thread, goes by the steps and takes no memory. A search that has no position other than the start on its way takes
+/// none either.
 pub fn nearest_hit<W: Worlds + Drop + Sync, F: Finder>(
     finder: &F,
     film: &Film<W>,
@@ -139,8 +139,8 @@ where
     }
 }
 
-/// The least position above n where a mark hits, up to the end, with the numbers of the marks that hit there: what
-/// `nearest_hit` finds forwards.
+/// Returns the least position above n, up to the end, at which a mark hits, with the numbers of the marks that hit
+/// there: what `nearest_hit` finds forwards.
 pub fn first_after<W: Worlds + Drop + Sync, F: Finder>(
     finder: &F,
     film: &Film<W>,
@@ -160,8 +160,8 @@ where
     nearest_hit(finder, film, marks, Direction::Forward, n)
 }
 
-/// The greatest position below n where a mark hits, with the numbers of the marks that hit there: what `nearest_hit` finds
-/// backwards.
+/// Returns the greatest position below n at which a mark hits, with the numbers of the marks that hit there: what
+/// `nearest_hit` finds backwards.
 pub fn last_before<W: Worlds + Drop + Sync, F: Finder>(
     finder: &F,
     film: &Film<W>,
@@ -181,7 +181,7 @@ where
     nearest_hit(finder, film, marks, Direction::Backward, n)
 }
 
-// The greatest hit below position n. Position 0 is the last one on the way, and needs no copy.
+// Returns the greatest hit below position n. Position 0 is the last on the way, and needs no copy.
 fn last_hit_below<W: Worlds + Drop + Sync, F: Finder>(
     finder: &F,
     film: &Film<W>,
@@ -205,7 +205,7 @@ where
     Ok(found)
 }
 
-// The nearest hit of those behind position `after` and up to position `last`, by one worker or by several.
+// Returns the nearest hit after position `after` and up to position `last`, searched by one worker or by several.
 fn search_between<W: Worlds + Drop + Sync, F: Finder>(
     finder: &F,
     film: &Film<W>,

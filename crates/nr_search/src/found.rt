@@ -1,4 +1,4 @@
-//! What a search finds.
+//! The result of a search.
 
 ghost use Rattle.std.specs.Prelude.{◌≡◌};
 ghost use Rattle.nr_search.specs.Nearest.{found_after};
@@ -8,28 +8,28 @@ use crate::direction::Direction;
 use arrayvec::ArrayVec;
 use nr_marks::MOST_MARKS;
 
-/// The numbers of marks, rising.
+/// The numbers of marks, in rising order.
 pub(crate) type Numbers = ArrayVec<u32, MOST_MARKS>;
 
-/// A position where marks hit.
+/// A position at which marks hit.
 #[derive(Debug, PartialEq, Eq, Drop)]
 pub struct Hit {
     pub position: usize,
-    /// The numbers of the marks that hit there, rising: at least one.
+    /// The numbers of the marks that hit there, in rising order. There is at least one.
     pub marks: ArrayVec<u32, MOST_MARKS>,
 }
 
-/// What a search finds.
+/// The result of a search.
 #[derive(Debug, PartialEq, Eq, Drop)]
 pub enum Found {
-    /// The nearest position where a mark hits.
+    /// The nearest position at which a mark hits.
     Hit(Hit),
-    /// There is none that way.
+    /// No mark hits in that direction.
     Nothing,
 }
 
 impl Found {
-    // What is found after a look at position p, behind the one that was found before. Where no mark hits there, nothing is
+    // Takes position p, the next one forwards, into the result. If no mark hits there, the result stays and nothing is
     // copied.
     pub(crate) fn look_at(&mut self, p: usize, hits: &Numbers)
         ensures { self.new ≡ found_after self.old p hits.now.items }
@@ -42,7 +42,7 @@ impl Found {
         }
     }
 
-    // A copy of what was found, in room of its own.
+    // Returns a copy that shares no memory with this result.
     pub(crate) fn copy(&self) -> Found
         ensures { result ≡ self.now }
     {
@@ -55,7 +55,7 @@ impl Found {
         }
     }
 
-    // Whether there is one.
+    // Returns whether this is a hit.
     pub(crate) fn is_hit(&self) -> bool
         ensures { result ≡ is_hit self.now }
     {
@@ -65,7 +65,7 @@ impl Found {
         }
     }
 
-    // Whether no position farther forward can change it.
+    // Returns whether no position farther forward can change the result.
     pub(crate) fn is_decided(&self, direction: Direction) -> bool
         ensures { result ≡ is_decided direction self.now }
     {
@@ -76,7 +76,7 @@ impl Found {
     }
 }
 
-// A copy of the numbers of marks. It takes no memory.
+// Returns a copy of the numbers of marks. It takes no memory.
 fn copied(numbers: &Numbers) -> Numbers
     ensures { result ≡ numbers.now }
 {

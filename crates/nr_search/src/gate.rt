@@ -1,11 +1,11 @@
-//! A look at who searches.
+//! A gate that tells which worker searches when.
 
 /// Learns when a worker begins to search a segment, and when it has searched it. Workers are counted from 1.
 pub trait Gate {
-    /// The worker is about to search a segment.
+    /// Called when the worker is about to search a segment.
     fn enter(&self, worker: usize);
 
-    /// It has searched it.
+    /// Called when the worker has searched it.
     fn leave(&self, worker: usize);
 }
 

@@ -1,4 +1,5 @@
-//! Searching a film for the nearest position where a mark hits, forwards and backwards, and for which marks hit there.
+//! A search through a film for the nearest position at which a mark hits, forwards or backwards, and for the marks that
+//! hit there.
 #![tactic(auto)]
 
 mod direction;

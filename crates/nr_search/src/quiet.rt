@@ -1,4 +1,4 @@
-//! Positions where no mark can hit, as the kinds of the steps around them show.
+//! Positions at which no mark can hit, judged by the kinds of the steps before and after them.
 
 ghost use Rattle.std.specs.Prelude.{◌≡◌, true};
 ghost use Rattle.nr_rev.specs.Kind.{kind_number};
@@ -8,21 +8,22 @@ ghost use Rattle.nr_search.specs.Quiet.{AreChanging, IsOutlook, IsQuiet, any_bre
 use nr_marks::{Mark, NextStep, NumberedMark};
 use nr_rev::Kind;
 
-/// How many numbers of kinds there are, and 0, which no kind has.
+/// The number of entries of a table of kinds: one for each number of a kind, and one for 0, which no kind has.
 pub(crate) const NUMBERS: usize = 32;
 
-/// For each kind, at its number: whether a mark watches a cell that such a step can change.
+/// A table with an entry for each kind, at the kind's number: whether a mark watches a cell that a step of that kind
+/// can change.
 pub(crate) type Changing = [bool; NUMBERS];
 
-/// What of the marks is known at the begin of a stretch.
+/// The facts about the marks that are computed once, at the beginning of a stretch.
 #[derive(Drop)]
 pub(crate) struct Outlook {
     pub(crate) changing: Changing,
-    /// Whether one of them is a break.
+    /// Whether a mark is a break.
     pub(crate) any_break: bool,
 }
 
-// Whether a mark watches a cell that a step of this kind can change.
+// Returns whether a mark watches a cell that a step of this kind can change.
 fn is_changed_by(mark: Mark, kind: Kind) -> bool
     ensures { result ≡ is_changed_by kind mark }
 {
@@ -32,7 +33,7 @@ fn is_changed_by(mark: Mark, kind: Kind) -> bool
     }
 }
 
-// Whether a mark is a break that names the step that comes next.
+// Returns whether a mark is a break that names the next step.
 fn is_stopped_by(mark: Mark, next: Option<NextStep>) -> bool
     ensures { result ≡ is_stopped_by next mark }
 {
@@ -42,21 +43,21 @@ fn is_stopped_by(mark: Mark, next: Option<NextStep>) -> bool
     }
 }
 
-// Whether one of the marks watches a cell that a step of this kind can change.
+// Returns whether one of the marks watches a cell that a step of this kind can change.
 fn any_changed(marks: &[NumberedMark], kind: Kind) -> bool
     ensures { result ≡ any_changed kind marks.now }
 {
     marks.iter().any(|mark| is_changed_by(mark.item, kind))
 }
 
-// Whether one of the marks is a break that names the step that comes next.
+// Returns whether one of the marks is a break that names the next step.
 fn any_stopped(marks: &[NumberedMark], next: Option<NextStep>) -> bool
     ensures { result ≡ any_stopped next marks.now }
 {
     marks.iter().any(|mark| is_stopped_by(mark.item, next))
 }
 
-// Whether one of the marks watches a cell that a step of the kind of this number can change.
+// Returns whether one of the marks watches a cell that a step of the kind with this number can change.
 fn is_changing(marks: &[NumberedMark], number: u8) -> bool
     ensures { (kind : Kind) → number ≡ kind_number kind → result ≡ any_changed kind marks.now }
 {
@@ -66,7 +67,7 @@ fn is_changing(marks: &[NumberedMark], number: u8) -> bool
     }
 }
 
-// For each kind whether a mark watches a cell that such a step can change.
+// Returns the table that says, for each kind, whether a mark watches a cell that a step of that kind can change.
 fn changing_kinds(marks: &[NumberedMark]) -> Changing
     ensures { AreChanging marks.now result }
 {
@@ -77,14 +78,14 @@ fn changing_kinds(marks: &[NumberedMark]) -> Changing
     changing
 }
 
-// Whether one of the marks is a break.
+// Returns whether one of the marks is a break.
 fn any_break(marks: &[NumberedMark]) -> bool
     ensures { result ≡ any_break marks.now }
 {
     marks.iter().any(|mark| !mark.item.is_watch())
 }
 
-/// What is known of the marks.
+/// Returns the facts about the marks that a search of a stretch needs.
 pub(crate) fn outlook_of(marks: &[NumberedMark]) -> Outlook
     ensures { IsOutlook marks.now result }
 {
@@ -94,7 +95,7 @@ pub(crate) fn outlook_of(marks: &[NumberedMark]) -> Outlook
     }
 }
 
-/// Whether no mark can hit behind the step that was made and before the one that comes next.
+/// Returns true only if no mark can hit at the position between these two steps.
 #[inline(always)]
 pub(crate) fn is_quiet(
     marks: &[NumberedMark],

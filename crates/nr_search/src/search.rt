@@ -17,7 +17,7 @@ use nr_marks::Marks;
 use nr_rev::{Memory, Worlds};
 use nr_snaps::Film;
 
-/// A search through a film for where marks hit.
+/// A search through a film for positions at which marks hit.
 #[derive(Drop)]
 pub(crate) struct Search<'a, W: Worlds + Drop>
 where
@@ -25,7 +25,7 @@ where
 {
     pub film: &'a Film<W>,
     pub marks: &'a Marks,
-    /// The positions that are searched.
+    /// The positions to search.
     pub span: Span,
     ghost every: { span.every ≡ film.now.every },
     ghost within: { span.last ≤ length film.now.recording.steps },
@@ -35,7 +35,7 @@ impl<'a, W: Worlds + Drop> Search<'a, W>
 where
     W::Snapshot: Drop,
 {
-    /// A search of the positions behind `after` and up to `last`.
+    /// Makes a search of the positions after `after` and up to `last`.
     pub fn new(
         film: &'a Film<W>,
         marks: &'a Marks,
@@ -51,7 +51,7 @@ where
         ensures after { result.span.after ≡ after }
         ensures last { result.span.last ≡ last }
     {
-        // A film's length is bounded, so `last` and the steps of a segment have a sum.
+        // The length of a film is bounded, so the sum of `last` and the steps of a segment doesn't overflow.
         let _ = film.len();
         Search {
             film,
@@ -60,8 +60,9 @@ where
         }
     }
 
-    /// The nearest hit of a segment. The world at hand is led through it, if it is at its beginning, else a copy.
-    /// Afterwards the world at hand is at its end, if the search came there.
+    /// Returns the nearest hit of a segment. The search leads the world at hand through the segment if that world is at
+    /// its beginning, and a copy otherwise. If the search reaches the end of the segment, the world at hand is there
+    /// afterwards.
     pub fn search_segment(&self, s: usize, held: &mut Option<WorldAt<W>>) -> Result<Found, Memory>
         requires first { self.now.span.first ≤ s }
         requires last { s < self.now.span.first + self.now.span.count }
@@ -85,7 +86,7 @@ where
         Ok(found)
     }
 
-    // The nearest hit of a segment, by what is known of it, or else by a search.
+    // Returns the nearest hit of a segment: the known one, or else that of a search.
     fn decide_segment(
         &self,
         known: &[Slot],
@@ -112,8 +113,8 @@ where
         }
     }
 
-    /// The nearest hit: segment by segment on the way, by what is known of each, or else by a search of it. The first
-    /// segment with a hit decides: that others ran out of memory changes nothing then.
+    /// Returns the nearest hit. It visits the segments on the way, and takes what is known of each or else searches it.
+    /// The first segment with a hit decides; it then doesn't matter whether later segments ran out of memory.
     pub fn decide(&self, known: &[Slot]) -> Result<Found, Memory>
         requires { AreTrue self.now.span
             (hits_at self.now.film.now.recording self.now.marks.now.present) (slot_of known.now) }
@@ -133,9 +134,10 @@ where
         Ok(Found::Nothing)
     }
 
-    /// The nearest hit, by what the workers report, a row for each worker. Of a segment the first report counts; where
-    /// there is none, it is searched here. It runs out of memory only where a segment on the way isn't searched by the
-    /// report that counts, and none before it has a hit. The table has a slot for each segment, where nothing is known yet.
+    /// Returns the nearest hit by the reports of the workers, a row for each worker. The first report of a segment
+    /// counts; a segment without a report is searched here. Fails for lack of memory only if the report that counts for
+    /// a segment on the way doesn't say that it was searched, and no segment before it is reported to have a hit.
+    /// `table` has an `Unknown` slot for each segment.
     pub fn decide_by(&self, by_worker: &[Vec<Report>], table: &mut [Slot]) -> Result<Found, Memory>
         requires table { table.old
             ≡ replicate (self.now.span.first + self.now.span.count) Unknown }

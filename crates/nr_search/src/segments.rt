@@ -1,4 +1,4 @@
-//! The positions that a search is for, and the segments that they lie in.
+//! The positions of a search, and the segments that they lie in.
 
 ghost use Rattle.std.specs.Prelude.{◌≡◌, ◌<◌, ◌≤◌, ◌+◌, ◌*◌, ◌^◌};
 ghost use Rattle.nr_search.specs.Search.{nth_on_way};
@@ -6,9 +6,9 @@ ghost use Rattle.nr_search.specs.Segments.{from_of, to_of};
 
 use crate::direction::Direction;
 
-/// The positions that a search is for: those behind `after` and up to `last`. A film's segments lie between neighbouring
-/// copies, and one more from the last copy to the end: segment s has the positions behind `s * every` and up to
-/// `(s + 1) * every`. These positions lie in `count` segments, from segment `first` on.
+/// The positions of a search: those after `after` and up to `last`. A film has a segment between each two neighbouring
+/// copies, and one more from the last copy to the end: segment s has the positions after `s * every` and up to `(s + 1)
+/// * every`. The positions of the search lie in `count` segments, from segment `first` on.
 #[derive(Debug, Drop)]
 pub(crate) struct Span {
     pub direction: Direction,
@@ -26,7 +26,7 @@ pub(crate) struct Span {
 }
 
 impl Span {
-    /// The positions behind `after` and up to `last`.
+    /// Makes the span of the positions after `after` and up to `last`.
     pub fn new(direction: Direction, after: usize, last: usize, every: usize) -> Span
         requires some { after < last }
         requires every { 0 < every }
@@ -47,7 +47,7 @@ impl Span {
         }
     }
 
-    /// The segment that comes behind k others on the way.
+    /// Returns the segment that comes after k others on the way.
     pub fn nth(&self, k: usize) -> usize
         requires { k < self.now.count }
         ensures { result ≡ nth_on_way self.now.direction self.now.first self.now.count k }
@@ -55,7 +55,7 @@ impl Span {
         self.direction.nth(self.first, self.count, k)
     }
 
-    /// The positions of a segment: behind the first number, and up to the second.
+    /// Returns the bounds of a segment's positions: they lie after the first number, and up to the second.
     pub fn stretch(&self, s: usize) -> (usize, usize)
         requires first { self.now.first ≤ s }
         requires last { s < self.now.first + self.now.count }

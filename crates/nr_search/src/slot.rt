@@ -1,4 +1,4 @@
-//! What is known of segments.
+//! What is known about segments.
 
 ghost use Rattle.std.specs.Prelude.{◌≡◌, ◌≤◌, true, length, replicate, IfOk};
 ghost use Rattle.nr_search.specs.Known.{is_known, slot_of};
@@ -9,19 +9,19 @@ use crate::found::Found;
 use nr_rev::Memory;
 use std::alloc::Global;
 
-/// What is known of a segment.
+/// What is known about a segment.
 #[derive(Debug, Drop)]
 pub(crate) enum Slot {
-    /// Nothing: it was skipped, or the report of it was lost.
+    /// Nothing: the segment was skipped, or its report was lost.
     Unknown,
-    /// A worker ran out of memory for it.
+    /// A worker ran out of memory when it searched the segment.
     Refused(Memory),
-    /// It was searched.
+    /// The segment was searched, with this result.
     Searched(Found),
 }
 
 impl Slot {
-    /// What a search of a segment makes known of it.
+    /// Returns what the result of a search says about its segment.
     pub fn from_search(searched: Result<Found, Memory>) -> Slot
         ensures { result ≡ slot_from searched }
     {
@@ -31,7 +31,7 @@ impl Slot {
         }
     }
 
-    // A copy of what is known of a segment, in room of its own.
+    // Returns a copy that shares no memory with this slot.
     fn copy(&self) -> Slot
         ensures { result ≡ self.now }
     {
@@ -43,14 +43,14 @@ impl Slot {
     }
 }
 
-/// A worker's report of a segment.
+/// A worker's report on a segment.
 #[derive(Debug, Drop)]
 pub(crate) struct Report {
     pub segment: usize,
     pub slot: Slot,
 }
 
-/// Nothing is known of so many segments.
+/// Returns `count` slots that know nothing.
 pub(crate) fn unknown(alloc: Global, count: usize) -> Result<Vec<Slot>, Memory>
     ensures { IfOk result (λ known. known.items ≡ replicate count Unknown) }
 {
@@ -61,7 +61,7 @@ pub(crate) fn unknown(alloc: Global, count: usize) -> Result<Vec<Slot>, Memory>
     Ok(known)
 }
 
-/// What is known of a segment, by its number: nothing where there is no such slot.
+/// Returns what is known about a segment, by its number: `Unknown` if the table has no such slot.
 pub(crate) fn slot_at(known: &[Slot], s: usize) -> Slot
     ensures { result ≡ slot_of known.now s }
 {
@@ -71,8 +71,7 @@ pub(crate) fn slot_at(known: &[Slot], s: usize) -> Slot
     }
 }
 
-// Notes a report by the number of its segment. A second one of a segment, and one of a segment that isn't there, change
-// nothing.
+// Notes a report in the slot of its segment. It changes nothing if the segment has a report already, or no slot.
 fn note(known: &mut [Slot], report: &Report)
     ensures noted { AddsTo known.old (said_by report.now) known.new }
     ensures second { is_known (slot_of known.old report.now.segment) ≡ true
@@ -84,7 +83,7 @@ fn note(known: &mut [Slot], report: &Report)
     }
 }
 
-/// Notes a worker's reports, each by the number of its segment.
+/// Notes a worker's reports, each in the slot of its segment.
 pub(crate) fn note_all(known: &mut [Slot], reports: &[Report])
     ensures { AddsTo known.old (said_in reports.now) known.new }
 {

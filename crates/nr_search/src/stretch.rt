@@ -1,4 +1,4 @@
-//! A stretch of a film, searched position by position.
+//! A search of a stretch of a film, position by position.
 
 ghost use Rattle.std.specs.Prelude.{◌≡◌, ◌<◌, ◌≤◌, ◌+◌, ◌*◌, ◌/◌, length, slice_get, false, IfOk, IfSome};
 ghost use Rattle.nr_marks.specs.Hit.{hits_at, numbered};
@@ -17,7 +17,7 @@ use nr_marks::{MOST_MARKS, Marks, NextStep, NumberedMark};
 use nr_rev::{CellValue, Memory, Worlds};
 use nr_snaps::Film;
 
-/// The step that comes next at position n.
+/// Returns the step that comes next at position n.
 #[inline(always)]
 pub(crate) fn next_step<W: Worlds + Drop>(film: &Film<W>, n: usize) -> Option<NextStep>
 where
@@ -25,14 +25,14 @@ where
     requires { n ≤ length film.now.recording.steps }
     ensures { result ≡ numbered n (slice_get film.now.recording.steps n) }
 {
-    // A film's length is bounded, so n + 1 is a number of a step.
+    // The length of a film is bounded, so the number of a step, n + 1, doesn't overflow.
     let _ = film.len();
     NextStep::at(n, film.step(n))
 }
 
-// Leads the world from position n to the next one, and returns the numbers of the marks that hit there. The values are those
-// that the marks watch at position n, and then at the next one. Where the kinds of the steps around it show that no mark can
-// hit, no cell is read.
+// Leads the world from position n to the next position, and returns the numbers of the marks that hit there. `values`
+// are the watched values at position n, and afterwards those at the next position. If the kinds of the steps around
+// that position rule out a hit, no cell is read.
 #[inline(always)]
 fn advance_finding_hits<W: Worlds + Drop>(
     film: &Film<W>,
@@ -54,7 +54,7 @@ where
     ensures frame { IsFrame W.is_well_formed W.world W.steps film.now (n + 1) world.new }
     ensures values { Remembers (W.world world.new) marks.now values.new }
 {
-    // A film's length is bounded, so n + 1 is a position.
+    // The length of a film is bounded, so n + 1 is a position.
     let _ = film.len();
     let made = next_step(film, n);
     let next = next_step(film, n + 1);
@@ -66,7 +66,7 @@ where
     find_hits(marks, values, hits, world, next);
 }
 
-/// The nearest hit of those behind position `at` and up to position `to`. The world is at `at` and is led on: to `to`,
+/// Returns the nearest hit after position `at` and up to position `to`. The world starts at `at`, and is led on to `to`
 /// unless a hit ends the search.
 pub(crate) fn search_stretch<W: Worlds + Drop>(
     film: &Film<W>,
@@ -102,7 +102,7 @@ where
     found
 }
 
-/// A world, and its position.
+/// A world and its position.
 #[derive(Drop)]
 pub(crate) struct WorldAt<W: Worlds + Drop> {
     pub position: usize,
@@ -128,8 +128,8 @@ where
     }
 }
 
-/// The world at position n: the one at hand, if it is there; else the film's copy below, led on. The world at hand becomes that
-/// copy; if there is none, one is made.
+/// Returns the world at position n: the world at hand if it is there, or else the film's copy at or below n, led on.
+/// That copy is restored into the world at hand; if there is no world at hand, a new one is made.
 pub(crate) fn world_at<W: Worlds + Drop>(
     film: &Film<W>,
     held: Option<WorldAt<W>>,
@@ -155,7 +155,7 @@ where
     }
 }
 
-// The world of the film's copy at or below position n, led on to n.
+// Leads a world, restored from the film's copy at or below position n, on to n.
 fn led_on<W: Worlds + Drop>(film: &Film<W>, world: W, n: usize) -> W
 where
     W::Snapshot: Drop,
@@ -172,7 +172,7 @@ where
     below.lead_to(film, n)
 }
 
-/// The numbers of the marks that hit at position 0, rising.
+/// Returns the numbers of the marks that hit at position 0, in rising order.
 pub(crate) fn hits_at_start<W: Worlds + Drop>(film: &Film<W>, marks: &Marks) -> Numbers
 where
     W::Snapshot: Drop,

@@ -20,17 +20,17 @@ use std::marker::Model;
 use std::sync::atomic::{AtomicUsize, Ordering};
 use std::thread::{Threads, map_indices};
 
-/// The fewest workers of a search.
+/// The least number of workers of a search.
 pub const LEAST_WORKERS: usize = 1;
 
-/// The most workers of a search.
+/// The greatest number of workers of a search.
 pub const MOST_WORKERS: usize = 16;
 
 /// The most segments that a worker claims at once.
 const MOST_AT_ONCE: usize = 8;
 
-/// Searches by several workers, each in a thread of its own where one can be started. They claim the segments between the
-/// film's copies, in their order on the way. Contracts see how many workers there are.
+/// A search by several workers, each in a thread of its own if one can be started. They claim the segments between the
+/// film's copies in the order of the way. Contracts see the number of workers.
 #[derive(Debug, Drop)]
 pub struct ManyWorkers<R: Threads + Sync, G: Gate + Sync> {
     rt: R,
@@ -51,7 +51,7 @@ impl<R: Threads + Sync, G: Gate + Sync> Model for ManyWorkers<R, G> {
 }
 
 impl<R: Threads + Sync, G: Gate + Sync> ManyWorkers<R, G> {
-    /// So many workers. Each goes through the gate for each segment that it searches.
+    /// Makes a search by `workers` workers. Each passes the gate for each segment that it searches.
     pub fn new(rt: R, alloc: Global, gate: G, workers: usize) -> ManyWorkers<R, G>
         requires least { LEAST_WORKERS ≤ workers }
         requires most { workers ≤ MOST_WORKERS }
@@ -65,7 +65,7 @@ impl<R: Threads + Sync, G: Gate + Sync> ManyWorkers<R, G> {
         }
     }
 
-    /// How many workers there are.
+    /// Returns the number of workers.
     pub fn workers(&self) -> usize
         ensures is { result ≡ self.now }
         ensures least { LEAST_WORKERS ≤ result }
@@ -75,23 +75,24 @@ impl<R: Threads + Sync, G: Gate + Sync> ManyWorkers<R, G> {
     }
 }
 
-/// What the workers of a search share. No proof rests on what it holds: with claims that nobody made, or a hit that there
-/// isn't, a search takes longer and finds the same.
+/// The state that the workers of a search share. No proof rests on it: if it has claims that no worker made, or a hit
+/// that doesn't exist, the search takes longer and finds the same.
 #[derive(Drop)]
 pub struct Claims {
-    // How many segments on the way are claimed.
+    // The number of claimed segments on the way.
     next: AtomicUsize,
-    // The number on the way of the nearest segment where a hit is known: those behind it need no search.
+    // The number on the way of the nearest segment with a known hit: segments after it need no search.
     hint: AtomicUsize,
 }
 
 impl Claims {
-    /// Nothing is claimed, and no hit is known.
+    /// Makes a state with no claims and no known hit.
     pub fn new() -> Claims {
         Claims::preset(0, usize::MAX)
     }
 
-    /// So many segments are claimed, and a hit is known in the segment of number `hint` on the way, counted from 0.
+    /// Makes a state in which `claimed` segments are claimed, and segment `hint` on the way, counted from 0, has a
+    /// known hit.
     pub fn preset(claimed: usize, hint: usize) -> Claims {
         Claims {
             next: AtomicUsize::new(claimed),
@@ -99,7 +100,7 @@ impl Claims {
         }
     }
 
-    // Claims some neighbouring segments.
+    // Claims the next `at_once` segments.
     fn claim(&self, at_once: usize) -> Turn {
         let next = self.next.fetch_add(at_once, Ordering::SeqCst);
         Turn {
@@ -108,12 +109,12 @@ impl Claims {
         }
     }
 
-    // Whether a hit is known before the segment of this number on the way.
+    // Returns whether a segment before number k on the way has a known hit.
     fn is_behind_hit(&self, k: usize) -> bool {
         k > self.hint.load(Ordering::SeqCst)
     }
 
-    // Leaves the others a hit's number on the way.
+    // Tells the other workers the number on the way of a segment with a hit.
     fn tell(&self, k: usize, slot: &Slot) {
         if let Slot::Searched(Found::Hit(_)) = slot {
             self.hint.fetch_min(k, Ordering::SeqCst);
@@ -129,13 +130,14 @@ struct Turn {
 }
 
 impl Turn {
-    // None.
+    // Makes a turn without segments.
     fn over() -> Turn {
         Turn { next: 0, end: 0 }
     }
 
-    // The number on the way of the next segment, unless a hit is known before it. Where there are many segments, a few are
-    // claimed at once: forwards a world leads on from one to its neighbour, and only the first takes a copy.
+    // Returns the number on the way of the next segment, unless a segment before it has a known hit. If there are many
+    // segments, a worker claims a few at once: forwards, it leads its world on from one to the next, and takes a copy
+    // only for the first.
     fn next(&mut self, claims: &Claims, count: usize) -> Option<usize>
         ensures { IfSome result (λ k. k < count) }
     {
@@ -151,7 +153,7 @@ impl Turn {
     }
 }
 
-// What a worker's search of a segment comes to: it was searched, or ran out of memory.
+// Returns what a worker's search of a segment says: its result, or that it ran out of memory.
 fn searched<W: Worlds + Drop>(
     search: &Search<'_, W>,
     s: usize,
@@ -172,7 +174,7 @@ where
     Slot::from_search(search.search_segment(s, held))
 }
 
-// Searches the segments that it claims, and reports each.
+// Searches segments as long as there are some to claim, and returns a report on each.
 fn work<W: Worlds + Drop, G: Gate>(
     search: &Search<'_, W>,
     alloc: Global,
@@ -197,13 +199,13 @@ where
         let slot = searched(search, segment, &mut held);
         gate.leave(worker);
         claims.tell(k, &slot);
-        // A report that finds no room is lost, and nothing is known of the segment.
+        // If there is no room for a report, the report is lost and its segment stays unknown.
         let _ = reports.push(Report { segment, slot });
     }
     reports
 }
 
-// The reports of each worker.
+// Runs the workers, and returns the reports of each.
 fn gather<W: Worlds + Drop + Sync, R: Threads + Sync, G: Gate + Sync>(
     many: &ManyWorkers<R, G>,
     search: &Search<'_, W>,
@@ -226,7 +228,7 @@ where
     map_indices(&many.rt, alloc, many.workers, &worker)
 }
 
-/// The nearest hit of a search, by what the workers report. Where that leaves it open, the segments are searched here.
+/// Returns the nearest hit of a search by the reports of the workers. Segments without a report are searched here.
 pub(crate) fn search_by<W: Worlds + Drop + Sync, R: Threads + Sync, G: Gate + Sync>(
     many: &ManyWorkers<R, G>,
     search: &Search<'_, W>,

@@ -1,4 +1,4 @@
--- Beside `Nearest`: what contracts and proofs cite, and no law of THEOREM.md rests on.
+-- Definitions that contracts and proofs cite beside `Nearest`. No law of THEOREM.md rests on them.
 use Rattle.std.specs.Prelude.{◌≡◌, ℕ, ◌<◌, ◌≤◌, List, [], length}
 use Rattle.nr_marks.specs.Auxiliary.Numbered.{RisesWithin}
 use Rattle.nr_search.specs.declared.direction.Direction.{Direction}
@@ -6,12 +6,13 @@ use Rattle.nr_search.specs.declared.direction.Direction.TheVariants.{Forward, Ba
 use Rattle.nr_search.specs.declared.found.Found.{Found}
 use Rattle.nr_search.specs.declared.found.Found.TheVariants.{Hit, Nothing}
 
--- q is nearer than p
+-- true if q is nearer than p
 abbrev pub Nearer : Direction → ℕ → ℕ → Type 0
 Nearer Forward q p = q < p
 Nearer Backward q p = p < q
 
--- These marks hit at p, some at least, and none hits from low to below high where that is nearer.
+-- True if the marks `ms`, at least one, hit at p, and no mark hits at a nearer position from low to
+-- below high.
 pub record IsNearest (way : Direction) (hits : ℕ → List ℕ) (low high p : ℕ) (ms : List ℕ) : Type 0
   where
     pub above : low ≤ p
@@ -20,16 +21,18 @@ pub record IsNearest (way : Direction) (hits : ℕ → List ℕ) (low high p : �
     pub some : 0 < length ms
     pub nearest : (q : ℕ) → low ≤ q → q < high → Nearer way q p → hits q ≡ []
 
--- no mark hits from low to below high
+-- true if no mark hits from low to below high
 pub record NoneHits (hits : ℕ → List ℕ) (low high : ℕ) : Type 0 where
   pub none : (q : ℕ) → low ≤ q → q < high → hits q ≡ []
 
--- what is found is the nearest hit from low to below high, and nothing only where none hits
+-- true if the result is the nearest hit from low to below high, and is `Nothing` only if no mark
+-- hits there
 abbrev pub IsFound : Direction → (ℕ → List ℕ) → ℕ → ℕ → Found → Type 0
 IsFound direction hits low high (Hit h) = IsNearest direction hits low high h.position h.marks.items
 IsFound direction hits low high Nothing = NoneHits hits low high
 
--- the numbers that are returned rise, and are those of marks that were made, so many at most
+-- true if the returned numbers rise, and each is the number of a mark that was made, so that there
+-- are at most that many
 abbrev pub Rises : ℕ → Found → Type 0
 Rises made (Hit h) = RisesWithin 0 h.marks.items made
 Rises made Nothing = Unit {0}

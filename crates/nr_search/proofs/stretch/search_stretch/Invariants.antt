@@ -5,7 +5,7 @@ use Rattle.nr_search.specs.Search.{Remembers, is_decided}
 use Rattle.nr_snaps.specs.Film.{IsFrame}
 use Rattle.nr_search.proofs.stretch.search_stretch.Given as goal
 
--- the world is at n, its watched values are kept, and all up to n is looked at
+-- the world is at n, its watched values are kept, and the search has visited all positions up to n
 abbrev pub invariant-loop-n : goal.invariant-loop-n
 invariant-loop-n g l =
     record {

@@ -16,7 +16,7 @@ loop-reports-preserved g c =
     c.loop-reports-test.true c.reports-item.is
     c.loop-reports.invariant (subst (λ rs. AddsTo c.loop-reports.table (said_in rs) c.note_all.new.known) c.as_slice.ensures.value c.note_all.ensures)
 
--- what is noted at last is what all reports say, and that is true
+-- the complete table holds what the reports say, and that is right
 pub decide-requires : goal.decide-requires
 decide-requires g c =
     let search = c.args.self.now in
