@@ -1,4 +1,4 @@
--- What is kept of each descriptor while the steps of a recording are made.
+-- The accounts of all descriptors, which are updated with each step of a recording.
 use Rattle.std.specs.Prelude.{◌≡◌, ◌≢◌, ℕ, ◌<◌, List, length, slice_get, Option, Some, option_and_then}
 use Rattle.nr_rev.specs.Run.{Recording}
 use Rattle.nr_suspects.specs.declared.account.Account.{Account}
@@ -7,30 +7,30 @@ use Rattle.nr_suspects.specs.declared.notice.Notice.{Notice}
 use Rattle.nr_suspects.specs.declared.notice.Notice.TheVariants.{Tried}
 use Rattle.nr_suspects.specs.Debts.{account, account_after}
 
--- what is kept of descriptor d, if it has a place
+-- the account of descriptor d, if it has a place
 abbrev pub kept_of : List (Option Account) → ℕ → Option Account
 kept_of accounts d = option_and_then (λ a. a) (slice_get accounts d)
 
--- the step of this number and notice was written down at each place
+-- each place was updated with the notice of this step
 pub record IsNoted (n : ℕ) (notice : Notice) (old new : List (Option Account)) : Type 0 where
   pub places : length new ≡ length old
   pub each : (d : ℕ) (a : Option Account) → slice_get old d ≡ Some a
       → slice_get new d ≡ Some (account_after n d notice a)
 
--- it was written down at the place of descriptor d, if there is one
+-- the place of descriptor d, if it has one, was updated
 pub record IsNotedAt (d n : ℕ) (notice : Notice) (old new : List (Option Account)) : Type 0 where
   pub places : length new ≡ length old
   pub here : (a : Option Account) → slice_get old d ≡ Some a
       → slice_get new d ≡ Some (account_after n d notice a)
   pub elsewhere : (e : ℕ) → e ≢ d → slice_get new e ≡ slice_get old e
 
--- a try of socket s at a side, which was answered `Again`, was written down at each place
+-- each place was updated with a try of socket s at a side, which was answered `Again`
 pub record IsTryNoted (s : ℕ) (side : Side) (old new : List (Option Account)) : Type 0 where
   pub places : length new ≡ length old
   pub each : (d : ℕ) (a : Option Account) → slice_get old d ≡ Some a
       → slice_get new d ≡ Some (account_after 0 0 (Tried s side) a)
 
--- each place has what is kept of its descriptor at position n of a recording
+-- each place holds the account of its descriptor at position n of a recording
 pub record AreAccounts (r : Recording) (n : ℕ) (accounts : List (Option Account)) : Type 0 where
   pub places : length accounts ≡ r.limits.descriptors
   pub each : (d : ℕ) → d < r.limits.descriptors → slice_get accounts d ≡ Some (account r d n)

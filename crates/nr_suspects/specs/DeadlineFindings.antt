@@ -1,5 +1,5 @@
--- What came of deadlines: each that passed, each call that ended with one, and each that was set
--- anew before the goroutine that it woke had looked.
+-- What became of deadlines: those that passed, the calls that ended with one, and those that were
+-- set again before the goroutine that they woke had checked its side.
 use Rattle.std.specs.Prelude.{◌≡◌, ◌≢◌, ℕ, zero, suc, ◌<◌, ◌==◌, nat_lt, if◌then◌else◌, List, [], ◌∷◌, ◌++◌, Option, Some, None, option_and_then, option_map, IsTrue, false, codes, decimal}
 use Rattle.std.specs.Option.{option_map_or}
 use Rattle.nr_rev.specs.declared.sides.Mode.{Mode}
@@ -23,7 +23,7 @@ use Rattle.nr_suspects.specs.Debts.{account}
 use Rattle.nr_suspects.specs.LostWakeUps.{side_letter}
 use Rattle.nr_suspects.specs.Notices.{notice_at}
 
--- what is kept of the deadline of a side, by what is kept of its descriptor
+-- the record of the deadline of a side, from the descriptor's account
 abbrev pub deadline_of : Side → Option Account → Option Deadline
 deadline_of side a = option_map (λ (x : Account). of_side side x.deadlines) a
 
@@ -31,11 +31,13 @@ deadline_of side a = option_map (λ (x : Account). of_side side x.deadlines) a
 abbrev pub side_setting : Side → Option Account → Option Setting
 side_setting side a = option_and_then (λ (x : Deadline). x.setting) (deadline_of side a)
 
--- the goroutine that was woken when the deadline of a side passed, and hasn't looked yet
+-- the goroutine that was woken when the deadline of a side passed, if it hasn't checked the side
+-- yet
 abbrev pub woken_of : Side → Option Account → Option ℕ
 woken_of side a = option_and_then (λ (x : Deadline). x.woken) (deadline_of side a)
 
--- what came at step n of the deadline of a side of descriptor d, of which this is kept
+-- the finding that this happened at step n to the deadline of a side of descriptor d, if the
+-- account says which step set it
 abbrev pub finding : ℕ → ℕ → Side → Consequence → Option Account → List DeadlineFinding
 finding n d side consequence a =
     option_map_or (λ setting. record {
@@ -46,19 +48,20 @@ finding n d side consequence a =
       setting = setting;
     } ∷ []) (side_setting side a) []
 
--- it passed, if this is its passing
+-- the finding that the deadline passed, if there is a passing of this side
 abbrev pub passed_at : ℕ → ℕ → Side → Option Passing → Option Account → List DeadlineFinding
 passed_at n d side None a = []
 passed_at n d side (Some passing) a = finding n d side Passed a
 
--- it was set anew before the goroutine that it woke had looked
+-- the finding that the deadline was set again before the goroutine that it woke had checked its
+-- side
 abbrev pub taken_back_at : ℕ → ℕ → Mode → Side → Option Account → List DeadlineFinding
 taken_back_at n d mode side a =
     if names_side mode side
     then option_map_or (λ woken. finding n d side (TakenBack woken) a) (woken_of side a) []
     else []
 
--- what came of deadlines at a step of this number, where this is kept of each descriptor before it
+-- the findings about deadlines at a step of this number, from the descriptors' accounts before it
 abbrev pub findings_at : ℕ → Notice → (ℕ → Option Account) → List DeadlineFinding
 findings_at n (PassedDeadline d passings) kept =
     passed_at n d Read passings.read (kept d) ++ passed_at n d Write passings.write (kept d)
@@ -69,11 +72,11 @@ findings_at n (SetDeadline g d mode) kept =
     taken_back_at n d mode Read (kept d) ++ taken_back_at n d mode Write (kept d)
 findings_at n _ kept = []
 
--- what is kept at position n of a descriptor that there may be
+-- the account of descriptor d at position n, or none if d isn't below the recording's limit
 abbrev pub account_within : Recording → ℕ → ℕ → Option Account
 account_within r n d = if nat_lt d r.limits.descriptors then account r d n else None
 
--- What came of deadlines in the first n steps of a recording.
+-- The findings about deadlines in the first n steps of a recording.
 abbrev pub deadline_findings : Recording → ℕ → List DeadlineFinding
 deadline_findings r zero = []
 deadline_findings r (suc n) =
@@ -81,18 +84,18 @@ deadline_findings r (suc n) =
 
 -- ---- in words
 
--- the step after position n set the deadline of a side of descriptor d, by goroutine g
+-- the step after position n is by goroutine g and sets the deadline of a side of descriptor d
 abbrev pub IsSetting : Recording → ℕ → Side → ℕ → ℕ → Mode → Type 0
 IsSetting r d side n g mode =
     (notice_at r n ≡ SetDeadline g d mode) × IsTrue (names_side mode side)
 
--- the step after position n set the deadline of the other side of descriptor d alone, by
--- goroutine g
+-- the step after position n is by goroutine g and sets the deadline of the other side of descriptor
+-- d alone
 abbrev pub IsMove : Recording → ℕ → Side → ℕ → ℕ → Type 0
 IsMove r d side n g =
     (mode : Mode) × (notice_at r n ≡ SetDeadline g d mode) × (names_side mode side ≡ false)
 
--- this is the first such step after position `start` and before position n, or there is none
+-- `Some`: the first such step after position `start` and before position n; `None`: no such step
 abbrev pub IsFirstMove : Recording → ℕ → ℕ → ℕ → Side → Option StepBy → Type 0
 IsFirstMove r start n d side None = (k g : ℕ) → start < k → k < n → ¬ IsMove r d side k g
 IsFirstMove r start n d side (Some move) =
@@ -100,7 +103,7 @@ IsFirstMove r start n d side (Some move) =
     × ((k g : ℕ) → start < k → k < at → ¬ IsMove r d side k g)
 
 -- The deadline of a side of descriptor d at position n is the one that this step set: since then no
--- step set it, and none opened the descriptor anew.
+-- step set it, and none reopened the descriptor.
 pub record IsSetBy (r : Recording) (n d : ℕ) (side : Side) (setting : Setting) : Type 0 where
   pub at : ℕ
   pub before : at < n
@@ -110,9 +113,9 @@ pub record IsSetBy (r : Recording) (n d : ℕ) (side : Side) (setting : Setting)
   pub unopened : (k s : ℕ) → at < k → k < n → notice_at r k ≢ Opened d s
   pub moved : IsFirstMove r at n d side setting.moved
 
--- This came of the deadline of a side of descriptor d at the step after position n: a timer was
--- run, and the deadline passed; a call checked the side, and its code was that of a deadline that
--- has passed; or the deadline was set, and the goroutine that it woke hadn't looked.
+-- At the step after position n this happened to the deadline of a side of descriptor d: a timer was
+-- run, and the deadline passed; a call checked the side and got the code of a deadline that has
+-- passed; or the deadline was set, and the goroutine that it had woken hadn't checked its side.
 abbrev pub Comes : Recording → ℕ → ℕ → Side → Consequence → Type 0
 Comes r n d side Passed =
     (passings : Sides (Option Passing)) × (passing : Passing)
@@ -123,8 +126,8 @@ Comes r n d side (TakenBack woken) =
     (g : ℕ) × (mode : Mode) × IsSetting r d side n g mode
     × (woken_of side (account r d n) ≡ Some woken)
 
--- What a finding says is so: this came of the deadline, at that step, and the step that it names
--- had set the deadline.
+-- A finding is correct: this happened to the deadline at that step, and the named step had set the
+-- deadline.
 pub record IsFinding (r : Recording) (n : ℕ) (found : DeadlineFinding) : Type 0 where
   pub at : ℕ
   pub before : at < n
@@ -132,7 +135,7 @@ pub record IsFinding (r : Recording) (n : ℕ) (found : DeadlineFinding) : Type 
   pub comes : Comes r at found.descriptor found.side found.consequence
   pub set : IsSetBy r at found.descriptor found.side found.setting
 
--- a finding of the deadline of this side, which came at the step after position n
+-- a finding about the deadline of this side, which came at the step after position n
 pub record IsOf (n d : ℕ) (side : Side) (consequence : Consequence) (found : DeadlineFinding) :
     Type 0 where
   pub position : found.position ≡ suc n
@@ -142,7 +145,7 @@ pub record IsOf (n d : ℕ) (side : Side) (consequence : Consequence) (found : D
 
 -- ---- their lines
 
--- what came, as it is printed
+-- the printed name of a consequence
 abbrev pub consequence_name : Consequence → List ℕ
 consequence_name Passed = codes " passed-deadline"
 consequence_name (EndedCall g) = codes " timeout"
@@ -154,7 +157,7 @@ goroutine_of Passed = None
 goroutine_of (EndedCall g) = Some g
 goroutine_of (TakenBack g) = Some g
 
--- ` gor 2`, if there is one
+-- ` gor 2`, or nothing without a goroutine
 abbrev pub goroutine_text : Option ℕ → List ℕ
 goroutine_text None = []
 goroutine_text (Some g) = codes " gor " ++ decimal g
@@ -169,7 +172,7 @@ mode_text Mode.Read = codes " r"
 mode_text Mode.Write = codes " w"
 mode_text Mode.Both = codes " rw"
 
--- ` moved 75 by 3`, if a step set the other side alone since
+-- ` moved 75 by 3`, or nothing if no step has set the other side alone since
 abbrev pub moved_text : Option StepBy → List ℕ
 moved_text None = []
 moved_text (Some by) =
@@ -188,6 +191,6 @@ deadline_line found =
     consequence_text found ++ (goroutine_text (goroutine_of found.consequence)
     ++ (setting_text found ++ (moved_text found.setting.moved ++ codes "\n")))
 
--- a line for each
+-- a line for each finding
 abbrev pub deadline_lines : List DeadlineFinding → List ℕ
 deadline_lines found = text_of_parts deadline_line found

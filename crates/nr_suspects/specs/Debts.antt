@@ -1,4 +1,4 @@
--- What an event owes: the goroutine that waits at its side has to try before it sleeps.
+-- The debt of an event: the goroutine that waits at its side must try the socket before it sleeps.
 use Rattle.std.specs.Prelude.{◌≡◌, ◌⊎◌, ℕ, zero, suc, ◌<◌, ◌==◌, if◌then◌else◌, Option, Some, None, option_map, option_and_then, IsTrue}
 use Rattle.nr_rev.specs.declared.sides.Mode.{Mode}
 use Rattle.nr_rev.specs.declared.sides.Side.{Side}
@@ -13,17 +13,17 @@ use Rattle.nr_suspects.specs.declared.notice.Visit.{Visit}
 use Rattle.nr_suspects.specs.Notices.{notice_at}
 use Rattle.nr_suspects.specs.Settings.{never_set, looked_at, after_setting, after_passing}
 
--- a descriptor that was opened for socket s, to whose sides nothing is owed, and whose deadlines
--- weren't set
+-- the account of a descriptor that was just opened for socket s: no side has a debt, and no
+-- deadline was set
 abbrev pub newly_opened : ℕ → Account
 newly_opened s = record { socket = s; debts = twice None; deadlines = twice never_set }
 
--- what is owed to a side after an event of step n, if its mode names the side
+-- the debt of a side after an event of step n, which adds one if its mode names the side
 abbrev pub owed_by_event : ℕ → Mode → Side → Option Debt → Option Debt
 owed_by_event n mode side debt =
     if names_side mode side then Some (record { event = n; taken = None }) else debt
 
--- an event of step n came for these sides
+-- the account after an event of step n for these sides
 abbrev pub with_event : ℕ → Mode → Account → Account
 with_event n mode a = record a {
   debts = record {
@@ -32,11 +32,11 @@ with_event n mode a = record a {
   };
 }
 
--- a debt whose readiness goroutine g took by step n
+-- the debt after goroutine g took its readiness in step n
 abbrev pub taken_by : ℕ → ℕ → Debt → Debt
 taken_by n g debt = record debt { taken = Some (record { step = n; goroutine = g }) }
 
--- the goroutine that visits a side took its readiness by step n
+-- the account after the visiting goroutine took the readiness of its side in step n
 abbrev pub with_taking : ℕ → Visit → Account → Account
 with_taking n v a =
     let debt : Option Debt = option_map (taken_by n v.goroutine) (of_side v.side a.debts) in
@@ -45,11 +45,11 @@ with_taking n v a =
       deadlines = looked_at v.goroutine v.side a.deadlines;
     }
 
--- a goroutine that visits a side has looked why it was woken
+-- the account after the visiting goroutine checked why it was woken
 abbrev pub with_look : Visit → Account → Account
 with_look v a = record a { deadlines = looked_at v.goroutine v.side a.deadlines }
 
--- what is kept of an open descriptor d after a step of this number
+-- the account of an open descriptor d after a step of this number
 abbrev pub noted : ℕ → ℕ → Notice → Account → Account
 noted n d (Event e mode) a = if d == e then with_event n mode a else a
 noted n d (Tried s side) a =
@@ -62,40 +62,41 @@ noted n d (PassedDeadline e passings) a =
     if d == e then record a { deadlines = after_passing passings a.deadlines } else a
 noted n d _ a = a
 
--- what is kept of descriptor d, if it was ever opened
+-- the account of descriptor d after a step, if it was ever opened
 abbrev pub account_after : ℕ → ℕ → Notice → Option Account → Option Account
 account_after n d (Opened e s) a = if d == e then Some (newly_opened s) else a
 account_after n d notice a = option_map (noted n d notice) a
 
--- what is kept of descriptor d at position n of a recording
+-- the account of descriptor d at position n of a recording
 abbrev pub account : Recording → ℕ → ℕ → Option Account
 account r d zero = None
 account r d (suc n) = account_after (suc n) d (notice_at r n) (account r d n)
 
--- the debt of a side of descriptor d at position n: the step of the event, and who took it
+-- the debt of a side of descriptor d at position n: the step of the event, and the step that took
+-- the readiness
 abbrev pub debt : Recording → ℕ → Side → ℕ → Option Debt
 debt r d side n = option_and_then (λ (a : Account). of_side side a.debts) (account r d n)
 
 -- ---- in words
 
--- the step after position n was an event that came for a side of descriptor d
+-- the step after position n was an event for a side of descriptor d
 abbrev pub IsEvent : Recording → ℕ → Side → ℕ → Type 0
 IsEvent r d side n =
     (mode : Mode) × (notice_at r n ≡ Event d mode) × IsTrue (names_side mode side)
 
--- the socket that descriptor d was last opened for, at position n
+-- the socket for which descriptor d was last opened, at position n
 abbrev pub socket_at : Recording → ℕ → ℕ → Option ℕ
 socket_at r d n = option_map (λ (a : Account). a.socket) (account r d n)
 
--- The step after position n pays what is owed to a side of descriptor d: the descriptor was opened
--- anew, or its socket was tried at that side and had nothing.
+-- The step after position n pays the debt of a side of descriptor d: the descriptor was opened
+-- again, or its socket was tried at that side and the answer was `Again`.
 abbrev pub IsPayment : Recording → ℕ → Side → ℕ → Type 0
 IsPayment r d side n =
     ((s : ℕ) × (notice_at r n ≡ Opened d s))
     ⊎ ((s : ℕ) × (notice_at r n ≡ Tried s side) × (socket_at r d n ≡ Some s))
 
--- Something is owed to a side of descriptor d at position n: an event came for it, and since then
--- nothing paid.
+-- A try is owed to a side of descriptor d at position n: an event came for the side, and nothing
+-- has paid since.
 pub record Owed (r : Recording) (n d : ℕ) (side : Side) : Type 0 where
   pub event : ℕ
   pub before : event < n

@@ -1,4 +1,4 @@
--- References of closed sockets that are held: the socket can't be freed.
+-- Held references of closed sockets: such a socket can't be freed.
 use Rattle.std.specs.Prelude.{◌≡◌, ℕ, zero, suc, ◌+◌, ◌-◌, ◌<◌, Bool, true, false, ◌&&◌, nat_lt, if◌then◌else◌, List, [], ◌∷◌, ◌++◌, slice_get, IsTrue, codes, decimal}
 use Rattle.std.specs.Option.{option_map_or}
 use Rattle.nr_rev.specs.declared.cell.Cell.{Cell}
@@ -13,18 +13,18 @@ use Rattle.nr_suspects.specs.declared.held_reference.HeldReference.{HeldReferenc
 use Rattle.nr_suspects.specs.declared.holding.Holding.{Holding}
 use Rattle.nr_suspects.specs.Holdings.{holding}
 
--- whether socket s is closed, and still has references: it isn't freed
+-- true if socket s is closed and still has references, so that it isn't freed
 abbrev pub is_unfreed : World → ℕ → Bool
 is_unfreed w s =
     option_map_or (λ (socket : Socket). socket.lock.closed && nat_lt 0 socket.lock.references)
     (slice_get w.sockets s) false
 
--- whether a goroutine with this status has ended
+-- true if a goroutine with this status has ended
 abbrev pub is_gone : CellValue → Bool
 is_gone (CellValue.Status Gone) = true
 is_gone _ = false
 
--- the references that goroutine g holds of socket s, if it took more than it gave back
+-- the references of socket s that goroutine g holds, if it took more than it returned
 abbrev pub held_of_one : ℕ → ℕ → ℕ → CellValue → Holding → List HeldReference
 held_of_one n s g status h =
     if nat_lt h.given h.taken then record {
@@ -36,21 +36,22 @@ held_of_one n s g status h =
       is_gone = is_gone status;
     } ∷ [] else []
 
--- the references that the goroutines below k hold of socket s, by what each holds
+-- the references of socket s that the goroutines below k hold, from each one's holding
 abbrev pub held_of_goroutines : ℕ → World → ℕ → (ℕ → Holding) → ℕ → List HeldReference
 held_of_goroutines n w s held zero = []
 held_of_goroutines n w s held (suc k) =
     held_of_goroutines n w s held k ++ held_of_one n s k (cell w (Cell.Goroutine k)) (held k)
 
--- those of the sockets below k that are closed and not freed, among so many goroutines
+-- the held references of the sockets below k that are closed and not freed, among so many
+-- goroutines
 abbrev pub held_of_sockets : ℕ → World → (ℕ → ℕ → Holding) → ℕ → ℕ → List HeldReference
 held_of_sockets n w held goroutines zero = []
 held_of_sockets n w held goroutines (suc k) =
     held_of_sockets n w held goroutines k
     ++ (if is_unfreed w k then held_of_goroutines n w k (held k) goroutines else [])
 
--- All references of closed sockets that are held at position n of a recording: by socket, and then
--- by goroutine.
+-- All held references of closed sockets at position n of a recording, sorted by socket and then by
+-- goroutine.
 abbrev pub held_references : Recording → ℕ → List HeldReference
 held_references r n =
     held_of_sockets n (world_at r n) (λ s g. holding r g s n) r.limits.goroutines r.limits.sockets
@@ -58,12 +59,13 @@ held_references r n =
 -- ---- in words
 
 -- Goroutine g holds references of socket s at position n: the socket is closed and not freed, and
--- the goroutine took more of its references than it gave back.
+-- the goroutine took more of its references than it returned.
 pub record IsHeld (r : Recording) (n s g : ℕ) : Type 0 where
   pub unfreed : IsTrue (is_unfreed (world_at r n) s)
   pub more : (holding r g s n).given < (holding r g s n).taken
 
--- what is listed of it: how many references it holds, and by which step it took one last
+-- the line of such a goroutine is correct: how many references it holds, and which step took the
+-- last one
 pub record IsListed (r : Recording) (n : ℕ) (held : HeldReference) : Type 0 where
   pub position : held.position ≡ n
   pub count : held.count + (holding r held.goroutine held.socket n).given
@@ -72,12 +74,13 @@ pub record IsListed (r : Recording) (n : ℕ) (held : HeldReference) : Type 0 wh
 
 -- ---- their lines
 
--- what is printed of a goroutine that has ended
+-- the suffix for a goroutine that has ended
 abbrev pub gone_text : Bool → List ℕ
 gone_text true = codes " gone"
 gone_text false = []
 
--- `at 90 held-reference sock 1 gor 3 count 1 since 45`, and ` gone` of a goroutine that has ended
+-- `at 90 held-reference sock 1 gor 3 count 1 since 45`, followed by ` gone` if the goroutine has
+-- ended
 abbrev pub held_line : HeldReference → List ℕ
 held_line held =
     codes "at " ++ (decimal held.position
@@ -86,6 +89,6 @@ held_line held =
     ++ (codes " count " ++ (decimal held.count
     ++ (codes " since " ++ (decimal held.since ++ (gone_text held.is_gone ++ codes "\n"))))))))))
 
--- a line for each
+-- a line for each held reference
 abbrev pub held_lines : List HeldReference → List ℕ
 held_lines found = text_of_parts held_line found

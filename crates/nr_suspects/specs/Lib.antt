@@ -1,4 +1,4 @@
--- what callers need
+-- the specifications that callers need
 pub mod Notices
 pub mod Deadlines
 pub mod Debts
@@ -12,5 +12,5 @@ pub mod Sleepers
 pub mod DeadlineFindings
 pub mod HeldReferences
 pub mod Suspects
--- inner
+-- internal
 pub mod Settings

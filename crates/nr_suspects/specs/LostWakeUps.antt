@@ -1,4 +1,4 @@
--- Lost wake-ups: a goroutine sleeps at a side to which something is owed.
+-- Lost wake-ups: a goroutine sleeps at a side to which a try is owed.
 use Rattle.std.specs.Prelude.{◌≡◌, ◌⊎◌, ℕ, zero, suc, ◌<◌, List, [], ◌∷◌, ◌++◌, Option, Some, None, option_and_then, codes, decimal}
 use Rattle.nr_rev.specs.declared.answer.Answer.{Answer}
 use Rattle.nr_rev.specs.declared.cell_value.CellValue.{CellValue}
@@ -22,14 +22,14 @@ use Rattle.nr_suspects.specs.Debts.{account, Owed}
 use Rattle.nr_suspects.specs.declared.notice.Notice.TheVariants.{Opened, TookReadiness}
 use Rattle.nr_suspects.specs.Notices.{notice, notice_at, word_cell}
 
--- Goroutine g has lost a wake-up at position n: it is parked at a side of descriptor d, and to that
--- side something is owed.
+-- Goroutine g has lost a wake-up at position n: it is parked at a side of descriptor d to which a
+-- try is owed.
 pub record HasLost (r : Recording) (n g d : ℕ) (side : Side) : Type 0 where
   pub parked : HasView parked_of (world_at r n).goroutines g (d, side)
   pub owed : Owed r n d side
 
--- A step took the readiness of a side of descriptor d, or it opened the descriptor anew. Those that
--- take it are a reset, and the two steps of a wait that take up its word.
+-- A step took the readiness of a side of descriptor d, or reopened the descriptor. The steps that
+-- take readiness are a reset and the two steps of a wait that consume the word.
 pub data IsTakenBy (w : World) (step : Step) (answer : Answer) (next : World) (d : ℕ)
     (side : Side) : Type 0 where
   Anew : (s : ℕ) → notice w step answer next ≡ Opened d s → IsTakenBy w step answer next d side
@@ -40,7 +40,7 @@ pub data IsTakenBy (w : World) (step : Step) (answer : Answer) (next : World) (d
       ⊎ (kind_of step ≡ Kind.BlockSwap)
       → IsTakenBy w step answer next d side
 
--- This step took the readiness of a side of descriptor d after an event, and before position n.
+-- This step took the readiness of a side of descriptor d after an event and before position n.
 pub record IsTaking (r : Recording) (n d : ℕ) (side : Side) (event : ℕ) (taken : StepBy) :
     Type 0 where
   pub at : ℕ
@@ -52,7 +52,8 @@ pub record IsTaking (r : Recording) (n d : ℕ) (side : Side) (event : ℕ) (tak
 
 -- ---- all of them
 
--- the lost wake-up of a goroutine at position n, if the word has this value, and this is owed
+-- the lost wake-up of the goroutine in a word with this value, if there is such a goroutine and
+-- this debt
 abbrev pub lost_by : ℕ → ℕ → Side → CellValue → Option Debt → List LostWakeUp
 lost_by n d side (CellValue.WaitWord (Held g)) (Some debt) =
     record {
@@ -65,19 +66,19 @@ lost_by n d side (CellValue.WaitWord (Held g)) (Some debt) =
     } ∷ []
 lost_by n d side word debt = []
 
--- that of a side of descriptor d, of which this is kept
+-- the lost wake-up of a side of descriptor d with this account
 abbrev pub lost_at : ℕ → World → ℕ → Option Account → Side → List LostWakeUp
 lost_at n w d a side =
     lost_by n d side (cell w (word_cell d side))
     (option_and_then (λ (account : Account). of_side side account.debts) a)
 
--- those at the descriptors below k, by what is kept of each
+-- the lost wake-ups at the descriptors below k, from their accounts
 abbrev pub lost_below : ℕ → World → (ℕ → Option Account) → ℕ → List LostWakeUp
 lost_below n w kept zero = []
 lost_below n w kept (suc k) =
     lost_below n w kept k ++ (lost_at n w k (kept k) Read ++ lost_at n w k (kept k) Write)
 
--- All lost wake-ups at position n of a recording: by descriptor, reading before writing.
+-- All lost wake-ups at position n of a recording, sorted by descriptor, reading before writing.
 abbrev pub lost_wake_ups : Recording → ℕ → List LostWakeUp
 lost_wake_ups r n =
     lost_below n (world_at r n) (λ d. account r d n) r.limits.descriptors
@@ -96,7 +97,7 @@ event_text lost =
     ++ (codes " desc " ++ (decimal lost.descriptor ++ (side_letter lost.side
     ++ (codes " event " ++ decimal lost.event)))))))
 
--- ` taken 66 by 2`, if a step took the readiness
+-- ` taken 66 by 2`, or nothing if no step took the readiness
 abbrev pub taken_text : Option StepBy → List ℕ
 taken_text None = []
 taken_text (Some taken) =
@@ -106,6 +107,6 @@ taken_text (Some taken) =
 abbrev pub lost_line : LostWakeUp → List ℕ
 lost_line lost = event_text lost ++ (taken_text lost.taken ++ codes "\n")
 
--- a line for each
+-- a line for each lost wake-up
 abbrev pub lost_lines : List LostWakeUp → List ℕ
 lost_lines found = text_of_parts lost_line found

@@ -1,4 +1,4 @@
--- What a step did that the hunts follow.
+-- Notices: the effects of a step that the hunts use.
 use Rattle.std.specs.Prelude.{ℕ, Bool, true, false, ◌&&◌, not, if◌then◌else◌, Option, Some, None, option_map, slice_get, Ok, Err}
 use Rattle.std.specs.Option.{option_map_or}
 use Rattle.nr_rev.specs.contracts.answer.AnswerPartialEq.TheImpl as answer_eq
@@ -21,36 +21,37 @@ use Rattle.nr_suspects.specs.declared.notice.Notice.TheVariants.{Opened, Event, 
 use Rattle.nr_suspects.specs.declared.notice.Passing.{Passing}
 use Rattle.nr_suspects.specs.declared.notice.Visit.{Visit}
 
--- the cell of the word of a side of descriptor d
+-- the cell with the word of a side of descriptor d
 abbrev pub word_cell : ℕ → Side → Cell
 word_cell d Read = Cell.ReadWord d
 word_cell d Write = Cell.WriteWord d
 
--- whether a value is the word `ready`
+-- true if a value is the word `ready`
 abbrev pub is_ready_word : CellValue → Bool
 is_ready_word (CellValue.WaitWord Ready) = true
 is_ready_word _ = false
 
--- whether the word of a side of descriptor d is ready: an event came, and nobody has taken it
+-- true if the word of a side of descriptor d is `ready`: an event came, and no goroutine has taken
+-- it
 abbrev pub is_ready : World → ℕ → Side → Bool
 is_ready w d side = is_ready_word (cell w (word_cell d side))
 
--- where a goroutine with this status is in a wait
+-- the descriptor and side at which a goroutine with this status waits
 abbrev pub wait_place : CellValue → Option (ℕ × Side)
 wait_place (CellValue.Status status) = wait_of status
 wait_place _ = None
 
--- goroutine g at the side of its own wait
+-- the visit of goroutine g at the side of its own wait
 abbrev pub visit_at : ℕ → Option (ℕ × Side) → Option Visit
 visit_at g = option_map (λ place. record { goroutine = g; descriptor = place.0; side = place.1 })
 
--- where goroutine g is in a wait, if it is in one
+-- the visit of goroutine g at the side at which it waits, if it waits
 abbrev pub visit_of : World → ℕ → Option Visit
 visit_of w g = visit_at g (wait_place (cell w (Cell.Goroutine g)))
 
--- The side of a descriptor that a step visits, and whose step it is. A reset and the beginning of a
--- wait visit the side that they name, blockarm, blockswap and waitcheck that of the goroutine's
--- wait.
+-- The side of a descriptor that a step visits, and the goroutine of the step. A reset and the
+-- beginning of a wait visit the side that they name; blockarm, blockswap and waitcheck visit the
+-- side at which the goroutine waits.
 abbrev pub visit : World → Step → Option Visit
 visit w (Step.PollReset g d side) = Some (record { goroutine = g; descriptor = d; side = side })
 visit w (Step.WaitBegin g d side) = Some (record { goroutine = g; descriptor = d; side = side })
@@ -59,8 +60,8 @@ visit w (Step.BlockSwap g) = visit_of w g
 visit w (Step.WaitCheck g) = visit_of w g
 visit w _ = None
 
--- whether the readiness of a visited side was taken: it was ready before the step, and isn't after
--- it
+-- true if the step took the readiness of a visited side: the word was `ready` before the step, and
+-- isn't after it
 abbrev pub is_taken : World → World → Visit → Bool
 is_taken w next v = is_ready w v.descriptor v.side && not (is_ready next v.descriptor v.side)
 
@@ -69,22 +70,22 @@ abbrev pub checking : Visit → Answer → Notice
 checking v (Code code) = Checked v code
 checking v _ = Nothing
 
--- the notice of a step that visits a side: it took the readiness, or it is a check
+-- the notice of a step that visits a side: it took the readiness or checked the side
 abbrev pub visiting : World → World → Answer → Option Visit → Notice
 visiting w next answer None = Nothing
 visiting w next answer (Some v) = if is_taken w next v then TookReadiness v else checking v answer
 
--- the cell of the deadline of a side of descriptor d
+-- the cell with the deadline of a side of descriptor d
 abbrev pub deadline_cell : ℕ → Side → Cell
 deadline_cell d Read = Cell.ReadDeadline d
 deadline_cell d Write = Cell.WriteDeadline d
 
--- whether a value is a time before 0: as a deadline, it has passed
+-- true if a value is a time before 0, which marks a deadline that has passed
 abbrev pub is_past : CellValue → Bool
 is_past (CellValue.Time t) = is_negative t
 is_past _ = false
 
--- whether the deadline of a side of descriptor d has passed
+-- true if the deadline of a side of descriptor d has passed
 abbrev pub has_passed : World → ℕ → Side → Bool
 has_passed w d side = is_past (cell w (deadline_cell d side))
 
@@ -93,7 +94,8 @@ abbrev pub held_goroutine : CellValue → Option ℕ
 held_goroutine (CellValue.WaitWord (Held g)) = Some g
 held_goroutine _ = None
 
--- the passing of a side's deadline: it hadn't passed before, and has now; whoever was held is woken
+-- the passing of a side's deadline, if it has passed now and hadn't before; the goroutine in the
+-- word is woken
 abbrev pub passing : World → World → ℕ → Side → Option Passing
 passing w next d side =
     if not (has_passed w d side) && has_passed next d side
@@ -105,34 +107,36 @@ fired_descriptor w (Step.Fire i) =
     option_map (λ (entry : Entry). entry.descriptor) (slice_get w.firings i)
 fired_descriptor w _ = None
 
--- the notice of a step that runs a timer for this descriptor; the other one, if it runs none
+-- the notice of a step that runs a timer for this descriptor; the other notice, if the step runs
+-- none
 abbrev pub running : World → World → Option ℕ → Notice → Notice
 running w next None other = other
 running w next (Some d) other =
     PassedDeadline d (record { read = passing w next d Read; write = passing w next d Write })
 
--- the notice, if the answer is the one that is wanted
+-- the notice if the answer is the wanted one, otherwise none
 abbrev pub if_answered : Answer → Answer → Notice → Notice
 if_answered wanted answer n = if (answer_eq.ghosts).eq answer wanted then n else Nothing
 
--- the notice of a descriptor that was opened for socket s: the answer is its number
+-- the notice that a descriptor was opened for socket s; the answer is the descriptor's number
 abbrev pub notice_of_opening : ℕ → Answer → Notice
 notice_of_opening s (Number d) = Opened d s
 notice_of_opening s _ = Nothing
 
--- the notice of a socket that was opened with so much room to write: the answer is its number
+-- the notice that a socket with so much room for writing was opened; the answer is the socket's
+-- number
 abbrev pub notice_of_socket : ℕ → Answer → Notice
 notice_of_socket capacity (Number s) = SocketOpened s capacity
 notice_of_socket capacity _ = Nothing
 
--- the notice of a timer that is run, or of a side that is visited
+-- the notice of a step that runs a timer or visits a side
 abbrev pub seen : World → Step → Answer → World → Notice
 seen w step answer next =
     running w next (fired_descriptor w step) (visiting w next answer (visit w step))
 
--- The notice of a step with this answer, where the last argument is what was seen of timers and
--- visits: a socket or a descriptor was opened, a peer closed, an event came for a descriptor, a
--- read or a write was answered `Again`, a deadline was set, or a reference was taken or given back.
+-- The notice of a step with this answer: a socket or a descriptor was opened, a peer closed, an
+-- event came for a descriptor, a read or a write was answered `Again`, a deadline was set, or a
+-- reference was taken or returned. The last argument is the notice for timers and visits.
 abbrev pub noticed : Step → Answer → Notice → Notice
 noticed (Step.SockOpen rc wc) answer other = notice_of_socket wc answer
 noticed (Step.PeerClose s) answer other = PeerClosed s
@@ -148,16 +152,16 @@ noticed (Step.RwUnlock g s side) answer other = GaveReference g s
 noticed (Step.SetDeadline g d mode t) answer other = SetDeadline g d mode
 noticed step answer other = other
 
--- What a step did, which has this answer and leads from one world to the next.
+-- The notice of a step with this answer, which leads from one world to the next.
 abbrev pub notice : World → Step → Answer → World → Notice
 notice w step answer next = noticed step answer (seen w step answer next)
 
--- what a step did, by what it comes to: a refused one did nothing
+-- the notice of a step, from its outcome; a refused step did nothing
 abbrev pub notice_of : World → Step → Outcome → Notice
 notice_of w step (Ok (answer, next)) = notice w step answer next
 notice_of w step (Err reason) = Nothing
 
--- What the step after position n of a recording did; nothing after the last one.
+-- The notice of the step after position n of a recording; `Nothing` after the last step.
 abbrev pub notice_at : Recording → ℕ → Notice
 notice_at r n =
     option_map_or (λ step. notice_of (world_at r n) step (outcome (world_at r n) step))

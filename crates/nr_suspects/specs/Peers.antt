@@ -1,5 +1,5 @@
--- What is kept of the other end of each socket: how much it lets be written, and whether it has
--- closed.
+-- The other end of each socket: how many bytes can be written before it reads some, and whether it
+-- has closed.
 use Rattle.std.specs.Prelude.{◌≡◌, ◌≢◌, ℕ, zero, suc, ◌<◌, ◌==◌, if◌then◌else◌, false, true, List, length, slice_get, Option, Some, None, option_map, option_and_then}
 use Rattle.nr_rev.specs.Run.{Recording}
 use Rattle.nr_rev.specs.Socket.{Socket}
@@ -8,26 +8,26 @@ use Rattle.nr_suspects.specs.declared.notice.Notice.TheVariants.{SocketOpened, P
 use Rattle.nr_suspects.specs.declared.peer.Peer.{Peer}
 use Rattle.nr_suspects.specs.Notices.{notice_at}
 
--- the other end of a socket that was opened with so much room to write
+-- the other end of a socket that was opened with so much room for writing
 abbrev pub open_peer : ℕ → Peer
 open_peer capacity = record { capacity = capacity; is_closed = false }
 
--- it has closed
+-- the other end after it has closed
 abbrev pub closed_peer : Peer → Peer
 closed_peer p = record p { is_closed = true }
 
--- what is kept of the other end of socket s after a notice
+-- the other end of socket s after a notice
 abbrev pub peer_after : ℕ → Notice → Option Peer → Option Peer
 peer_after s (SocketOpened k capacity) p = if s == k then Some (open_peer capacity) else p
 peer_after s (PeerClosed k) p = if s == k then option_map closed_peer p else p
 peer_after s _ p = p
 
--- what is kept of the other end of socket s at position n of a recording
+-- the other end of socket s at position n of a recording
 abbrev pub peer : Recording → ℕ → ℕ → Option Peer
 peer r s zero = None
 peer r s (suc n) = peer_after s (notice_at r n) (peer r s n)
 
--- the other end of a socket, as the machine has it
+-- the other end of a socket in the machine
 abbrev pub peer_of : Socket → Peer
 peer_of socket = record {
   capacity = socket.buffers.write.capacity;
@@ -36,24 +36,24 @@ peer_of socket = record {
 
 -- ---- places
 
--- what is kept of socket s, if it has a place
+-- the entry of socket s, if it has a place
 abbrev pub peer_in : List (Option Peer) → ℕ → Option Peer
 peer_in peers s = option_and_then (λ p. p) (slice_get peers s)
 
--- a notice was written down at each place
+-- each place was updated with a notice
 pub record ArePeersNoted (notice : Notice) (old new : List (Option Peer)) : Type 0 where
   pub places : length new ≡ length old
   pub each : (s : ℕ) (p : Option Peer) → slice_get old s ≡ Some p
       → slice_get new s ≡ Some (peer_after s notice p)
 
--- it was written down at the place of socket s, if there is one
+-- the place of socket s, if it has one, was updated with a notice
 pub record IsPeerNotedAt (s : ℕ) (notice : Notice) (old new : List (Option Peer)) : Type 0 where
   pub places : length new ≡ length old
   pub here : (p : Option Peer) → slice_get old s ≡ Some p
       → slice_get new s ≡ Some (peer_after s notice p)
   pub elsewhere : (k : ℕ) → k ≢ s → slice_get new k ≡ slice_get old k
 
--- each place has what is kept of its socket at position n of a recording
+-- each place holds the other end of its socket at position n of a recording
 pub record ArePeers (r : Recording) (n : ℕ) (peers : List (Option Peer)) : Type 0 where
   pub places : length peers ≡ r.limits.sockets
   pub each : (s : ℕ) → s < r.limits.sockets → slice_get peers s ≡ Some (peer r s n)

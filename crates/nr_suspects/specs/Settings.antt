@@ -1,4 +1,4 @@
--- Which step set a deadline, and what came of it.
+-- Which step set a deadline, and which goroutine it woke.
 use Rattle.std.specs.Prelude.{ℕ, ◌==◌, if◌then◌else◌, Option, Some, None, option_map}
 use Rattle.std.specs.Option.{option_map_or}
 use Rattle.nr_rev.specs.declared.sides.Mode.{Mode}
@@ -11,17 +11,18 @@ use Rattle.nr_suspects.specs.declared.setting.Deadline.{Deadline}
 use Rattle.nr_suspects.specs.declared.setting.Setting.{Setting}
 use Rattle.nr_suspects.specs.declared.setting.StepBy.{StepBy}
 
--- a side whose deadline was never set
+-- a deadline that was never set
 abbrev pub never_set : Deadline
 never_set = record { setting = None; woken = None }
 
--- a setting after which the other side's deadline was set alone: the first such step stays
+-- the setting after a step set the other side's deadline alone; only the first such step is
+-- recorded
 abbrev pub moved_since : StepBy → Setting → Setting
 moved_since by setting =
     record setting { moved = Some (option_map_or (λ first. first) setting.moved by) }
 
--- what is kept of a side after a step set the deadlines that the mode names: its own is new, or the
--- other one moved
+-- the deadline of a side after a step set the deadlines that the mode names: a new setting for a
+-- named side, a moved one for the other
 abbrev pub set_by : StepBy → Mode → Side → Deadline → Deadline
 set_by by mode side old =
     if names_side mode side then record {
@@ -29,18 +30,18 @@ set_by by mode side old =
       woken = None;
     } else record old { setting = option_map (moved_since by) old.setting }
 
--- both sides after step n, by which goroutine g set the deadlines that the mode names
+-- the deadlines of both sides after step n, in which goroutine g set those that the mode names
 abbrev pub after_setting : ℕ → ℕ → Mode → Sides Deadline → Sides Deadline
 after_setting n g mode old =
     let by : StepBy = record { step = n; goroutine = g } in
     record { read = set_by by mode Read old.read; write = set_by by mode Write old.write }
 
--- what is kept of a side whose deadline passed: the goroutine that was woken by it
+-- the deadline of a side after this passing, if any, with the goroutine that it woke
 abbrev pub passed_with : Option Passing → Deadline → Deadline
 passed_with None old = old
 passed_with (Some passing) old = record old { woken = passing.woken }
 
--- both sides after these passings
+-- the deadlines of both sides after these passings
 abbrev pub after_passing : Sides (Option Passing) → Sides Deadline → Sides Deadline
 after_passing passings old =
     record {
@@ -48,12 +49,13 @@ after_passing passings old =
       write = passed_with passings.write old.write;
     }
 
--- the goroutine that was woken, unless it is this one, which has looked
+-- the goroutine that was woken, or none if it is goroutine g, which has now checked its side
 abbrev pub woken_but : ℕ → Option ℕ → Option ℕ
 woken_but g None = None
 woken_but g (Some woken) = if g == woken then None else Some woken
 
--- both sides after goroutine g visited one of them: it has looked why it was woken
+-- the deadlines of both sides after goroutine g checked one of them: g is no longer recorded as
+-- woken
 abbrev pub looked_at : ℕ → Side → Sides Deadline → Sides Deadline
 looked_at g side old =
     let here : Deadline = of_side side old in

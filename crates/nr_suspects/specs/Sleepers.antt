@@ -1,4 +1,4 @@
--- Goroutines that sleep although their side has a reason to be answered.
+-- Goroutines that sleep although they should have been woken.
 use Rattle.std.specs.Prelude.{◌≡◌, ℕ, zero, suc, ◌-◌, Bool, false, ◌&&◌, ◌==◌, ◌/◌, ◌%◌, nat_lt, if◌then◌else◌, List, [], ◌∷◌, ◌++◌, length, slice_get, Option, Some, None, option_and_then, codes, decimal}
 use Rattle.std.specs.Option.{option_or}
 use Rattle.nr_rev.specs.declared.cell.Cell.{Cell}
@@ -29,48 +29,49 @@ reason_of_code code =
     if code == 1 then Some why.Closing else (if code == 2 then Some why.Deadline
     else (if code == 3 then Some why.Error else None))
 
--- why a read wouldn't be answered `Again`: so many bytes are there, or the peer has closed
+-- why a read wouldn't be answered `Again`: so many bytes can be read, or the peer has closed
 abbrev pub reason_to_read : ℕ → Bool → Option Reason
 reason_to_read bytes is_closed =
     if nat_lt 0 bytes then Some why.Bytes else (if is_closed then Some why.End else None)
 
--- why a write wouldn't be answered `Again`: the write side is shut, or there is so much room
+-- why a write wouldn't be answered `Again`: the write side is shut, or so much room is left
 abbrev pub reason_to_write : Bool → ℕ → Option Reason
 reason_to_write is_shut room =
     if is_shut then Some why.Shut else (if nat_lt 0 room then Some why.Room else None)
 
--- what a side waits for that its socket has
+-- the reason that a socket gives a side to stop waiting
 abbrev pub reason_of_socket : Side → Socket → Option Reason
 reason_of_socket Read socket =
     reason_to_read (length socket.buffers.read.bytes) socket.peer_closed
 reason_of_socket Write socket = reason_to_write socket.shut (room_of socket.buffers.write)
 
--- Why a side of a descriptor with this row has to be answered: a check says so, because the
--- descriptor is closing, the side's deadline has passed or an event reported an error; or its
--- socket has what the side waits for.
+-- Why a goroutine that waits at a side of a descriptor with this row should be woken: a check ends
+-- the wait, because the descriptor is closing, the side's deadline has passed or an event reported
+-- an error; or the socket has what the side waits for.
 abbrev pub reason_of_row : World → Side → DescriptorRow → Option Reason
 reason_of_row w side row =
     option_or (reason_of_code (check side row.descriptor))
     (option_and_then (reason_of_socket side) (slice_get w.sockets row.descriptor.socket))
 
--- why a side of descriptor d has to be answered, if the descriptor was ever opened
+-- why a goroutine that waits at a side of descriptor d should be woken, if the descriptor was ever
+-- opened
 abbrev pub reason : World → ℕ → Side → Option Reason
 reason w d side = option_and_then (reason_of_row w side) (slice_get w.descriptors d)
 
--- Goroutine g sleeps on: it is parked at a side of descriptor d, although that side has to be
--- answered, for this reason.
+-- Goroutine g sleeps on: it is parked at a side of descriptor d although it should have been woken,
+-- for this reason.
 pub record SleepsOn (w : World) (g d : ℕ) (side : Side) (why : Reason) : Type 0 where
   pub parked : HasView parked_of w.goroutines g (d, side)
   pub has_reason : reason w d side ≡ Some why
 
--- a socket has nothing of what a side waits for
+-- a socket has nothing for which a side waits
 abbrev pub HasNothing : Side → Socket → Type 0
 HasNothing Read socket = (socket.buffers.read.bytes ≡ []) × (socket.peer_closed ≡ false)
 HasNothing Write socket = (socket.shut ≡ false) × (room_of socket.buffers.write ≡ 0)
 
 -- ---- all of them
 
--- the goroutine that a word with this value holds, if its side has a reason to be answered
+-- the goroutine in a word with this value, if there is this reason to wake it
 abbrev pub sleeper_by : ℕ → ℕ → Side → CellValue → Option Reason → List Sleeper
 sleeper_by n d side (CellValue.WaitWord (Held g)) (Some why) =
     record {
@@ -82,43 +83,44 @@ sleeper_by n d side (CellValue.WaitWord (Held g)) (Some why) =
     } ∷ []
 sleeper_by n d side word reason = []
 
--- that of a side of descriptor d
+-- the sleeper at a side of descriptor d
 abbrev pub sleeper_at : ℕ → World → ℕ → Side → Option Reason → List Sleeper
 sleeper_at n w d side reason = sleeper_by n d side (cell w (word_cell d side)) reason
 
--- those at the descriptors below k, by the reason of each side
+-- the sleepers at the descriptors below k, from the reason of each side
 abbrev pub sleepers_below : ℕ → World → (ℕ → Side → Option Reason) → ℕ → List Sleeper
 sleepers_below n w reasons zero = []
 sleepers_below n w reasons (suc k) =
     sleepers_below n w reasons k
     ++ (sleeper_at n w k Read (reasons k Read) ++ sleeper_at n w k Write (reasons k Write))
 
--- All goroutines that sleep on at position n of a recording: by descriptor, reading before writing.
+-- All goroutines that sleep on at position n of a recording, sorted by descriptor, reading before
+-- writing.
 abbrev pub sleepers : Recording → ℕ → List Sleeper
 sleepers r n = sleepers_below n (world_at r n) (reason (world_at r n)) r.limits.descriptors
 
 -- ---- by cells, and by what is kept
 
--- the number that a cell shows; 0 if it shows none
+-- the number in a cell's value; 0 if it isn't a number
 abbrev pub number_or_zero : CellValue → ℕ
 number_or_zero (CellValue.Number n) = n
 number_or_zero _ = 0
 
--- the code of a check, by the summary of the descriptor and by whether the deadline has passed
+-- the code of a check, from the summary of the descriptor and whether the deadline has passed
 abbrev pub code_of_info : Side → ℕ → Bool → ℕ
 code_of_info side info passed =
     if info % 2 == 1 then 1 else (if passed then 2
     else (if is_read side && (info / 2 % 2 == 1) then 3 else 0))
 
--- what a side waits for that socket s has, by its cells and by what is kept of its other end
+-- the reason that socket s gives a side to stop waiting, from the socket's cells and its other end
 abbrev pub reason_by_cells : World → ℕ → Side → Peer → Option Reason
 reason_by_cells w s Read p = reason_to_read (number_or_zero (cell w (Cell.Input s))) p.is_closed
 reason_by_cells w s Write p =
     reason_to_write (number_or_zero (cell w (Cell.Shut s)) == 1)
     (p.capacity - number_or_zero (cell w (Cell.Output s)))
 
--- why a side of descriptor d has to be answered, by cells and by what is kept of it and of the
--- sockets' other ends
+-- why a goroutine at a side of descriptor d should be woken, from cells, the descriptor's account
+-- and the sockets' other ends
 abbrev pub reason_of_account : World → ℕ → Side → (ℕ → Option Peer) → Account → Option Reason
 reason_of_account w d side peers a =
     option_or
@@ -126,14 +128,14 @@ reason_of_account w d side peers a =
     (code_of_info side (number_or_zero (cell w (Cell.Info d))) (has_passed w d side)))
     (option_and_then (reason_by_cells w a.socket side) (peers a.socket))
 
--- why a side of descriptor d has to be answered, if anything is kept of the descriptor
+-- why a goroutine at a side of descriptor d should be woken, if the descriptor has an account
 abbrev pub reason_kept : World → (ℕ → Option Account) → (ℕ → Option Peer) → ℕ → Side
     → Option Reason
 reason_kept w kept peers d side = option_and_then (reason_of_account w d side peers) (kept d)
 
 -- ---- their lines
 
--- a reason, as it is printed
+-- the printed name of a reason
 abbrev pub reason_text : Reason → List ℕ
 reason_text why.Closing = codes "closing"
 reason_text why.Deadline = codes "deadline"
@@ -151,6 +153,6 @@ sleeper_line s =
     ++ (codes " desc " ++ (decimal s.descriptor ++ (side_letter s.side
     ++ (codes " because " ++ (reason_text s.reason ++ codes "\n"))))))))
 
--- a line for each
+-- a line for each sleeper
 abbrev pub sleeper_lines : List Sleeper → List ℕ
 sleeper_lines found = text_of_parts sleeper_line found

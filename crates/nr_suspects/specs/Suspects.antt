@@ -1,4 +1,4 @@
--- What the program `suspects` finds in a recording.
+-- The output of the program `suspects` for a recording.
 use Rattle.std.specs.Prelude.{◌≡◌, ℕ, List, ◌++◌, length, Option}
 use Rattle.nr_rev.specs.Run.{Recording}
 use Rattle.nr_rev.specs.World.{World}
@@ -16,9 +16,9 @@ use Rattle.nr_suspects.specs.Peers.{ArePeers, peer_in}
 use Rattle.nr_suspects.specs.Sleepers.{reason_kept, sleeper_lines, sleepers, sleepers_below}
 use Rattle.nr_suspects.specs.declared.peer.Peer.{Peer}
 
--- The lines of a recording: what came of its deadlines, step by step; and then, at its last
--- position, its lost wake-ups, the goroutines that sleep on, and the references that are held of
--- closed sockets.
+-- The lines for a recording: what became of its deadlines, step by step; then, at its last
+-- position, its lost wake-ups, the goroutines that sleep on, and the held references of closed
+-- sockets.
 abbrev pub suspect_lines : Recording → List ℕ
 suspect_lines r =
     let n : ℕ = length r.steps in
@@ -28,8 +28,8 @@ suspect_lines r =
 
 -- ---- the notebook
 
--- what is seen of a notebook: what is kept of each descriptor and of each socket's other end, the
--- ledger of references, and what came of deadlines
+-- the contents of a notebook: the account of each descriptor, the other end of each socket, the
+-- ledger of references, and the findings about deadlines
 pub record Notes : Type 0 where
   pub accounts : List (Option Account)
   pub peers : List (Option Peer)
@@ -43,14 +43,14 @@ pub record AreNotes (r : Recording) (n : ℕ) (notes : Notes) : Type 0 where
   pub holdings : AreHoldings r n notes.rows
   pub deadlines : notes.deadlines ≡ deadline_findings r n
 
--- the lines of what was found
+-- the lines of all findings
 abbrev pub found_lines : Suspects → List ℕ
 found_lines found =
     deadline_lines found.deadlines.items
     ++ (lost_lines found.lost.items
     ++ (sleeper_lines found.asleep.items ++ held_lines found.held.items))
 
--- they were found in a world at position n, with these notes
+-- these are the findings in a world at position n with these notes
 pub record AreFound (n : ℕ) (w : World) (limits : Limits) (notes : Notes) (found : Suspects) :
     Type 0 where
   pub deadlines : found.deadlines.items ≡ notes.deadlines

@@ -1,4 +1,4 @@
-//! What an event owes to a side of a descriptor.
+//! The account of a descriptor, with the debts of its sides.
 
 ghost use Rattle.std.specs.Prelude.{◌≡◌, None, option_map};
 ghost use Rattle.nr_rev.specs.Sides.{with_side};
@@ -8,28 +8,28 @@ use crate::notice::{Notice, Visit};
 use crate::setting::{Deadline, StepBy, after_passing, after_setting, looked_at};
 use nr_rev::{Mode, Side, Sides};
 
-/// What an event owes: a try of the socket, at the side that it named.
+/// The debt of an event: a try of the socket, at the side that the event named.
 #[derive(Clone, Copy, Debug, PartialEq, Eq)]
 pub struct Debt {
     /// The number of the event's step, counted from 1.
     pub event: usize,
-    /// The step that took its readiness.
+    /// The step that took the event's readiness.
     pub taken: Option<StepBy>,
 }
 
-/// What is kept of a descriptor.
+/// The account of a descriptor.
 #[derive(Clone, Copy, Debug, PartialEq, Eq)]
 pub struct Account {
-    /// The socket that it was last opened for.
+    /// The socket for which the descriptor was last opened.
     pub socket: u32,
-    /// What is owed to its sides.
+    /// The debts of the sides.
     pub debts: Sides<Option<Debt>>,
-    /// The deadlines of its sides.
+    /// The deadlines of the sides.
     pub deadlines: Sides<Deadline>,
 }
 
 impl Account {
-    // A descriptor that was opened for the socket.
+    // Returns the account of a descriptor that was just opened for the socket.
     fn newly_opened(socket: u32) -> Account
         ensures { result ≡ newly_opened socket }
     {
@@ -40,7 +40,7 @@ impl Account {
         }
     }
 
-    // An event of the step came for these sides.
+    // Returns the account after an event of the step for these sides.
     fn with_event(self, step: usize, mode: Mode) -> Account
         ensures { result ≡ with_event step mode self }
     {
@@ -54,7 +54,7 @@ impl Account {
         }
     }
 
-    // With another debt of a side.
+    // Returns the account with another debt of a side.
     fn with_debt(self, side: Side, debt: Option<Debt>) -> Account
         ensures { result ≡ record self { debts = with_side side debt self.debts } }
     {
@@ -65,7 +65,7 @@ impl Account {
         }
     }
 
-    // With other deadlines.
+    // Returns the account with other deadlines.
     fn with_deadlines(self, deadlines: Sides<Deadline>) -> Account
         ensures { result ≡ record self { deadlines = deadlines } }
     {
@@ -76,7 +76,7 @@ impl Account {
         }
     }
 
-    // The goroutine that visits a side took its readiness by the step.
+    // Returns the account after the visiting goroutine took the readiness of its side in the step.
     fn with_taking(self, step: usize, visit: Visit) -> Account
         ensures { result ≡ with_taking step visit self }
     {
@@ -85,7 +85,7 @@ impl Account {
             .with_deadlines(looked_at(visit.goroutine, visit.side, self.deadlines))
     }
 
-    // What is kept of the open descriptor after the step.
+    // Returns the account of the open descriptor after the step.
     fn noted(self, step: usize, descriptor: u32, notice: Notice) -> Account
         ensures { result ≡ noted step descriptor notice self }
     {
@@ -120,7 +120,7 @@ impl Account {
     }
 }
 
-// What is owed to a side after an event of the step.
+// Returns the debt of a side after an event of the step.
 fn owed_by_event(step: usize, mode: Mode, side: Side, debt: Option<Debt>) -> Option<Debt>
     ensures { result ≡ owed_by_event step mode side debt }
 {
@@ -134,7 +134,7 @@ fn owed_by_event(step: usize, mode: Mode, side: Side, debt: Option<Debt>) -> Opt
     }
 }
 
-// What is owed, if anything is, after the goroutine took the readiness by the step.
+// Returns the debt, if any, after the goroutine took its readiness in the step.
 fn taken_by(step: usize, goroutine: u32, debt: Option<Debt>) -> Option<Debt>
     ensures { result ≡ option_map (taken_by step goroutine) debt }
 {
@@ -145,7 +145,7 @@ fn taken_by(step: usize, goroutine: u32, debt: Option<Debt>) -> Option<Debt>
     })
 }
 
-// What is kept of the descriptor after the step.
+// Returns the account of the descriptor after the step.
 pub(crate) fn account_after(
     step: usize,
     descriptor: u32,

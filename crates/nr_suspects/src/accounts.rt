@@ -1,4 +1,4 @@
-//! What is kept of each descriptor while the steps of a recording are made.
+//! The accounts of all descriptors, which are updated with each step of a recording.
 
 ghost use Rattle.std.specs.Prelude.{◌≡◌, ◌≤◌, ◌<◌, IfOk, None, length, replicate};
 ghost use Rattle.nr_suspects.specs.Accounts.{IsNoted, IsNotedAt, IsTryNoted, kept_of};
@@ -9,7 +9,7 @@ use nr_rev::{Memory, Side};
 use std::alloc::Global;
 use std::marker::Model;
 
-/// What is kept of each descriptor: a place for each number that a descriptor may have.
+/// The account of each descriptor, with a place for each number that a descriptor may have.
 #[derive(Drop)]
 pub struct Accounts {
     accounts: Vec<Option<Account>>,
@@ -25,7 +25,8 @@ impl Model for Accounts {
 }
 
 impl Accounts {
-    /// Of so many descriptors, none of which was opened yet.
+    /// Makes the accounts of so many descriptors, none of which has been opened. Fails with `Memory` if memory runs
+    /// out.
     pub fn new(alloc: Global, descriptors: u32) -> Result<Accounts, Memory>
         ensures { IfOk result (λ accounts. accounts ≡ replicate descriptors None) }
     {
@@ -33,21 +34,21 @@ impl Accounts {
         Ok(Accounts { accounts })
     }
 
-    /// How many places there are.
+    /// Returns the number of places.
     pub fn len(&self) -> usize
         ensures { result ≡ length self.now }
     {
         self.accounts.len()
     }
 
-    /// What is kept of the descriptor, if it has a place and was ever opened.
+    /// Returns the account of the descriptor, or `None` if it has no place or was never opened.
     pub fn of(&self, descriptor: u32) -> Option<Account>
         ensures { result ≡ kept_of self.now descriptor }
     {
         *self.accounts.get(descriptor as usize)?
     }
 
-    /// Writes down what the step of this number did.
+    /// Updates each account with the notice of this step.
     pub fn note(&mut self, step: usize, notice: Notice)
         ensures { IsNoted step notice self.old self.new }
     {
@@ -64,7 +65,7 @@ impl Accounts {
         }
     }
 
-    // Writes it down at the place of a descriptor.
+    // Updates the account of one descriptor.
     fn note_at(&mut self, descriptor: u32, step: usize, notice: Notice)
         ensures { IsNotedAt descriptor step notice self.old self.new }
     {
@@ -74,7 +75,7 @@ impl Accounts {
         }
     }
 
-    // Writes down at each place that a try of the socket at this side was answered `Again`.
+    // Updates each account with a try of the socket at this side, which was answered `Again`.
     fn note_try(&mut self, socket: u32, side: Side)
         ensures { IsTryNoted socket side self.old self.new }
     {

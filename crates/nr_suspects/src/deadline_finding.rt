@@ -1,5 +1,5 @@
-//! What came of deadlines: each that passed, each call that ended with one, and each that was set anew before the goroutine that it
-//! woke had looked.
+//! What became of deadlines: those that passed, the calls that ended with one, and those that were set again before the
+//! goroutine that they woke had checked its side.
 
 ghost use Rattle.std.specs.Prelude.{◌≡◌, ◌++◌, IfOk};
 ghost use Rattle.nr_text.specs.Buffered.{Writes};
@@ -15,33 +15,33 @@ use nr_rev::{Memory, Mode, Side};
 use nr_text::{Buffered, Text, Token, WriteFailed, send_all};
 use std::io::Write;
 
-/// What came of a deadline.
+/// What became of a deadline.
 #[derive(Clone, Copy, Debug, PartialEq, Eq)]
 pub enum Consequence {
-    /// Its timer was run, and it passed.
+    /// Its timer was run, and the deadline passed.
     Passed,
-    /// A call of the goroutine ended with it.
+    /// A call of this goroutine ended with the deadline.
     EndedCall(u32),
-    /// It was set anew, before the goroutine that it woke had looked.
+    /// The deadline was set again before this goroutine, which it had woken, checked its side.
     TakenBack(u32),
 }
 
-/// What came of a deadline, and the step that set it.
+/// What became of a deadline, and the step that set it.
 #[derive(Clone, Copy, Debug, PartialEq, Eq)]
 pub struct DeadlineFinding {
-    /// The number of the step at which it came, counted from 1.
+    /// The number of the step at which this happened, counted from 1.
     pub position: usize,
     /// The descriptor.
     pub descriptor: u32,
     /// The side.
     pub side: Side,
-    /// What came.
+    /// What happened to the deadline.
     pub consequence: Consequence,
-    /// The setting.
+    /// The setting of the deadline.
     pub setting: Setting,
 }
 
-// The sides of a mode as they are printed.
+// Returns the printed name of a mode.
 fn mode_name(mode: Mode) -> &'static [u8]
     ensures { result.now ≡ mode_text mode }
 {
@@ -52,7 +52,7 @@ fn mode_name(mode: Mode) -> &'static [u8]
     }
 }
 
-// What came, as it is printed.
+// Returns the printed name of a consequence.
 fn consequence_name(consequence: Consequence) -> &'static [u8]
     ensures { result.now ≡ consequence_name consequence }
 {
@@ -63,7 +63,7 @@ fn consequence_name(consequence: Consequence) -> &'static [u8]
     }
 }
 
-// The goroutine that it concerns.
+// Returns the goroutine of a consequence, if it has one.
 fn goroutine_of(consequence: Consequence) -> Option<u32>
     ensures { result ≡ goroutine_of consequence }
 {
@@ -73,7 +73,7 @@ fn goroutine_of(consequence: Consequence) -> Option<u32>
     }
 }
 
-// Sends the goroutine, if there is one.
+// Writes the goroutine, if there is one.
 fn send_goroutine<W: Write>(goroutine: Option<u32>, w: &mut Buffered<W>) -> Result<(), WriteFailed>
     ensures { Writes w.old w.new (goroutine_text goroutine) result }
 {
@@ -83,7 +83,7 @@ fn send_goroutine<W: Write>(goroutine: Option<u32>, w: &mut Buffered<W>) -> Resu
     }
 }
 
-// Sends which step set the other side alone, if one did.
+// Writes the step that set the other side alone, if one did.
 fn send_moved<W: Write>(moved: Option<StepBy>, w: &mut Buffered<W>) -> Result<(), WriteFailed>
     ensures { Writes w.old w.new (moved_text moved) result }
 {
@@ -102,7 +102,7 @@ fn send_moved<W: Write>(moved: Option<StepBy>, w: &mut Buffered<W>) -> Result<()
 }
 
 impl DeadlineFinding {
-    // Sends the step, and what came.
+    // Writes the step and the consequence.
     fn send_consequence<W: Write>(&self, w: &mut Buffered<W>) -> Result<(), WriteFailed>
         ensures { Writes w.old w.new (consequence_text self.now) result }
     {
@@ -116,7 +116,7 @@ impl DeadlineFinding {
         )
     }
 
-    // Sends the descriptor's side and the step that set its deadline.
+    // Writes the descriptor's side and the step that set its deadline.
     fn send_setting<W: Write>(&self, w: &mut Buffered<W>) -> Result<(), WriteFailed>
         ensures { Writes w.old w.new (setting_text self.now) result }
     {
@@ -136,7 +136,7 @@ impl DeadlineFinding {
     }
 }
 
-/// It is the line `at 91 timeout gor 2 desc 0 r set 60 by 2 rw moved 75 by 3`.
+/// Prints as the line `at 91 timeout gor 2 desc 0 r set 60 by 2 rw moved 75 by 3`.
 impl Text for DeadlineFinding {
     ghost text = { deadline_line };
 
@@ -149,7 +149,7 @@ impl Text for DeadlineFinding {
     }
 }
 
-// What is kept of the deadline of a side.
+// Returns the deadline of a side from the descriptor's account.
 fn deadline_of(side: Side, account: Option<Account>) -> Option<Deadline>
     ensures { result ≡ deadline_of side account }
 {
@@ -157,7 +157,7 @@ fn deadline_of(side: Side, account: Option<Account>) -> Option<Deadline>
     Some(account.deadlines.of(side))
 }
 
-// Adds what came of the deadline of a side of the descriptor, of which this is kept, if it was set.
+// Appends a finding about the deadline of a side of the descriptor with this account, if the deadline was set.
 fn add(
     step: usize,
     descriptor: u32,
@@ -184,7 +184,7 @@ fn add(
     Ok(())
 }
 
-// Adds that the deadline passed, if this is its passing.
+// Appends the finding that the deadline passed, if there is a passing of this side.
 fn add_passed(
     step: usize,
     descriptor: u32,
@@ -201,7 +201,8 @@ fn add_passed(
     }
 }
 
-// Adds that the deadline was set anew before the goroutine that it woke had looked, if it was.
+// Appends the finding that the deadline was set again before the goroutine that it woke had checked its side, if that
+// happened.
 fn add_taken_back(
     step: usize,
     descriptor: u32,
@@ -231,7 +232,8 @@ fn add_taken_back(
     )
 }
 
-/// Adds what came of deadlines at the step of this number, where this is kept of each descriptor before it.
+/// Appends the findings about deadlines at the step of this number, from the descriptors' accounts before it. Fails
+/// with `Memory` if memory runs out.
 pub(crate) fn add_findings(
     step: usize,
     notice: Notice,

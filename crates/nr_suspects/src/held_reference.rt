@@ -1,4 +1,4 @@
-//! References of closed sockets that are held: the socket can't be freed.
+//! Held references of closed sockets: such a socket can't be freed.
 
 ghost use Rattle.std.specs.Prelude.{◌≡◌, ◌++◌, ◌≤◌, IfOk, length};
 ghost use Rattle.nr_rev.specs.Cell.{cell};
@@ -12,31 +12,32 @@ use nr_rev::{Cell, CellValue, Memory, Status, Worlds};
 use nr_text::{Buffered, Text, Token, WriteFailed, send_all};
 use std::io::Write;
 
-/// References of a closed socket that a goroutine took and didn't give back.
+/// The references of a closed socket that a goroutine took and didn't return.
 #[derive(Clone, Copy, Debug, PartialEq, Eq)]
 pub struct HeldReference {
-    /// The position at which it is so.
+    /// The position at which the goroutine holds them.
     pub position: usize,
     /// The socket.
     pub socket: u32,
     /// The goroutine.
     pub goroutine: u32,
-    /// How many it holds.
+    /// The number of references that it holds.
     pub count: u64,
-    /// The number of the step by which it took one last, counted from 1.
+    /// The number of the step that took the last one, counted from 1.
     pub since: usize,
-    /// Whether the goroutine has ended.
+    /// True if the goroutine has ended.
     pub is_gone: bool,
 }
 
-// What is printed of a goroutine that has ended.
+// Returns the suffix that is printed for a goroutine that has ended.
 fn gone_name(is_gone: bool) -> &'static [u8]
     ensures { result.now ≡ gone_text is_gone }
 {
     if is_gone { b" gone" } else { b"" }
 }
 
-/// It is the line `at 90 held-reference sock 1 gor 3 count 1 since 45`, with ` gone` if the goroutine has ended.
+/// Prints as the line `at 90 held-reference sock 1 gor 3 count 1 since 45`, followed by ` gone` if the goroutine has
+/// ended.
 impl Text for HeldReference {
     ghost text = { held_line };
 
@@ -61,7 +62,7 @@ impl Text for HeldReference {
     }
 }
 
-// Whether the socket is closed, and still has references.
+// Returns whether the socket is closed and still has references.
 fn is_unfreed<W: Worlds>(world: &W, socket: u32) -> bool
     requires { W.is_well_formed world.now }
     ensures { result ≡ is_unfreed (W.world world.now) socket }
@@ -72,7 +73,7 @@ fn is_unfreed<W: Worlds>(world: &W, socket: u32) -> bool
     }
 }
 
-// Adds what a goroutine holds of a socket.
+// Appends the references of a socket that a goroutine holds, if it holds any.
 fn add_held<W: Worlds>(
     world: &W,
     position: usize,
@@ -102,7 +103,7 @@ fn add_held<W: Worlds>(
     Ok(())
 }
 
-// Adds what the goroutines below this number hold of a socket.
+// Appends the references of a socket that the goroutines below this number hold.
 fn add_holders<W: Worlds>(
     world: &W,
     position: usize,
@@ -122,8 +123,8 @@ fn add_holders<W: Worlds>(
     Ok(())
 }
 
-/// Lists the references that are held of closed sockets in a world at this position, among so many sockets and goroutines: by socket
-/// and then by goroutine, after what the list has.
+/// Appends the held references of closed sockets in a world at this position, among so many sockets and goroutines,
+/// sorted by socket and then by goroutine. Fails with `Memory` if memory runs out.
 pub fn list_held_references<W: Worlds>(
     world: &W,
     position: usize,

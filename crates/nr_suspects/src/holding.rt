@@ -1,23 +1,23 @@
-//! What a goroutine holds of a socket's references.
+//! How many references of a socket a goroutine holds.
 
 ghost use Rattle.std.specs.Prelude.{◌≡◌, ◌-◌, ◌^◌, ◌<◌};
 ghost use Rattle.nr_suspects.specs.Holdings.{holding_after, none_held};
 
 use crate::notice::Notice;
 
-/// How many references of a socket a goroutine took and gave back.
+/// The references of a socket that a goroutine took and returned.
 #[derive(Clone, Copy, Debug, PartialEq, Eq)]
 pub struct Holding {
-    /// How many it took.
+    /// The number of references taken.
     pub taken: u64,
-    /// How many it gave back.
+    /// The number of references returned.
     pub given: u64,
-    /// The number of the step by which it took one last, counted from 1; 0 if it took none.
+    /// The number of the step that took the last one, counted from 1; 0 if it took none.
     pub since: usize,
 }
 
 impl Holding {
-    /// Nothing was taken, and nothing given back.
+    /// The holding of a goroutine that took and returned nothing.
     pub const NONE: Holding = Holding {
         taken: 0,
         given: 0,
@@ -25,7 +25,7 @@ impl Holding {
     };
 }
 
-// What the goroutine holds of the socket after the step.
+// Returns the goroutine's holding of the socket after the step.
 pub(crate) fn holding_after(
     step: usize,
     goroutine: u32,

@@ -1,4 +1,4 @@
-//! What follows of the definitions: public functions with an empty body, whose contract is the law.
+//! Laws that follow from the definitions. Each is a public function with an empty body, whose contract is the law.
 
 ghost use Rattle.std.specs.Prelude.{◌≡◌, ◌≢◌, ◌⊎◌, ◌+◌, ◌-◌, ◌<◌, ◌≤◌, ℕ, Bool, true, false, List, [], All, Contains, Ok, IsOk, Some, None, ◌↔◌, min, option_map, slice_get, take};
 ghost use Rattle.nr_rev.specs.declared.answer.Answer.{Answer};
@@ -38,7 +38,8 @@ ghost use Rattle.nr_suspects.specs.declared.held_reference.HeldReference.{HeldRe
 ghost use Rattle.nr_suspects.specs.declared.lost_wake_up.LostWakeUp.{LostWakeUp};
 ghost use Rattle.nr_suspects.specs.References.{given, references_at, taken};
 
-/// Just the lost wake-ups are listed: each that is listed is one, of the event that it names, and each that there is is listed.
+/// The list of lost wake-ups is exact: each listed one is a lost wake-up of the event that it names, and each lost
+/// wake-up is listed.
 pub fn just_lost_wake_ups_are_listed()
     ensures listed { (r : Recording) (n : ℕ) (lost : LostWakeUp) → WellFormed (world_at r n)
         → Contains (lost_wake_ups r n) lost
@@ -50,8 +51,9 @@ pub fn just_lost_wake_ups_are_listed()
         × (lost.descriptor ≡ d) × (lost.side ≡ side) }
 {}
 
-/// If none is listed, every goroutine that is parked at a side of a descriptor sleeps after a try that was answered `Again`, or after
-/// another opening of the descriptor, and that after each event that came for the side.
+/// If no lost wake-up is listed, every goroutine that is parked at a side of a descriptor went to sleep after a try
+/// that was answered `Again`, or after the descriptor was reopened, and that try or reopening came after each event for
+/// the side.
 pub fn if_none_is_listed_each_event_was_tried()
     ensures { (r : Recording) (n g d : ℕ) (side : Side) (event : ℕ) → WellFormed (world_at r n)
         → d < r.limits.descriptors → lost_wake_ups r n ≡ []
@@ -60,23 +62,23 @@ pub fn if_none_is_listed_each_event_was_tried()
         → (k : ℕ) × (event < k) × (k < n) × IsPayment r d side k }
 {}
 
-/// Readiness is taken by a reset and by the two steps of a wait that take up its word, and by no others; beside them only another
-/// opening of the descriptor clears it.
+/// Only a reset and the two steps of a wait that consume the word take readiness; apart from these, only reopening the
+/// descriptor clears it.
 pub fn three_kinds_take_readiness()
     ensures { (w next : World) (step : Step) (answer : Answer) (d : ℕ) (side : Side)
         → outcome w step ≡ Ok (answer, next) → is_ready w d side ≡ true → is_ready next d side ≡ false
         → IsTakenBy w step answer next d side }
 {}
 
-/// Each lost wake-up that is listed names the step that took its readiness, which came after the event.
+/// Each listed lost wake-up names the step that took its readiness, which came after the event.
 pub fn each_lost_wake_up_names_its_taking()
     ensures { (r : Recording) (n : ℕ) (lost : LostWakeUp) → WellFormed (world_at r n)
         → Contains (lost_wake_ups r n) lost
         → (taken : StepBy) × (lost.taken ≡ Some taken) × IsTaking r n lost.descriptor lost.side lost.event taken }
 {}
 
-/// Just the goroutines that sleep on are listed: each that is listed is parked at the side that it names, which has to be answered for
-/// that reason, and each that there is is listed.
+/// The list of sleepers is exact: each listed goroutine is parked at the side that it names and should have been woken
+/// for that reason, and each such goroutine is listed.
 pub fn just_sleepers_are_listed()
     ensures listed { (r : Recording) (n : ℕ) (s : Sleeper) → WellFormed (world_at r n)
         → Contains (sleepers r n) s
@@ -87,9 +89,9 @@ pub fn just_sleepers_are_listed()
         (record { position = n; goroutine = g; descriptor = d; side = side; reason = why }) }
 {}
 
-/// If none is listed, every goroutine that is parked waits for what hasn't come: a check of its side has the code 0, so the descriptor
-/// isn't closing, the side's deadline hasn't passed, and no event reported an error; and its socket has nothing of what the side waits
-/// for.
+/// If no sleeper is listed, every parked goroutine waits for something that hasn't come. A check of its side has the
+/// code 0: the descriptor isn't closing, the side's deadline hasn't passed, and no event reported an error. And its
+/// socket has nothing for which the side waits.
 pub fn if_no_sleeper_is_listed_no_side_has_to_be_answered()
     ensures { (r : Recording) (n g d : ℕ) (side : Side) (row : DescriptorRow) → WellFormed (world_at r n)
         → sleepers r n ≡ [] → HasView parked_of (world_at r n).goroutines g (d, side)
@@ -99,8 +101,8 @@ pub fn if_no_sleeper_is_listed_no_side_has_to_be_answered()
         → HasNothing side socket) }
 {}
 
-/// A socket has what a side waits for just if a try of it at that side wouldn't be answered `Again`, whichever goroutine tried, and
-/// however many bytes.
+/// A socket has something for which a side waits if and only if a try at that side wouldn't be answered `Again`, for
+/// any goroutine and any number of bytes.
 pub fn a_socket_has_nothing_just_if_a_try_is_answered_again()
     ensures read { (w : World) (g s n : ℕ) (socket : Socket) (answer : Answer) (next : World)
         → slice_get w.sockets s ≡ Some socket → outcome w (Step.SysRead g s n) ≡ Ok (answer, next)
@@ -110,8 +112,8 @@ pub fn a_socket_has_nothing_just_if_a_try_is_answered_again()
         → (answer ≡ Again) ↔ (reason_of_socket sides.Write socket ≡ None) }
 {}
 
-/// What is kept is what the machine has, at each position: of each socket, how much may be written and whether its peer has closed; of
-/// each descriptor, the socket that it was last opened for.
+/// The notebook agrees with the machine at each position: for each socket, on how much may be written and whether its
+/// peer has closed; for each descriptor, on the socket for which it was last opened.
 pub fn what_is_kept_is_what_the_machine_has()
     ensures peers { (r : Recording) (s n : ℕ)
         → peer r s n ≡ option_map peer_of (slice_get (world_at r n).sockets s) }
@@ -120,9 +122,9 @@ pub fn what_is_kept_is_what_the_machine_has()
         ≡ option_map (λ (row : DescriptorRow). row.descriptor.socket) (slice_get (world_at r n).descriptors d) }
 {}
 
-/// No replaced deadline ever takes effect, and no timeout comes early: a firing that is answered `Done` is of a timer that was armed
-/// for the very deadlines that its sides have now, and their time has come. One that is answered `Stale` changes nothing but the
-/// number of firings.
+/// No replaced deadline ever takes effect, and no timeout comes early: if a firing is answered `Done`, its timer was
+/// armed for the very deadlines that its sides have now, and their time has come. A firing that is answered `Stale`
+/// changes nothing but the number of firings.
 pub fn deadlines_pass_in_time()
     ensures done { (w : World) (i : ℕ) (next : World) → WellFormed w
         → outcome w (Step.Fire i) ≡ Ok (Done, next)
@@ -132,8 +134,9 @@ pub fn deadlines_pass_in_time()
         → outcome w (Step.Fire i) ≡ Ok (Stale, next) → c ≢ Cell.Firings → cell next c ≡ cell w c }
 {}
 
-/// What is listed of deadlines is so: this came of the deadline at that step, and the step that it names had set it. And each deadline
-/// that passes, each call that ends with one, and so each timeout, and each deadline that is taken back is listed.
+/// The list of findings about deadlines is exact. Each finding happened to the deadline at that step, and the step that
+/// it names had set the deadline. Each deadline that passes, each call that ends with one (so each timeout), and each
+/// deadline that is taken back is listed.
 pub fn just_what_came_of_deadlines_is_listed()
     ensures listed { (r : Recording) (n : ℕ) (found : DeadlineFinding)
         → Contains (deadline_findings r n) found → IsFinding r n found }
@@ -148,13 +151,13 @@ pub fn just_what_came_of_deadlines_is_listed()
         → (found : DeadlineFinding) × Contains (deadline_findings r n) found × IsOf k d side (TakenBack g) found }
 {}
 
-/// After any steps a socket's lock counts as many references as before, and those that were taken, less those that were given back.
+/// After any steps a socket's lock counts as many references as before, plus those taken, minus those returned.
 pub fn references_are_counted()
     ensures { (w : World) (steps : List Step) (s : ℕ) → WellFormed w → All IsTimely steps
         → references_at (world_after w steps) s + given s w steps ≡ references_at w s + taken s w steps }
 {}
 
-/// A socket is freed by its last reference alone: the answer `Last` leaves none.
+/// Only its last reference frees a socket: the answer `Last` leaves none.
 pub fn a_socket_is_freed_without_references()
     ensures decref { (w : World) (g s : ℕ) (next : World)
         → outcome w (Step.Decref g s) ≡ Ok (Last, next) → references_at next s ≡ 0 }
@@ -162,8 +165,8 @@ pub fn a_socket_is_freed_without_references()
         → outcome w (Step.RwUnlock g s side) ≡ Ok (Last, next) → references_at next s ≡ 0 }
 {}
 
-/// Just the held references are listed: each that is listed is held, with its count and the last step that took one, and each that is
-/// held is listed.
+/// The list of held references is exact: each listed one is held, with its count and the last step that took one, and
+/// each held one is listed.
 pub fn just_held_references_are_listed()
     ensures listed { (r : Recording) (n : ℕ) (held : HeldReference) → Contains (held_references r n) held
         → IsHeld r n held.socket held.goroutine × IsListed r n held }
@@ -180,18 +183,18 @@ pub fn a_closed_socket_that_is_not_listed_has_no_reference()
         → references_at (world_at r n) s ≡ 0 }
 {}
 
-/// A leak is for ever: if k references of a socket aren't given back, that is, if all others give back no more than they have and
-/// take, the socket has k references after any steps, so it is never freed.
+/// A leak is permanent. If k references of a socket are never returned, that is, if all others return no more than they
+/// have and take, the socket has at least k references after any steps, so it is never freed.
 pub fn a_leaked_reference_keeps_the_socket()
     ensures { (w : World) (steps : List Step) (s k : ℕ) → WellFormed w → All IsTimely steps
         → given s w steps + k ≤ references_at w s + taken s w steps
         → k ≤ references_at (world_after w steps) s }
 {}
 
-/// An event of an earlier opening changes nothing. An event for a descriptor that was ever opened is answered `Stale` and leaves the world
-/// as it was just if the descriptor is closed or has another tag; it is answered `Done` just if the descriptor is open and has its tag. No
-/// step lowers a tag, and a close raises it. So an event with the tag that a descriptor had when it was closed, or with a lesser one, is
-/// answered `Stale` after any steps.
+/// An event of an earlier opening changes nothing. An event for a descriptor that was ever opened is answered `Stale`,
+/// and leaves the world as it was, if and only if the descriptor is closed or has another tag; it is answered `Done` if
+/// and only if the descriptor is open and has its tag. No step lowers a tag, and a close raises it. So an event with
+/// the tag that a descriptor had when it was closed, or with a lesser one, is answered `Stale` after any steps.
 pub fn events_of_an_earlier_opening_change_nothing()
     ensures stale { (w : World) (d tag : ℕ) (mode : Mode) (error : Bool) (row : DescriptorRow)
         → slice_get w.descriptors d ≡ Some row
@@ -207,8 +210,9 @@ pub fn events_of_an_earlier_opening_change_nothing()
         → outcome (world_after next steps) (Step.PollEvent d tag mode error) ≡ Ok (Stale, world_after next steps) }
 {}
 
-/// A write is answered `Pipe` just if its socket's write side is shut, and then it changes nothing. A write side is shut after a step
-/// just if it was before, or if the step is a `closewrite` of it; so each write after a `closewrite` is answered `Pipe`, after any steps.
+/// A write is answered `Pipe` if and only if its socket's write side is shut, and then it changes nothing. A write side
+/// is shut after a step if and only if it was before, or if the step is a `closewrite` of it. So after a `closewrite`
+/// each write is answered `Pipe`, after any steps.
 pub fn a_write_is_answered_pipe_just_if_its_side_is_shut()
     ensures pipe { (w : World) (g s : ℕ) (bytes : List ℕ) (answer : Answer) (next : World)
         → outcome w (Step.SysWrite g s bytes) ≡ Ok (answer, next)
@@ -224,9 +228,10 @@ pub fn a_write_is_answered_pipe_just_if_its_side_is_shut()
         → outcome (world_after next steps) (Step.SysWrite h s bytes) ≡ Ok (answer, last) → answer ≡ Pipe }
 {}
 
-/// One goroutine at a time has a side of a socket's lock. An `rwlock` is answered `Yes` just if the lock isn't closed and the side isn't
-/// locked, and it leaves the side locked. No other step locks a side. One that is answered `Wait` found the side locked, and leaves the
-/// socket as it was but for one waiter more. Between two `rwlock`s that are answered `Yes` at one side, an `rwunlock` of that side applied.
+/// One goroutine at a time holds a side of a socket's lock. An `rwlock` is answered `Yes` if and only if the lock isn't
+/// closed and the side isn't locked, and it leaves the side locked. No other step locks a side. If an `rwlock` is
+/// answered `Wait`, the side was locked, and the socket stays as it was except for one more waiter. Between two
+/// `rwlock`s that are answered `Yes` at one side, an `rwunlock` of that side was applied.
 pub fn one_goroutine_at_a_time_has_a_side()
     ensures answered { (w : World) (g s : ℕ) (side : Side) (socket : Socket) (answer : Answer) (next : World)
         → slice_get w.sockets s ≡ Some socket → outcome w (Step.RwLock g s side) ≡ Ok (answer, next)
@@ -253,8 +258,9 @@ pub fn one_goroutine_at_a_time_has_a_side()
         × IsOk (outcome (world_after next (take n steps)) (Step.RwUnlock k s side)) }
 {}
 
-/// An `rwunlock` gives a side of a socket's lock back: it found the side locked and leaves it unlocked, and no other step unlocks a side.
-/// The side is handed to nobody: one waiter of the side, if it has any, is taken off, and the goroutine owes the side one release.
+/// An `rwunlock` unlocks a side of a socket's lock: the side was locked before and is unlocked after, and no other step
+/// unlocks a side. The side isn't handed to any goroutine: one waiter of the side, if it has any, is removed, and the
+/// goroutine owes the side one release.
 pub fn an_rwunlock_gives_a_side_back()
     ensures back { (w : World) (g s : ℕ) (side : Side) (answer : Answer) (next : World)
         → outcome w (Step.RwUnlock g s side) ≡ Ok (answer, next)

@@ -9,7 +9,7 @@ use nr_rev::Memory;
 use std::alloc::Global;
 use std::marker::Model;
 
-/// What each goroutine holds of each socket's references.
+/// How many references of each socket each goroutine took and returned.
 #[derive(Drop)]
 pub struct Ledger {
     rows: Vec<Vec<Holding>>,
@@ -25,7 +25,8 @@ impl Model for Ledger {
 }
 
 impl Ledger {
-    /// Of so many sockets and goroutines, none of which holds anything.
+    /// Makes a ledger of so many sockets and goroutines, none of which holds anything. Fails with `Memory` if memory
+    /// runs out.
     pub fn new(alloc: Global, sockets: u32, goroutines: u32) -> Result<Ledger, Memory>
         ensures { IfOk result (λ ledger. ledger ≡ replicate sockets (replicate goroutines none_held)) }
     {
@@ -36,7 +37,7 @@ impl Ledger {
         Ok(Ledger { rows })
     }
 
-    /// What the goroutine holds of the socket; nothing, if it has no place.
+    /// Returns the goroutine's holding of the socket, which is empty if it has no place.
     pub fn holding_of(&self, socket: u32, goroutine: u32) -> Holding
         ensures { result ≡ holding_of self.now socket goroutine }
     {
@@ -49,7 +50,7 @@ impl Ledger {
         }
     }
 
-    /// Writes down what the step of this number did.
+    /// Updates the ledger with the notice of this step.
     pub fn note(&mut self, step: usize, notice: Notice)
         requires room { CanCount self.old }
         ensures { AreHeld step notice self.old self.new }
@@ -63,7 +64,7 @@ impl Ledger {
         }
     }
 
-    // Writes it down at the place of a goroutine and a socket.
+    // Updates the place of one goroutine and one socket.
     fn note_at(&mut self, goroutine: u32, socket: u32, step: usize, notice: Notice)
         requires room { CanCount self.old }
         ensures { IsHeldAt step goroutine socket notice self.old self.new }
@@ -80,7 +81,7 @@ impl Ledger {
     }
 }
 
-// Writes it down at the place of a goroutine in the row of a socket.
+// Updates the place of one goroutine in the row of a socket.
 fn note_in(row: &mut Vec<Holding>, goroutine: u32, socket: u32, step: usize, notice: Notice)
     requires room { RowCanCount row.old.items }
     ensures { IsRowHeldAt step goroutine socket notice row.old.items row.new.items }

@@ -1,4 +1,4 @@
-//! The hunts: lost wake-ups, stale deadlines and leaked references, by what the steps of a recording did.
+//! The hunts: lost wake-ups, stale deadlines and leaked references, found from the effects of a recording's steps.
 #![tactic(auto)]
 
 mod account;

@@ -1,4 +1,4 @@
-//! Lost wake-ups: a goroutine sleeps at a side to which something is owed.
+//! Lost wake-ups: a goroutine sleeps at a side to which a try is owed.
 
 ghost use Rattle.std.specs.Prelude.{◌≡◌, ◌++◌, ◌≤◌, ◌<◌, ◌+◌, length, option_and_then};
 ghost use Rattle.nr_rev.specs.Sides.{of_side};
@@ -15,14 +15,14 @@ use nr_rev::{CellValue, Side, WaitWord, Worlds};
 use nr_text::{Buffered, Text, Token, WriteFailed, send_all};
 use std::io::Write;
 
-/// How many there are at most: one for each side of each descriptor.
+/// The maximum number of lost wake-ups: one for each side of each descriptor.
 pub const MOST_LOST: usize = 512;
 
-/// A goroutine that is parked at a descriptor's side, though an event came for it and no try of its socket was answered `Again`
-/// since.
+/// A goroutine that is parked at a descriptor's side although an event came for the side and no try of its socket has
+/// been answered `Again` since.
 #[derive(Clone, Copy, Debug, PartialEq, Eq)]
 pub struct LostWakeUp {
-    /// The position at which it is so.
+    /// The position at which the goroutine is parked.
     pub position: usize,
     /// The goroutine.
     pub goroutine: u32,
@@ -32,11 +32,11 @@ pub struct LostWakeUp {
     pub side: Side,
     /// The number of the event's step, counted from 1.
     pub event: usize,
-    /// The step that took its readiness.
+    /// The step that took the event's readiness.
     pub taken: Option<StepBy>,
 }
 
-/// What fills the room of a list.
+/// The value of unused places of a list.
 impl Default for LostWakeUp {
     fn default() -> LostWakeUp {
         LostWakeUp {
@@ -50,7 +50,7 @@ impl Default for LostWakeUp {
     }
 }
 
-/// The side as it is printed.
+/// Returns the printed name of a side.
 pub(crate) fn side_name(side: Side) -> &'static [u8]
     ensures { result.now ≡ side_letter side }
 {
@@ -60,7 +60,7 @@ pub(crate) fn side_name(side: Side) -> &'static [u8]
     }
 }
 
-// Sends which step took the readiness, if one did.
+// Writes which step took the readiness, if one did.
 fn send_taken<W: Write>(taken: Option<StepBy>, w: &mut Buffered<W>) -> Result<(), WriteFailed>
     ensures { Writes w.old w.new (taken_text taken) result }
 {
@@ -79,7 +79,7 @@ fn send_taken<W: Write>(taken: Option<StepBy>, w: &mut Buffered<W>) -> Result<()
 }
 
 impl LostWakeUp {
-    // Sends the line up to the event.
+    // Writes the line up to the event.
     fn send_event<W: Write>(&self, w: &mut Buffered<W>) -> Result<(), WriteFailed>
         ensures { Writes w.old w.new (event_text self.now) result }
     {
@@ -100,7 +100,7 @@ impl LostWakeUp {
     }
 }
 
-/// It is the line `at 71 lost-wakeup gor 2 desc 0 r event 60 taken 66 by 2`.
+/// Prints as the line `at 71 lost-wakeup gor 2 desc 0 r event 60 taken 66 by 2`.
 impl Text for LostWakeUp {
     ghost text = { lost_line };
 
@@ -111,10 +111,10 @@ impl Text for LostWakeUp {
     }
 }
 
-/// Lost wake-ups, in a list that takes no memory.
+/// A list of lost wake-ups that allocates no memory.
 pub type LostWakeUps = ArrayVec<LostWakeUp, MOST_LOST>;
 
-// Adds that of a descriptor's side, of which this is kept.
+// Appends the lost wake-up at the side of a descriptor with this account, if there is one.
 fn add_lost<W: Worlds>(
     world: &W,
     position: usize,
@@ -148,7 +148,8 @@ fn add_lost<W: Worlds>(
     }
 }
 
-/// Lists the lost wake-ups of a world at this position, by descriptor, reading before writing: in the place of what the list has.
+/// Replaces the list's contents with the lost wake-ups of a world at this position, sorted by descriptor, reading
+/// before writing.
 pub fn list_lost_wake_ups<W: Worlds>(
     world: &W,
     position: usize,

@@ -1,4 +1,4 @@
-//! What the hunts keep while the steps of a recording are made, and what they find at its end.
+//! The notes that the hunts take while the steps of a recording are applied, and the findings at its end.
 
 ghost use Rattle.std.specs.Prelude.{◌≡◌, ◌++◌, ◌≤◌, [], IfOk, OnOk, length, replicate, None};
 ghost use Rattle.nr_suspects.specs.Accounts.{IsNoted, kept_of};
@@ -20,8 +20,8 @@ use nr_rev::{Limits, Memory, Worlds};
 use std::alloc::Global;
 use std::marker::Model;
 
-/// What is kept of each descriptor and of each socket's other end, what each goroutine holds of each socket, and what came of deadlines
-/// so far.
+/// The account of each descriptor, the other end of each socket, the ledger of references, and the findings about
+/// deadlines so far.
 #[derive(Drop)]
 pub struct Notebook {
     accounts: Accounts,
@@ -39,7 +39,8 @@ impl Model for Notebook {
 }
 
 impl Notebook {
-    /// That of a recording with these limits, before its first step.
+    /// Makes the notebook of a recording with these limits, before its first step. Fails with `Memory` if memory runs
+    /// out.
     pub fn new(alloc: Global, limits: &Limits) -> Result<Notebook, Memory>
         ensures accounts { IfOk result (λ notebook. notebook.accounts ≡ replicate limits.now.descriptors None) }
         ensures peers { IfOk result (λ notebook. notebook.peers ≡ replicate limits.now.sockets None) }
@@ -58,7 +59,7 @@ impl Notebook {
         })
     }
 
-    /// Writes down what the step of this number did.
+    /// Updates the notes with the notice of this step. Fails with `Memory` if memory runs out.
     pub fn note(&mut self, step: usize, notice: Notice) -> Result<(), Memory>
         requires room { CanCount self.old.rows }
         ensures accounts { OnOk result (IsNoted step notice self.old.accounts self.new.accounts) }
@@ -74,7 +75,8 @@ impl Notebook {
         Ok(())
     }
 
-    /// What is found in a world at this position, of a recording with these limits.
+    /// Returns the findings in a world at this position of a recording with these limits. Fails with `Memory` if memory
+    /// runs out.
     pub fn suspects<W: Worlds>(
         self,
         alloc: Global,

@@ -1,4 +1,4 @@
-//! What a step did that the hunts follow.
+//! Notices: the effects of a step that the hunts use.
 
 ghost use Rattle.std.specs.Prelude.{◌≡◌, Ok, Err, IfOk, IfErr, OnErr, Some, None, not, ◌&&◌, if◌then◌else◌};
 ghost use Rattle.nr_rev.specs.Cell.{cell};
@@ -20,14 +20,14 @@ pub struct Visit {
     pub side: Side,
 }
 
-/// A deadline passed.
+/// The passing of a deadline.
 #[derive(Clone, Copy, Debug, PartialEq, Eq)]
 pub struct Passing {
-    /// The goroutine that was parked there, and is woken.
+    /// The goroutine that was parked at the side and is woken.
     pub woken: Option<u32>,
 }
 
-/// What a step did that the hunts follow.
+/// The effect of a step, as far as the hunts use it.
 #[derive(Clone, Copy, Debug, PartialEq, Eq)]
 pub enum Notice {
     /// The descriptor was opened for the socket.
@@ -45,9 +45,9 @@ pub enum Notice {
         socket: u32,
         side: Side,
     },
-    /// The word was ready, and the goroutine took the readiness.
+    /// The word was `ready`, and the goroutine took the readiness.
     TookReadiness(Visit),
-    /// The goroutine checked the side, with this code.
+    /// The goroutine checked the side and got this code.
     Checked {
         visit: Visit,
         code: u32,
@@ -58,7 +58,7 @@ pub enum Notice {
         descriptor: u32,
         mode: Mode,
     },
-    /// A timer was run, by which deadlines of the descriptor's sides may have passed.
+    /// A timer was run, so that deadlines of the descriptor's sides may have passed.
     PassedDeadline {
         descriptor: u32,
         passings: Sides<Option<Passing>>,
@@ -68,12 +68,12 @@ pub enum Notice {
         goroutine: u32,
         socket: u32,
     },
-    /// The goroutine gave a reference of the socket back.
+    /// The goroutine returned a reference of the socket.
     GaveReference {
         goroutine: u32,
         socket: u32,
     },
-    /// The socket was opened, with so much room to write.
+    /// The socket was opened with so much room for writing.
     SocketOpened {
         socket: u32,
         capacity: u32,
@@ -82,11 +82,11 @@ pub enum Notice {
     PeerClosed {
         socket: u32,
     },
-    /// Nothing of these.
+    /// None of these effects.
     Nothing,
 }
 
-// Where a goroutine with this status is in a wait.
+// Returns the descriptor and side at which a goroutine with this status waits.
 fn wait_place(value: CellValue) -> Option<(u32, Side)>
     ensures { result ≡ wait_place value }
 {
@@ -104,7 +104,7 @@ fn wait_place(value: CellValue) -> Option<(u32, Side)>
     }
 }
 
-// Where the goroutine is in a wait.
+// Returns the visit of the goroutine at the side at which it waits, if it waits.
 fn visit_of<W: Worlds>(world: &W, goroutine: u32) -> Option<Visit>
     requires { W.is_well_formed world.now }
     ensures { result ≡ visit_of (W.world world.now) goroutine }
@@ -117,7 +117,7 @@ fn visit_of<W: Worlds>(world: &W, goroutine: u32) -> Option<Visit>
     })
 }
 
-// The side that the step visits.
+// Returns the side that the step visits.
 fn visited<W: Worlds>(world: &W, step: &Step) -> Option<Visit>
     requires { W.is_well_formed world.now }
     ensures { result ≡ visit (W.world world.now) step.now }
@@ -144,7 +144,7 @@ fn visited<W: Worlds>(world: &W, step: &Step) -> Option<Visit>
     }
 }
 
-/// The cell of the word of a descriptor's side.
+/// Returns the cell with the word of a descriptor's side.
 pub(crate) fn word_cell(descriptor: u32, side: Side) -> Cell
     ensures { result ≡ word_cell descriptor side }
 {
@@ -154,7 +154,7 @@ pub(crate) fn word_cell(descriptor: u32, side: Side) -> Cell
     }
 }
 
-// The cell of the deadline of a descriptor's side.
+// Returns the cell with the deadline of a descriptor's side.
 fn deadline_cell(descriptor: u32, side: Side) -> Cell
     ensures { result ≡ deadline_cell descriptor side }
 {
@@ -164,7 +164,7 @@ fn deadline_cell(descriptor: u32, side: Side) -> Cell
     }
 }
 
-// Whether the word of a descriptor's side is ready.
+// Returns whether the word of a descriptor's side is `ready`.
 fn is_ready<W: Worlds>(world: &W, descriptor: u32, side: Side) -> bool
     requires { W.is_well_formed world.now }
     ensures { result ≡ is_ready (W.world world.now) descriptor side }
@@ -175,7 +175,7 @@ fn is_ready<W: Worlds>(world: &W, descriptor: u32, side: Side) -> bool
     )
 }
 
-/// Whether the deadline of a descriptor's side has passed.
+/// Returns whether the deadline of a descriptor's side has passed.
 pub(crate) fn has_passed<W: Worlds>(world: &W, descriptor: u32, side: Side) -> bool
     requires { W.is_well_formed world.now }
     ensures { result ≡ has_passed (W.world world.now) descriptor side }
@@ -186,7 +186,7 @@ pub(crate) fn has_passed<W: Worlds>(world: &W, descriptor: u32, side: Side) -> b
     }
 }
 
-// The goroutine that the word of a descriptor's side holds.
+// Returns the goroutine that the word of a descriptor's side holds.
 fn held_goroutine<W: Worlds>(world: &W, descriptor: u32, side: Side) -> Option<u32>
     requires { W.is_well_formed world.now }
     ensures { result ≡ held_goroutine (cell (W.world world.now) (word_cell descriptor side)) }
@@ -197,7 +197,7 @@ fn held_goroutine<W: Worlds>(world: &W, descriptor: u32, side: Side) -> Option<u
     }
 }
 
-// The notice, if the answer is the one that is wanted.
+// Returns the notice if the answer is the wanted one, and otherwise `Nothing`.
 fn if_answered(wanted: Answer, answer: Answer, notice: Notice) -> Notice
     ensures { result ≡ if_answered wanted answer notice }
 {
@@ -208,7 +208,7 @@ fn if_answered(wanted: Answer, answer: Answer, notice: Notice) -> Notice
     }
 }
 
-// The notice of a descriptor that was opened for the socket.
+// Returns the notice that a descriptor was opened for the socket.
 fn notice_of_opening(socket: u32, answer: Answer) -> Notice
     ensures { result ≡ notice_of_opening socket answer }
 {
@@ -218,7 +218,7 @@ fn notice_of_opening(socket: u32, answer: Answer) -> Notice
     }
 }
 
-// The notice of a socket that was opened, with so much room to write.
+// Returns the notice that a socket with so much room for writing was opened.
 fn notice_of_socket(capacity: u32, answer: Answer) -> Notice
     ensures { result ≡ notice_of_socket capacity answer }
 {
@@ -228,7 +228,7 @@ fn notice_of_socket(capacity: u32, answer: Answer) -> Notice
     }
 }
 
-// The notice of a check of a visited side, if the answer is a code.
+// Returns the notice of a check of a visited side, if the answer is a code.
 fn checking(visit: Visit, answer: Answer) -> Notice
     ensures { result ≡ checking visit answer }
 {
@@ -238,17 +238,17 @@ fn checking(visit: Visit, answer: Answer) -> Notice
     }
 }
 
-// What is seen of a side before a timer is run.
+// The state of a side before a timer is run.
 #[derive(Clone, Copy)]
 struct SideBefore {
-    // Whether its deadline has passed.
+    // True if its deadline has passed.
     has_passed: bool,
     // The goroutine that its word holds.
     held: Option<u32>,
 }
 
 impl SideBefore {
-    // That of a side of the descriptor.
+    // Returns the state of a side of the descriptor.
     fn of<W: Worlds>(world: &W, descriptor: u32, side: Side) -> SideBefore
         requires { W.is_well_formed world.now }
         ensures passed { result.has_passed ≡ has_passed (W.world world.now) descriptor side }
@@ -260,7 +260,7 @@ impl SideBefore {
         }
     }
 
-    // The passing of its deadline, if it has passed in this world, which is the next.
+    // Returns the passing of the side's deadline, if it has passed in this next world and hadn't before.
     fn passing<W: Worlds>(self, world: &W, descriptor: u32, side: Side) -> Option<Passing>
         requires { W.is_well_formed world.now }
         ensures { result ≡ (if not self.has_passed && has_passed (W.world world.now) descriptor side
@@ -274,7 +274,7 @@ impl SideBefore {
     }
 }
 
-// The descriptor of the timer that the step runs.
+// Returns the descriptor of the timer that the step runs, if it runs one.
 fn fired_descriptor<W: TouchesCells>(world: &W, step: &Step) -> Option<u32>
     requires { W.is_well_formed world.now }
     ensures { result ≡ fired_descriptor (W.world world.now) step.now }
@@ -285,7 +285,7 @@ fn fired_descriptor<W: TouchesCells>(world: &W, step: &Step) -> Option<u32>
     }
 }
 
-// Runs a timer for the descriptor, and returns the answer and which deadlines passed by it.
+// Runs a timer for the descriptor, and returns the answer and the deadlines that it made pass.
 fn run_timer<W: Worlds>(
     world: &mut W,
     step: &Step,
@@ -316,7 +316,7 @@ fn run_timer<W: Worlds>(
     ))
 }
 
-// Makes a step that may visit a side, and returns the answer and what came of the visit.
+// Applies a step that may visit a side, and returns the answer and the notice of the visit.
 fn visit_side<W: Worlds>(world: &mut W, step: &Step) -> Result<(Answer, Notice), Refusal>
     requires { W.is_well_formed world.old }
     ensures step { IfOk result (λ made.
@@ -340,7 +340,7 @@ fn visit_side<W: Worlds>(world: &mut W, step: &Step) -> Result<(Answer, Notice),
     }
 }
 
-// The notice of a step with this answer, where `other` is what was seen of timers and visits.
+// Returns the notice of a step with this answer; `other` is the notice for timers and visits.
 fn noticed(step: &Step, answer: Answer, other: Notice) -> Notice
     ensures { result ≡ noticed step.now answer other }
 {
@@ -413,8 +413,8 @@ fn noticed(step: &Step, answer: Answer, other: Notice) -> Notice
     }
 }
 
-/// Applies the step, keeps no way back, and returns its answer and what it did. If the step doesn't apply, the world stays. It takes
-/// no memory.
+/// Applies the step without an undo record, and returns its answer and its notice. If the step is refused, the world
+/// stays as it was. Allocates no memory.
 pub fn advance<W: TouchesCells>(world: &mut W, step: &Step) -> Result<(Answer, Notice), Refusal>
     requires { W.is_well_formed world.old }
     ensures step { IfOk result (λ made.

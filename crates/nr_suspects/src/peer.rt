@@ -1,21 +1,21 @@
-//! What is kept of the other end of a socket.
+//! The other end of a socket.
 
 ghost use Rattle.std.specs.Prelude.{◌≡◌};
 ghost use Rattle.nr_suspects.specs.Peers.{closed_peer, open_peer, peer_after};
 
 use crate::notice::Notice;
 
-/// What is kept of the other end of a socket.
+/// The other end of a socket.
 #[derive(Clone, Copy, Debug, PartialEq, Eq)]
 pub struct Peer {
-    /// How many bytes may be written before it takes some.
+    /// The number of bytes that can be written before it reads some.
     pub capacity: u32,
-    /// Whether it has closed.
+    /// True if it has closed.
     pub is_closed: bool,
 }
 
 impl Peer {
-    // That of a socket that was opened with so much room to write.
+    // Returns the other end of a socket that was opened with so much room for writing.
     fn open(capacity: u32) -> Peer
         ensures { result ≡ open_peer capacity }
     {
@@ -25,7 +25,7 @@ impl Peer {
         }
     }
 
-    // It has closed.
+    // Returns the other end after it has closed.
     fn closed(self) -> Peer
         ensures { result ≡ closed_peer self }
     {
@@ -36,7 +36,7 @@ impl Peer {
     }
 }
 
-// What is kept of the other end of the socket after the step.
+// Returns the other end of the socket after the step.
 pub(crate) fn peer_after(socket: u32, notice: Notice, peer: Option<Peer>) -> Option<Peer>
     ensures { result ≡ peer_after socket notice peer }
 {

@@ -1,4 +1,4 @@
-//! What is kept of the other end of each socket while the steps of a recording are made.
+//! The other ends of all sockets, which are updated with each step of a recording.
 
 ghost use Rattle.std.specs.Prelude.{◌≡◌, IfOk, None, replicate};
 ghost use Rattle.nr_suspects.specs.Peers.{ArePeersNoted, IsPeerNotedAt, peer_in};
@@ -9,7 +9,7 @@ use nr_rev::Memory;
 use std::alloc::Global;
 use std::marker::Model;
 
-/// What is kept of the other end of each socket: a place for each number that a socket may have.
+/// The other end of each socket, with a place for each number that a socket may have.
 #[derive(Drop)]
 pub struct Peers {
     peers: Vec<Option<Peer>>,
@@ -25,7 +25,7 @@ impl Model for Peers {
 }
 
 impl Peers {
-    /// Of so many sockets, none of which was opened yet.
+    /// Makes the list for so many sockets, none of which has been opened. Fails with `Memory` if memory runs out.
     pub fn new(alloc: Global, sockets: u32) -> Result<Peers, Memory>
         ensures { IfOk result (λ peers. peers ≡ replicate sockets None) }
     {
@@ -33,14 +33,14 @@ impl Peers {
         Ok(Peers { peers })
     }
 
-    /// What is kept of the socket, if it has a place and was opened.
+    /// Returns the other end of the socket, or `None` if the socket has no place or wasn't opened.
     pub fn of(&self, socket: u32) -> Option<Peer>
         ensures { result ≡ peer_in self.now socket }
     {
         *self.peers.get(socket as usize)?
     }
 
-    /// Writes down what a step did.
+    /// Updates each place with the notice of a step.
     pub fn note(&mut self, notice: Notice)
         ensures { ArePeersNoted notice self.old self.new }
     {
@@ -52,7 +52,7 @@ impl Peers {
         }
     }
 
-    // Writes it down at the place of a socket.
+    // Updates the place of one socket.
     fn note_at(&mut self, socket: u32, notice: Notice)
         ensures { IsPeerNotedAt socket notice self.old self.new }
     {

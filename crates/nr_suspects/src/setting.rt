@@ -1,4 +1,4 @@
-//! Which step set a deadline, and what came of it.
+//! Which step set a deadline, and which goroutine it woke.
 
 ghost use Rattle.std.specs.Prelude.{◌≡◌};
 ghost use Rattle.nr_suspects.specs.Settings.{after_passing, after_setting, looked_at, moved_since, passed_with, set_by, woken_but};
@@ -6,43 +6,43 @@ ghost use Rattle.nr_suspects.specs.Settings.{after_passing, after_setting, looke
 use crate::notice::Passing;
 use nr_rev::{Mode, Side, Sides};
 
-/// A step, and its goroutine.
+/// A step and its goroutine.
 #[derive(Clone, Copy, Debug, PartialEq, Eq)]
 pub struct StepBy {
     /// The number of the step, counted from 1.
     pub step: usize,
-    /// Its goroutine.
+    /// The goroutine of the step.
     pub goroutine: u32,
 }
 
 /// The setting of a deadline.
 #[derive(Clone, Copy, Debug, PartialEq, Eq)]
 pub struct Setting {
-    /// The step that set it.
+    /// The step that set the deadline.
     pub by: StepBy,
-    /// The sides whose deadline it set.
+    /// The sides whose deadlines it set.
     pub mode: Mode,
-    /// The first step after it that set the other side's deadline alone.
+    /// The first later step that set the other side's deadline alone.
     pub moved: Option<StepBy>,
 }
 
-/// What is kept of the deadline of a side.
+/// The deadline of a side.
 #[derive(Clone, Copy, Debug, PartialEq, Eq)]
 pub struct Deadline {
-    /// Its setting.
+    /// The setting of the deadline, if it was set.
     pub setting: Option<Setting>,
-    /// The goroutine that was woken when it passed, and hasn't looked why.
+    /// The goroutine that was woken when the deadline passed, if it hasn't checked its side yet.
     pub woken: Option<u32>,
 }
 
 impl Deadline {
-    /// It was never set.
+    /// A deadline that was never set.
     pub const NEVER_SET: Deadline = Deadline {
         setting: None,
         woken: None,
     };
 
-    // After this step set the deadlines that the mode names.
+    // Returns the deadline after this step set the deadlines that the mode names.
     fn set_by(self, by: StepBy, mode: Mode, side: Side) -> Deadline
         ensures { result ≡ set_by by mode side self }
     {
@@ -66,7 +66,7 @@ impl Deadline {
         }
     }
 
-    // After it passed, if this is its passing.
+    // Returns the deadline after this passing, if any.
     fn passed_with(self, passing: Option<Passing>) -> Deadline
         ensures { result ≡ passed_with passing self }
     {
@@ -81,7 +81,7 @@ impl Deadline {
 }
 
 impl Setting {
-    // After this step set the other side's deadline alone.
+    // Returns the setting after this step set the other side's deadline alone.
     fn moved_since(self, by: StepBy) -> Setting
         ensures { result ≡ moved_since by self }
     {
@@ -93,7 +93,7 @@ impl Setting {
     }
 }
 
-// The goroutine that was woken, unless it is this one.
+// Returns the goroutine that was woken, or `None` if it is this one.
 fn woken_but(goroutine: u32, woken: Option<u32>) -> Option<u32>
     ensures { result ≡ woken_but goroutine woken }
 {
@@ -103,7 +103,7 @@ fn woken_but(goroutine: u32, woken: Option<u32>) -> Option<u32>
     }
 }
 
-/// Both sides' deadlines after the goroutine set those that the mode names, by the step of this number.
+/// Returns both sides' deadlines after the goroutine set those that the mode names, in the step of this number.
 pub(crate) fn after_setting(
     step: usize,
     goroutine: u32,
@@ -119,7 +119,7 @@ pub(crate) fn after_setting(
     }
 }
 
-/// Both sides' deadlines after these passings.
+/// Returns both sides' deadlines after these passings.
 pub(crate) fn after_passing(
     passings: Sides<Option<Passing>>,
     deadlines: Sides<Deadline>,
@@ -132,7 +132,7 @@ pub(crate) fn after_passing(
     }
 }
 
-/// Both sides' deadlines after the goroutine visited one of them.
+/// Returns both sides' deadlines after the goroutine checked one of them.
 pub(crate) fn looked_at(goroutine: u32, side: Side, deadlines: Sides<Deadline>) -> Sides<Deadline>
     ensures { result ≡ looked_at goroutine side deadlines }
 {

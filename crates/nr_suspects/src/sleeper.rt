@@ -1,4 +1,4 @@
-//! Goroutines that sleep although their side has a reason to be answered.
+//! Goroutines that sleep although they should have been woken.
 
 ghost use Rattle.std.specs.Prelude.{◌≡◌, ◌++◌, ◌≤◌, ◌<◌, ◌+◌, length, option_and_then};
 ghost use Rattle.nr_rev.specs.Cell.{cell};
@@ -19,10 +19,10 @@ use nr_rev::{Cell, CellValue, Side, WaitWord, Worlds};
 use nr_text::{Buffered, Text, Token, WriteFailed, send_all};
 use std::io::Write;
 
-/// How many there are at most: one for each side of each descriptor.
+/// The maximum number of sleepers: one for each side of each descriptor.
 pub const MOST_SLEEPERS: usize = 512;
 
-/// Why a side has to be answered.
+/// Why a goroutine that waits at a side should be woken.
 #[derive(Clone, Copy, Debug, PartialEq, Eq)]
 pub enum Reason {
     /// The descriptor is closing.
@@ -33,7 +33,7 @@ pub enum Reason {
     Error,
     /// There are bytes to read.
     Bytes,
-    /// All is read, and the peer has closed.
+    /// All bytes were read, and the peer has closed.
     End,
     /// The write side is shut.
     Shut,
@@ -41,10 +41,10 @@ pub enum Reason {
     Room,
 }
 
-/// A goroutine that is parked at a descriptor's side, although the side has to be answered.
+/// A goroutine that is parked at a descriptor's side although it should have been woken.
 #[derive(Clone, Copy, Debug, PartialEq, Eq)]
 pub struct Sleeper {
-    /// The position at which it is so.
+    /// The position at which the goroutine is parked.
     pub position: usize,
     /// The goroutine.
     pub goroutine: u32,
@@ -52,11 +52,11 @@ pub struct Sleeper {
     pub descriptor: u32,
     /// The side.
     pub side: Side,
-    /// Why the side has to be answered.
+    /// Why the goroutine should have been woken.
     pub reason: Reason,
 }
 
-/// What fills the room of a list.
+/// The value of unused places of a list.
 impl Default for Sleeper {
     fn default() -> Sleeper {
         Sleeper {
@@ -69,7 +69,7 @@ impl Default for Sleeper {
     }
 }
 
-// The reason as it is printed.
+// Returns the printed name of a reason.
 fn reason_name(reason: Reason) -> &'static [u8]
     ensures { result.now ≡ reason_text reason }
 {
@@ -84,7 +84,7 @@ fn reason_name(reason: Reason) -> &'static [u8]
     }
 }
 
-/// It is the line `at 71 asleep gor 2 desc 0 r because bytes`.
+/// Prints as the line `at 71 asleep gor 2 desc 0 r because bytes`.
 impl Text for Sleeper {
     ghost text = { sleeper_line };
 
@@ -107,10 +107,10 @@ impl Text for Sleeper {
     }
 }
 
-/// Sleepers, in a list that takes no memory.
+/// A list of sleepers that allocates no memory.
 pub type Sleepers = ArrayVec<Sleeper, MOST_SLEEPERS>;
 
-// The number that a cell shows; 0 if it shows none.
+// Returns the number in a cell's value, or 0 if it isn't a number.
 fn number_or_zero(value: CellValue) -> u64
     ensures { result ≡ number_or_zero value }
 {
@@ -120,7 +120,7 @@ fn number_or_zero(value: CellValue) -> u64
     }
 }
 
-// The code of a check of the side.
+// Returns the code of a check of the side.
 fn code_of<W: Worlds>(world: &W, descriptor: u32, side: Side) -> u32
     requires { W.is_well_formed world.now }
     ensures { result ≡ code_of_info side (number_or_zero (cell (W.world world.now) (CellNames.Info descriptor)))
@@ -138,7 +138,7 @@ fn code_of<W: Worlds>(world: &W, descriptor: u32, side: Side) -> u32
     }
 }
 
-// Why a check with this code ends a wait.
+// Returns why a check with this code ends a wait.
 fn reason_of_code(code: u32) -> Option<Reason>
     ensures { result ≡ reason_of_code code }
 {
@@ -150,7 +150,7 @@ fn reason_of_code(code: u32) -> Option<Reason>
     }
 }
 
-// Why a read would be answered with bytes or the end.
+// Returns why a read would be answered with bytes or the end.
 fn reason_to_read(bytes: u64, is_closed: bool) -> Option<Reason>
     ensures { result ≡ reason_to_read bytes is_closed }
 {
@@ -163,7 +163,7 @@ fn reason_to_read(bytes: u64, is_closed: bool) -> Option<Reason>
     }
 }
 
-// Why a write would be answered at once.
+// Returns why a write would be answered at once.
 fn reason_to_write(is_shut: bool, room: u64) -> Option<Reason>
     ensures { result ≡ reason_to_write is_shut room }
 {
@@ -176,7 +176,7 @@ fn reason_to_write(is_shut: bool, room: u64) -> Option<Reason>
     }
 }
 
-// What the side waits for that the socket has, whose other end this is.
+// Returns the reason that the socket, with this other end, gives the side to stop waiting.
 fn reason_of_socket<W: Worlds>(world: &W, socket: u32, side: Side, peer: Peer) -> Option<Reason>
     requires { W.is_well_formed world.now }
     ensures { result ≡ reason_by_cells (W.world world.now) socket side peer }
@@ -194,7 +194,7 @@ fn reason_of_socket<W: Worlds>(world: &W, socket: u32, side: Side, peer: Peer) -
     }
 }
 
-// Why the side of the descriptor has to be answered, of which this is kept.
+// Returns why a goroutine at the side of the descriptor with this account should be woken.
 fn reason_of<W: Worlds>(
     world: &W,
     descriptor: u32,
@@ -214,7 +214,7 @@ fn reason_of<W: Worlds>(
     }
 }
 
-// Adds the goroutine that sleeps at a descriptor's side, if the side has to be answered.
+// Appends the goroutine that sleeps at a descriptor's side, if it should have been woken.
 fn add_sleeper<W: Worlds>(
     world: &W,
     position: usize,
@@ -249,8 +249,8 @@ fn add_sleeper<W: Worlds>(
     }
 }
 
-/// Lists the goroutines that sleep on in a world at this position, by descriptor, reading before writing: in the place of what the
-/// list has.
+/// Replaces the list's contents with the goroutines that sleep on in a world at this position, sorted by descriptor,
+/// reading before writing.
 pub fn list_sleepers<W: Worlds>(
     world: &W,
     position: usize,

@@ -1,4 +1,4 @@
-//! What was found in a recording.
+//! The findings in a recording.
 
 ghost use Rattle.std.specs.Prelude.{◌≡◌, ◌++◌};
 ghost use Rattle.nr_suspects.specs.Suspects.{found_lines};
@@ -10,20 +10,21 @@ use crate::sleeper::Sleepers;
 use nr_text::{Buffered, Parts, Text, WriteFailed};
 use std::io::Write;
 
-/// What came of deadlines, lost wake-ups, goroutines that sleep on, and references of closed sockets that are held.
+/// The findings about deadlines, the lost wake-ups, the goroutines that sleep on, and the held references of closed
+/// sockets.
 #[derive(Drop)]
 pub struct Suspects {
-    /// What came of deadlines, step by step.
+    /// What became of deadlines, step by step.
     pub deadlines: Vec<DeadlineFinding>,
     /// The lost wake-ups.
     pub lost: LostWakeUps,
-    /// The goroutines that sleep although their side has to be answered.
+    /// The goroutines that sleep although they should have been woken.
     pub asleep: Sleepers,
-    /// The references of closed sockets that are held.
+    /// The held references of closed sockets.
     pub held: Vec<HeldReference>,
 }
 
-/// A line for each: what came of deadlines, the lost wake-ups, the goroutines that sleep on, and the references.
+/// Prints one line for each finding: deadlines, lost wake-ups, goroutines that sleep on, and references.
 impl Text for Suspects {
     ghost text = { found_lines };
 
