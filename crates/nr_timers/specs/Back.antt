@@ -1,4 +1,4 @@
--- The way back over an operation: entries and numbers of places.
+-- The undo of an operation, from entries and the numbers of places.
 use Rattle.std.specs.Prelude.{◌≡◌, ℕ, ◌+◌, ◌-◌, ◌*◌, ◌<◌, ◌≤◌, List, length, take, insert}
 use Rattle.nr_rev.specs.declared.timer.Entry.{Entry}
 use Rattle.nr_rev.specs.declared.timer.Timer.{Timer}
@@ -13,19 +13,19 @@ use Rattle.nr_timers.specs.Auxiliary.Change.{InsertedBack, RemovedBack}
 use Rattle.nr_timers.specs.Index.{Keyed}
 use Rattle.nr_timers.specs.State.{State}
 
--- the entry at the place has another timer
+-- the entry at the place, with another timer
 abbrev pub with_timer : List Entry → ℕ → Timer → Entry
 with_timer entries place timer = record (at entries place) { timer = timer }
 
--- A timer was armed where none was, and its entry went to a place. Before, too, each entry had a
--- key of its own within the limit.
+-- The undo of an arming that replaced no timer, whose entry went to a place. In the old state, too,
+-- each entry had its own key within the limit.
 pub record ArmedBack (to : ℕ) (new old : State) : Type 0 where
   pub places : InsertedBack to new.entries old.entries
   pub keyed : Keyed old.entries (2 * new.descriptors)
   pub number : new.next ≡ old.next + 1
   pub rest : old ≡ record new { entries = old.entries; next = old.next }
 
--- a timer was armed in place of another one, whose entry was removed before
+-- the undo of an arming that replaced a timer, whose entry was removed first
 pub record RearmedBack (to place last : ℕ) (timer : Timer) (new old : State) : Type 0 where
   pub places : (mid : List Entry) × InsertedBack to new.entries mid
       × RemovedBack place last (with_timer new.entries to timer) mid old.entries
@@ -33,13 +33,13 @@ pub record RearmedBack (to place last : ℕ) (timer : Timer) (new old : State) :
   pub number : new.next ≡ old.next + 1
   pub rest : old ≡ record new { entries = old.entries; next = old.next }
 
--- the entry was removed from a place
+-- the undo of a removal of the entry from a place
 pub record StoppedBack (place last : ℕ) (entry : Entry) (new old : State) : Type 0 where
   pub places : RemovedBack place last entry new.entries old.entries
   pub keyed : Keyed old.entries (2 * new.descriptors)
   pub rest : old ≡ record new { entries = old.entries }
 
--- the entry that is the last firing now was removed from place 0
+-- the undo of a pop: the entry that is the last firing now was removed from place 0
 pub record PoppedBack (last : ℕ) (new old : State) : Type 0 where
   pub some : 0 < length new.firings
   pub places : RemovedBack 0 last (at new.firings (length new.firings - 1)) new.entries old.entries
@@ -49,13 +49,13 @@ pub record PoppedBack (last : ℕ) (new old : State) : Type 0 where
     firings = take (length new.firings - 1) new.firings;
   }
 
--- the firing was taken out of a place
+-- the undo of the removal of a firing from a place
 pub record FiringBack (place : ℕ) (entry : Entry) (new old : State) : Type 0 where
   pub within : place ≤ length new.firings
   pub room : length new.firings < 2 * new.descriptors
   pub rest : old ≡ record new { firings = insert new.firings place entry }
 
--- the undo leads back from the new timers to the old ones
+-- the undo leads from the new timers back to the old ones
 abbrev pub UndoBack : TimersUndo → State → State → Type 0
 UndoBack (Armed to) new old = ArmedBack to new old
 UndoBack (Rearmed to place last timer) new old = RearmedBack to place last timer new old
@@ -64,11 +64,11 @@ UndoBack Still new old = old ≡ new
 UndoBack (Popped last) new old = PoppedBack last new old
 UndoBack (Taken place entry) new old = FiringBack place entry new old
 
--- a delta leads back by its undo
+-- the delta leads from the new timers back to the old ones, by its undo
 abbrev pub TimersBack : TimersDelta → State → State → Type 0
 TimersBack delta new old = UndoBack delta.undo new old
 
--- how many words an undo holds: those of its variant and of all that it has
+-- the number of words in an undo: those of its variant and all its fields
 abbrev pub undo_weight : TimersUndo → ℕ
 undo_weight (Armed to) = variant_weight + number_weight to
 undo_weight (Rearmed to place last timer) =
@@ -80,11 +80,11 @@ undo_weight Still = variant_weight
 undo_weight (Popped last) = variant_weight + number_weight last
 undo_weight (Taken place entry) = variant_weight + number_weight place + entry_weight entry
 
--- how many words a delta holds
+-- the number of words in a delta
 abbrev pub delta_weight : TimersDelta → ℕ
 delta_weight delta = undo_weight delta.undo
 
--- how many words the way back over an operation holds at most
+-- the maximum number of words in the undo of an operation
 abbrev pub op_allowance : TimersOp → ℕ
 op_allowance (Arm d side due function sequence) = 8
 op_allowance (Stop d side) = 9

@@ -1,4 +1,4 @@
--- The way back over an insertion and over a removal leads to one heap.
+-- The undo of an insertion and of a removal leads to exactly one heap.
 use Rattle.std.proofs.Common.{◌≡◌, inl, inr, ℕ, zero, suc, ◌-◌, List, [], ◌∷◌, ◌++◌, length, take, sym, ap, ◌∙◌, arith}
 use Rattle.std.specs.List.{swap}
 use Rattle.nr_rev.specs.declared.timer.Entry.{Entry}

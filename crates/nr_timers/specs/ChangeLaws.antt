@@ -1,4 +1,5 @@
--- Insertion and removal leave one heap and one place, where no two entries are equal in the order.
+-- An insertion or a removal leads to exactly one heap and one place, if no two entries are equal in
+-- the order.
 use Rattle.std.proofs.Common.{◌≡◌, ◌⊎◌, inl, inr, ⊎_elim, ℕ, zero, suc, ◌-◌, ◌<◌, ◌≤◌, Bool, true, false, true≢false, List, length, refl, sym, ap, ◌∙◌, subst, arith}
 use Rattle.std.proofs.lemmas.List.{ext_get_or}
 use Rattle.std.proofs.lemmas.Bool.{cases_eq, cases_lt}
@@ -8,7 +9,7 @@ use Rattle.nr_timers.specs.PathToRoot.{parent, Leads, OnPath, Raised, Sunk}
 use Rattle.nr_timers.specs.PathLaws.{Leads-le, Leads-lt, Leads-more, OnPath-le, OnPath-more, OnPath-ends, on_path_or_not}
 use Rattle.nr_timers.specs.Change.{Inserted, Removed}
 
--- of two entries at two places one is less
+-- of the entries at any two places one is less
 abbrev pub Distinct : List Entry → Type 0
 Distinct entries =
     (p q : ℕ) → p < length entries → q < length entries
@@ -59,7 +60,7 @@ Inserted-unique old x q r a b g h =
 module _ (old : List Entry) (p : ℕ) (x : Entry) (distinct : Distinct old) where
   module _ (q r : ℕ) (a b : List Entry) (size : length a ≡ length b)
       (inside : length a ≤ length old) (g : Sunk old p x q a) (h : Sunk old p x r b) where
-    -- the least child is one
+    -- the least child is unique
     same_child : (k i : ℕ) → OnPath q k → OnPath r i → p < k → p < i → 0 < i → parent i ≡ parent k
         → k ≡ i
     same_child k i on_q on_r lt_k lt_i above e =
@@ -71,7 +72,7 @@ module _ (old : List Entry) (p : ℕ) (x : Entry) (distinct : Distinct old) wher
         (h.least i k on_r lt_i (omega arith) (omega arith) (sym e))
         (g.least k i on_q lt_k above (omega arith) e)
 
-    -- one path goes on where the other one ends
+    -- one path continues where the other ends
     meets : (n s : ℕ) → Leads n s p → OnPath q s → OnPath r s ⊎ OnPath s r
     meets zero s h0 on = inl (subst (λ i. OnPath r i) h0 h.on_path)
     meets (suc n) s leads on =
@@ -91,7 +92,7 @@ module _ (old : List Entry) (p : ℕ) (x : Entry) (distinct : Distinct old) wher
         (meets n (parent s) leads.1 (let more = Leads-more on.0 q s on.1 leads.0 in
         (suc on.0, more)))
 
-    -- it goes on no further than where no child is less
+    -- a path goes no further than a place of which no child is less
     no_further : OnPath r q → q ≡ r
     no_further on =
         ⊎_elim (λ e. e)

@@ -1,4 +1,4 @@
--- The entry of a key taken out, where there is one, and what leads back over that.
+-- The removal of the entry of a key, if there is one, and its undo.
 use Rattle.std.specs.Prelude.{◌≡◌, ℕ, ◌<◌, List, length, Option, Some, None}
 use Rattle.nr_rev.specs.declared.timer.Entry.{Entry}
 use Rattle.nr_timers.specs.declared.heap.Gone.{Gone}
@@ -9,7 +9,7 @@ use Rattle.nr_timers.specs.Change.{Removed}
 use Rattle.nr_timers.specs.Auxiliary.Change.{RemovedBack}
 use Rattle.nr_timers.specs.Index.{key, Absent}
 
--- the entry is that of the key, and it was removed
+-- the removed entry was the one of the key
 pub record Takes (k : ℕ) (gone : Gone) (old new : List Entry) : Type 0 where
   pub within : gone.place < length old
   pub key : key (at old gone.place) ≡ k
@@ -21,17 +21,17 @@ abbrev pub Cleared : ℕ → Option Gone → List Entry → List Entry → Type 
 Cleared k None old new = (new ≡ old) × Absent k old
 Cleared k (Some gone) old new = Takes k gone old new
 
--- the way back over that
+-- the undo of that removal
 abbrev pub ClearedBack : Option Gone → List Entry → List Entry → Type 0
 ClearedBack None new old = old ≡ new
 ClearedBack (Some gone) new old = RemovedBack gone.place gone.last gone.entry new old
 
--- what leads back over an arming at a place, after that
+-- the undo of an arming at a place, after that removal
 abbrev pub armed_undo : ℕ → Option Gone → TimersUndo
 armed_undo to None = Armed to
 armed_undo to (Some gone) = Rearmed to gone.place gone.last gone.entry.timer
 
--- what leads back over a stop
+-- the undo of a stop
 abbrev pub stopped_undo : Option Gone → TimersUndo
 stopped_undo None = Still
 stopped_undo (Some gone) = Stopped gone.place gone.last gone.entry

@@ -5,12 +5,12 @@ use Rattle.nr_rev.specs.declared.sides.Side.TheVariants.{Read, Write}
 use Rattle.nr_rev.specs.declared.timer.Entry.{Entry}
 use Rattle.nr_timers.specs.Order.{at, AllBelow, Apart}
 
--- the cell of the index for a descriptor's side
+-- the index of the cell for a descriptor's side
 abbrev pub key_of : ℕ → Side → ℕ
 key_of descriptor Read = 2 * descriptor
 key_of descriptor Write = 2 * descriptor + 1
 
--- the cell for an entry
+-- the index of the cell for an entry
 unfoldable pub key : Entry → ℕ
 key e = key_of e.descriptor e.side
 
@@ -18,7 +18,7 @@ key e = key_of e.descriptor e.side
 abbrev pub Absent : ℕ → List Entry → Type 0
 Absent k entries = (p : ℕ) → p < length entries → key (at entries p) ≢ k
 
--- the entries have keys below the limit, each its own
+-- the entries have distinct keys below the limit
 pub record Keyed (entries : List Entry) (limit : ℕ) : Type 0 where
   pub below : AllBelow key limit entries
   pub once : Apart key entries

@@ -1,4 +1,4 @@
--- what the laws of THEOREM.md rest on, whole files
+-- the definitions that the laws of THEOREM.md rest on, as whole files
 pub mod Order
 pub mod PathToRoot
 pub mod Index
@@ -6,15 +6,15 @@ pub mod TimersOf
 pub mod State
 pub mod Step
 pub mod Change
--- what callers need besides
+-- the other definitions that callers need
 pub mod Back
 pub mod ReversibleLaws
--- inner: what only definitions and proofs of this crate use
+-- internal: only definitions and proofs of this crate use these
 pub mod Places
 pub mod Clearing
 pub mod Performing
 pub mod PathLaws
 pub mod ChangeLaws
 pub mod BackLaws
--- what goes on with the files that the laws rest on
+-- definitions that continue the files that the laws rest on
 pub mod Auxiliary

@@ -1,11 +1,12 @@
--- The order of entries, and which one is at a place.
+-- The order of entries, and the entry at a place.
 use Rattle.std.specs.Prelude.{◌≡◌, ℕ, ◌<◌, Bool, pos, List, length, slice_index_or}
 use Rattle.nr_rev.specs.declared.sides.Side.TheVariants.{Read}
 use Rattle.nr_rev.specs.declared.timer.TimerFunction.TheVariants as function
 use Rattle.nr_rev.specs.declared.timer.Entry.{Entry}
 use Rattle.nr_rev.specs.Timer.{is_before}
 
--- whether an entry goes off before another: by when they are due, then by arming number
+-- true if an entry goes off before another: it is due earlier, or at the same time with a lower
+-- arming number
 unfoldable pub is_less : Entry → Entry → Bool
 is_less a b = is_before a.timer b.timer
 
@@ -13,7 +14,7 @@ is_less a b = is_before a.timer b.timer
 unfoldable pub number : Entry → ℕ
 number e = e.timer.number
 
--- what is read where there is no entry
+-- the value of places without an entry
 abbrev pub blank : Entry
 blank =
     record {
@@ -26,11 +27,11 @@ blank =
 abbrev pub at : List Entry → ℕ → Entry
 at places p = slice_index_or places p blank
 
--- a number of the entries is below a limit
+-- this number of each entry is below a limit
 abbrev pub AllBelow : (Entry → ℕ) → ℕ → List Entry → Type 0
 AllBelow f limit places = (p : ℕ) → p < length places → f (at places p) < limit
 
--- a number of the entries differs at any two places
+-- this number differs at any two places
 abbrev pub Apart : (Entry → ℕ) → List Entry → Type 0
 Apart f places =
     (p q : ℕ) → p < length places → q < length places → f (at places p) ≡ f (at places q) → p ≡ q

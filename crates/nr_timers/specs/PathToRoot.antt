@@ -3,11 +3,11 @@ use Rattle.std.specs.Prelude.{◌≡◌, ℕ, zero, suc, ◌<◌, ◌≤◌, ◌
 use Rattle.nr_rev.specs.declared.timer.Entry.{Entry}
 use Rattle.nr_timers.specs.Order.{is_less, at}
 
--- the children of place p are 4 p + 1 to 4 p + 4
+-- the parent of place p; the children of p are 4 p + 1 to 4 p + 4
 abbrev pub parent : ℕ → ℕ
 parent p = (p - 1) / 4
 
--- n steps to the parent lead from p to q
+-- n steps from a place to its parent lead from p to q
 abbrev pub Leads : ℕ → ℕ → ℕ → Type 0
 Leads zero p q = q ≡ p
 Leads (suc n) p q = (0 < p) × Leads n (parent p) q
@@ -16,7 +16,7 @@ Leads (suc n) p q = (0 < p) × Leads n (parent p) q
 abbrev pub OnPath : ℕ → ℕ → Type 0
 OnPath p q = (n : ℕ) × Leads n p q
 
--- the entry is not less than the one at its place's parent
+-- the entry at p isn't less than the one at p's parent
 abbrev pub InOrder : List Entry → ℕ → Type 0
 InOrder places p = is_less (at places p) (at places (parent p)) ≡ false
 
@@ -24,9 +24,9 @@ InOrder places p = is_less (at places p) (at places (parent p)) ≡ false
 abbrev pub Ordered : List Entry → Type 0
 Ordered places = (p : ℕ) → 0 < p → p < length places → InOrder places p
 
--- With p taken as empty, the entry is at q, the highest place of the path from p to the root, p
--- included, such that all entries between were greater. These are one place of the path lower, and
--- all others stay.
+-- The entry was inserted at q, if p counts as empty: q is the highest place of the path from p to
+-- the root, p included, such that all entries between were greater. These moved one place down the
+-- path, and all others stayed.
 pub record Raised (old : List Entry) (p : ℕ) (entry : Entry) (q : ℕ) (new : List Entry) : Type 0
   where
     pub on_path : OnPath p q
@@ -36,9 +36,9 @@ pub record Raised (old : List Entry) (p : ℕ) (entry : Entry) (q : ℕ) (new : 
     pub highest : 0 < q → is_less entry (at old (parent q)) ≡ false
     pub others : (k : ℕ) → k < length new → (OnPath p k → q ≤ k → ⊥) → at new k ≡ at old k
 
--- With p taken as empty, the entry is at q, of which no child is less. Each entry of the path from
--- q to below p, the least child of its parent and less than the entry, is one place of the path
--- higher, and all others stay.
+-- The entry was inserted at q, if p counts as empty, and no child of q is less. Each entry of the
+-- path from q to below p, which is the least child of its parent and less than the inserted entry,
+-- moved one place up the path, and all others stayed.
 pub record Sunk (old : List Entry) (p : ℕ) (entry : Entry) (q : ℕ) (new : List Entry) : Type 0 where
   pub on_path : OnPath q p
   pub within : q < length new

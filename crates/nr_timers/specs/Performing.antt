@@ -1,4 +1,4 @@
--- What is left where an operation was performed, or refused.
+-- The result of an operation that was performed or refused.
 use Rattle.std.specs.Prelude.{◌≡◌, ◌≤◌, Some, Result, Ok, Err}
 use Rattle.nr_rev.specs.declared.refusal.Refusal.{Refusal}
 use Rattle.nr_timers.specs.declared.delta.TimersUndo.{TimersUndo}
@@ -8,14 +8,14 @@ use Rattle.nr_timers.specs.Step.{Makes}
 use Rattle.nr_timers.specs.Auxiliary.Step.{timers_reason}
 use Rattle.nr_timers.specs.Back.{UndoBack, undo_weight, op_allowance}
 
--- the operation was made, and the delta leads back over it
+-- the operation was performed, and the delta leads back
 pub record Applies (old : State) (op : TimersOp) (delta : TimersUndo) (new : State) : Type 0 where
   pub made : Makes old op new
   pub well_formed : IsTimers new
   pub back : UndoBack delta new old
   pub light : undo_weight delta ≤ op_allowance op
 
--- the operation was made, or it was refused for its reason, and nothing changed
+-- the operation was performed, or it was refused for its reason and nothing changed
 abbrev pub Performs : State → TimersOp → Result TimersUndo Refusal → State → Type 0
 Performs old op (Ok delta) new = Applies old op delta new
 Performs old op (Err refusal) new = (timers_reason old op ≡ Some refusal) × (new ≡ old)

@@ -1,4 +1,4 @@
--- What timers owe whose operations can be undone: the laws that `Reversible` asks of them.
+-- The laws that `Reversible` requires of timers.
 use Rattle.std.proofs.Common.{◌≡◌, inl, inr, ℕ, ◌+◌, ◌-◌, ◌≤◌, false, List, [], ◌∷◌, ◌++◌, length, take, Some, refl, sym, ap, ◌∙◌, subst, arith, lit≤}
 use Rattle.std.proofs.lemmas.Bool.Decides.{nat_tests}
 use Rattle.std.proofs.lemmas.Int.{ints}
@@ -21,7 +21,7 @@ use Rattle.nr_timers.specs.Step.{Clears, Makes, TimersStep}
 use Rattle.nr_timers.specs.Auxiliary.Step.{timers_reason}
 use Rattle.nr_timers.specs.Back.{TimersBack, UndoBack, with_timer, op_allowance}
 
--- where neither of two entries is less their numbers are equal
+-- if neither of two entries is less than the other, they have the same number
 pub same_number : (a b : Entry) → is_less a b ≡ false → is_less b a ≡ false → number a ≡ number b
 unfolding is_less number
 same_number a b p q = grind (arith, ints, nat_tests)
@@ -40,7 +40,7 @@ Clears-unique t k a b h (inr x) (inr y) =
     (Removed-unique t.entries y.0 x.1 y.1 a b (IsTimers-distinct t h)
     (subst (λ i. Removed t.entries i x.1 a) place x.4) y.4).1
 
--- an operation leads to one state
+-- an operation leads to exactly one state
 one_state : (old : State) (op : TimersOp) (new other : State) → IsTimers old → Makes old op new
     → Makes old op other → new ≡ other
 one_state old (Arm d side due function sequence) new other h x y =
@@ -98,7 +98,7 @@ weight_is_within (Stop d side) = lit≤ tt
 weight_is_within (Pop now) = lit≤ tt
 weight_is_within (TakeFiring place) = lit≤ tt
 
--- an undo leads back to one state
+-- an undo leads back to exactly one state
 pub UndoBack-unique : (delta : TimersUndo) (new a b : State) → UndoBack delta new a
     → UndoBack delta new b → a ≡ b
 UndoBack-unique (Armed to) new a b x y =
@@ -127,7 +127,7 @@ UndoBack-unique (Popped last) new a b x y =
     ∙ sym y.rest
 UndoBack-unique (Taken place entry) new a b x y = x.rest ∙ sym y.rest
 
--- a delta leads back to one state
+-- a delta leads back to exactly one state
 pub TimersBack-unique : (delta : TimersDelta) (new a b : State) → TimersBack delta new a
     → TimersBack delta new b → a ≡ b
 TimersBack-unique delta new a b x y = UndoBack-unique delta.undo new a b x y

@@ -1,19 +1,18 @@
--- Timers as contracts see them, and what holds of them.
+-- The model of timers, for contracts, and its invariant.
 use Rattle.std.specs.Prelude.{◌≢◌, ℕ, ◌*◌, ◌^◌, ◌<◌, ◌≤◌, List, length}
 use Rattle.nr_rev.specs.declared.timer.Entry.{Entry}
 use Rattle.nr_timers.specs.Order.{at, number, AllBelow, Apart}
 use Rattle.nr_timers.specs.PathToRoot.{Ordered}
 use Rattle.nr_timers.specs.Index.{Keyed}
 
--- the entries by place, the firings in order, the next arming number, and how many descriptors
--- there may be
+-- the entries by place, the firings in order, the next arming number, and the limit of descriptors
 pub record State : Type 0 where
   pub entries : List Entry
   pub firings : List Entry
   pub next : ℕ
   pub descriptors : ℕ
 
--- arming numbers of entries and firings are below the next one, each once
+-- the arming numbers of entries and firings are distinct and below the next one
 pub record Numbered (next : ℕ) (entries firings : List Entry) : Type 0 where
   pub entries_below : AllBelow number next entries
   pub firings_below : AllBelow number next firings
@@ -22,9 +21,9 @@ pub record Numbered (next : ℕ) (entries firings : List Entry) : Type 0 where
   pub apart : (p q : ℕ) → p < length entries → q < length firings
       → number (at entries p) ≢ number (at firings q)
 
--- Well-formed timers: the heap is ordered. Each descriptor's side has one entry at most, and its
--- descriptor is below the limit. There are at most two firings for each descriptor. The next arming
--- number has 64 bits and isn't 0.
+-- Well-formed timers: the heap is ordered. Each descriptor's side has at most one entry, and its
+-- descriptor is below the limit. There are at most two firings per descriptor. The next arming
+-- number fits into 64 bits and isn't 0.
 pub record IsTimers (t : State) : Type 0 where
   pub ordered : Ordered t.entries
   pub keyed : Keyed t.entries (2 * t.descriptors)

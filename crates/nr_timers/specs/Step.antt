@@ -1,4 +1,4 @@
--- What timers do, and why not.
+-- What each operation does, and when it is refused.
 use Rattle.std.specs.Prelude.{◌≡◌, ◌⊎◌, ℕ, ℤ, ◌^◌, ◌+◌, ◌-◌, ◌*◌, ◌<◌, int_le, true, List, [], ◌∷◌, ◌++◌, length, remove, Some, None}
 use Rattle.nr_rev.specs.declared.sides.Side.{Side}
 use Rattle.nr_rev.specs.declared.timer.Entry.{Entry}
@@ -11,13 +11,13 @@ use Rattle.nr_timers.specs.Index.{key, key_of, Absent}
 use Rattle.nr_timers.specs.TimersOf.{SetsTimer}
 use Rattle.nr_timers.specs.State.{State, IsTimers}
 
--- the entry of the key is removed, where there is one
+-- the entry of the key, if there is one, is removed
 abbrev pub Clears : ℕ → List Entry → List Entry → Type 0
 Clears k old new =
     ((new ≡ old) × Absent k old)
     ⊎ ((p : ℕ) × (q : ℕ) × (p < length old) × (key (at old p) ≡ k) × Removed old p q new)
 
--- an entry is armed, in place of the one of its descriptor's side
+-- an entry is armed and replaces the one of its descriptor's side
 pub record Arms (old : State) (entry : Entry) (new : State) : Type 0 where
   pub descriptor : entry.descriptor < old.descriptors
   pub number : old.next < 2 ^ 64 - 1
@@ -33,7 +33,7 @@ pub record Stops (old : State) (d : ℕ) (side : Side) (new : State) : Type 0 wh
   pub timers : SetsTimer d side None old.entries new.entries
   pub rest : new ≡ record old { entries = new.entries }
 
--- the least entry, which is due, goes to the back of the firings
+-- the least entry, which is due, moves to the end of the firings
 pub record Pops (old : State) (now : ℤ) (new : State) : Type 0 where
   pub some : 0 < length old.entries
   pub due : int_le (at old.entries 0).timer.due now ≡ true
@@ -46,12 +46,12 @@ pub record Pops (old : State) (now : ℤ) (new : State) : Type 0 where
     firings = old.firings ++ at old.entries 0 ∷ [];
   }
 
--- a firing leaves
+-- a firing is removed
 pub record TakesFiring (old : State) (place : ℕ) (new : State) : Type 0 where
   pub within : place < length old.firings
   pub rest : new ≡ record old { firings = remove old.firings place }
 
--- the entry of a timer that is armed: it has the next arming number
+-- the entry of a timer that is being armed, with the next arming number
 abbrev pub armed_entry : State → ℕ → Side → ℤ → TimerFunction → ℕ → Entry
 armed_entry old d side due function sequence =
     record {
@@ -68,6 +68,6 @@ Makes old (Stop d side) new = Stops old d side new
 Makes old (Pop now) new = Pops old now new
 Makes old (TakeFiring place) new = TakesFiring old place new
 
--- an operation leads from well-formed timers to the new ones; none returns anything
+-- an operation leads from well-formed timers to the new ones; no operation returns a value
 abbrev pub TimersStep : State → TimersOp → Unit {0} → State → Type 0
 TimersStep old op answer new = IsTimers old × Makes old op new

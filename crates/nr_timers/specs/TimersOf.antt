@@ -7,19 +7,19 @@ use Rattle.nr_rev.specs.declared.timer.Entry.{Entry}
 use Rattle.nr_rev.specs.declared.timer.Timer.{Timer}
 use Rattle.nr_rev.specs.Sides.{with_side, same_side}
 
--- whether the entry is that of descriptor d's side
+-- true if the entry is the one of descriptor d's side
 abbrev pub is_for : ℕ → Side → Entry → Bool
 is_for d side e = (e.descriptor == d) && same_side e.side side
 
--- the timer that descriptor d's side has, if one is armed
+-- the timer of descriptor d's side, if one is armed
 abbrev pub timer_of : List Entry → ℕ → Side → Option Timer
 timer_of entries d side = option_map (λ (e : Entry). e.timer) (find (is_for d side) entries)
 
--- those of both sides
+-- the timers of both sides
 abbrev pub timers_of : List Entry → ℕ → Sides (Option Timer)
 timers_of entries d = record { read = timer_of entries d Read; write = timer_of entries d Write }
 
--- the timer of descriptor d's side is now this one, or none, and all others stay
+-- the timer of descriptor d's side is now this one, or none, and all others are unchanged
 pub record SetsTimer (d : ℕ) (side : Side) (timer : Option Timer) (old new : List Entry) : Type 0
   where
     pub here : timers_of new d ≡ with_side side timer (timers_of old d)

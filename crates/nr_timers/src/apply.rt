@@ -1,11 +1,11 @@
-//! Timers as a machine whose operations can be undone.
+//! `Reversible` for timers.
 
 use crate::delta::TimersDelta;
 use crate::op::TimersOp;
 use crate::timers::Timers;
 use nr_rev::{Refusal, Reversible};
 
-/// The heap's entries change places along one path to the root, so that an entry and places lead back.
+/// An entry and its places suffice for an undo, since an operation moves the heap's entries along one path to the root.
 impl Reversible for Timers {
     ghost use Rattle.nr_timers.specs.Back.{TimersBack, delta_weight, op_allowance};
     ghost use Rattle.nr_timers.specs.ReversibleLaws.{TimersBack-unique, memory_is_no_reason, refused_has_no_step, steps_unique, weight_is_within};

@@ -1,4 +1,4 @@
-//! Entries inserted and removed, and the way back over both.
+//! Inserting and removing entries, and undoing both.
 
 ghost use Rattle.std.specs.Prelude.{◌≡◌, ◌≢◌, ◌⊎◌, ℕ, ◌-◌, ◌<◌, ◌≤◌, List, length, IfSome};
 ghost use Rattle.nr_rev.specs.declared.timer.Entry.{Entry};
@@ -44,7 +44,7 @@ impl Heap {
         self.pop()
     }
 
-    /// Takes the entry at a place out, and puts the last one there.
+    /// Removes the entry at a place and puts the last one there. Returns the removed entry.
     #[inline(always)]
     fn take_out(&mut self, place: usize) -> Entry
         requires { place < length self.old.entries }
@@ -58,7 +58,7 @@ impl Heap {
         self.pop()
     }
 
-    /// Takes the entry at a place up or down to where it belongs, and returns its place then.
+    /// Moves the entry at a place up or down to where it belongs, and returns its new place.
     #[inline(always)]
     fn sift(&mut self, place: usize) -> usize
         requires { place < length self.old.entries }
@@ -76,7 +76,7 @@ impl Heap {
         self.sink(place)
     }
 
-    /// Removes the entry at a place, and returns the place that the last one then has.
+    /// Removes the entry at a place, and returns it with the new place of the entry that was last.
     #[inline(always)]
     pub(crate) fn remove(&mut self, place: usize) -> (Entry, usize)
         requires { place < length self.old.entries }
@@ -95,7 +95,7 @@ impl Heap {
         (entry, self.sift(place))
     }
 
-    /// Takes the entry at the place `from` back along the path to the root to a place.
+    /// Moves the entry at the place `from` back to a place along the path to the root.
     #[inline(always)]
     fn take_back(&mut self, place: usize, from: usize)
         requires places { (place ≡ length self.old.entries) × (from ≡ place)
@@ -112,7 +112,7 @@ impl Heap {
         }
     }
 
-    /// Undoes the removal of an entry from a place, after which the one that had been last was at the place `last`.
+    /// Undoes the removal of an entry from a place, which moved the last entry to the place `last`.
     #[inline(always)]
     pub(crate) fn unremove(&mut self, place: usize, last: usize, entry: Entry)
         requires { (old : List Entry)
@@ -126,7 +126,7 @@ impl Heap {
         self.swap(place, len);
     }
 
-    /// Removes the entry of a cell, where there is one.
+    /// Removes the entry of a cell, if there is one.
     #[inline(always)]
     pub(crate) fn clear(&mut self, cell: usize) -> Option<Gone>
         ensures cleared { Cleared cell result self.old.entries self.new.entries }

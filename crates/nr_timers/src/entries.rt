@@ -6,7 +6,7 @@ ghost use Rattle.nr_timers.specs.Order.{is_less};
 
 use nr_rev::{Entry, Side};
 
-/// Whether an entry goes off before another: by when they are due, then by arming number.
+/// Returns whether an entry goes off before another: it is due earlier, or at the same time with a lower arming number.
 #[inline(always)]
 #[tactic(auto, unfolding(crate::specs::Order::is_less))]
 pub(crate) fn is_less(entry: &Entry, other: &Entry) -> bool
@@ -15,7 +15,7 @@ pub(crate) fn is_less(entry: &Entry, other: &Entry) -> bool
     entry.timer.is_before(&other.timer)
 }
 
-/// The cell of an entry.
+/// Returns the cell of an entry.
 #[inline(always)]
 #[tactic(auto, unfolding(crate::specs::Index::key))]
 pub(crate) fn key(entry: &Entry) -> usize
@@ -24,7 +24,7 @@ pub(crate) fn key(entry: &Entry) -> usize
     key_of(entry.descriptor, entry.side)
 }
 
-/// The cell of a descriptor's side.
+/// Returns the cell of a descriptor's side.
 #[inline(always)]
 pub(crate) fn key_of(descriptor: u32, side: Side) -> usize
     ensures { result ≡ key_of descriptor side }

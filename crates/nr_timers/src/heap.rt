@@ -1,4 +1,4 @@
-//! Entries by place, with an index from descriptor and side to place.
+//! Entries by place, with an index from each descriptor's side to its place.
 
 ghost use Rattle.std.specs.Prelude.{◌≡◌, ◌+◌, ◌-◌, ◌^◌, ◌<◌, ◌≤◌, ◌++◌, ◌∷◌, [], length, take, slice_get, vec_capacity, IfOk, IfSome, IfNone};
 ghost use Rattle.std.specs.List.{swap};
@@ -10,23 +10,23 @@ use nr_rev::{Entry, Memory};
 use std::alloc::Global;
 use std::marker::Model;
 
-/// A heap with four children a place, for keys below a limit, all room of which is made at once.
+/// A heap with four children per place, for keys below a limit. All its memory is allocated at once.
 #[derive(Drop)]
 pub(crate) struct Heap {
     /// The entries by place.
     places: Vec<Entry>,
-    /// For each key 1 more than the place of its entry, or 0.
+    /// For each key, the place of its entry plus 1, or 0 if it has none.
     index: Vec<u32>,
 }
 
 /// An entry that was removed.
 #[derive(Clone, Copy, Debug, PartialEq, Eq)]
 pub(crate) struct Gone {
-    /// The place that it was removed from.
+    /// The place from which the entry was removed.
     pub(crate) place: u32,
-    /// Where the entry is since that had been last.
+    /// The new place of the entry that was last.
     pub(crate) last: u32,
-    /// The entry itself.
+    /// The entry.
     pub(crate) entry: Entry,
 }
 
@@ -44,7 +44,7 @@ impl Model for Heap {
 }
 
 impl Heap {
-    /// No entry, and room for one of each key.
+    /// Makes an empty heap with room for one entry of each key. Fails with `Memory` if memory runs out.
     pub(crate) fn with_limit(alloc: Global, limit: usize) -> Result<Heap, Memory>
         requires { limit < 2 ^ 32 }
         ensures { IfOk result (λ heap. heap ≡ record { entries = []; limit = limit }) }
@@ -54,7 +54,8 @@ impl Heap {
         Ok(Heap { places, index })
     }
 
-    /// An equal one, each entry at its place, in room of its own.
+    /// Returns an equal heap, with each entry at its place, in memory of its own. Fails with `Memory` if memory runs
+    /// out.
     pub(crate) fn try_copy(&self, alloc: Global) -> Result<Heap, Memory>
         ensures { IfOk result (λ heap. heap ≡ self.now) }
     {
@@ -65,7 +66,7 @@ impl Heap {
         })
     }
 
-    /// Becomes an equal one of another with the same limit, in the room that it has. It takes no memory.
+    /// Makes this heap equal to another with the same limit. Allocates no memory.
     pub(crate) fn copy_from(&mut self, other: &Heap)
         requires { self.old.limit ≡ other.now.limit }
         ensures { self.new ≡ other.now }
@@ -77,7 +78,7 @@ impl Heap {
         self.index.copy_from_slice(&other.index);
     }
 
-    /// How many entries there are.
+    /// Returns the number of entries.
     #[inline(always)]
     pub(crate) fn len(&self) -> usize
         ensures len { result ≡ length self.now.entries }
@@ -87,7 +88,7 @@ impl Heap {
         self.places.len()
     }
 
-    /// The entry at a place.
+    /// Returns the entry at a place.
     #[inline(always)]
     pub(crate) fn get(&self, place: usize) -> Option<Entry>
         ensures { result ≡ slice_get self.now.entries place }
@@ -95,7 +96,7 @@ impl Heap {
         self.places.get(place).copied()
     }
 
-    /// The place of the entry of a key.
+    /// Returns the place of the entry of a key.
     #[inline(always)]
     pub(crate) fn place_of(&self, cell: usize) -> Option<usize>
         ensures some { IfSome result
@@ -112,7 +113,7 @@ impl Heap {
         }
     }
 
-    /// Whether the entry at a place is less than that at another.
+    /// Returns whether the entry at a place is less than the entry at another.
     #[inline(always)]
     pub(crate) fn is_less_at(&self, place: usize, other: usize) -> bool
         requires place { place < length self.now.entries }
@@ -137,7 +138,7 @@ impl Heap {
         self.index[key_b] = a as u32 + 1;
     }
 
-    /// Puts an entry last.
+    /// Appends an entry at the last place.
     #[inline(always)]
     pub(crate) fn push(&mut self, entry: Entry)
         requires key { key entry < self.old.limit }
@@ -152,7 +153,7 @@ impl Heap {
         self.places.push_reserved(entry);
     }
 
-    /// Takes the last entry away.
+    /// Removes the last entry and returns it.
     #[inline(always)]
     pub(crate) fn pop(&mut self) -> Entry
         requires { 0 < length self.old.entries }
@@ -170,7 +171,7 @@ impl Heap {
     }
 }
 
-/// A copy of the items, with room for so many.
+/// Returns a copy of the items with this much room. Fails with `Memory` if memory runs out.
 fn copy_of<T: Copy>(alloc: Global, items: &[T], room: usize) -> Result<Vec<T>, Memory>
     requires { length items.now ≤ room }
     ensures items { IfOk result (λ copy. copy.items ≡ items.now) }

@@ -1,4 +1,4 @@
-//! Laws over the definitions: a heap and the timers that descriptors have, the least entry, and the fixed numbers.
+//! Laws about the definitions: a heap and the timers of descriptors, the least entry, and the fixed numbers.
 
 ghost use Rattle.std.specs.Prelude.{◌≡◌, ◌↔◌, ℕ, ℤ, ◌+◌, ◌*◌, ◌<◌, ◌≤◌, true, List, Option, length, slice_get};
 ghost use Rattle.nr_rev.specs.declared.sides.Side.{Side};
@@ -14,7 +14,7 @@ ghost use Rattle.nr_timers.specs.Order.{at, is_less};
 ghost use Rattle.nr_timers.specs.State.{IsTimers, State};
 ghost use Rattle.nr_timers.specs.Auxiliary.TimersOf.{AreTimers};
 
-/// Where a heap has the timers of descriptors, it has as many entries as they have timers, and the least of these at
+/// If a heap contains the timers of descriptors, it has as many entries as they have timers, with the least of these at
 /// place 0.
 pub fn entries_are_the_descriptors()
     ensures count { (t : State) (timers : List (Sides (Option Timer))) → IsTimers t
@@ -24,24 +24,24 @@ pub fn entries_are_the_descriptors()
         → slice_get t.entries 0 ≡ least_of (entries_from 0 timers) }
 {}
 
-/// The entry at place 0 goes off before each other one.
+/// The entry at place 0 goes off before every other.
 pub fn the_first_is_the_least()
     ensures { (t : State) (place : ℕ) → IsTimers t → 0 < place → place < length t.entries
         → is_less (at t.entries 0) (at t.entries place) ≡ true }
 {}
 
-/// The children of a place are the four from four times its number and 1 on.
+/// The children of a place are the four places that start at four times its number plus 1.
 pub fn four_children_a_place()
     ensures { (place child : ℕ) → 0 < child
         → (parent child ≡ place) ↔ ((4 * place + 1 ≤ child) × (child ≤ 4 * place + 4)) }
 {}
 
-/// A delta is the record of its undo and has nothing beside it.
+/// A delta consists of its undo and nothing else.
 pub fn delta_is_its_undo()
     ensures { (delta : TimersDelta) → delta ≡ record { undo = delta.undo } }
 {}
 
-/// A delta holds at most nine words; those of each operation are at most so many.
+/// A delta has at most nine words; each operation's limit is given here.
 pub fn the_numbers()
     ensures words { (delta : TimersDelta) → delta_weight delta ≤ 9 }
     ensures arm { (d : ℕ) (side : Side) (due : ℤ) (function : TimerFunction) (sequence : ℕ)

@@ -1,33 +1,34 @@
-//! What timers are asked for.
+//! The operations on timers.
 
 use nr_rev::{Side, TimerFunction};
 
-/// What timers are asked for. Each operation names its descriptor by its number.
+/// An operation on timers. Each operation refers to its descriptor by number.
 #[derive(Clone, Copy, Debug, PartialEq, Eq)]
 pub enum TimersOp {
-    /// Arm the timer of a descriptor's side, in place of one that is armed. It gets the next arming number.
-    /// `Refusal::NoSuchDescriptor` where the descriptor isn't below the limit, else `Refusal::LastNumber` where the next
-    /// number is the last that there is, 18,446,744,073,709,551,615.
+    /// Arms the timer of a descriptor's side, and replaces one that is armed. The timer gets the next arming number.
+    /// Fails with `Refusal::NoSuchDescriptor` if the descriptor isn't below the limit, or else with
+    /// `Refusal::LastNumber` if the next number is the last one, 18,446,744,073,709,551,615.
     Arm {
         descriptor: u32,
         side: Side,
-        /// When it is due, in nanoseconds.
+        /// The time at which the timer is due, in nanoseconds.
         due: i64,
         function: TimerFunction,
         sequence: u64,
     },
-    /// Stop the timer of a descriptor's side, if one is armed. `Refusal::NoSuchDescriptor` where the descriptor isn't below
-    /// the limit.
+    /// Stops the timer of a descriptor's side, if one is armed. Fails with `Refusal::NoSuchDescriptor` if the
+    /// descriptor isn't below the limit.
     Stop {
         descriptor: u32,
         side: Side,
     },
-    /// Put the least entry to the back of the firings. `Refusal::NoTimerDue` where there is none or it is due after this
-    /// time, in nanoseconds; else `Refusal::FiringsFull` where two firings wait for each descriptor of the limit.
+    /// Moves the least entry to the end of the firings. Fails with `Refusal::NoTimerDue` if there is no entry or the
+    /// least is due after this time, in nanoseconds; or else with `Refusal::FiringsFull` if two firings already wait
+    /// for each descriptor of the limit.
     Pop {
         now: i64,
     },
-    /// Take the firing at a place out, counted from 0. `Refusal::NoSuchFiring` where there is none.
+    /// Removes the firing at a place, counted from 0. Fails with `Refusal::NoSuchFiring` if there is none.
     TakeFiring {
         place: u32,
     },

@@ -1,4 +1,4 @@
-//! Timers armed, stopped, popped, and firings taken out.
+//! Performing the operations on timers: arm, stop, pop, and take a firing.
 
 ghost use Rattle.nr_timers.specs.declared.op.TimersOp.TheVariants.{Arm, Pop, Stop, TakeFiring};
 ghost use Rattle.nr_timers.specs.Performing.{Performs};
@@ -11,7 +11,7 @@ use crate::timers::Timers;
 use nr_rev::{Entry, Refusal, Side, Timer, TimerFunction};
 
 impl Timers {
-    /// Performs an operation, and returns what leads back over it; or changes nothing and says why it doesn't apply.
+    /// Performs an operation and returns its undo. If the operation is refused, changes nothing and returns the reason.
     #[inline(always)]
     pub(crate) fn perform(&mut self, op: &TimersOp) -> Result<TimersUndo, Refusal>
         requires { IsTimers self.old }
@@ -31,7 +31,7 @@ impl Timers {
         }
     }
 
-    /// Arms the timer of a descriptor's side, in place of one that is armed.
+    /// Arms the timer of a descriptor's side, and replaces one that is armed.
     #[inline(always)]
     fn arm(
         &mut self,
@@ -79,7 +79,7 @@ impl Timers {
         Ok(TimersUndo::of_stop(gone))
     }
 
-    /// Puts the least entry to the back of the firings, if it is due.
+    /// Moves the least entry to the end of the firings, if it is due.
     #[inline(always)]
     fn pop(&mut self, now: i64) -> Result<TimersUndo, Refusal>
         requires { IsTimers self.old }
@@ -99,7 +99,7 @@ impl Timers {
         Ok(TimersUndo::Popped { last: last as u32 })
     }
 
-    /// Takes the firing at a place out.
+    /// Removes the firing at a place.
     #[inline(always)]
     fn take_firing(&mut self, place: u32) -> Result<TimersUndo, Refusal>
         requires { IsTimers self.old }

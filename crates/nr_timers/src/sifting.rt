@@ -8,7 +8,7 @@ ghost use Rattle.nr_timers.specs.Order.{at, is_less};
 use crate::heap::Heap;
 
 impl Heap {
-    /// Takes the entry at a place up while it is less than its parent, and returns its place then.
+    /// Moves the entry at a place up while it is less than its parent, and returns its new place.
     pub(crate) fn raise(&mut self, place: usize) -> usize
         requires { place < length self.old.entries }
         ensures moved { (n : ℕ) × Leads n place result
@@ -28,7 +28,7 @@ impl Heap {
         place
     }
 
-    /// The place of the least child of a place that has one.
+    /// Returns the place of the least child of a place that has children.
     fn least_child(&self, place: usize) -> usize
         requires { 4 * place + 1 < length self.now.entries }
         ensures within { result < length self.now.entries }
@@ -49,7 +49,8 @@ impl Heap {
         least
     }
 
-    /// Takes the entry at a place down while a child is less, each time to the least, and returns its place then.
+    /// Moves the entry at a place down while a child is less, each time to the least child's place, and returns its new
+    /// place.
     pub(crate) fn sink(&mut self, place: usize) -> usize
         requires { place < length self.old.entries }
         ensures moved { (n : ℕ) × Leads n result place
@@ -70,7 +71,7 @@ impl Heap {
         place
     }
 
-    /// Takes the entry at the place above down to the place.
+    /// Moves the entry at the place `above` down to the place.
     pub(crate) fn lower(&mut self, place: usize, above: usize)
         requires place { place < length self.old.entries }
         requires path { (n : ℕ) × Leads n place above }
@@ -86,7 +87,7 @@ impl Heap {
         }
     }
 
-    /// Takes the entry at the place up to the place above.
+    /// Moves the entry at the place up to the place `above`.
     pub(crate) fn lift(&mut self, place: usize, above: usize)
         requires place { place < length self.old.entries }
         requires path { (n : ℕ) × Leads n place above }

@@ -1,4 +1,4 @@
-//! Timers that are armed, and the firings that wait to be run.
+//! Armed timers, and the firings that wait to run.
 
 ghost use Rattle.std.specs.Prelude.{◌≡◌, ◌≢◌, ℕ, ◌^◌, ◌<◌, [], List, length, slice_get, IfOk, MatchOption};
 ghost use Rattle.nr_rev.specs.declared.sides.Sides.{Sides};
@@ -13,11 +13,11 @@ use nr_rev::{Entry, Memory, RoomedList, Side};
 use std::alloc::Global;
 use std::marker::Model;
 
-/// Timers that are armed for the sides of descriptors below a limit, and the firings that wait to be run. All room is made
-/// at once, so that no operation takes memory.
+/// Armed timers for the sides of descriptors below a limit, and the firings that wait to run. All memory is allocated
+/// at once, so operations allocate none.
 ///
-/// The entries are a heap with four children a place, as the timers of `runtime/time.go` do; they are ordered by when they
-/// are due, and of those due at once by arming number.
+/// The entries are a heap with four children per place, like the timers of `runtime/time.go`. They are ordered by due
+/// time, and entries that are due at the same time by arming number.
 #[derive(Drop)]
 pub struct Timers {
     pub(crate) alloc: Global,
@@ -45,8 +45,8 @@ impl Model for Timers {
 }
 
 impl Timers {
-    /// No timer and no firing, with room for two of each for each of so many descriptors. The first arming gets number 1. An
-    /// error is that there is no memory for the room.
+    /// Returns timers without an entry or a firing, with room for two of each for each of so many descriptors. The
+    /// first arming gets number 1. Fails with `Memory` if memory runs out.
     pub fn with_limits(alloc: Global, descriptors: u32) -> Result<Timers, Memory>
         requires { descriptors < 2 ^ 31 }
         ensures well_formed { IfOk result IsTimers }
@@ -67,7 +67,8 @@ impl Timers {
         })
     }
 
-    /// An equal one, each entry at its place, in room of its own. An error is that there is no memory for it.
+    /// Returns equal timers, with each entry at its place, in memory of their own. Fails with `Memory` if memory runs
+    /// out.
     pub fn try_copy(&self) -> Result<Timers, Memory>
         ensures well_formed { IsTimers self.now → IfOk result IsTimers }
         ensures equal { IfOk result (λ t. t ≡ self.now) }
@@ -81,8 +82,8 @@ impl Timers {
         })
     }
 
-    /// Becomes an equal one of another for as many descriptors, each entry at its place, in the room that it has. It takes no
-    /// memory.
+    /// Makes these timers equal to others for the same number of descriptors, with each entry at its place. Allocates
+    /// no memory.
     pub fn copy_from(&mut self, other: &Timers)
         requires { self.old.descriptors ≡ other.now.descriptors }
         ensures { self.new ≡ other.now }
@@ -92,7 +93,7 @@ impl Timers {
         self.next = other.next;
     }
 
-    /// How many timers are armed.
+    /// Returns the number of armed timers.
     #[inline(always)]
     pub fn len(&self) -> usize
         ensures { result ≡ length self.now.entries }
@@ -100,7 +101,7 @@ impl Timers {
         self.heap.len()
     }
 
-    /// The entry at a place of the heap, counted from 0.
+    /// Returns the entry at a place of the heap, counted from 0.
     #[inline(always)]
     pub fn at_place(&self, place: usize) -> Option<Entry>
         ensures { result ≡ slice_get self.now.entries place }
@@ -108,7 +109,8 @@ impl Timers {
         self.heap.get(place)
     }
 
-    /// The place of the entry of a descriptor's side, the only one that it has; `None` where no timer is armed.
+    /// Returns the place of the entry of a descriptor's side, or `None` if no timer is armed. A side has only one
+    /// entry.
     #[inline(always)]
     pub fn place_of(&self, descriptor: u32, side: Side) -> Option<usize>
         ensures { MatchOption result (Absent (key_of descriptor side) self.now.entries)
@@ -120,7 +122,7 @@ impl Timers {
         self.heap.place_of(key_of(descriptor, side))
     }
 
-    /// The entry that goes off before all others.
+    /// Returns the entry that goes off before all others.
     #[inline(always)]
     pub fn least(&self) -> Option<Entry>
         ensures { result ≡ slice_get self.now.entries 0 }
@@ -128,7 +130,7 @@ impl Timers {
         self.heap.get(0)
     }
 
-    /// How many firings wait to be run.
+    /// Returns the number of firings that wait to run.
     #[inline(always)]
     pub fn firings(&self) -> usize
         ensures { result ≡ length self.now.firings }
@@ -136,7 +138,7 @@ impl Timers {
         self.firings.len()
     }
 
-    /// The firing at a place, counted from 0: the first is the one that waits longest.
+    /// Returns the firing at a place, counted from 0. The first one has waited longest.
     #[inline(always)]
     pub fn firing(&self, place: usize) -> Option<Entry>
         ensures { result ≡ slice_get self.now.firings place }
@@ -144,7 +146,7 @@ impl Timers {
         self.firings.get(place)
     }
 
-    /// The number that the next arming gets.
+    /// Returns the number of the next arming.
     #[inline(always)]
     pub fn next_number(&self) -> u64
         ensures { result ≡ self.now.next }

@@ -1,4 +1,4 @@
-//! Operations undone.
+//! Undoing operations.
 
 ghost use Rattle.std.specs.Prelude.{◌≡◌};
 ghost use Rattle.nr_timers.specs.Back.{UndoBack};
@@ -9,7 +9,7 @@ use crate::timers::Timers;
 use nr_rev::Entry;
 
 impl Timers {
-    /// Puts back what an operation changed: leaves the one state that the undo leads back to.
+    /// Restores what an operation changed: afterwards the timers are in the one state to which the undo leads.
     #[inline(always)]
     pub(crate) fn lead_back(&mut self, undo: TimersUndo)
         requires { (old : State) × UndoBack undo self.old old }

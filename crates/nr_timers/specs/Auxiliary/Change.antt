@@ -1,28 +1,28 @@
--- Beside `Change`: what contracts and proofs cite, and no law of THEOREM.md rests on.
+-- Definitions besides `Change`: contracts and proofs cite them, but no law of THEOREM.md rests on
+-- them.
 use Rattle.std.specs.Prelude.{◌≡◌, ◌⊎◌, ℕ, ◌<◌, ◌-◌, List, [], ◌∷◌, ◌++◌, length, take}
 use Rattle.std.specs.List.{swap}
 use Rattle.nr_rev.specs.declared.timer.Entry.{Entry}
 use Rattle.nr_timers.specs.PathToRoot.{Leads}
 use Rattle.nr_timers.specs.Auxiliary.PathToRoot.{moved_up, moved_down}
 
--- the last entry at p, and the entry from p gone
+-- the entries with the last one moved to p, whose entry is removed
 abbrev pub refilled : List Entry → ℕ → List Entry
 refilled old p = take (length old - 1) (swap old p (length old - 1))
 
--- the entry at q taken back to p along the path to the root
+-- the entry at q was moved back to p along the path to the root
 abbrev pub TakenBack : ℕ → ℕ → List Entry → List Entry → Type 0
 TakenBack p q new rest =
     ((n : ℕ) × Leads n p q × (rest ≡ moved_down n new p))
     ⊎ ((n : ℕ) × Leads n q p × (rest ≡ moved_up n new q))
 
--- the way back over an insertion that ended at q
+-- the undo of an insertion that ended at q
 abbrev pub InsertedBack : ℕ → List Entry → List Entry → Type 0
 InsertedBack q new old =
     (0 < length new) × (n : ℕ) × Leads n (length new - 1) q
     × (old ≡ take (length new - 1) (moved_down n new (length new - 1)))
 
--- the way back over the removal of the entry from p, after which the one that had been last was at
--- q
+-- the undo of a removal from p, which moved the last entry to q
 abbrev pub RemovedBack : ℕ → ℕ → Entry → List Entry → List Entry → Type 0
 RemovedBack p q entry new old =
     ((p ≡ length new) × (q ≡ p) ⊎ (p < length new) × (q < length new))

@@ -1,15 +1,17 @@
--- Beside `Index`: what contracts and proofs cite, and no law of THEOREM.md rests on.
+-- Definitions besides `Index`: contracts and proofs cite them, but no law of THEOREM.md rests on
+-- them.
 use Rattle.std.specs.Prelude.{◌≡◌, ℕ, zero, suc, ◌+◌, ◌-◌, ◌<◌, ◌≤◌, List, length, slice_index_or, sum_by}
 use Rattle.nr_rev.specs.declared.timer.Entry.{Entry}
 use Rattle.nr_timers.specs.Order.{at, AllBelow}
 use Rattle.nr_timers.specs.Index.{key}
 
--- 1 for no place
+-- 1 if there is no such place
 abbrev pub free : ℕ → ℕ
 free zero = 1
 free (suc p) = 0
 
--- a cell holds 1 more than the place of the entry with its key, and 0 where there is none
+-- each cell of the index holds the place of the entry with its key plus 1, or 0 if there is no such
+-- entry
 pub record IsIndexed (entries : List Entry) (index : List ℕ) : Type 0 where
   pub below : AllBelow key (length index) entries
   pub found : (p : ℕ) → p < length entries → slice_index_or index (key (at entries p)) 0 ≡ p + 1

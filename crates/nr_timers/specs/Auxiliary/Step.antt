@@ -1,4 +1,5 @@
--- Beside `Step`: what contracts and proofs cite, and no law of THEOREM.md rests on.
+-- Definitions besides `Step`: contracts and proofs cite them, but no law of THEOREM.md rests on
+-- them.
 use Rattle.std.specs.Prelude.{◌^◌, ◌-◌, ◌*◌, nat_lt, int_le, length, if◌then◌else◌, Option, Some, None}
 use Rattle.nr_rev.specs.declared.refusal.Refusal.{Refusal}
 use Rattle.nr_rev.specs.declared.refusal.Refusal.TheVariants.{NoSuchDescriptor, NoTimerDue, FiringsFull, NoSuchFiring, LastNumber}
@@ -7,7 +8,7 @@ use Rattle.nr_timers.specs.declared.op.TimersOp.TheVariants.{Arm, Stop, Pop, Tak
 use Rattle.nr_timers.specs.Order.{at}
 use Rattle.nr_timers.specs.State.{State}
 
--- why an operation doesn't apply: the first reason that holds
+-- why an operation is refused: the first reason that applies
 abbrev pub timers_reason : State → TimersOp → Option Refusal
 timers_reason old (Arm d side due function sequence) =
     if nat_lt d old.descriptors
@@ -23,6 +24,6 @@ timers_reason old (Pop now) =
 timers_reason old (TakeFiring place) =
     if nat_lt place (length old.firings) then None else Some NoSuchFiring
 
--- no operation takes memory
+-- no operation allocates memory
 abbrev pub TakesMemory : State → TimersOp → Type 0
 TakesMemory old op = ⊥

@@ -1,4 +1,5 @@
--- Beside `TimersOf`: what contracts and proofs cite, and no law of THEOREM.md rests on.
+-- Definitions besides `TimersOf`: contracts and proofs cite them, but no law of THEOREM.md rests on
+-- them.
 use Rattle.std.specs.Prelude.{◌≡◌, ℕ, List, slice_index_or, Option, None}
 use Rattle.nr_rev.specs.declared.sides.Sides.{Sides}
 use Rattle.nr_rev.specs.declared.timer.Entry.{Entry}
@@ -6,6 +7,6 @@ use Rattle.nr_rev.specs.declared.timer.Timer.{Timer}
 use Rattle.nr_rev.specs.Sides.{twice}
 use Rattle.nr_timers.specs.TimersOf.{timers_of}
 
--- these are the timers of the descriptors from number 0 on, and all others have none
+-- these are the timers of the descriptors from number 0 on, and other descriptors have none
 abbrev pub AreTimers : List Entry → List (Sides (Option Timer)) → Type 0
 AreTimers entries timers = (d : ℕ) → timers_of entries d ≡ slice_index_or timers d (twice None)
