@@ -1,4 +1,4 @@
--- the definitions that the laws of THEOREM.md rest on, as whole files
+-- what the laws of THEOREM.md rest on, whole files
 pub mod Order
 pub mod PathToRoot
 pub mod Index
