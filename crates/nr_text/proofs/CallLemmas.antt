@@ -29,7 +29,7 @@ none_more false = refl
 any_more : (test : Call → Bool) (calls : List Call) (call : Call) → list_any test (calls ++ call ∷ []) ≡ (list_any test calls || test call)
 any_more test calls call = list_any-append test calls (call ∷ []) ∙ ap (λ b. list_any test calls || b) (none_more (test call))
 
--- what is seen of a reader behind these calls, made at these moments
+-- the state of a reader after these calls, made at these moments
 abbrev seen : Option (List ℕ) → List Call → List Moment → Incoming
 seen remaining calls moments =
     record { remaining = remaining; received = bytes_of calls; ended = finds_end calls; failed = a_read_failed calls; moments = moments }

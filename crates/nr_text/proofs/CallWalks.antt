@@ -1,4 +1,4 @@
--- What the two walks of `Calls` share: how a struct of no fields is made.
+-- The part that the two walks of `Calls` share: making a struct without fields.
 use Rattle.std.proofs.Common.{List, [], ◌∷◌, refl}
 use seplogic.Ra.Ura.{Ura}
 use mir.Val.{Val, vstruct, vnil}
@@ -8,7 +8,7 @@ use denote.RattleType.{Valss}
 use denote.Steps.{nothing}
 use denote.Struct.Struct.{Struct, within}
 
--- the machine's value of a struct of no fields
+-- the machine's value of a struct without fields
 abbrev pub of_no_fields : Val
 of_no_fields = vstruct vnil
 

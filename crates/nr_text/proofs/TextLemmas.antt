@@ -19,14 +19,14 @@ parts_at f xs i d h =
     ap (flat_map f) (sym (take-append-drop i xs)) ∙ flat_map-append f (take i xs) (drop i xs)
     ∙ ap (λ ys. flat_map f (take i xs) ++ flat_map f ys) (drop-cons xs i d h)
 
--- the parts before the i-th are sent, and a write failed in that one: so it failed in all of them
+-- if the parts before the i-th are sent, and a write fails in the i-th, it fails in all of them
 pub all_cut : {X : Type 0} (f : X → List ℕ) (xs : List X) (i : ℕ) (x : X) (u v w : Buffering) (e : WriteFailed) (result : Result (Unit {0}) WriteFailed)
     → i < length xs → x ≡ get_or xs i x → IsErr result → Writes u v (flat_map f (take i xs)) (Ok tt) → Writes v w (f x) (Err e) → Writes u w (flat_map f xs) result
 all_cut f xs i x u v w e result within is fails sent cut =
     let part = writes_cut v w (f (get_or xs i x)) (flat_map f (drop (suc i) xs)) e result fails (subst (λ y. Writes v w (f y) (Err e)) is cut) in
     subst (λ t. Writes u w t result) (sym (parts_at f xs i x within)) (writes_then u v w (flat_map f (take i xs)) _ result sent part)
 
--- the same where each part is of a number
+-- the same if each part is the text of a number
 pub all_numbers_cut : (f : ℕ → List ℕ) (xs : List ℕ) (i : ℕ) (u v w : Buffering) (e : WriteFailed) (result : Result (Unit {0}) WriteFailed)
     → i < length xs → IsErr result → Writes u v (flat_map f (take i xs)) (Ok tt) → Writes v w (f (get_or xs i 0)) (Err e) → Writes u w (flat_map f xs) result
 all_numbers_cut f xs i u v w e result within =

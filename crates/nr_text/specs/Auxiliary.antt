@@ -1,4 +1,5 @@
--- Auxiliary definitions. Each file goes on with that of its name, which has what the laws rest on.
+-- Auxiliary definitions. Each file continues the file of its name, which holds what the laws rest
+-- on.
 pub mod Moments
 pub mod Streams
 pub mod Text

@@ -1,4 +1,4 @@
--- The calls that were made of a reader or a writer, and what came of them.
+-- The calls of a reader or a writer, and their outcomes.
 use Rattle.std.specs.Prelude.{◌≡◌, ℕ, ◌==◌, ◌&&◌, ◌||◌, nat_lt, Bool, true, false, List, [], ◌∷◌, length, take, flat_map, Option, Some, None, refl}
 use Rattle.std.specs.Coded.{Coded, code_by, coded×, coded_ℕ, coded_list, coded_option}
 use Rattle.std.specs.List.{list_any}
@@ -7,47 +7,47 @@ use Rattle.std.specs.declared.io.ErrorKind.TheVariants as kind
 use Rattle.nr_text.specs.declared.calls.CallOutcome.{CallOutcome}
 use Rattle.nr_text.specs.declared.calls.CallOutcome.TheVariants.{Moved, Interrupted, Failed}
 
--- a call: its buffer, and how it came out
+-- a call: its buffer, and its outcome
 abbrev pub Call : Type 0
 Call = List ℕ × CallOutcome
 
--- how a call came out that returned an error of this kind
+-- the outcome of a call that returned an error of this kind
 abbrev pub outcome_of_kind : ErrorKind → CallOutcome
 outcome_of_kind kind.Interrupted = Interrupted
 outcome_of_kind _ = Failed
 
--- the bytes that a call moved: the first of its buffer
+-- the bytes that a call moved: the first bytes of its buffer
 abbrev pub moved : Call → List ℕ
 moved (buffer, Moved n) = take n buffer
 moved (buffer, Interrupted) = []
 moved (buffer, Failed) = []
 
--- the bytes that calls moved, in their order
+-- the bytes that the calls moved, in their order
 abbrev pub bytes_of : List Call → List ℕ
 bytes_of calls = flat_map moved calls
 
--- The call moved no byte, though there was room for some, or something to write. A read found the
--- end then.
+-- True if the call moved no bytes, though the buffer had room, or bytes to write. A read has then
+-- found the end.
 abbrev pub moves_none : Call → Bool
 moves_none (buffer, Moved n) = (n == 0) && nat_lt 0 (length buffer)
 moves_none (buffer, _) = false
 
--- the last of these reads found the end
+-- true if the last of these reads found the end
 abbrev pub finds_end : List Call → Bool
 finds_end [] = false
 finds_end (call ∷ []) = moves_none call
 finds_end (call ∷ next ∷ more) = finds_end (next ∷ more)
 
--- the call failed
+-- true if the call failed
 abbrev pub fails : Call → Bool
 fails (buffer, Failed) = true
 fails (buffer, _) = false
 
--- one of these reads failed
+-- true if one of these reads failed
 abbrev pub a_read_failed : List Call → Bool
 a_read_failed calls = list_any fails calls
 
--- one of these writes failed, or took nothing of the bytes that there were
+-- true if one of these writes failed, or took none of the bytes that it was given
 abbrev pub a_write_failed : List Call → Bool
 a_write_failed calls = list_any (λ call. fails call || moves_none call) calls
 

@@ -13,21 +13,21 @@ use arrayvec::ArrayVec;
 use std::io::Write;
 use std::marker::Model;
 
-/// How many bytes are held at most.
+/// The size of the buffer in bytes.
 pub(crate) const ROOM: usize = 512;
 
-/// A write failed, or took nothing of the bytes that there were.
+/// A write failed, or took none of the bytes that it was given.
 #[derive(Clone, Copy, Debug, PartialEq, Eq)]
 pub struct WriteFailed;
 
-/// A writer that joins the pieces of a text: it holds them until it is full or the text ends, and takes no memory for it.
-/// Where a write fails, what is held is dropped. Contracts see what the inner writer took, the bytes that are held here, and
-/// how many bytes of the text are out.
+/// A writer that joins the pieces of a text: it holds them until its buffer is full or the text ends, and takes no
+/// memory. If a write fails, the held bytes are dropped. Contracts see the bytes that the inner writer took, the held
+/// bytes, and how many bytes of the text are out.
 #[derive(Drop)]
 pub struct Buffered<W: Write> {
     writer: LoggedWriter<W>,
     held: ArrayVec<u8, ROOM>,
-    // How many bytes of the text are out. It stays at `u64::MAX`.
+    // The number of bytes of the text that are out. It stops counting at `u64::MAX`.
     out: u64,
 }
 
@@ -40,7 +40,7 @@ impl<W: Write> Model for Buffered<W> {
 }
 
 impl<W: Write> Buffered<W> {
-    // Holds nothing, and nothing of a text is out.
+    // Makes a writer that holds nothing, with nothing of a text out.
     pub(crate) fn new(writer: W) -> Buffered<W>
         ensures { result ≡ record {
           taken = unwritten (W.contents writer);
@@ -55,7 +55,7 @@ impl<W: Write> Buffered<W> {
         }
     }
 
-    // The writer. What is held is dropped.
+    // Returns the inner writer. Held bytes are dropped.
     pub(crate) fn into_inner(self) -> W
         ensures { W.contents result ≡ self.taken.contents }
     {
@@ -67,21 +67,21 @@ impl<W: Write> Buffered<W> {
         writer.into_inner()
     }
 
-    // The writes that were made.
+    // Returns the writes so far.
     pub(crate) fn calls(&self) -> &Calls
         ensures { bytes_of result.now.made ≡ self.now.taken.sent }
     {
         self.writer.calls()
     }
 
-    // How many bytes of the text are out.
+    // Returns how many bytes of the text are out.
     pub(crate) fn out(&self) -> u64
         ensures { result ≡ self.now.out }
     {
         self.out
     }
 
-    // Writes a text whole: all of it is out, or a write failed.
+    // Writes a whole text: afterwards all of it is out, or a write has failed.
     pub(crate) fn print<T: Text>(&mut self, text: &T) -> Result<(), WriteFailed>
         requires { self.old.held ≡ [] }
         ensures out { SentOrCut self.old.taken (T.text text.now) self.new result }
@@ -92,14 +92,14 @@ impl<W: Write> Buffered<W> {
         self.put_out_held()
     }
 
-    // Nothing of the next text is out.
+    // Begins the next text, of which nothing is out.
     fn begin(&mut self)
         ensures { self.new ≡ record self.old { out = 0 } }
     {
         self.out = 0;
     }
 
-    /// Sends a piece of a text: it is held, or goes out with what is held before it.
+    /// Sends a piece of a text: holds it, or writes it after the held bytes.
     pub fn send(&mut self, piece: &[u8]) -> Result<(), WriteFailed>
         ensures { Writes self.old self.new piece.now result }
     {
@@ -115,7 +115,7 @@ impl<W: Write> Buffered<W> {
         put_out(piece, &mut self.writer, &mut self.out)
     }
 
-    // Holds a piece that there is room for.
+    // Holds a piece that the buffer has room for.
     fn hold(&mut self, piece: &[u8])
         requires { length self.old.held + length piece.now ≤ ROOM }
         ensures { self.new ≡ record self.old { held = self.old.held ++ piece.now } }
@@ -123,7 +123,7 @@ impl<W: Write> Buffered<W> {
         let _ = self.held.try_extend_from_slice(piece);
     }
 
-    // Puts out what is held.
+    // Writes the held bytes.
     fn put_out_held(&mut self) -> Result<(), WriteFailed>
         ensures out { Writes self.old self.new [] result }
         ensures empty { self.new.held ≡ [] }
@@ -134,7 +134,7 @@ impl<W: Write> Buffered<W> {
     }
 }
 
-// Writes the bytes, in as many writes as that takes, and counts those that are out.
+// Writes the bytes, in as many writes as needed, and counts those that are out.
 fn put_out<W: Write>(
     bytes: &[u8],
     writer: &mut LoggedWriter<W>,
@@ -157,8 +157,8 @@ fn put_out<W: Write>(
     Ok(())
 }
 
-// Writes some of the bytes, and says how many. A write that is interrupted is tried again, up to 2^64 - 1 times;
-// then it counts as failed.
+// Writes some of the bytes, and returns how many. It retries an interrupted write, up to 2^64 - 1 times; then the write
+// counts as failed.
 fn write_some<W: Write>(writer: &mut LoggedWriter<W>, bytes: &[u8]) -> Result<usize, WriteFailed>
     ensures { TakesSome writer.old.taken writer.new.taken bytes.now result }
 {

@@ -1,5 +1,5 @@
-//! The calls that were made of a reader or a writer, and when the reads were made. Only proofs read this: at run time nothing is
-//! kept of it.
+//! The calls of a reader or a writer so far, and when the reads were made. Only proofs read this: nothing of it is kept
+//! at run time.
 
 ghost use Rattle.std.specs.Prelude.{◌≡◌, ℕ, List, [], ◌∷◌, ◌++◌};
 ghost use Rattle.std.specs.Borrow.{ftrue};
@@ -12,19 +12,19 @@ ghost use Rattle.nr_text.specs.declared.calls.CallOutcome.{CallOutcome as Outcom
 use std::io::ErrorKind;
 use std::marker::Model;
 
-/// How a call of a reader or a writer came out.
+/// The outcome of a call of a reader or a writer.
 #[derive(Clone, Copy, Debug, PartialEq, Eq)]
 pub enum CallOutcome {
-    /// It moved the first so many bytes of its buffer.
+    /// The call moved this many bytes, the first of its buffer.
     Moved(usize),
-    /// It was interrupted, and moved none.
+    /// The call was interrupted, and moved no bytes.
     Interrupted,
-    /// It failed, and moved none.
+    /// The call failed, and moved no bytes.
     Failed,
 }
 
 impl CallOutcome {
-    // That of a call that returned an error of this kind.
+    // Returns the outcome of a call that returned an error of this kind.
     pub(crate) fn of_kind(kind: ErrorKind) -> CallOutcome
         ensures { result ≡ outcome_of_kind kind }
     {
@@ -35,14 +35,14 @@ impl CallOutcome {
     }
 }
 
-/// A call that was made: what its buffer has behind it, and how it came out.
+/// A call: its buffer after the call, and its outcome.
 #[derive(Clone, Copy)]
 pub(crate) struct Call<'a> {
     pub(crate) buffer: &'a [u8],
     pub(crate) outcome: CallOutcome,
 }
 
-/// The calls that were made, in their order.
+/// The calls so far, in their order.
 #[derive(Drop)]
 pub(crate) struct Calls {
     ghost made: { List (List ℕ × Outcome) } by { calls_code },
@@ -53,14 +53,14 @@ impl Model for Calls {
 }
 
 impl Calls {
-    // None yet.
+    // Makes an empty log.
     pub(crate) fn new() -> Calls
         ensures { result.made ≡ [] }
     {
         Calls {}
     }
 
-    // These, and one more.
+    // Returns this log with one more call.
     #[inline(always)]
     pub(crate) fn and(&self, _call: &Call<'_>) -> Calls
         ensures { result.made ≡ self.now.made ++ (_call.now.buffer.now, _call.now.outcome) ∷ [] }
@@ -69,7 +69,8 @@ impl Calls {
     }
 }
 
-/// When the reads were made: what had been received and sent by then, and whether the read before found the end, in their order.
+/// The moments of the reads, in their order: what had been received and sent by then, and whether the read before found
+/// the end.
 #[derive(Drop)]
 pub(crate) struct Moments {
     ghost passed: { List Moment } by { moments_code },
@@ -80,14 +81,14 @@ impl Model for Moments {
 }
 
 impl Moments {
-    // None yet.
+    // Makes an empty log.
     pub(crate) fn new() -> Moments
         ensures { result.passed ≡ [] }
     {
         Moments {}
     }
 
-    // These, and one more: these reads and these writes had been made.
+    // Returns this log with one more moment, after these reads and these writes.
     #[inline(always)]
     pub(crate) fn and(&self, _reads: &Calls, _writes: &Calls) -> Moments
         ensures { result.passed ≡ self.now.passed

@@ -1,4 +1,4 @@
-//! Streams and texts: a reader and a writer that remember whether they failed, and texts that are written piece by piece.
+//! Streams and texts: a reader and a writer that remember whether they failed, and texts that are written in pieces.
 #![tactic(auto)]
 
 mod buffered;

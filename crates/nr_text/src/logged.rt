@@ -1,4 +1,4 @@
-//! A reader and a writer that remember their calls, in proofs alone.
+//! A reader and a writer that remember their calls, in proofs only.
 
 ghost use Rattle.std.specs.Prelude.{◌≡◌, ◌+◌, ◌-◌, ◌^◌, ◌≤◌, [], ◌∷◌, length, false, true};
 ghost use Rattle.nr_text.specs.Calls.{bytes_of};
@@ -9,8 +9,9 @@ use crate::calls::{Call, CallOutcome, Calls, Moments};
 use std::io::{Read, Write};
 use std::marker::Model;
 
-/// A reader that remembers its reads. Contracts see the bytes that it has left, where they are known, those that its reads
-/// returned, whether the last one found the end, whether one failed, and what had been received and sent when each was made.
+/// A reader that remembers its reads. Contracts see the bytes that it has left, if they are known; the bytes that its
+/// reads returned; whether the last one found the end; whether one failed; and what had been received and sent when
+/// each was made.
 #[derive(Drop)]
 pub(crate) struct LoggedReader<R: Read> {
     reader: R,
@@ -34,7 +35,7 @@ impl<R: Read> Model for LoggedReader<R> {
 }
 
 impl<R: Read> LoggedReader<R> {
-    // The reader, of which no read was made.
+    // Wraps a reader, before any read.
     pub(crate) fn new(reader: R) -> LoggedReader<R>
         ensures { result ≡ unread (R.remaining reader) }
     {
@@ -45,7 +46,7 @@ impl<R: Read> LoggedReader<R> {
         }
     }
 
-    // The reader.
+    // Returns the inner reader.
     pub(crate) fn into_inner(self) -> R
         ensures { R.remaining result ≡ self.remaining }
     {
@@ -57,7 +58,7 @@ impl<R: Read> LoggedReader<R> {
         reader
     }
 
-    // Reads once, when these writes had been made.
+    // Reads once. `writes` are the writes up to now.
     #[inline(always)]
     pub(crate) fn read(&mut self, writes: &Calls, buffer: &mut [u8]) -> CallOutcome
         ensures reads { Reads self.old self.new buffer.new result }
@@ -74,7 +75,7 @@ impl<R: Read> LoggedReader<R> {
         outcome
     }
 
-    // Gives up, after 2^64 - 1 reads: the last one counts as failed.
+    // Gives up after 2^64 - 1 reads: the last one counts as failed.
     pub(crate) fn give_up(&mut self)
         requires { 2 ^ 64 - 1 ≤ length self.old.moments }
         ensures reads { Reads self.old self.new [] CallOutcome.Failed }
@@ -88,8 +89,8 @@ impl<R: Read> LoggedReader<R> {
     }
 }
 
-/// A writer that remembers its writes. Contracts see the bytes that it has, where they are known, those that its writes took,
-/// whether one failed, or took nothing of the bytes that there were, and how many writes there were.
+/// A writer that remembers its writes. Contracts see the bytes that it holds, if they are known; the bytes that its
+/// writes took; whether one failed, or took none of the bytes that it was given; and the number of writes.
 #[derive(Drop)]
 pub(crate) struct LoggedWriter<W: Write> {
     writer: W,
@@ -114,7 +115,7 @@ impl<W: Write> Model for LoggedWriter<W> {
 }
 
 impl<W: Write> LoggedWriter<W> {
-    // The writer, of which no write was made.
+    // Wraps a writer, before any write.
     pub(crate) fn new(writer: W) -> LoggedWriter<W>
         ensures { result ≡ record { taken = unwritten (W.contents writer); writes = 0 } }
     {
@@ -124,7 +125,7 @@ impl<W: Write> LoggedWriter<W> {
         }
     }
 
-    // The writer.
+    // Returns the inner writer.
     pub(crate) fn into_inner(self) -> W
         ensures { W.contents result ≡ self.taken.contents }
     {
@@ -132,7 +133,7 @@ impl<W: Write> LoggedWriter<W> {
         writer
     }
 
-    // The writes that were made.
+    // Returns the writes so far.
     pub(crate) fn calls(&self) -> &Calls
         ensures { bytes_of result.now.made ≡ self.now.taken.sent }
     {
@@ -153,7 +154,7 @@ impl<W: Write> LoggedWriter<W> {
         outcome
     }
 
-    // Gives up, after 2^64 - 1 writes: the last one counts as failed.
+    // Gives up after 2^64 - 1 writes: the last one counts as failed.
     pub(crate) fn give_up(&mut self)
         requires { 2 ^ 64 - 1 ≤ self.old.writes }
         ensures { Takes self.old.taken self.new.taken [] CallOutcome.Failed }

@@ -1,4 +1,4 @@
-//! A writer of whole texts that remembers what went out and whether a write failed.
+//! A writer of whole texts that remembers what it wrote and whether a write failed.
 
 ghost use Rattle.std.specs.Prelude.{◌≡◌, [], false};
 ghost use Rattle.nr_text.specs.Calls.{bytes_of};
@@ -10,10 +10,10 @@ use crate::text::Text;
 use std::io::Write;
 use std::marker::Model;
 
-/// A writer of whole texts that remembers what went out and whether a write failed, or took nothing of the bytes that there
-/// were. The pieces of a text are joined, so a text of up to 512 bytes goes out in one write. Contracts see the bytes that the
-/// writer has, where they are known, those that writes took, and whether one failed. What writes took, and how each came out,
-/// is remembered in proofs alone.
+/// A writer of whole texts that remembers what it wrote and whether a write failed, or took none of the bytes that it
+/// was given. It joins the pieces of a text, so a text of up to 512 bytes goes out in one write. Contracts see the
+/// bytes that the writer holds, if they are known, the bytes that writes took, and whether one failed. The log of
+/// writes and their outcomes exists in proofs only.
 #[derive(Drop)]
 pub struct Sink<W: Write> {
     writer: Buffered<W>,
@@ -31,13 +31,13 @@ impl<W: Write> Model for Sink<W> {
     ghost invariant = { λ s. (s.writer.held ≡ []) × (s.failed ≡ s.writer.taken.failed) };
 }
 
-/// A part of a text: a write failed, or took nothing, when exactly its first so many bytes were out. The count stays at
-/// `u64::MAX`.
+/// The part of a text that is out: a write failed, or took nothing, when exactly this many bytes, the first of the
+/// text, were out. The count stops at `u64::MAX`.
 #[derive(Clone, Copy, Debug, PartialEq, Eq)]
 pub struct Part(pub u64);
 
 impl<W: Write> Sink<W> {
-    /// The writer, of which no write was made.
+    /// Wraps a writer, before any write.
     pub fn new(writer: W) -> Sink<W>
         ensures { result ≡ unwritten (W.contents writer) }
     {
@@ -47,7 +47,7 @@ impl<W: Write> Sink<W> {
         }
     }
 
-    /// The writer. Every text that was written whole is out.
+    /// Returns the writer. Every text that was written whole is out.
     pub fn into_inner(self) -> W
         ensures { W.contents result ≡ self.contents }
     {
@@ -55,22 +55,22 @@ impl<W: Write> Sink<W> {
         writer.into_inner()
     }
 
-    // The writes that were made.
+    // Returns the writes so far.
     pub(crate) fn calls(&self) -> &Calls
         ensures { bytes_of result.now.made ≡ self.now.sent }
     {
         self.writer.calls()
     }
 
-    /// Whether a write failed, or took nothing of the bytes that there were.
+    /// Returns whether a write failed, or took none of the bytes that it was given.
     pub fn has_failed(&self) -> bool
         ensures { result ≡ self.now.failed }
     {
         self.failed
     }
 
-    /// Writes a text whole. Where a write fails or takes nothing, `Part` says how many bytes of the text are out, and no
-    /// more are written. A write that is interrupted is tried again. It takes no memory.
+    /// Writes a whole text. If a write fails or takes nothing, fails with `Part`, which says how many bytes of the text
+    /// are out, and writes no more. It retries an interrupted write. It takes no memory.
     pub fn print<T: Text>(&mut self, text: &T) -> Result<(), Part>
         ensures { Prints self.old self.new (T.text text.now) result }
     {

@@ -1,4 +1,4 @@
-//! A reader that remembers what it gave and whether a read failed.
+//! A reader that remembers what it returned and whether a read failed.
 
 ghost use Rattle.std.specs.Prelude.{◌≡◌, ◌-◌, ◌^◌, ◌≤◌, [], length};
 ghost use Rattle.nr_text.specs.Streams.{Passes};
@@ -10,9 +10,9 @@ use crate::sink::Sink;
 use std::io::{Read, Write};
 use std::marker::Model;
 
-/// A reader that remembers what its reads returned and whether one failed. Contracts see the bytes that the reader has left,
-/// where they are known, those that reads returned, whether the last one found the end, whether one failed, and what had been
-/// received and sent when each was made. What reads returned, and how each came out, is remembered in proofs alone.
+/// A reader that remembers what its reads returned and whether one failed. Contracts see the bytes that the reader has
+/// left, if they are known; the bytes that reads returned; whether the last one found the end; whether one failed; and
+/// what had been received and sent when each was made. The log of reads and their outcomes exists in proofs only.
 #[derive(Drop)]
 pub struct Source<R: Read> {
     reader: LoggedReader<R>,
@@ -35,7 +35,7 @@ impl<R: Read> Model for Source<R> {
 pub struct ReadFailed;
 
 impl<R: Read> Source<R> {
-    /// The reader, of which no read was made.
+    /// Wraps a reader, before any read.
     pub fn new(reader: R) -> Source<R>
         ensures { result ≡ unread (R.remaining reader) }
     {
@@ -45,7 +45,7 @@ impl<R: Read> Source<R> {
         }
     }
 
-    /// The reader.
+    /// Returns the inner reader.
     pub fn into_inner(self) -> R
         ensures { R.remaining result ≡ self.remaining }
     {
@@ -53,15 +53,16 @@ impl<R: Read> Source<R> {
         reader.into_inner()
     }
 
-    /// Whether a read failed.
+    /// Returns whether a read failed.
     pub fn has_failed(&self) -> bool
         ensures { result ≡ self.now.failed }
     {
         self.failed
     }
 
-    /// Reads some bytes, and none at the end, when these replies are out. A read that is interrupted is tried again, up to
-    /// 2^64 - 1 times; then it counts as failed. It makes one read at least.
+    /// Reads some bytes, or none at the end of the input. Contracts relate each read to the replies that `replies` has
+    /// written by then. It makes at least one read, and retries an interrupted read, up to 2^64 - 1 times; then the
+    /// read counts as failed.
     pub fn read<W: Write>(&mut self, replies: &Sink<W>, buf: &mut [u8]) -> Result<usize, ReadFailed>
         ensures reads { ReadsSome self.old self.new buf.new result }
         ensures moments { ReadsNow self.old self.new replies.now }
@@ -80,7 +81,7 @@ impl<R: Read> Source<R> {
         Err(ReadFailed)
     }
 
-    /// Gives up, after 2^64 - 1 reads: the last one counts as failed.
+    /// Gives up after 2^64 - 1 reads: the last one counts as failed.
     pub fn give_up(&mut self)
         requires { 2 ^ 64 - 1 ≤ length self.old.moments }
         ensures failed { Reads self.old self.new [] CallOutcome.Failed }

@@ -1,4 +1,4 @@
-//! What has a text, and is written piece by piece.
+//! Values that have a text and are written piece by piece.
 
 ghost use Rattle.std.specs.Prelude.{ℕ, List};
 ghost use Rattle.nr_text.specs.Buffered.{Writes};
@@ -9,9 +9,9 @@ use crate::buffered::{Buffered, WriteFailed};
 use itoa::Buffer;
 use std::io::Write;
 
-/// What has a text, and is written piece by piece.
+/// A value that has a text and is written piece by piece.
 pub trait Text {
-    /// Its text.
+    /// The text.
     ghost text: { Self → List ℕ };
 
     /// Sends the text to a writer that joins pieces.
@@ -35,7 +35,7 @@ impl Text for HexPair {
     }
 }
 
-/// A number behind a space.
+/// A number after a space.
 #[derive(Clone, Copy)]
 pub(crate) struct Spaced(pub(crate) u32);
 
@@ -49,7 +49,7 @@ impl Text for Spaced {
     }
 }
 
-/// Bytes are sent as they are.
+/// Bytes are a text as they are.
 impl Text for &[u8] {
     ghost text = { λ bytes. bytes.now };
 
@@ -58,7 +58,7 @@ impl Text for &[u8] {
     }
 }
 
-/// Parts of a text, one after the other.
+/// Texts in a row.
 #[derive(Clone, Copy)]
 pub struct Parts<'a, P: Text>(pub &'a [P]);
 
@@ -70,7 +70,7 @@ impl<P: Text> Text for Parts<'_, P> {
     }
 }
 
-/// Sends the parts one after the other.
+/// Sends texts one after the other.
 pub fn send_all<P: Text, W: Write>(parts: &[P], w: &mut Buffered<W>) -> Result<(), WriteFailed>
     ensures { Writes w.old w.new (text_of_parts P.text parts.now) result }
 {

@@ -13,15 +13,15 @@ use std::io::Write;
 /// A part of a text.
 #[derive(Clone, Copy)]
 pub enum Token<'a> {
-    /// It is written as it is.
+    /// Bytes that are written as they are.
     Text(&'static [u8]),
-    /// In decimal digits.
+    /// A number in decimal digits.
     Number(u64),
-    /// In decimal digits, behind a sign where it is below 0.
+    /// A time in decimal digits, after a minus sign if it is negative.
     Time(i64),
-    /// Each byte as two digits.
+    /// Bytes, each as two hexadecimal digits.
     Hex(&'a [u8]),
-    /// Each number behind a space.
+    /// Numbers, each after a space.
     Numbers(&'a [u32]),
 }
 
@@ -40,7 +40,7 @@ impl Text for Token<'_> {
     }
 }
 
-/// Sends each byte as two digits.
+/// Sends each byte as two hexadecimal digits.
 fn send_hex<W: Write>(bytes: &[u8], w: &mut Buffered<W>) -> Result<(), WriteFailed>
     ensures { Writes w.old w.new (flat_map hex_pair bytes.now) result }
 {
@@ -50,7 +50,7 @@ fn send_hex<W: Write>(bytes: &[u8], w: &mut Buffered<W>) -> Result<(), WriteFail
     Ok(())
 }
 
-/// Sends each number behind a space.
+/// Sends each number after a space.
 fn send_numbers<W: Write>(numbers: &[u32], w: &mut Buffered<W>) -> Result<(), WriteFailed>
     ensures { Writes w.old w.new (flat_map spaced_number numbers.now) result }
 {

@@ -1,4 +1,4 @@
--- Beside `Moments`: what contracts and proofs cite, and no law of THEOREM.md rests on.
+-- Definitions that contracts and proofs cite beside `Moments`. No law of THEOREM.md rests on them.
 use Rattle.std.specs.Prelude.{◌≡◌, ℕ, Bool, List, refl}
 use Rattle.std.specs.Coded.{Coded, code_by, coded×, coded_ℕ, coded_bool, coded_list}
 use Rattle.nr_text.specs.Moments.{Moment}

@@ -1,4 +1,4 @@
--- Beside `Text`: what contracts and proofs cite, and no law of THEOREM.md rests on.
+-- Definitions that contracts and proofs cite beside `Text`. No law of THEOREM.md rests on them.
 use Rattle.std.specs.Prelude.{ℕ, List, [], ◌∷◌, ◌++◌, flat_map, decimal}
 use Rattle.std.specs.Fmt.{signed_decimal}
 use Rattle.nr_text.specs.declared.token.Token.{Token}
@@ -13,7 +13,7 @@ token_text (tokens.Time t) = signed_decimal t
 token_text (tokens.Hex bytes) = flat_map hex_pair bytes.now
 token_text (tokens.Numbers numbers) = flat_map spaced_number numbers.now
 
--- the texts of these one after the other
+-- the texts of these parts, one after the other
 abbrev pub text_of_parts : {X : Type 0} → (X → List ℕ) → List X → List ℕ
 text_of_parts f [] = []
 text_of_parts f (x ∷ []) = f x
