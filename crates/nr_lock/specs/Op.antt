@@ -1,4 +1,4 @@
--- What an operation on a lock word comes to.
+-- The outcome of an operation on a lock word.
 use Rattle.std.specs.Prelude.{◌≡◌, Option, Some, None, Result, Ok, Err}
 use Rattle.nr_rev.specs.declared.lock.Lock.{Lock}
 use Rattle.nr_rev.specs.declared.lock.LockOutcome.{LockOutcome}
@@ -8,7 +8,7 @@ use Rattle.nr_lock.specs.declared.op.LockAnswer.{LockAnswer}
 use Rattle.nr_lock.specs.declared.op.LockOp.{LockOp}
 use Rattle.nr_lock.specs.declared.op.LockOp.TheVariants.{Incref, IncrefClose, Decref, RwLock, RwUnlock}
 
--- the answer and the lock afterwards, or the reason why it does not apply
+-- the answer and the resulting lock, or the reason of a refusal
 abbrev pub outcome : Lock → LockOp → Result LockOutcome Refusal
 outcome lock Incref = incref lock
 outcome lock IncrefClose = incref_close lock
@@ -16,23 +16,23 @@ outcome lock Decref = decref lock
 outcome lock (RwLock side) = rw_lock side lock
 outcome lock (RwUnlock side) = rw_unlock side lock
 
--- what an answer and a lock come to
+-- the outcome with this answer and this lock
 abbrev pub left : LockAnswer → Lock → LockOutcome
 left answer lock = record { answer = answer.answer; owed = answer.owed; lock = lock }
 
--- an operation that applies, by its answer and the lock afterwards
+-- the operation applies, with this answer and this resulting lock
 abbrev pub StepTo : Lock → LockOp → LockAnswer → Lock → Type 0
 StepTo old op answer new = outcome old op ≡ Ok (left answer new)
 
--- the reason, where it does not apply
+-- the reason of a refusal
 abbrev pub refusal_of : Result LockOutcome Refusal → Option Refusal
 refusal_of (Ok left) = None
 refusal_of (Err reason) = Some reason
 
--- why an operation does not apply
+-- why an operation is refused
 abbrev pub lock_reason : Lock → LockOp → Option Refusal
 lock_reason lock op = refusal_of (outcome lock op)
 
--- an answer and a lock, as the definition has them
+-- the outcome of a pair of an answer and a lock
 abbrev pub left_by : LockAnswer × Lock → LockOutcome
 left_by (answer, lock) = left answer lock

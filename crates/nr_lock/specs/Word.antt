@@ -1,12 +1,12 @@
--- The lock that a word means.
+-- The lock that a word encodes.
 use Rattle.std.specs.Prelude.{◌≡◌, ℕ, ◌/◌, ◌%◌, ◌^◌, ◌==◌}
 use Rattle.std.proofs.Common.{arith}
 use Rattle.nr_rev.specs.declared.lock.Lock.{Lock}
 use Rattle.nr_rev.specs.Lock.{lock_number}
 use Rattle.nr_rev.proofs.BitLemmas.{bit_of}
 
--- the fields of a word: bit 0 closed, 1 read lock, 2 write lock, from 3 references, from 23 read
--- waiters, from 43 write waiters
+-- the fields of a word: bit 0 is closed, 1 the read lock, 2 the write lock; the references start at
+-- bit 3, the read waiters at 23, the write waiters at 43
 abbrev pub lock_of : ℕ → Lock
 lock_of w =
     record {
@@ -16,6 +16,6 @@ lock_of w =
       waiters = record { read = w / 2 ^ 23 % 2 ^ 20; write = w / 2 ^ 43 };
     }
 
--- a word is the number of the lock that it means
+-- a word is the number of the lock that it encodes
 pub lock_number-lock_of : (w : ℕ) → lock_number (lock_of w) ≡ w
 lock_number-lock_of w = omega (arith, bit_of w, bit_of (w / 2), bit_of (w / 4))

@@ -1,4 +1,4 @@
-//! Laws over the word and the way back.
+//! Laws about the word and its undo.
 
 ghost use Rattle.std.specs.Prelude.{◌≡◌, ℕ, ◌<◌, ◌^◌};
 ghost use Rattle.nr_lock.specs.Word.{lock_of};
@@ -8,7 +8,8 @@ ghost use Rattle.nr_rev.specs.Lock.{lock_number};
 ghost use Rattle.nr_rev.specs.WellFormed.{LockFits};
 ghost use Rattle.nr_rev.specs.declared.lock.Lock.{Lock};
 
-/// A word below 2^63 means one lock, whose fields have 20 bits; and such a lock has one word, its number.
+/// A word below 2^63 encodes exactly one lock, whose fields have 20 bits; each such lock has exactly one word, its
+/// number.
 pub fn words_are_locks()
     ensures number { (w : ℕ) → lock_number (lock_of w) ≡ w }
     ensures fits { (w : ℕ) → w < 2 ^ 63 → LockFits (lock_of w) }
@@ -16,7 +17,7 @@ pub fn words_are_locks()
     ensures word { (lock : Lock) → LockFits lock → lock_number lock < 2 ^ 63 }
 {}
 
-/// A delta is the word before and nothing beside it, one word.
+/// A delta consists of the previous word and nothing else: one word.
 pub fn delta_is_its_word()
     ensures word { (delta : LockDelta) → delta ≡ record { before = delta.before } }
     ensures words { MOST_WORDS ≡ 1 }

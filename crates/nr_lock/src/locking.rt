@@ -1,4 +1,4 @@
-//! The operations: what Go does by compare and swap, on the word. Where Go panics, the operation is refused.
+//! The operations on the word, which Go performs by compare-and-swap. If Go panics, the operation is refused.
 
 ghost use Rattle.std.specs.Prelude.{◌≡◌};
 ghost use Rattle.nr_lock.specs.Op.{left_by, outcome};
@@ -13,7 +13,7 @@ use nr_rev::{Answer, Refusal, Side, Sides};
 impl LockAnswer {
     ghost use Rattle.nr_rev.specs.Sides.{twice};
 
-    /// The answer, with nothing owed.
+    /// Returns the answer with no release owed.
     #[inline(always)]
     fn alone(answer: Answer) -> LockAnswer
         ensures { result ≡ record { answer = answer; owed = twice 0 } }
@@ -26,7 +26,7 @@ impl LockAnswer {
 }
 
 impl LockWord {
-    /// The answer where a reference was given up: `Last` where the lock is closed and none is left.
+    /// Returns the answer after a reference was released: `Last` if the lock is closed and no reference is left.
     #[inline(always)]
     fn last(self) -> Answer
         ensures { result ≡ spec.last_of self }
@@ -52,7 +52,7 @@ impl LockWord {
         Ok((LockAnswer::alone(Answer::Yes), self.with_reference()))
     }
 
-    /// Adds a reference, closes, and owes a release to each waiter (Go's `increfAndClose`).
+    /// Adds a reference, closes the lock, and owes a release to each waiter (Go's `increfAndClose`).
     #[inline(always)]
     pub(crate) fn incref_close(self) -> Result<(LockAnswer, LockWord), Refusal>
         ensures { Gives left_by result (outcome self IncrefClose) }
@@ -73,7 +73,7 @@ impl LockWord {
         Ok((answer, self.with_reference().closed_for_all()))
     }
 
-    /// Gives a reference up (Go's `decref`).
+    /// Releases a reference (Go's `decref`).
     #[inline(always)]
     pub(crate) fn decref(self) -> Result<(LockAnswer, LockWord), Refusal>
         ensures { Gives left_by result (outcome self Decref) }
@@ -85,7 +85,7 @@ impl LockWord {
         Ok((LockAnswer::alone(left.last()), left))
     }
 
-    /// Takes the lock of a side with a reference, or waits for it (Go's `rwlock`).
+    /// Locks a side and adds a reference, or adds a waiter (Go's `rwlock`).
     #[inline(always)]
     pub(crate) fn rw_lock(self, side: Side) -> Result<(LockAnswer, LockWord), Refusal>
         ensures { Gives left_by result (outcome self (RwLock side)) }
@@ -108,7 +108,8 @@ impl LockWord {
         ))
     }
 
-    /// Gives the lock of a side up with its reference, and owes a waiter of that side a release (Go's `rwunlock`).
+    /// Unlocks a side and releases its reference, and owes a release to one waiter of that side, if it has any (Go's
+    /// `rwunlock`).
     #[inline(always)]
     pub(crate) fn rw_unlock(self, side: Side) -> Result<(LockAnswer, LockWord), Refusal>
         ensures { Gives left_by result (outcome self (RwUnlock side)) }

@@ -1,5 +1,5 @@
-//! The word, and the fields in it: bit 0 closed, 1 the read lock, 2 the write lock, from 3 the references, from 23 the
-//! read waiters, from 43 the write waiters. Bit 63 is clear.
+//! The word and its fields: bit 0 is closed, 1 the read lock, 2 the write lock; the references start at bit 3, the read
+//! waiters at 23, the write waiters at 43. Bit 63 is clear.
 
 ghost use Rattle.std.specs.Prelude.{◌≡◌, ◌+◌, ◌-◌, ◌<◌, ◌^◌, true, false};
 ghost use Rattle.nr_lock.specs.Word.{lock_of};
@@ -22,13 +22,13 @@ const READ_WAITER: u64 = 1 << 23;
 
 const WRITE_WAITER: u64 = 1 << 43;
 
-/// The greatest count of a field of 20 bits, and its mask.
+/// The maximum of a field of 20 bits, and its mask.
 pub(crate) const FULL: u32 = (1 << 20) - 1;
 
-/// All bits below the waiters.
+/// The bits below the waiters.
 const BELOW_WAITERS: u64 = READ_WAITER - 1;
 
-/// The lock of a socket in one word, seen in contracts as the record of its fields.
+/// The lock of a socket in one word. Contracts see it as the record of its fields.
 #[derive(Clone, Copy, Debug, PartialEq, Eq)]
 pub struct LockWord(u64);
 
@@ -51,7 +51,7 @@ impl Model for LockWord {
 }
 
 impl LockWord {
-    /// The word of a lock that nobody holds: 0.
+    /// Returns the word of a lock that no goroutine holds: 0.
     #[inline(always)]
     pub fn open() -> LockWord
         ensures lock { result ≡ spec.open_lock }
@@ -60,7 +60,7 @@ impl LockWord {
         LockWord(0)
     }
 
-    /// The word of a number, whose highest bit has to be clear.
+    /// Returns the word with this number, whose highest bit must be clear.
     #[inline(always)]
     pub fn of_number(number: u64) -> LockWord
         requires { number < 2 ^ 63 }
@@ -71,7 +71,7 @@ impl LockWord {
         LockWord(number)
     }
 
-    /// The word as a number.
+    /// Returns the word as a number.
     #[inline(always)]
     pub fn number(self) -> u64
         ensures number { result ≡ spec.lock_number self }
@@ -80,7 +80,7 @@ impl LockWord {
         self.0
     }
 
-    /// The record of the fields.
+    /// Returns the record of the fields.
     #[inline(always)]
     pub fn lock(self) -> Lock
         ensures { result ≡ self }
@@ -99,7 +99,7 @@ impl LockWord {
         }
     }
 
-    /// Whether it is closed.
+    /// Returns whether the lock is closed.
     #[inline(always)]
     pub(crate) fn is_closed(self) -> bool
         ensures { result ≡ self.closed }
@@ -107,7 +107,7 @@ impl LockWord {
         self.0 & CLOSED != 0
     }
 
-    /// Whether the lock of a side is held.
+    /// Returns whether a side is locked.
     #[inline(always)]
     #[tactic(auto, using(crate::proofs::BitLemmas::single_bits))]
     pub(crate) fn is_locked(self, side: Side) -> bool
@@ -119,7 +119,7 @@ impl LockWord {
         }
     }
 
-    /// How many references there are.
+    /// Returns the number of references.
     #[inline(always)]
     pub(crate) fn references(self) -> u32
         ensures { result ≡ self.references }
@@ -127,7 +127,7 @@ impl LockWord {
         (self.0 >> 3 & u64::from(FULL)) as u32
     }
 
-    /// How many wait for the lock of a side.
+    /// Returns the number of waiters of a side.
     #[inline(always)]
     pub(crate) fn waiters(self, side: Side) -> u32
         ensures { result ≡ sides.of_side side self.waiters }
@@ -138,7 +138,7 @@ impl LockWord {
         }
     }
 
-    /// With a reference more.
+    /// Returns the word with one more reference.
     #[inline(always)]
     pub(crate) fn with_reference(self) -> LockWord
         requires { self.references + 1 < 2 ^ 20 }
@@ -147,7 +147,7 @@ impl LockWord {
         LockWord(self.0 + REFERENCE)
     }
 
-    /// With a reference less.
+    /// Returns the word with one reference less.
     #[inline(always)]
     pub(crate) fn without_reference(self) -> LockWord
         requires { 0 < self.references }
@@ -156,7 +156,7 @@ impl LockWord {
         LockWord(self.0 - REFERENCE)
     }
 
-    /// With the lock of a side held.
+    /// Returns the word with a side locked.
     #[inline(always)]
     #[tactic(auto, using(crate::proofs::BitLemmas::single_bits))]
     pub(crate) fn with_lock(self, side: Side) -> LockWord
@@ -168,7 +168,7 @@ impl LockWord {
         }
     }
 
-    /// With the lock of a side free.
+    /// Returns the word with a side unlocked.
     #[inline(always)]
     #[tactic(auto, using(crate::proofs::BitLemmas::single_bits))]
     pub(crate) fn without_lock(self, side: Side) -> LockWord
@@ -180,7 +180,7 @@ impl LockWord {
         }
     }
 
-    /// With one more that waits for the lock of a side.
+    /// Returns the word with one more waiter of a side.
     #[inline(always)]
     pub(crate) fn with_waiter(self, side: Side) -> LockWord
         requires { sides.of_side side self.waiters + 1 < 2 ^ 20 }
@@ -194,7 +194,7 @@ impl LockWord {
         }
     }
 
-    /// With one less that waits for the lock of a side.
+    /// Returns the word with one waiter of a side less.
     #[inline(always)]
     pub(crate) fn without_waiter(self, side: Side) -> LockWord
         requires { 0 < sides.of_side side self.waiters }
@@ -208,7 +208,7 @@ impl LockWord {
         }
     }
 
-    /// Closed, and nobody waits.
+    /// Returns the word closed and without waiters.
     #[inline(always)]
     #[tactic(auto, using(crate::proofs::BitLemmas::single_bits))]
     pub(crate) fn closed_for_all(self) -> LockWord

@@ -1,10 +1,10 @@
--- Bytes at rest, which several snapshots may share.
+-- The bytes of snapshots, which several snapshots may share.
 use Rattle.std.specs.Prelude.{◌≡◌, ⊤, ℕ, List, [], Option, Some, None, vec_len, vec_capacity}
 use Rattle.std.specs.Arc.{arc_value}
 use Rattle.std.specs.Global.{Global, Vec}
 use Rattle.std.specs.declared.sync.Arc.{Arc}
 
--- the bytes in a block, none where there is none
+-- the bytes in a block, or none without a block
 abbrev pub items_of : Option (Arc (Vec ℕ) Global) → List ℕ
 items_of None = []
 items_of (Some block) = (arc_value block).items

@@ -1,4 +1,4 @@
-//! Bytes at rest, which several snapshots may share.
+//! The bytes of snapshots, which several snapshots may share.
 
 ghost use Rattle.std.specs.Prelude.{◌≡◌, ◌+◌, ◌++◌, ◌↔◌, length, vec_len, vec_capacity, IsTrue, IfOk, IfSome};
 
@@ -7,8 +7,8 @@ use std::alloc::Global;
 use std::marker::Model;
 use std::sync::Arc;
 
-/// Bytes that several owners may share and nobody changes, seen in contracts as the list of them. They take just the room
-/// that they need, and none where there are none.
+/// Immutable bytes that several owners may share. Contracts see them as a list. They take just the memory that they
+/// need, and none if the list is empty.
 #[derive(Drop)]
 pub(crate) struct SharedBytes {
     block: Option<Arc<Vec<u8>>>,
@@ -25,7 +25,7 @@ impl Model for SharedBytes {
     ghost invariant = { λ s. HasNoSpareRoom s.block };
 }
 
-// The bytes of two pieces, in a block of just their size.
+// Returns the concatenation of two pieces, in a block of exactly this size. Fails with `Memory` if memory runs out.
 fn joined(alloc: Global, front: &[u8], back: &[u8], len: usize) -> Result<Vec<u8>, Memory>
     requires { len ≡ length front.now + length back.now }
     ensures bytes { IfOk result (λ bytes. bytes.items ≡ front.now ++ back.now) }
@@ -42,7 +42,7 @@ fn joined(alloc: Global, front: &[u8], back: &[u8], len: usize) -> Result<Vec<u8
 }
 
 impl SharedBytes {
-    /// The bytes of two pieces, which nobody shares yet.
+    /// Returns the concatenation of two pieces, not shared yet. Fails with `Memory` if memory runs out.
     pub(crate) fn of_pieces(
         alloc: Global,
         front: &[u8],
@@ -61,7 +61,7 @@ impl SharedBytes {
         })
     }
 
-    // One more owner of them; `None` where there can be no more.
+    // Returns another owner of the bytes, or `None` if there can't be more owners.
     fn share(&self) -> Option<SharedBytes>
         ensures { IfSome result (λ bytes. bytes ≡ self.now) }
     {
@@ -74,7 +74,7 @@ impl SharedBytes {
         }
     }
 
-    /// The bytes as a slice.
+    /// Returns the bytes as a slice.
     pub(crate) fn as_slice(&self) -> &[u8]
         ensures { result.now ≡ self.now }
     {
@@ -84,7 +84,7 @@ impl SharedBytes {
         }
     }
 
-    // Whether they are those of two pieces, one behind the other.
+    // Returns whether the bytes are the concatenation of two pieces.
     fn is(&self, front: &[u8], back: &[u8]) -> bool
         ensures { IsTrue result ↔ (self.now ≡ front.now ++ back.now) }
     {
@@ -94,8 +94,8 @@ impl SharedBytes {
         }
     }
 
-    /// One more owner of the bytes of two pieces, where these are they; `None` where they aren't, or have no room for an
-    /// owner.
+    /// Returns another owner of the bytes if they are the concatenation of two pieces; `None` if they aren't, or if
+    /// there can't be more owners.
     pub(crate) fn shared_if(&self, front: &[u8], back: &[u8]) -> Option<SharedBytes>
         ensures { IfSome result (λ bytes. bytes ≡ front.now ++ back.now) }
     {

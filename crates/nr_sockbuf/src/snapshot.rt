@@ -1,4 +1,4 @@
-//! The buffers of a socket at rest.
+//! Snapshots of a socket's buffers.
 
 ghost use Rattle.std.specs.Prelude.{◌≡◌, IfOk};
 ghost use Rattle.nr_sockbuf.specs.Sock.{never_opened};
@@ -9,8 +9,8 @@ use nr_rev::Memory;
 use std::alloc::Global;
 use std::marker::Model;
 
-/// The buffers of a socket at rest, seen in contracts as the buffers are: the marks, and the bytes in just the room that
-/// they need, which snapshots of the same socket may share.
+/// A snapshot of a socket's buffers: the marks, and the bytes in just the memory that they need. Snapshots of the same
+/// socket may share bytes. Contracts see it as the buffers.
 #[derive(Drop)]
 pub struct SockSnapshot {
     limit: u32,
@@ -34,8 +34,8 @@ impl Model for SockSnapshot {
 }
 
 impl Sock {
-    /// The buffers at rest, whatever `last` is. A side shares its bytes with `last` where they are the same there, and
-    /// takes memory for them otherwise.
+    /// Returns a snapshot of the buffers. A side shares its bytes with `last` if they are equal, and allocates memory
+    /// otherwise. Fails with `Memory` if memory runs out.
     pub fn snapshot(&self, last: Option<&SockSnapshot>) -> Result<SockSnapshot, Memory>
         ensures { IfOk result (λ s. s ≡ self.now) }
     {
@@ -55,7 +55,7 @@ impl Sock {
         })
     }
 
-    /// Becomes the buffers at rest, whose limit is its own, in the room that it has. It takes no memory.
+    /// Restores the buffers from a snapshot with the same limit, in the memory that they have. Allocates no memory.
     pub fn restore(&mut self, snapshot: &SockSnapshot)
         requires { self.old.limit ≡ snapshot.now.limit }
         ensures { self.new ≡ snapshot.now }
@@ -67,7 +67,7 @@ impl Sock {
         self.output.restore(&snapshot.output);
     }
 
-    /// Becomes the buffers of a socket that was never opened.
+    /// Resets the buffers to those of a socket that was never opened.
     pub fn reset(&mut self)
         ensures { self.new ≡ never_opened self.old.limit }
     {
@@ -76,7 +76,7 @@ impl Sock {
 }
 
 impl SockSnapshot {
-    /// The buffers, with room for the limit each.
+    /// Returns the buffers, each with room for the limit. Fails with `Memory` if memory runs out.
     pub fn restored(&self, alloc: Global) -> Result<Sock, Memory>
         ensures { IfOk result (λ s. s ≡ self.now) }
     {

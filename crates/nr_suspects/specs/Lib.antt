@@ -1,4 +1,4 @@
--- the specifications that callers need
+-- what callers need
 pub mod Notices
 pub mod Deadlines
 pub mod Debts
@@ -12,5 +12,5 @@ pub mod Sleepers
 pub mod DeadlineFindings
 pub mod HeldReferences
 pub mod Suspects
--- internal
+-- inner
 pub mod Settings

@@ -6,15 +6,15 @@ pub mod TimersOf
 pub mod State
 pub mod Step
 pub mod Change
--- the other definitions that callers need
+-- what callers need besides
 pub mod Back
 pub mod ReversibleLaws
--- internal: only definitions and proofs of this crate use these
+-- inner: what only definitions and proofs of this crate use
 pub mod Places
 pub mod Clearing
 pub mod Performing
 pub mod PathLaws
 pub mod ChangeLaws
 pub mod BackLaws
--- definitions that continue the files that the laws rest on
+-- what goes on with the files that the laws rest on
 pub mod Auxiliary
