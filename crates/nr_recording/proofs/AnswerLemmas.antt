@@ -1,4 +1,4 @@
--- What is no word and number is no answer.
+-- A value that is neither a word nor a word with a number is no answer.
 use Rattle.std.proofs.Common.{◌≡◌, List, [], ◌∷◌, length, None, refl, ◌≤◌, ◌<◌, ◌+◌, ℕ, get_or, drop, ap₂, ◌∙◌}
 use Rattle.std.proofs.lemmas.List.{drop_all, drop_more}
 use Rattle.serde_json.specs.View.{items_view}
@@ -11,7 +11,7 @@ not_two (x ∷ []) other = refl
 not_two (x ∷ y ∷ []) other = absurd (other refl)
 not_two (x ∷ y ∷ z ∷ rest) other = refl
 
--- from place i on the bytes are these
+-- true if these bytes follow from place i on
 abbrev AreAt : List ℕ → ℕ → List ℕ → Type 0
 AreAt word i [] = length word ≤ i
 AreAt word i (x ∷ xs) = (i < length word) × (get_or word i 0 ≡ x) × AreAt word (i + 1) xs

@@ -1,4 +1,4 @@
--- The step that a value is: that of its elements, since a value that is no array has none.
+-- The step of a value is that of its elements, since a value that isn't an array has none.
 use Rattle.std.proofs.Common.{◌≡◌, Option, Some, refl}
 use Rattle.serde_json.specs.Data.{Data, null, boolean, number, string, array, object}
 use Rattle.nr_recording.specs.declared.reading.Header.{Header}

@@ -1,4 +1,4 @@
--- The lines of a text, one after the other.
+-- The lines of a text, one by one.
 use Rattle.std.proofs.Common.{◌≡◌, ℕ, ◌-◌, ◌<◌, ◌==◌, false, List, [], ◌∷◌, ◌++◌, length, take, drop, get_or, refl, ap, sym, ◌∙◌, arith}
 use Rattle.std.proofs.lemmas.Bool.{eqb-true, false_from_ne_true}
 use Rattle.std.proofs.lemmas.List.{get_or_default}
@@ -8,11 +8,11 @@ use Rattle.memchr.specs.Find.{Nowhere, Passes, is_byte}
 use Rattle.nr_recording.specs.Reading.{lines}
 use Rattle.nr_recording.proofs.PlainLemmas.{split_front}
 
--- none of the bytes is a line feed
+-- true if none of the bytes is a line feed
 abbrev HasNoLineFeed : List ℕ → Type 0
 HasNoLineFeed line = All (λ b. (b == 10) ≡ false) line
 
--- the front of a text, up to where no line feed was found
+-- the front of a text, up to which no line feed was found
 no_line_feed : (text line : List ℕ) (end : ℕ) → Nowhere (Passes (is_byte 10) text) 0 end → length line ≡ end → ((k : ℕ) → k < end → get_or line k 0 ≡ get_or text k 0) → HasNoLineFeed line
 no_line_feed text line end nowhere long front k d below =
     let inside : k < end = omega (arith, below, long) in
@@ -23,7 +23,7 @@ no_line_feed text line end nowhere long front k d below =
 pub one_line : (text : List ℕ) → Nowhere (Passes (is_byte 10) text) 0 (length text) → lines text ≡ text ∷ []
 one_line text nowhere = slice_split_none (λ b. b == 10) text (no_line_feed text text (length text) nowhere refl (λ k below. refl))
 
--- the line up to the first line feed, and the lines of what is behind it
+-- the line up to the first line feed, and the lines of the text after it
 pub line_then : (text line rest : List ℕ) (end : ℕ) → Nowhere (Passes (is_byte 10) text) 0 end → Passes (is_byte 10) text end → text ≡ line ++ rest → length line ≡ end
     → ((k : ℕ) → k < end → get_or line k 0 ≡ get_or text k 0) → get_or rest 0 0 ≡ get_or text end 0 → 0 < length rest
     → lines text ≡ line ∷ lines (take (length rest - 1) (drop 1 rest))

@@ -1,4 +1,4 @@
--- The text of a written line: printable ASCII, so that no line feed is in it, and short.
+-- The text of a written line is printable ASCII, so it contains no line feed, and it is short.
 use Rattle.std.proofs.Common.{◌≡◌, ◌≤◌, ◌<◌, ◌+◌, ◌*◌, ◌/◌, ◌%◌, ℕ, zero, suc, pos, negsuc, Bool, true, false, not, eqb, ltb, leb, ◌&&◌, List, [], ◌∷◌, ◌++◌, length, get_or, codes, decimal, refl, ap, ◌∙◌, append_assoc, arith}
 use Rattle.std.specs.List.{list_all}
 use Rattle.std.specs.Fmt.{digits as digits_in, digits_onto, digit_glyph}
@@ -31,15 +31,15 @@ use Rattle.nr_rev.specs.declared.answer.Answer.TheVariants as answers
 
 -- ---- bytes
 
--- a byte of ASCII that is no control below 32
+-- true for a byte of ASCII that is not a control character below 32
 abbrev pub is_printable : ℕ → Bool
 is_printable b = leb 32 b && ltb b 128
 
--- each byte is printable
+-- true if each byte is printable
 abbrev pub are_printable : List ℕ → Bool
 are_printable bs = list_all is_printable bs
 
--- a byte that is in a string as it is
+-- true for a byte that stands for itself in a string
 abbrev is_plain : ℕ → Bool
 is_plain b = leb 48 b && ltb b 123 && not (eqb b 92)
 
@@ -310,7 +310,7 @@ split_line (x ∷ xs) ys h =
     let low = leb-true 32 x (and_parts (leb 32 x) (ltb x 128) p.0).0 in
     rw (ne_eqb x 10 (λ e. omega arith), split_line xs ys p.1) refl
 
--- a visible line that is written is the first line of what is there then
+-- a written line is the first line of the text that it begins
 pub lines-line_text : (d : Data) (more : List ℕ) → are_printable (compact_text d) ≡ true → lines (line_text d ++ more) ≡ compact_text d ∷ lines more
 unfolding line_text
 lines-line_text d more h = ap lines (append_assoc (compact_text d) (10 ∷ []) more) ∙ split_line (compact_text d) more h

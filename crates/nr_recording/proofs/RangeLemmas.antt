@@ -1,4 +1,4 @@
--- What was read keeps the ranges of a recording.
+-- A recording that was read keeps the ranges.
 use Rattle.std.proofs.Common.{◌≡◌, ◌<◌, ◌≤◌, ℕ, ℤ, pos, negsuc, Bool, true, false, if◌then◌else◌, ltb, leb, List, [], ◌∷◌, ◌++◌, ◌∙◌, length, Option, Some, None, Result, Ok, Err, refl, subst, arith}
 use Rattle.std.specs.Prelude.{option_map, option_and_then, codes, ◌==◌}
 use Rattle.std.specs.Result.{result_ok}
@@ -102,7 +102,7 @@ bytes_few d bytes e =
     from_ok (Ok x) h = cc
     from_ok (Err x) h = absurd cc
 
--- what these arguments are read as, wherever they are, has a property
+-- true if the values that these arguments are read as, wherever they are, have a property
 abbrev OnlyReads : {A : Type 0} → (A → Type 0) → (Items → Result (A × Items) Fault) → Type 0
 OnlyReads {A = A} P read = (ds : Items) (p : A × Items) → read ds ≡ Ok p → P p.0
 
@@ -134,7 +134,7 @@ time_least = first_only (λ t. fits (Tick t) ≡ true) time_of (λ d t e. let m 
         subst (λ (x : ℤ). fits (Tick x) ≡ true) same (rw (le-leb 0 n (omega arith)) refl)
     from (negsuc n) t h = absurd cc
 
--- a way to make steps makes just those of a kind that have room in a line
+-- true if a step is of this kind and fits in a line
 record Makes (kind : Kind) (step : Step) : Type 0 where
   kinded : kind_of step ≡ kind
   fitting : fits step ≡ true
@@ -150,12 +150,12 @@ of_found {A = A} kind step found kinded h ds p e = from (found ds) p (h ds) e
     from (Ok q) p h e = subst (λ (s : Step × Items). Makes kind s.0) (same_ok {E = Fault} (step q.0, q.1) p e) (record { kinded = kinded q.0; fitting = h q refl })
     from (Err f) p h e = absurd cc
 
--- a kind that always makes steps that have room
+-- a kind whose steps always fit
 usual : {A : Type 0} (kind : Kind) (step : A → Step) (found : Items → Result (A × Items) Fault) → ((x : A) → kind_of (step x) ≡ kind) → ((x : A) → fits (step x) ≡ true)
     → MakesFitting kind (λ ds. step_from step (found ds))
 usual kind step found kinded h = of_found kind step found kinded (λ ds p e. h p.0)
 
--- only these kinds make steps that might have no room
+-- only these kinds make steps that may not fit
 kind_made : (kind : Kind) → MakesFitting kind (step_in kind)
 kind_made Kind.Arrive = of_found _ _ _ (λ x. refl) (second_only AreFew number bytes few_bytes)
 kind_made Kind.SysWrite = of_found _ _ _ (λ x. refl) (second_only (λ p. AreFew p.1) number (number and bytes) (second_only AreFew number bytes few_bytes))
@@ -173,7 +173,7 @@ kind_had version name kind e =
     from named true is e = subst (λ (k : Kind). has_kind version k ≡ true) (same_Some named kind e) is
     from named false is e = absurd cc
 
--- what is read behind the arguments is an answer, just where the version has answers
+-- an answer is read after the arguments exactly if the version has answers
 answer_had : (version : Version) (ds : Items) (p : Option Answer × Items) → answer_in version ds ≡ Ok p → may_have version p.0 ≡ true
 answer_had One ds p e = subst (λ (q : Option Answer × Items). may_have One q.0 ≡ true) (same_ok {E = Fault} (None, ds) p e) refl
 answer_had Two ds p e =
@@ -195,7 +195,7 @@ step_writable version d step e =
     let may = answer_had version found.0.1 answered.0 answered.1 in
     subst (λ (s : RecordedStep). is_writable version s ≡ true) (same_ok {E = Fault} read step ended.1) (rw (made.kinded, has, made.fitting, may) refl)
 
--- ---- what was seen so far
+-- ---- the lines so far
 
 -- before the header there are no steps
 pub none_before : (header : Option Header) (steps : List RecordedStep) → AreOfHeader header steps → ((h : Header) → ¬ (header ≡ Some h)) → steps ≡ []

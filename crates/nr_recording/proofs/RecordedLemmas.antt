@@ -1,4 +1,4 @@
--- Steps and their answers in two lists, seen as one.
+-- Steps and their answers, in two lists and as one list of rows.
 use Rattle.std.proofs.Common.{◌≡◌, ◌≤◌, ℕ, zero, suc, true, false, eqb, ltb, List, [], ◌∷◌, ◌++◌, length, map, Bor, Option, Some, None, Ok, refl, sym, ap, subst, arith}
 use Rattle.std.specs.Prelude.{option_and_then, option_to_list, slice_get, IfSome}
 use Rattle.std.specs.Option.{option_copied}
@@ -20,9 +20,9 @@ use Rattle.nr_recording.specs.declared.recording.TheConstants.{MOST_STEPS}
 use Rattle.nr_recording.specs.declared.version.Version.{Version}
 use Rattle.nr_recording.specs.declared.version.Version.TheVariants.{One, Two}
 
--- ---- what is seen
+-- ---- the abstract values
 
--- what is lent is the item at its place
+-- a lent item is the one at its place
 pub lent_there : {X : Type 0} (xs : List X) (i : ℕ) (lent : Option (Bor X)) → IsItemAt xs i lent → option_copied lent ≡ slice_get xs i
 lent_there xs i None found = sym (slice_get_past xs i found.3)
 lent_there xs i (Some x) found = sym (slice_get_read xs (length xs) i x.now refl found.3.0 found.1)
@@ -47,7 +47,7 @@ answer_there (s ∷ steps) [] (suc n) few = answer_there steps [] n (omega arith
 answer_there (s ∷ steps) (a ∷ answers) zero few = refl
 answer_there (s ∷ steps) (a ∷ answers) (suc n) few = answer_there steps answers n (omega (arith, few))
 
--- the step of a run and the answer that is recorded of it
+-- the step of a run, and its recorded answer
 pub both_there : (rows : List RecordedStep) (n : ℕ) (s : Step) → slice_get (map (λ (r : RecordedStep). r.step) rows) n ≡ Some s
     → slice_get rows n ≡ Some (record { step = s; answer = option_and_then (λ (r : RecordedStep). r.answer) (slice_get rows n) })
 both_there [] n s read = absurd cc
@@ -67,7 +67,7 @@ fits_at : (s : Step) (steps : List Step) (n : ℕ) → fits s ≡ true → ((k :
 fits_at s steps zero first behind = first
 fits_at s steps (suc n) first behind = behind n
 
--- a step has room in its line
+-- a step fits in its line
 pub step_fits : (version : Version) (steps : List Step) (answers : List Answer) (n : ℕ) → are_writable version (recorded steps answers) ≡ true
     → IfSome (slice_get steps n) (λ s. fits s ≡ true)
 step_fits version [] answers n h = tt
@@ -93,12 +93,12 @@ lines_written Two (s ∷ steps) (a ∷ answers) lines count =
     let both = and_parts (has_line Two s) (have_lines Two steps) lines in
     rw (both.0, lines_written Two steps answers both.1 (omega (arith, count))) refl
 
--- what holds of a step that is there holds of what is lent
+-- a property of the step at a place is one of the lent step
 pub lent_fits : (lent : Option (Bor Step)) (o : Option Step) → option_copied lent ≡ o → IfSome o (λ s. fits s ≡ true) → IfSome lent (λ s. fits s.now ≡ true)
 lent_fits None o is fit = tt
 lent_fits (Some x) o is fit = subst (λ (q : Option Step). IfSome q (λ s. fits s ≡ true)) (sym is) fit
 
--- steps that have lines, with as many answers as the version wants
+-- steps that have lines, with as many answers as the version requires
 pub are_written : (version : Version) (steps : List Step) (answers : List Answer) → make_lines version steps answers ≡ true
     → (are_writable version (recorded steps answers) ≡ true) × (length answers ≡ answer_count version (length steps))
 are_written version steps answers made =
@@ -106,7 +106,7 @@ are_written version steps answers made =
     let count = eqb-true _ _ both.1 in
     (lines_written version steps answers both.0 count, count)
 
--- steps that are written have as many answers as the version wants
+-- writable steps have as many answers as the version requires
 pub count_wanted : (version : Version) (steps : List Step) (answers : List Answer) → are_writable version (recorded steps answers) ≡ true → length answers ≤ length steps
     → length answers ≡ answer_count version (length steps)
 count_wanted One [] [] h few = refl
@@ -159,7 +159,7 @@ one_more_few One steps answers s (Some a) count may = absurd cc
 one_more_few Two steps answers s None count may = absurd cc
 one_more_few Two steps answers s (Some a) count may = omega (arith, count, length-append answers (a ∷ []), length-append steps (s ∷ []))
 
--- ---- what is made
+-- ---- the recording that is made
 
 pub recording_made : (version : Version) (l : Limits) (steps : List Step) (answers : List Answer) → are_in_range l ≡ true → l.buffer ≤ most_buffer version → length steps ≤ MOST_STEPS
     → make_lines version steps answers ≡ true → recording_of version l steps answers ≡ Ok (record { version = version; limits = l; steps = recorded steps answers })

@@ -7,7 +7,7 @@ use Rattle.nr_rev.specs.declared.answer.Answer.{Answer}
 use Rattle.nr_rev.specs.declared.answer.Answer.TheVariants as answers
 use Rattle.nr_recording.specs.Numbers.{u32_of}
 
--- the answer of a word
+-- the answer that a word denotes
 abbrev pub worded : List ℕ → Option Answer
 worded text = if bytes_eq text (codes "done") then Some answers.Done
     else (if bytes_eq text (codes "yes") then Some answers.Yes
@@ -20,20 +20,20 @@ worded text = if bytes_eq text (codes "done") then Some answers.Done
     else (if bytes_eq text (codes "stale") then Some answers.Stale
     else (if bytes_eq text (codes "pipe") then Some answers.Pipe else None)))))))))
 
--- the answer of a word and a number
+-- the answer that a word and a number denote
 abbrev pub counted : List ℕ → ℕ → Option Answer
 counted text n = if bytes_eq text (codes "number") then Some (answers.Number n)
     else (if bytes_eq text (codes "code") then Some (answers.Code n)
     else (if bytes_eq text (codes "got") then Some (answers.Got n)
     else (if bytes_eq text (codes "put") then Some (answers.Put n) else None)))
 
--- the answer of two values, a word and a number of 32 bits
+-- the answer that two values, a word and a number of 32 bits, denote
 abbrev pub counted_of : Items → Option Answer
 counted_of (item word (item count no_items)) =
     option_and_then (λ text. option_and_then (counted text) (u32_of count)) (as_str word)
 counted_of _ = None
 
--- the answer that a value is: a word, or an array of a word and a number
+-- the answer that a value denotes: a word, or an array of a word and a number
 abbrev pub answer_of : Data → Option Answer
 answer_of (string text) = worded text
 answer_of (array ds) = counted_of ds

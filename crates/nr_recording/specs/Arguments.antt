@@ -23,7 +23,7 @@ use Rattle.nr_rev.specs.declared.sides.Mode.TheVariants as modes
 abbrev pub u64_of : Data → Option ℕ
 u64_of d = option_and_then as_u64 (as_number d)
 
--- 0 or 1
+-- the bit that 0 or 1 denotes
 abbrev pub bit_named : ℕ → Option Bool
 bit_named n = if n == 0 then Some false else (if n == 1 then Some true else None)
 
@@ -31,19 +31,19 @@ bit_named n = if n == 0 then Some false else (if n == 1 then Some true else None
 abbrev pub bit_of : Data → Option Bool
 bit_of d = option_and_then bit_named (u64_of d)
 
--- a number of 64 bits with a sign
+-- a signed number of 64 bits
 abbrev pub i64_of : Data → Option ℤ
 i64_of d = option_and_then as_i64 (as_number d)
 
--- not below 0
+-- a time that is at least 0
 abbrev pub from_zero : ℤ → Option ℤ
 from_zero z = if int_lt z (pos 0) then None else Some z
 
--- a time that is not below 0
+-- a time that is at least 0
 abbrev pub time_of : Data → Option ℤ
 time_of d = option_and_then from_zero (i64_of d)
 
--- the word for one side
+-- the side that a word denotes
 abbrev pub side_named : List ℕ → Option Side
 side_named text = if bytes_eq text (codes "r") then Some sides.Read
     else (if bytes_eq text (codes "w") then Some sides.Write else None)
@@ -52,7 +52,7 @@ side_named text = if bytes_eq text (codes "r") then Some sides.Read
 abbrev pub side_of : Data → Option Side
 side_of d = option_and_then side_named (as_str d)
 
--- the word for one side or both
+-- the mode that a word denotes: one side or both
 abbrev pub mode_named : List ℕ → Option Mode
 mode_named text = if bytes_eq text (codes "r") then Some modes.Read
     else (if bytes_eq text (codes "w") then Some modes.Write
@@ -74,9 +74,9 @@ bytes_named text = if nat_lt most_digits (length text) then None else result_ok 
 abbrev pub hex_of : Data → Option (List ℕ)
 hex_of d = option_and_then bytes_named (as_str d)
 
--- ---- the arguments at the front of a list, each read with what is left behind it
+-- ---- the arguments at the front of a list, each read together with the rest of the list
 
--- the first argument; where there is none, or it is none of these, the arguments are faulty
+-- the first argument; if it is missing or has another form, the arguments are faulty
 abbrev pub first_by : {A : Type 0} → (Data → Option A) → Items → Result (A × Items) Fault
 first_by read no_items = Err fault.Arguments
 first_by read (item d ds) = or_fault fault.Arguments (option_map (λ x. (x, ds)) (read d))
@@ -93,15 +93,15 @@ number ds = first_by u32_of ds
 abbrev pub tag : Items → Result (ℕ × Items) Fault
 tag ds = first_by u64_of ds
 
--- 0 or 1
+-- a bit, 0 or 1
 abbrev pub bit : Items → Result (Bool × Items) Fault
 bit ds = first_by bit_of ds
 
--- a time with a sign
+-- a signed time
 abbrev pub moment : Items → Result (ℤ × Items) Fault
 moment ds = first_by i64_of ds
 
--- a time that is not below 0
+-- a time that is at least 0
 abbrev pub time : Items → Result (ℤ × Items) Fault
 time ds = first_by time_of ds
 
@@ -122,7 +122,7 @@ abbrev pub bytes : Items → Result (List ℕ × Items) Fault
 bytes ds = first_by hex_of ds
 
 infixr 20 ◌and◌
--- some arguments, and then others
+-- some arguments, followed by others
 abbrev pub ◌and◌ : {A B : Type 0} → (Items → Result (A × Items) Fault)
     → (Items → Result (B × Items) Fault) → Items → Result ((A × B) × Items) Fault
 (first and second) ds = do

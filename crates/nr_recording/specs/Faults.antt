@@ -16,20 +16,20 @@ fault_text fault.Arguments = codes "104 arguments"
 fault_text fault.Limit = codes "105 limit"
 fault_text fault.TooManySteps = codes "106 too many steps"
 
--- there was no memory
+-- the text of the error of an allocation that failed
 abbrev pub memory_text : List ℕ
 memory_text = codes "fault 108 memory"
 
--- the line that is printed where there was no memory
+-- the line that is printed if an allocation failed
 abbrev pub memory_line : List ℕ
 memory_line = memory_text ++ codes "\n"
 
--- why a text was not read
+-- the reason why a text was not read
 abbrev pub read_fault_text : ReadFault → List ℕ
 read_fault_text (reads.Line n f) = codes "line " ++ decimal n ++ codes ": fault " ++ fault_text f
 read_fault_text (reads.Memory refused) = memory_text
 
--- the line that is printed where a text was not read
+-- the line that is printed if a text was not read
 abbrev pub read_fault_line : ReadFault → List ℕ
 read_fault_line f = read_fault_text f ++ codes "\n"
 
@@ -41,7 +41,7 @@ abbrev pub ◌>>=◌ : {A B E : Type 0} → Result A E → (A → Result B E) �
 (Ok x) >>= f = f x
 (Err e) >>= f = Err e
 
--- what was found, or this fault
+-- the value that was found, or this fault
 abbrev pub or_fault : {A : Type 0} → Fault → Option A → Result A Fault
 or_fault f None = Err f
 or_fault f (Some x) = Ok x

@@ -1,4 +1,4 @@
--- What version and limits the value of the header's line gives.
+-- The version and the limits that the value of the header line gives.
 use Rattle.std.specs.Prelude.{ℕ, suc, ◌==◌, List, option_map, Option, option_and_then, Result, Ok, Err, if◌then◌else◌, codes}
 use Rattle.serde_json.specs.Data.{Data, Members, no_members, member}
 use Rattle.serde_json.specs.Find.{get, as_number, as_u64, as_object}
@@ -16,22 +16,22 @@ abbrev pub unsigned_at : List ℕ → Data → Result ℕ Fault
 unsigned_at key d =
     or_fault fault.Header (option_and_then as_u64 (option_and_then as_number (get key d)))
 
--- how many members there are
+-- the number of members
 abbrev pub members_len : Members → ℕ
 members_len no_members = 0
 members_len (member k d ms) = suc (members_len ms)
 
--- how many members an object has
+-- the number of members of an object
 abbrev pub member_count : Data → Option ℕ
 member_count d = option_map members_len (as_object d)
 
--- the version of the number that the object names
+-- the version whose number the object names
 abbrev pub version_of : Data → Result Version Fault
 version_of d = do
   number ← unsigned_at (codes "netrev") d
   or_fault fault.Header (version_numbered number)
 
--- a limit, from 1 to the most
+-- a limit, from 1 to its greatest value
 abbrev pub limit_of : ℕ → ℕ → Result ℕ Fault
 limit_of most n = if is_limit most n then Ok n else Err fault.Limit
 
@@ -49,8 +49,8 @@ limits_of version gor sock desc buf = do
     buffer = buffer;
   })
 
--- the limits of an object of this version, of the five keys and no other: its form is tested before
--- the ranges
+-- the limits in an object of this version with the five keys and no other; its form is tested
+-- before the ranges
 unfoldable pub header_of : Version → Data → Result Limits Fault
 header_of version d = do
   count ← or_fault fault.Header (member_count d)

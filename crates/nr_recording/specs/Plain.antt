@@ -8,15 +8,15 @@ use Rattle.serde_json.specs.Written.{outline}
 use Rattle.nr_recording.specs.declared.part.Part.{Part}
 use Rattle.nr_recording.specs.Part.{part_data}
 
--- the tokens of what is left of a text behind an item
+-- the tokens of the rest of a text after an item
 abbrev pub items_behind : List ℕ → List Token
 items_behind text = punctuate after_value (lex between text)
 
--- the tokens of what is left of a text behind an item and the comma that follows it
+-- the tokens of the rest of a text after an item and the comma that follows it
 abbrev pub items_after_comma : List ℕ → List Token
 items_after_comma text = punctuate after_comma (lex between text)
 
--- wherever an item may begin, the text has these tokens, and then those of what is left
+-- true if, at any place for an item, the text has these tokens and then those of its rest
 abbrev pub Begins : List ℕ → List Token → List ℕ → Type 0
 Begins text ts left = (place : Place) → may_begin place ≡ true
     → punctuate place (lex between text) ≡ ts ++ items_behind left
@@ -25,12 +25,12 @@ Begins text ts left = (place : Place) → may_begin place ≡ true
 abbrev pub part_tokens : Part → List Token
 part_tokens part = json_tokens (outline (part_data part))
 
--- a part that its tokens say whole: it nests once at most, and they are read as it
+-- a part that can be read back from its tokens: it nests at most once, and they are read as it
 pub record ReadsBack (part : Part) : Type 0 where
   pub flat : depth (outline (part_data part)) ≤ 1
   pub same : of_json (outline (part_data part)) ≡ Some (part_data part)
 
--- a comma or the bracket that closes an array comes next
+-- true if a comma or the bracket that closes an array comes next
 abbrev pub ends_item : List ℕ → Bool
 ends_item [] = false
 ends_item (x ∷ xs) = (x == 44) || (x == 93)

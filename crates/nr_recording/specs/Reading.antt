@@ -19,15 +19,15 @@ use Rattle.nr_recording.specs.Steps.{step_of}
 
 -- ---- one line
 
--- a line feed ends a line, and the last one may lack it
+-- the lines of a text: a line feed ends each, and the last one may lack it
 abbrev pub lines : List ℕ → List (List ℕ)
 lines bytes = slice_split (λ b. b == 10) bytes
 
--- a space, a tab or a carriage return
+-- true for a space, a tab and a carriage return
 abbrev pub is_space : ℕ → Bool
 is_space b = (b == 32) || (b == 9) || (b == 13)
 
--- such bytes alone, or none
+-- true if the line is empty or consists of such bytes
 abbrev pub is_blank : List ℕ → Bool
 is_blank line = list_all is_space line
 
@@ -37,16 +37,16 @@ value_of line = if is_utf8 line then or_fault fault.NotJson (read line) else Err
 
 -- ---- line after line
 
--- what was read of some lines
+-- the header and the steps of the lines so far
 pub record Seen : Type 0 where
   pub header : Option Header
   pub steps : List RecordedStep
 
--- before the first line
+-- the state before the first line
 abbrev pub nothing : Seen
 nothing = record { header = None; steps = [] }
 
--- what was seen, and the value of one more line
+-- the state after the value of one more line
 abbrev pub with_value : Seen → Option Header → Data → Result Seen Fault
 with_value seen None d = do
   version ← version_of d
@@ -58,7 +58,7 @@ with_value seen (Some header) d =
       step ← step_of header.version d
       Ok (record seen { steps = seen.steps ++ step ∷ [] })
 
--- what was seen, and one more line
+-- the state after one more line
 unfoldable pub with_line : Seen → List ℕ → Result Seen Fault
 with_line seen line =
     if nat_lt MOST_LINE_BYTES (length line) then Err fault.Limit
@@ -67,12 +67,12 @@ with_line seen line =
       d ← value_of line
       with_value seen seen.header d)
 
--- a fault is that of line n
+-- the fault of line n
 abbrev pub at_line : {A : Type 0} → ℕ → Result A Fault → Result A ReadFault
 at_line n (Ok x) = Ok x
 at_line n (Err f) = Err (errors.Line n f)
 
--- the lines from number n on, behind what was seen
+-- the state after the lines from number n on
 unfoldable pub with_lines : ℕ → Seen → List (List ℕ) → Result Seen ReadFault
 with_lines n seen [] = Ok seen
 with_lines n seen (line ∷ rest) =
@@ -80,7 +80,7 @@ with_lines n seen (line ∷ rest) =
 
 -- ---- the whole text
 
--- without a header line the fault is that of line n
+-- the result for a header; without a header line, the fault of line n
 abbrev pub with_header : ℕ → Option Header → List RecordedStep → Result Recorded ReadFault
 with_header n None steps = Err (errors.Line n fault.Header)
 with_header n (Some header) steps = Ok (record {
@@ -89,7 +89,7 @@ with_header n (Some header) steps = Ok (record {
   steps = steps;
 })
 
--- what comes after the last line, whose number is n
+-- the result after the last line, whose number is n
 abbrev pub recording_at_end : ℕ → Seen → Result Recorded ReadFault
 recording_at_end n seen = with_header n seen.header seen.steps
 

@@ -1,4 +1,4 @@
--- What a recording has, and which limits and steps make one.
+-- The contents of a recording, and the limits and steps that make one.
 use Rattle.std.specs.Prelude.{ℕ, List, [], ◌∷◌, map, slice_get, Option, Some, None, option_and_then}
 use Rattle.nr_rev.specs.Run.{Recording}
 use Rattle.nr_rev.specs.declared.answer.Answer.{Answer}
@@ -7,24 +7,24 @@ use Rattle.nr_rev.specs.declared.step.Step.{Step}
 use Rattle.nr_recording.specs.declared.recording.RecordedStep.{RecordedStep}
 use Rattle.nr_recording.specs.declared.version.Version.{Version}
 
--- what is recorded: the version of the format, the limits, and the steps in order, with the answers
--- that were recorded of them
+-- the contents of a recording: the version of the format, the limits, and the steps in order, with
+-- their recorded answers
 pub record Recorded : Type 0 where
   pub version : Version
   pub limits : Limits
   pub steps : List RecordedStep
 
--- the steps, the first of which have these answers
+-- the steps with these answers, which belong to the first of them
 abbrev pub recorded : List Step → List Answer → List RecordedStep
 recorded [] answers = []
 recorded (step ∷ steps) [] = record { step = step; answer = None } ∷ recorded steps []
 recorded (step ∷ steps) (answer ∷ answers) = record { step = step; answer = Some answer }
     ∷ recorded steps answers
 
--- the run that is recorded: its limits and steps
+-- the recorded run: its limits and steps
 abbrev pub run_of : Recorded → Recording
 run_of r = record { limits = r.limits; steps = map (λ recorded. recorded.step) r.steps }
 
--- the answer that is recorded of the step after position n, if any is
+-- the recorded answer of the step after position n, if there is one
 abbrev pub recorded_at : Recorded → ℕ → Option Answer
 recorded_at r n = option_and_then (λ recorded. recorded.answer) (slice_get r.steps n)

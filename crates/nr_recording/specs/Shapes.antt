@@ -1,4 +1,4 @@
--- The shapes that steps have in a line: which arguments a step is made of, read from the front of a
+-- The shapes of steps in a line: the arguments that make a step, read from the front of a
 -- list.
 use Rattle.std.specs.Prelude.{ℕ, ℤ, List, Bool, Result, Ok, Err}
 use Rattle.serde_json.specs.Data.{Items}
@@ -8,13 +8,13 @@ use Rattle.nr_rev.specs.declared.step.Step.{Step}
 use Rattle.nr_recording.specs.declared.fault.Fault.{Fault}
 use Rattle.nr_recording.specs.Arguments.{◌and◌, none, number, tag, bit, moment, time, side, mode, bytes}
 
--- the step of what was read, and what is left
+-- the step made of the values that were read, and the rest of the list
 abbrev pub step_from : {A : Type 0} → (A → Step) → Result (A × Items) Fault
     → Result (Step × Items) Fault
 step_from step (Ok found) = Ok (step found.0, found.1)
 step_from step (Err f) = Err f
 
--- a step of three values, of which the last two were read together
+-- a step of three values, the last two of which were read together
 abbrev pub with_three : {A B C : Type 0} → (A → B → C → Step) → A × (B × C) → Step
 with_three step (first, (second, third)) = step first second third
 
@@ -50,7 +50,7 @@ arrival step ds = step_from (λ p. step p.0 p.1) ((number and bytes) ds)
 abbrev pub transfer : (ℕ → ℕ → List ℕ → Step) → Items → Result (Step × Items) Fault
 transfer step ds = step_from (with_three step) ((number and number and bytes) ds)
 
--- two numbers, a mode and a time with a sign
+-- two numbers, a mode and a signed time
 abbrev pub deadline : (ℕ → ℕ → Mode → ℤ → Step) → Items → Result (Step × Items) Fault
 deadline step ds = step_from (with_four step) ((number and number and mode and moment) ds)
 
@@ -58,6 +58,6 @@ deadline step ds = step_from (with_four step) ((number and number and mode and m
 abbrev pub event : (ℕ → ℕ → Mode → Bool → Step) → Items → Result (Step × Items) Fault
 event step ds = step_from (with_four step) ((number and tag and mode and bit) ds)
 
--- a time that is not below 0
+-- a time that is at least 0
 abbrev pub timed : (ℤ → Step) → Items → Result (Step × Items) Fault
 timed step ds = step_from (λ p. step p) (time ds)

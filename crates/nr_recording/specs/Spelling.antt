@@ -1,11 +1,11 @@
--- The JSON of a line that is written: a name and arguments.
+-- The JSON of a line to write: a name and arguments.
 use Rattle.std.specs.Prelude.{ℕ, ℤ, Bool, List}
 use Rattle.nr_rev.specs.declared.answer.Answer.{Answer}
 use Rattle.nr_rev.specs.declared.sides.Side.{Side}
 use Rattle.nr_rev.specs.declared.sides.Mode.{Mode}
 
--- an argument of a step: a number of 32 bits, a tag of 64, a time with a sign, a side, a mode, a
--- bit, bytes, or the answer behind them
+-- an argument of a step: a number of 32 bits, a tag of 64, a signed time, a side, a mode, a bit,
+-- bytes, or the answer after them
 pub data Argument : Type 0 where
   numeral : ℕ → Argument
   tag : ℕ → Argument

@@ -1,4 +1,4 @@
--- What text is a recording: a grammar, apart from the reading of it.
+-- The texts of recordings: a grammar, independent of the function that reads them.
 use Rattle.std.specs.Prelude.{◌≡◌, ◌≤◌, ◌⊎◌, ℕ, List, [], ◌∷◌, length, true, false, Ok, ⊤}
 use Rattle.serde_json.specs.Data.{Data}
 use Rattle.nr_rev.specs.declared.limits.Limits.{Limits}
@@ -11,27 +11,27 @@ use Rattle.nr_recording.specs.Header.{version_of, header_of}
 use Rattle.nr_recording.specs.Steps.{step_of}
 use Rattle.nr_recording.specs.Reading.{lines, is_blank, value_of}
 
--- the line is skipped
+-- true if the line is skipped
 pub record IsSkipped (line : List ℕ) : Type 0 where
   pub short : length line ≤ MOST_LINE_BYTES
   pub blank : is_blank line ≡ true
 
--- the line is JSON, and d its value
+-- true if the line is JSON with the value d
 pub record IsValueLine (line : List ℕ) (d : Data) : Type 0 where
   pub short : length line ≤ MOST_LINE_BYTES
   pub visible : is_blank line ≡ false
   pub value : value_of line ≡ Ok d
 
--- the line is a header of this version with these limits
+-- true if the line is a header of this version with these limits
 abbrev pub IsHeaderLine : Version → List ℕ → Limits → Type 0
 IsHeaderLine version line limits = (d : Data) × IsValueLine line d × (version_of d ≡ Ok version)
     × (header_of version d ≡ Ok limits)
 
--- the line is this step, with its answer where the version has answers
+-- true if the line is this step, with its answer if the version has answers
 abbrev pub IsStepLine : Version → List ℕ → RecordedStep → Type 0
 IsStepLine version line step = (d : Data) × IsValueLine line d × (step_of version d ≡ Ok step)
 
--- a line for each step, and skipped lines
+-- true if the lines are one for each step, and skipped lines
 abbrev pub AreSteps : Version → List (List ℕ) → List RecordedStep → Type 0
 AreSteps version [] [] = ⊤
 AreSteps version [] (step ∷ steps) = ⊥
@@ -40,7 +40,7 @@ AreSteps version (line ∷ rest) (step ∷ steps) =
     (IsSkipped line × AreSteps version rest (step ∷ steps))
     ⊎ (IsStepLine version line step × AreSteps version rest steps)
 
--- skipped lines, a header, and the steps
+-- true if the lines are skipped lines, a header, and the steps
 abbrev pub AreLinesOf : List (List ℕ) → Recorded → Type 0
 AreLinesOf [] r = ⊥
 AreLinesOf (line ∷ rest) r =
@@ -48,6 +48,6 @@ AreLinesOf (line ∷ rest) r =
     ⊎ (IsHeaderLine r.version line r.limits × AreSteps r.version rest r.steps
     × (length r.steps ≤ MOST_STEPS))
 
--- the bytes are a text of the recording
+-- true if the bytes are a text of the recording
 abbrev pub IsTextOf : List ℕ → Recorded → Type 0
 IsTextOf bytes r = AreLinesOf (lines bytes) r

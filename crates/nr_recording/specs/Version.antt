@@ -1,4 +1,4 @@
--- The versions of the format: which number each has, and what it allows.
+-- The versions of the format: the number of each, and what it allows.
 use Rattle.std.specs.Prelude.{ℕ, ◌==◌, List, Bool, true, false, Option, Some, None, option_and_then, if◌then◌else◌}
 use Rattle.nr_rev.specs.Kind.{kind_named}
 use Rattle.nr_rev.specs.declared.kind.Kind.{Kind}
@@ -7,24 +7,24 @@ use Rattle.nr_recording.specs.declared.version.TheConstants.{MOST_BUFFER_IN_ONE}
 use Rattle.nr_recording.specs.declared.version.Version.{Version}
 use Rattle.nr_recording.specs.declared.version.Version.TheVariants.{One, Two}
 
--- the version of this number
+-- the version with this number
 abbrev pub version_numbered : ℕ → Option Version
 version_numbered n = if n == 1 then Some One else (if n == 2 then Some Two else None)
 
--- the greatest buf
+-- the greatest `buf` of a version
 abbrev pub most_buffer : Version → ℕ
 most_buffer One = MOST_BUFFER_IN_ONE
 most_buffer Two = MOST_BUFFER
 
--- whether there are steps of this kind: in version 1 none that shuts a write side
+-- true if the version has steps of this kind: version 1 has none that shuts a write side
 abbrev pub has_kind : Version → Kind → Bool
 has_kind One Kind.CloseWrite = false
 has_kind _ _ = true
 
--- the kind, if there are steps of it
+-- the kind, if the version has steps of it
 abbrev pub kept_kind : Version → Kind → Option Kind
 kept_kind version kind = if has_kind version kind then Some kind else None
 
--- the kind of this name
+-- the kind with this name
 unfoldable pub kind_in : Version → List ℕ → Option Kind
 kind_in version name = option_and_then (kept_kind version) (kind_named name)

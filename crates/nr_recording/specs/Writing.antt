@@ -1,4 +1,4 @@
--- The one text that is written of a recording.
+-- The text that `write` writes for a recording.
 use Rattle.std.specs.Prelude.{ℕ, ◌<◌, List, [], ◌∷◌, ◌++◌, length, take, map, Result, Err, Bool, true, false, codes}
 use Rattle.std.specs.List.{concat}
 use Rattle.serde_json.specs.Data.{Data, number, unsigned, object, no_members, member}
@@ -14,11 +14,11 @@ use Rattle.nr_recording.specs.Auxiliary.Spelling.{AreInTypes, line_data}
 use Rattle.nr_recording.specs.Auxiliary.Steps.{spelling_of}
 use Rattle.nr_recording.specs.Auxiliary.Version.{version_number}
 
--- the JSON of a step and of the answer that is recorded of it
+-- the JSON of a step and of its recorded answer
 abbrev pub step_data : RecordedStep → Data
 step_data recorded = line_data (spelling_of recorded)
 
--- each number of the step and of its answer is in the range of its type
+-- true if each number of the step and of its answer is in the range of its type
 abbrev pub HasTypedArguments : RecordedStep → Type 0
 HasTypedArguments recorded = AreInTypes (spelling_of recorded).1
 
@@ -36,26 +36,26 @@ header_data version l = object (member (codes "buf") (number (unsigned l.buffer)
 unfoldable pub line_text : Data → List ℕ
 line_text d = compact_text d ++ 10 ∷ []
 
--- the lines with their line feeds
+-- the lines, each with its line feed
 abbrev pub line_texts : Recorded → List (List ℕ)
 line_texts r = line_text (header_data r.version r.limits)
     ∷ map (λ recorded. line_text (step_data recorded)) r.steps
 
--- the text that is written
+-- the whole text
 abbrev pub text : Recorded → List ℕ
 text r = concat (line_texts r)
 
--- ---- what an error leaves written
+-- ---- what has been written when an error occurs
 
--- just a prefix of the text, and not all
+-- true if a part of the text was sent, from its beginning, and not all of it
 abbrev pub SendsPart : Outgoing → Outgoing → List ℕ → Type 0
 SendsPart old new bytes = (n : ℕ) × (n < length bytes) × Sends old new (take n bytes)
 
--- just some first lines, whole, and not all
+-- true if only whole lines were sent, the first ones, and not all
 abbrev pub SendsLines : Outgoing → Outgoing → List (List ℕ) → Type 0
 SendsLines old new texts = (n : ℕ) × (n < length texts) × Sends old new (concat (take n texts))
 
--- a write is reported to have failed
+-- true if the result reports that a write failed
 abbrev pub is_device_failure : {A : Type 0} → Result A WriteFault → Bool
 is_device_failure (Err faults.Device) = true
 is_device_failure _ = false

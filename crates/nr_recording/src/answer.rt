@@ -51,7 +51,7 @@ fn counted_of(parts: &[Value]) -> Option<Answer>
     }
 }
 
-/// The answer that a value is.
+/// Returns the answer that a JSON value denotes, if it is one.
 pub(crate) fn answer_of(value: &Value) -> Option<Answer>
     ensures { result ≡ answer_of (view value.now) }
 {
@@ -68,7 +68,7 @@ fn counted_value(alloc: Global, word: &str, count: u32) -> Result<Value, AllocEr
     json!(in alloc; [word, count])
 }
 
-/// The value of an answer.
+/// Makes the JSON value of an answer.
 pub(crate) fn answer_value(alloc: Global, answer: Answer) -> Result<Value, AllocError>
     ensures { IfOk result (λ v. IsAnswer (view v) answer) }
 {

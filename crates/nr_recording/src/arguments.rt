@@ -1,4 +1,4 @@
-//! The arguments of a step, each read from the front of what is left of its line.
+//! The arguments of a step. Each function reads one from the front of the parts that are left of the line.
 
 ghost use Rattle.std.specs.Prelude.{◌≡◌, true};
 ghost use Rattle.nr_rev.specs.Refusing.{refused_memory};
@@ -16,7 +16,7 @@ use std::alloc::Global;
 
 const MOST_DIGITS: usize = 2 * MOST_BYTES;
 
-/// A number of 32 bits.
+/// Returns the number of 32 bits that a part is.
 fn u32_of(part: Part<'_>) -> Option<u32>
     ensures { result ≡ u32_of (part_data part.entry) }
 {
@@ -78,14 +78,14 @@ fn mode_of(part: Part<'_>) -> Option<Mode>
     mode_named(part.as_bytes()?)
 }
 
-/// A number of 32 bits.
+/// Reads a number of 32 bits.
 pub(crate) fn number(arguments: &mut Parts<'_>) -> Result<u32, Fault>
     ensures { number_in (rest_of arguments.old) ≡ with_rest (rest_of arguments.new) result }
 {
     arguments.next().and_then(u32_of).ok_or(Fault::Arguments)
 }
 
-/// A number of 64 bits.
+/// Reads a number of 64 bits.
 pub(crate) fn tag(arguments: &mut Parts<'_>) -> Result<u64, Fault>
     ensures { tag_in (rest_of arguments.old) ≡ with_rest (rest_of arguments.new) result }
 {
@@ -95,14 +95,14 @@ pub(crate) fn tag(arguments: &mut Parts<'_>) -> Result<u64, Fault>
         .ok_or(Fault::Arguments)
 }
 
-/// Whether it is 1, and not 0.
+/// Reads a bit, 0 or 1, and returns whether it is 1.
 pub(crate) fn bit(arguments: &mut Parts<'_>) -> Result<bool, Fault>
     ensures { bit_in (rest_of arguments.old) ≡ with_rest (rest_of arguments.new) result }
 {
     arguments.next().and_then(bit_of).ok_or(Fault::Arguments)
 }
 
-/// A time, in nanoseconds, that may be below 0.
+/// Reads a time in nanoseconds, which may be negative.
 pub(crate) fn moment(arguments: &mut Parts<'_>) -> Result<i64, Fault>
     ensures { moment_in (rest_of arguments.old) ≡ with_rest (rest_of arguments.new) result }
 {
@@ -112,28 +112,28 @@ pub(crate) fn moment(arguments: &mut Parts<'_>) -> Result<i64, Fault>
         .ok_or(Fault::Arguments)
 }
 
-/// A time, in nanoseconds, that is not below 0.
+/// Reads a time in nanoseconds that is at least 0.
 pub(crate) fn time(arguments: &mut Parts<'_>) -> Result<i64, Fault>
     ensures { time_in (rest_of arguments.old) ≡ with_rest (rest_of arguments.new) result }
 {
     arguments.next().and_then(time_of).ok_or(Fault::Arguments)
 }
 
-/// One side.
+/// Reads a side.
 pub(crate) fn side(arguments: &mut Parts<'_>) -> Result<Side, Fault>
     ensures { side_in (rest_of arguments.old) ≡ with_rest (rest_of arguments.new) result }
 {
     arguments.next().and_then(side_of).ok_or(Fault::Arguments)
 }
 
-/// One side or both.
+/// Reads a mode: one side or both.
 pub(crate) fn mode(arguments: &mut Parts<'_>) -> Result<Mode, Fault>
     ensures { mode_in (rest_of arguments.old) ≡ with_rest (rest_of arguments.new) result }
 {
     arguments.next().and_then(mode_of).ok_or(Fault::Arguments)
 }
 
-/// A recorded answer.
+/// Reads a recorded answer.
 pub(crate) fn answer(arguments: &mut Parts<'_>) -> Result<Answer, Fault>
     ensures { answer_in (rest_of arguments.old) ≡ with_rest (rest_of arguments.new) result }
 {
@@ -143,7 +143,7 @@ pub(crate) fn answer(arguments: &mut Parts<'_>) -> Result<Answer, Fault>
         .ok_or(Fault::Arguments)
 }
 
-/// Bytes, as hexadecimal digits.
+/// Reads bytes, written as hexadecimal digits.
 pub(crate) fn bytes(alloc: Global, arguments: &mut Parts<'_>) -> Result<Bytes, LineError>
     ensures found { ReadsBy (λ bytes. (bytes, rest_of arguments.new)) result
         (bytes_in (rest_of arguments.old)) }

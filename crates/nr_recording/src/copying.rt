@@ -1,4 +1,4 @@
-//! A copy of a step.
+//! Copies of steps.
 
 ghost use Rattle.std.specs.Prelude.{◌≡◌, IfOk};
 
@@ -11,7 +11,7 @@ fn copy_of(alloc: Global, bytes: &Bytes) -> Result<Bytes, Memory>
     Ok(Bytes::new(bytes.as_slice().to_vec(alloc)?))
 }
 
-/// A copy of a step. Only its bytes take memory.
+/// Returns a copy of a step. Only its bytes take memory.
 pub fn step_copy(alloc: Global, step: &Step) -> Result<Step, Memory>
     ensures { IfOk result (λ copy. copy ≡ step.now) }
 {

@@ -1,4 +1,4 @@
-//! Why a recording could not be made, read or written.
+//! The errors of making, reading and writing a recording.
 
 ghost use Rattle.std.specs.Prelude.{◌≡◌, Some};
 ghost use Rattle.nr_rev.specs.Refusing.{refused_memory};
@@ -16,26 +16,26 @@ use std::fmt::{Display, Formatter, Write};
 use std::{fmt, io};
 use thiserror::Error;
 
-/// What is wrong with a line.
+/// The reason why a line is faulty.
 #[derive(Clone, Copy, Debug, PartialEq, Eq)]
 pub enum Fault {
-    /// The first line that isn't blank is not the header's object: a key is missing or too many,
-    /// the version is another, or a value is no unsigned number. Or there is no such line.
+    /// The first line that isn't blank is not a valid header object: a key is missing or unknown, the version is
+    /// unknown, or a value is not an unsigned number. Or the text has no such line.
     Header,
-    /// The line is no JSON, or nests more than 127 deep.
+    /// The line is not JSON, or is nested more than 127 levels deep.
     NotJson,
-    /// The line is no array that begins with the name of a kind.
+    /// The line is not an array that begins with the name of a kind.
     UnknownStep,
-    /// The kind has other arguments.
+    /// The arguments don't match the kind.
     Arguments,
     /// The line has more than 200,000 bytes, or a limit is out of its range.
     Limit,
-    /// The line is step 1,000,001.
+    /// The line would be step 1,000,001.
     TooManySteps,
 }
 
 impl Fault {
-    /// The fault's number and text, as in `102 not JSON`.
+    /// Returns the fault's number and text, as in `102 not JSON`.
     pub fn text(self) -> &'static str
         ensures { result.now ≡ fault_text self }
     {
@@ -58,11 +58,11 @@ impl Display for Fault {
     }
 }
 
-/// There was no memory: a call was refused it.
+/// The error of an allocation that failed.
 #[derive(Clone, Copy, Debug, PartialEq, Eq)]
 pub struct OutOfMemory(pub Memory);
 
-/// It is the line `fault 108 memory`.
+/// Its text is the line `fault 108 memory`.
 impl Text for OutOfMemory {
     ghost text = { λ _. memory_line };
 
@@ -71,10 +71,10 @@ impl Text for OutOfMemory {
     }
 }
 
-/// Why a text was not read.
+/// The reason why a text was not read.
 #[derive(Clone, Copy, Debug, PartialEq, Eq, Error)]
 pub enum ReadFault {
-    /// The first faulty line, counted from 1, and what is wrong with it.
+    /// The first faulty line, counted from 1, and its fault.
     #[error("line {line}: fault {fault}")]
     Line { line: usize, fault: Fault },
     /// Memory ran out.
@@ -82,7 +82,7 @@ pub enum ReadFault {
     Memory(Memory),
 }
 
-/// It is a line, as `line 6: fault 102 not JSON` or `fault 108 memory`.
+/// Its text is a line such as `line 6: fault 102 not JSON` or `fault 108 memory`.
 impl Text for ReadFault {
     ghost text = { read_fault_line };
 
@@ -103,7 +103,7 @@ impl Text for ReadFault {
     }
 }
 
-/// Why limits, steps and answers make no recording.
+/// The reason why limits, steps and answers don't make a recording.
 #[derive(Clone, Copy, Debug, PartialEq, Eq, Error)]
 pub enum MakeFault {
     /// A limit is out of its range.
@@ -112,13 +112,13 @@ pub enum MakeFault {
     /// There are more than 1,000,000 steps.
     #[error("more than 1,000,000 steps")]
     TooManySteps,
-    /// A step carries more than 65,536 bytes, sets the clock below 0, or shuts a write side in version 1. Or there are
-    /// too many answers or too few: version 1 has none, version 2 one for each step.
+    /// A step carries more than 65,536 bytes, sets the clock below 0, or shuts a write side in version 1. Or the number
+    /// of answers is wrong: version 1 has none, version 2 has one for each step.
     #[error("a step carries too many bytes, sets the clock below 0 or is not of the version")]
     Step,
 }
 
-/// Why a line could not be read.
+/// The reason why a line was not read.
 #[derive(Debug, Drop)]
 pub(crate) enum LineError {
     Memory(Memory),
@@ -133,7 +133,7 @@ impl From<Fault> for LineError {
     }
 }
 
-/// Digits that are none are a faulty argument.
+/// A text that isn't hexadecimal is a faulty argument.
 impl From<FromHexError> for LineError {
     ghost from_gives = { λ error e. e ≡ of_hex error };
 
@@ -145,7 +145,7 @@ impl From<FromHexError> for LineError {
     }
 }
 
-/// A line that the reader of JSON refuses is no JSON.
+/// A line that the JSON reader rejects is not JSON.
 impl From<serde_json::Error> for LineError {
     ghost from_gives = { λ error e. e ≡ of_json error };
 
@@ -168,7 +168,7 @@ impl From<Memory> for LineError {
 impl LineError {
     ghost use Rattle.nr_recording.specs.Auxiliary.Reading.{read_fault_at};
 
-    /// The fault of this line of a text.
+    /// Returns this error as the fault of a line of a text.
     pub(crate) fn at(self, line: usize) -> ReadFault
         ensures { result ≡ read_fault_at line self }
     {
@@ -179,13 +179,13 @@ impl LineError {
     }
 }
 
-/// Why a recording was not written.
+/// The reason why a recording was not written.
 #[derive(Clone, Copy, Debug, PartialEq, Eq, Error)]
 pub enum WriteFault {
-    /// Memory ran out. Just some first lines went out, whole, and not all.
+    /// Memory ran out. Only whole lines went out, the first ones, and not all.
     #[error("memory")]
     Memory(Memory),
-    /// A write failed or took nothing. Just a prefix of the text went out, and not all.
+    /// A write failed or took nothing. A part of the text went out, from its beginning, and not all of it.
     #[error("device")]
     Device,
 }

@@ -1,4 +1,4 @@
-//! The version and the limits that the value of the header's line says.
+//! The version and the limits that the header line gives.
 
 ghost use Rattle.std.specs.Prelude.{◌≡◌};
 ghost use Rattle.serde_json.specs.View.{view};
@@ -22,7 +22,7 @@ fn unsigned(value: &Value, key: &str) -> Result<u64, Fault>
     value.get(key).and_then(Value::as_u64).ok_or(Fault::Header)
 }
 
-/// The version that the header names.
+/// Returns the version that the header names.
 pub(crate) fn version(value: &Value) -> Result<Version, Fault>
     ensures { result ≡ version_of (view value.now) }
 {
@@ -51,7 +51,7 @@ fn limits(version: Version, gor: u64, sock: u64, desc: u64, buf: u64) -> Result<
     })
 }
 
-/// The limits that a header of this version says.
+/// Returns the limits in a header of this version.
 #[tactic(auto, unfolding(crate::specs::Header::header_of))]
 pub(crate) fn header(version: Version, value: &Value) -> Result<Limits, Fault>
     ensures { result ≡ header_of version (view value.now) }

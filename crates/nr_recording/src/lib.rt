@@ -1,4 +1,4 @@
-//! Recordings of a run as text, a line of JSON for each step: reading and writing.
+//! Reads and writes recordings of a run as text, with a line of JSON for each step.
 #![tactic(auto)]
 
 mod answer;

@@ -1,4 +1,4 @@
-//! The parts of a line, an array's: values of JSON, or texts and numbers that are borrowed from the line itself.
+//! The parts of a line, which is an array: values of JSON, or texts and numbers that are borrowed from the line itself.
 
 ghost use Rattle.std.specs.Prelude.{◌≡◌, MatchOption, option_map};
 ghost use Rattle.serde_json.specs.Data.{no_items, item};
@@ -22,12 +22,12 @@ pub(crate) const MOST_PARTS: usize = 6;
 pub(crate) enum Part<'a> {
     Text(&'a [u8]),
     Number(u64),
-    /// A text and a number, in brackets: an answer with a count.
+    /// A text and a number in brackets: an answer with a count.
     Pair(&'a [u8], u64),
     Value(&'a Value),
 }
 
-// What an unused place of a list holds.
+// The value of an unused place in a list.
 impl<'a> Default for Part<'a> {
     fn default() -> Part<'a> {
         Part::Number(0)
@@ -35,7 +35,7 @@ impl<'a> Default for Part<'a> {
 }
 
 impl<'a> Part<'a> {
-    /// The number of 64 bits that it is.
+    /// Returns the part as a number of 64 bits, if it is one.
     pub(crate) fn as_u64(self) -> Option<u64>
         ensures { result ≡ u64_of (part_data self.entry) }
     {
@@ -46,7 +46,7 @@ impl<'a> Part<'a> {
         }
     }
 
-    /// The number of 64 bits with a sign that it is.
+    /// Returns the part as a signed number of 64 bits, if it is one.
     pub(crate) fn as_i64(self) -> Option<i64>
         ensures { result ≡ i64_of (part_data self.entry) }
     {
@@ -57,7 +57,7 @@ impl<'a> Part<'a> {
         }
     }
 
-    /// The bytes of the text that it is.
+    /// Returns the bytes of the part, if it is a text.
     pub(crate) fn as_bytes(self) -> Option<&'a [u8]>
         ensures { option_map (λ text. text.now) result ≡ as_str (part_data self.entry) }
     {
@@ -68,7 +68,7 @@ impl<'a> Part<'a> {
         }
     }
 
-    /// The answer that it is.
+    /// Returns the part as an answer, if it is one.
     pub(crate) fn answer(self) -> Option<Answer>
         ensures { result ≡ answer_of (part_data self.entry) }
     {
@@ -81,10 +81,10 @@ impl<'a> Part<'a> {
     }
 }
 
-/// The parts of one line.
+/// The parts of a line.
 pub(crate) type PartList<'a> = ArrayVec<Part<'a>, MOST_PARTS>;
 
-/// The values of an array; none of any other value.
+/// Returns the values of an array, or none if the value isn't an array.
 pub(crate) fn elements(value: &Value) -> &[Value]
     ensures { items_view result.now ≡ elements (view value.now) }
 {
@@ -94,7 +94,7 @@ pub(crate) fn elements(value: &Value) -> &[Value]
     }
 }
 
-/// The parts of a line that are still to be read.
+/// The parts of a line that haven't been read yet.
 #[derive(Drop)]
 pub(crate) enum Parts<'a> {
     Values(Iter<'a, Value>),
@@ -102,7 +102,7 @@ pub(crate) enum Parts<'a> {
 }
 
 impl<'a> Parts<'a> {
-    /// The next one.
+    /// Returns the next part.
     pub(crate) fn next(&mut self) -> Option<Part<'a>>
         ensures { MatchOption result (rest_of self.old ≡ no_items)
             (λ part. rest_of self.old ≡ item (part_data part) (rest_of self.new)) }

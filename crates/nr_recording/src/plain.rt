@@ -1,4 +1,4 @@
-//! Reading a line's parts, where it is an array of texts and unsigned numbers in the usual spelling.
+//! Reads the parts of a line that is an array of texts and unsigned numbers in the usual spelling.
 
 ghost use Rattle.std.specs.Prelude.{◌≡◌, ◌<◌, ◌≤◌, ◌+◌, ◌++◌, ◌∷◌, [], ℕ, true, false, decimal, length, slice_index, Ok, Some, IfSome, OnSome};
 ghost use Rattle.json.specs.Token.{string, number};
@@ -11,7 +11,7 @@ ghost use Rattle.serde_json.specs.Read.{read};
 use crate::part::{Part, PartList};
 use memchr::memchr2;
 
-// The digit that a byte of ASCII writes.
+// Returns the value of a byte that is an ASCII digit.
 #[inline(always)]
 fn digit(byte: u8) -> Option<u64>
     ensures { IfSome result (λ d. (d < 10) × (byte ≡ 48 + d)) }
@@ -23,7 +23,7 @@ fn digit(byte: u8) -> Option<u64>
     }
 }
 
-// A number and a digit behind it. `None` beyond 64 bits.
+// Appends a digit to a number. Returns `None` if the result exceeds 64 bits.
 #[inline(always)]
 fn with_digit(number: u64, digit: u64) -> Option<u64>
     requires some { 0 < number }
@@ -34,7 +34,7 @@ fn with_digit(number: u64, digit: u64) -> Option<u64>
     number.checked_mul(10)?.checked_add(digit)
 }
 
-// The number that the digits at the front of a text write, and what is left behind them.
+// Returns the number that the digits at the front of a text denote, and the rest of the text.
 fn digits(text: &[u8]) -> Option<(u64, &[u8])>
     ensures number { IfSome result (λ r. text.now ≡ decimal r.0 ++ r.1.now) }
     ensures shorter { IfSome result (λ r. length r.1.now < length text.now) }
@@ -57,7 +57,7 @@ fn digits(text: &[u8]) -> Option<(u64, &[u8])>
     Some((number, left))
 }
 
-// Whether a comma or the bracket that closes an array comes next.
+// Returns whether the text continues with a comma or the bracket that closes an array.
 #[inline(always)]
 fn ends_item(text: &[u8]) -> bool
     ensures { result ≡ ends_item text.now }
@@ -65,7 +65,7 @@ fn ends_item(text: &[u8]) -> bool
     matches!(text.first(), Some(b',' | b']'))
 }
 
-// An unsigned number that is an item of an array, and what is left behind it.
+// Returns an unsigned number that is an item of an array, and the rest of the text.
 #[inline(always)]
 fn number(text: &[u8]) -> Option<(u64, &[u8])>
     ensures begins { IfSome result (λ r. Begins text.now (number (decimal r.0) ∷ []) r.1.now) }
@@ -79,7 +79,7 @@ fn number(text: &[u8]) -> Option<(u64, &[u8])>
     }
 }
 
-// Whether a control of ASCII is among the bytes, which JSON has to escape.
+// Returns whether the bytes contain an ASCII control character, which JSON has to escape.
 #[inline(always)]
 fn has_control(bytes: &[u8]) -> bool
     ensures { result ≡ false → (k : ℕ) → k < length bytes.now → 32 ≤ slice_index bytes.now k }
@@ -91,7 +91,7 @@ fn has_control(bytes: &[u8]) -> bool
     found
 }
 
-// A text without escapes that is an item of an array, and what is left behind it.
+// Returns a text without escapes that is an item of an array, and the rest of the text.
 #[inline(always)]
 fn text(text: &[u8]) -> Option<(&[u8], &[u8])>
     ensures begins { IfSome result (λ r. Begins text.now (string r.0.now ∷ []) r.1.now) }
@@ -115,7 +115,7 @@ fn text(text: &[u8]) -> Option<(&[u8], &[u8])>
     }
 }
 
-// The next item, behind a comma and at most one space.
+// Returns the text from the next item on, after a comma and at most one space.
 #[inline(always)]
 fn next_item(behind: &[u8]) -> Option<&[u8]>
     ensures begins { IfSome result (λ r. items_behind behind.now ≡ items_after_comma r.now) }
@@ -128,7 +128,8 @@ fn next_item(behind: &[u8]) -> Option<&[u8]>
     }
 }
 
-// A text and a number, behind the bracket that opens them, and what is left behind the one that closes them.
+// Reads a text and a number up to the closing bracket; the opening one is read. Returns the pair and the rest of the
+// text.
 #[inline(always)]
 fn pair(inside: &[u8]) -> Option<(Part<'_>, &[u8])>
     ensures begins { IfSome result (λ r. Begins (91 ∷ inside.now) (part_tokens r.0) r.1.now) }
@@ -143,7 +144,7 @@ fn pair(inside: &[u8]) -> Option<(Part<'_>, &[u8])>
     Some((Part::Pair(word, count), left))
 }
 
-// A part of an array, and what is left behind it.
+// Returns a part of an array, and the rest of the text.
 #[inline(always)]
 fn part(line: &[u8]) -> Option<(Part<'_>, &[u8])>
     ensures begins { IfSome result (λ r. Begins line.now (part_tokens r.0) r.1.now) }
@@ -163,7 +164,7 @@ fn part(line: &[u8]) -> Option<(Part<'_>, &[u8])>
     }
 }
 
-// Whether the bracket that closes an array is all that is left.
+// Returns true only if the rest of the line is the bracket that closes the array.
 #[inline(always)]
 fn closes_line(behind: &[u8]) -> bool
     ensures { result ≡ true → behind.now ≡ 93 ∷ [] }
@@ -171,7 +172,7 @@ fn closes_line(behind: &[u8]) -> bool
     behind == b"]".as_slice()
 }
 
-// Gathers the parts of an array, behind the bracket that opens it, where the one that closes it ends the line.
+// Gathers the parts of an array, whose opening bracket is read, if its closing bracket ends the line.
 fn gather<'a>(inside: &'a [u8], parts: &mut PartList<'a>) -> Option<()>
     requires { parts.old.items ≡ [] }
     ensures { OnSome result (read (91 ∷ inside.now) ≡ Some (array (parts_data parts.new.items))) }
@@ -187,8 +188,8 @@ fn gather<'a>(inside: &'a [u8], parts: &mut PartList<'a>) -> Option<()>
     }
 }
 
-/// Gathers the parts of a line that is an array of one to six texts, unsigned numbers, and pairs of both, with no space but
-/// behind commas, no escape, and nothing but ASCII. `None` of any other line.
+/// Gathers the parts of a line that is an array of one to six texts, unsigned numbers, and pairs of both. The line must
+/// be ASCII, without escapes, and without spaces except after commas. Returns `None` for any other line.
 pub(crate) fn gather_plain<'a>(line: &'a [u8], parts: &mut PartList<'a>) -> Option<()>
     requires { parts.old.items ≡ [] }
     ensures { OnSome result (value_of line.now ≡ Ok (array (parts_data parts.new.items))) }

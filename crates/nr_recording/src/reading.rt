@@ -1,4 +1,4 @@
-//! Reading a recording, line after line.
+//! Reads a recording, line by line.
 
 ghost use Rattle.std.specs.Prelude.{◌≡◌, ◌<◌, ◌≤◌, [], ◌∷◌, ◌++◌, length, true, IfOk, OnErr, OnOk, Some, option_map, option_to_list};
 ghost use Rattle.serde_json.specs.Data.{array};
@@ -48,19 +48,19 @@ fn is_blank(line: &[u8]) -> bool
     line.iter().all(|byte| is_space(*byte))
 }
 
-/// What the header's line says.
+/// The version and the limits that the header line gives.
 #[derive(Clone, Copy)]
 struct Header {
     version: Version,
     limits: Limits,
 }
 
-/// What was read of the lines so far.
+/// The header and the steps of the lines so far.
 #[derive(Drop)]
 struct RecordingReader {
     header: Option<Header>,
     steps: Vec<Step>,
-    // those of the steps, where the version has any
+    // the answers of the steps, if the version has any
     answers: Vec<Answer>,
 }
 
@@ -80,7 +80,7 @@ impl Model for RecordingReader {
     }) × (length r.answers.items ≤ length r.steps.items) };
 }
 
-/// Puts a step and its answer at the end of the two lists.
+/// Appends a step and its answer to the two lists.
 #[inline(always)]
 fn put(steps: &mut Vec<Step>, answers: &mut Vec<Answer>, last: RecordedStep) -> Result<(), Memory>
     ensures ok { OnOk result (steps.new.items ≡ steps.old.items ++ last.step ∷ []) }
@@ -108,7 +108,7 @@ impl RecordingReader {
         }
     }
 
-    // How many steps there were.
+    // Returns the number of steps so far.
     #[tactic(auto, using(crate::proofs::RecordedLemmas::count_is))]
     #[inline(always)]
     fn len(&self) -> usize
@@ -131,7 +131,7 @@ impl RecordingReader {
         Ok(())
     }
 
-    // One more step, which the parts of its line are.
+    // Reads one more step from the parts of its line.
     fn step(&mut self, begun: Header, alloc: Global, parts: Parts<'_>) -> Result<(), LineError>
         requires { self.old.header ≡ Some begun }
         ensures seen { ReadsBy (λ _. self.new) result
@@ -162,7 +162,7 @@ impl RecordingReader {
         self.step(begun, alloc, Parts::Values(elements(value).iter()))
     }
 
-    // One more line. The list of parts is for its own use.
+    // Reads one more line. `parts` is its working space.
     #[tactic(auto, unfolding(crate::specs::Reading::with_line))]
     fn line<'a>(
         &mut self,
@@ -207,7 +207,7 @@ impl RecordingReader {
     }
 }
 
-/// The first line of a text, and what is behind its line feed.
+/// Returns the first line of a text, and the text after its line feed.
 #[inline(always)]
 fn first_line(text: &[u8]) -> (&[u8], Option<&[u8]>)
     ensures { lines text.now ≡ result.0.now ∷ lines_behind (option_map (λ behind. behind.now) result.1) }
@@ -242,20 +242,19 @@ fn read_lines(alloc: Global, bytes: &[u8]) -> Result<Recording, ReadFault>
 }
 
 /// Reads the recording, of either version, that the bytes are a text of: a line of JSON for the header and one for each
-/// step, and blank lines between. Else returns the first faulty line and the first thing that is
-/// wrong with it, or that memory ran out. Of a key that comes twice in the header the last value
-/// counts.
+/// step, possibly with blank lines between them. Otherwise returns the first faulty line with the first fault in it, or
+/// that memory ran out. If the header has a key twice, the last value counts.
 pub fn read(alloc: Global, bytes: &[u8]) -> Result<Recording, ReadFault>
-    // What is read is the recording of that text.
+    // The result is the recording of that text.
     ensures found { IfOk result (λ r. IsTextOf bytes.now r) }
 
     // The text of a recording is read, unless memory runs out.
     ensures only { (r : Recorded) → IsTextOf bytes.now r → IsUnlessMemory result (Ok r) }
 
-    // Which fault it is, unless memory runs out.
+    // The result is this fault, unless memory runs out.
     ensures exact { IsUnlessMemory result (reading bytes.now) }
 
-    // Memory runs out only where there is a line that isn't blank, nor too long.
+    // Memory runs out only if the text has a line that is neither blank nor too long.
     ensures memory { result ≡ Err (ReadFault.Memory refused_memory) → text_takes_memory bytes.now ≡ true }
 {
     read_lines(alloc, bytes)

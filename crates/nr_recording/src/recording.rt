@@ -8,21 +8,21 @@ use crate::version::Version;
 use nr_rev::{Answer, Limits, Step};
 use std::marker::Model;
 
-/// A step, and the answer that was recorded of it.
+/// A step, and its recorded answer.
 #[derive(Drop)]
 pub struct RecordedStep {
     pub step: Step,
     pub answer: Option<Answer>,
 }
 
-/// The version of the format, the limits of a run, and its steps. In version 2 each step has the answer that was
-/// recorded of it, in version 1 none has. Each recording has a text, which is read as that recording.
+/// The version of the format, the limits of a run, and its steps. Each step has a recorded answer in version 2, and
+/// none in version 1. Each recording has a text, which is read as that recording.
 #[derive(Drop)]
 pub struct Recording {
     version: Version,
     limits: Limits,
     steps: Vec<Step>,
-    // one for each step, or none in version 1, where they take no memory
+    // one for each step; none in version 1, where the list takes no memory
     answers: Vec<Answer>,
 }
 
@@ -90,11 +90,11 @@ impl Recording {
     ghost use Rattle.nr_recording.specs.Auxiliary.Recording.{IsRecording, are_writable, recording_of};
     ghost use Rattle.nr_recording.specs.Version.{most_buffer};
 
-    /// The recording of these limits and steps, and of their answers: in version 2 one for each step, in version 1
-    /// none. Fails for the first that holds: a limit is out of its range; there are more than 1,000,000 steps; a step
-    /// carries more than 65,536 bytes, sets the clock below 0, or shuts a write side in version 1, or there are more or
-    /// fewer answers. The steps are then gone. The ranges: goroutines 1 to 4,096, sockets and descriptors 1 to 256,
-    /// buffer 1 to 65,536 bytes in version 1 and to 1,048,576 in version 2.
+    /// Makes the recording of these limits, steps and answers: one answer for each step in version 2, none in version
+    /// 1. Fails for the first of these that holds: a limit is out of its range; there are more than 1,000,000 steps; a
+    /// step carries more than 65,536 bytes, sets the clock below 0, or shuts a write side in version 1, or the number
+    /// of answers is wrong. The steps are dropped then. The ranges are 1 to 4,096 goroutines, 1 to 256 sockets and
+    /// descriptors, and a buffer of 1 to 65,536 bytes in version 1 and up to 1,048,576 in version 2.
     pub fn new(
         version: Version,
         limits: Limits,
@@ -123,7 +123,7 @@ impl Recording {
         })
     }
 
-    /// The recording of a version, limits, steps and answers that are known to make one.
+    /// Makes the recording of a version, limits, steps and answers that are known to make one.
     pub(crate) fn checked(
         version: Version,
         limits: Limits,
@@ -150,7 +150,7 @@ impl Recording {
         }
     }
 
-    /// The version of the format. The steps are all of it.
+    /// Returns the version of the format, which applies to all steps.
     pub fn version(&self) -> Version
         ensures value { result ≡ self.now.version }
         ensures writable { are_writable result self.now.steps ≡ true }
@@ -158,7 +158,7 @@ impl Recording {
         self.version
     }
 
-    /// The limits of the run.
+    /// Returns the limits of the run.
     pub fn limits(&self) -> Limits
         ensures value { result ≡ self.now.limits }
         ensures in_range { AreInRange result }
@@ -167,7 +167,7 @@ impl Recording {
         self.limits
     }
 
-    /// How many steps there are.
+    /// Returns the number of steps.
     #[tactic(auto, using(crate::proofs::RecordedLemmas::count_is))]
     pub fn len(&self) -> usize
         ensures value { result ≡ length self.now.steps }
@@ -176,14 +176,14 @@ impl Recording {
         self.steps.len()
     }
 
-    /// Whether there are no steps.
+    /// Returns whether there are no steps.
     pub fn is_empty(&self) -> bool
         ensures { result ≡ (length self.now.steps == 0) }
     {
         self.steps.is_empty()
     }
 
-    /// Step n, counted from 0. It carries at most 65,536 bytes, and does not set the clock below 0.
+    /// Returns step n, counted from 0. It carries at most 65,536 bytes, and does not set the clock below 0.
     pub fn step(&self, n: usize) -> Option<&Step>
         ensures value { option_copied result ≡ slice_get (run_of self.now).steps n }
         ensures fits { IfSome result (λ step. fits step.now ≡ true) }
@@ -191,14 +191,14 @@ impl Recording {
         self.steps.get(n)
     }
 
-    /// The answer that is recorded of step n, counted from 0: in version 1 none is.
+    /// Returns the recorded answer of step n, counted from 0. Steps of version 1 have none.
     pub fn answer(&self, n: usize) -> Option<Answer>
         ensures { result ≡ recorded_at self.now n }
     {
         self.answers.get(n).copied()
     }
 
-    /// The steps in their order.
+    /// Returns the steps in their order.
     pub fn steps(&self) -> &[Step]
         ensures { result.now ≡ (run_of self.now).steps }
     {

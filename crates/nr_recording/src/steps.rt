@@ -1,4 +1,4 @@
-//! The step that the value of a line says, and the value of a step's line: two rows a kind.
+//! The step that a line's value denotes, and the value of a step's line: two rows for each kind.
 
 ghost use Rattle.std.specs.Prelude.{◌≡◌, true, IfOk, ℕ, List, [], ◌∷◌, ◌++◌};
 ghost use Rattle.serde_json.specs.Data.{array};
@@ -23,7 +23,7 @@ use nr_rev::{Answer, Kind, Memory, Step};
 use serde_json::Value;
 use std::alloc::{AllocError, Global};
 
-/// The step of this kind; what is behind its arguments is left.
+/// Reads a step of this kind, and leaves what follows its arguments.
 #[tactic(auto, unfolding(crate::specs::Arguments::none))]
 fn step_in(alloc: Global, kind: Kind, arguments: &mut Parts<'_>) -> Result<Step, LineError>
     ensures found { ReadsBy (λ step. (step, rest_of arguments.new)) result
@@ -152,7 +152,7 @@ fn step_in(alloc: Global, kind: Kind, arguments: &mut Parts<'_>) -> Result<Step,
     }
 }
 
-/// The name of the step's kind, and its arguments.
+/// Makes the value of a step: the name of its kind, and its arguments.
 fn step_value(alloc: Global, step: &Step) -> Result<Value, AllocError>
     ensures { IfOk result (λ v. IsSpelling (view v) (step_spelling step.now)) }
 {
@@ -235,7 +235,7 @@ fn step_value(alloc: Global, step: &Step) -> Result<Value, AllocError>
     }
 }
 
-/// The answer that follows a step's arguments, where the version has answers.
+/// Reads the answer that follows a step's arguments, if the version has answers.
 fn answer_in(version: Version, arguments: &mut Parts<'_>) -> Result<Option<Answer>, Fault>
     ensures { answer_in version (rest_of arguments.old) ≡ with_rest (rest_of arguments.new) result }
 {
@@ -245,7 +245,7 @@ fn answer_in(version: Version, arguments: &mut Parts<'_>) -> Result<Option<Answe
     }
 }
 
-/// The line with one more part, an answer.
+/// Appends an answer to the value of a line.
 fn with_answer(alloc: Global, line: Value, answer: Answer) -> Result<Value, Memory>
     ensures { (name : List ℕ) (arguments : List Argument) → IsSpelling (view line) (name, arguments)
         → IfOk result (λ v. IsSpelling (view v) (name, arguments ++ answer_argument answer ∷ [])) }
@@ -259,7 +259,7 @@ fn with_answer(alloc: Global, line: Value, answer: Answer) -> Result<Value, Memo
     }
 }
 
-/// The value of a line: the name of the step's kind, its arguments, and the answer where one is recorded.
+/// Makes the value of a line: the name of the step's kind, its arguments, and its answer if one is recorded.
 pub(crate) fn line_value(
     alloc: Global,
     step: &Step,
@@ -275,7 +275,7 @@ pub(crate) fn line_value(
     }
 }
 
-/// The step that the parts of a line are, with the answer that was recorded of it.
+/// Returns the step that the parts of a line denote, with its recorded answer.
 #[tactic(auto, unfolding(crate::specs::Steps::step_of, crate::specs::Auxiliary::Steps::step_takes_memory))]
 pub(crate) fn step(
     version: Version,

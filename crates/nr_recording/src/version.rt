@@ -1,4 +1,4 @@
-//! The versions of the format: what the lines of each may have.
+//! The versions of the format, and what the lines of each may contain.
 
 ghost use Rattle.std.specs.Prelude.{◌≡◌};
 
@@ -10,9 +10,9 @@ pub(crate) const MOST_BUFFER_IN_ONE: u32 = 65_536;
 /// A version of the format.
 #[derive(Clone, Copy, Debug, PartialEq, Eq)]
 pub enum Version {
-    /// Steps alone. No step shuts a write side, and `buf` is at most 65,536.
+    /// Steps without answers. No step shuts a write side, and `buf` is at most 65,536.
     One,
-    /// Each step ends with the answer that was recorded. `buf` is at most 1,048,576.
+    /// Each step ends with its recorded answer. `buf` is at most 1,048,576.
     Two,
 }
 
@@ -20,7 +20,7 @@ impl Version {
     ghost use Rattle.nr_recording.specs.Version.{version_numbered, most_buffer, has_kind, kind_in};
     ghost use Rattle.nr_recording.specs.Auxiliary.Version.{version_number, answer_count};
 
-    /// The version that a header of this number is of.
+    /// Returns the version with this number, if there is one.
     pub(crate) fn numbered(number: u64) -> Option<Self>
         ensures { result ≡ version_numbered number }
     {
@@ -31,7 +31,7 @@ impl Version {
         }
     }
 
-    /// The number in the header.
+    /// Returns the version's number in the header.
     pub(crate) fn number(self) -> u32
         ensures { result ≡ version_number self }
     {
@@ -41,7 +41,7 @@ impl Version {
         }
     }
 
-    /// The greatest `buf` that a header may have.
+    /// Returns the greatest `buf` that a header may have.
     pub(crate) fn most_buffer(self) -> u32
         ensures { result ≡ most_buffer self }
     {
@@ -51,7 +51,7 @@ impl Version {
         }
     }
 
-    /// Whether there are steps of this kind.
+    /// Returns whether the version has steps of this kind.
     pub(crate) fn has(self, kind: Kind) -> bool
         ensures { result ≡ has_kind self kind }
     {
@@ -61,7 +61,7 @@ impl Version {
         }
     }
 
-    /// The kind of this name.
+    /// Returns the kind with this name, if the version has it.
     #[tactic(auto, unfolding(crate::specs::Version::kind_in))]
     pub(crate) fn kind(self, name: &[u8]) -> Option<Kind>
         ensures { result ≡ kind_in self name.now }
@@ -70,7 +70,7 @@ impl Version {
         if self.has(kind) { Some(kind) } else { None }
     }
 
-    /// How many answers go with so many steps.
+    /// Returns the number of answers that belong to this many steps.
     pub(crate) fn answer_count(self, steps: usize) -> usize
         ensures { result ≡ answer_count self steps }
     {

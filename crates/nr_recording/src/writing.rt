@@ -1,4 +1,4 @@
-//! Writing a recording, a line for the header and one for each step.
+//! Writes a recording, with a line for the header and one for each step.
 
 ghost use Rattle.std.specs.Prelude.{◌≡◌, ◌||◌, IfOk, OnOk, false};
 ghost use Rattle.serde_json.specs.View.{view};
@@ -55,10 +55,10 @@ fn write_line<W: Write>(alloc: Global, value: &Value, out: &mut Sink<W>) -> Resu
     Ok(())
 }
 
-/// Writes the recording's text, in its version: each value in compact form, keys in alphabetical
-/// order, hexadecimal in lower case, and a line feed after each line. `WriteFault` says what an
-/// error leaves written. A write that was interrupted is tried again. On a sink on which no write
-/// had failed before, a failure is reported exactly where one failed, or took nothing.
+/// Writes the text of a recording in its version: each value in compact form, with its keys in alphabetical order and
+/// hexadecimal digits in lower case, and a line feed after each line. `WriteFault` says what has been written when an
+/// error occurs. An interrupted write is retried. If no write on the sink has failed before, the call reports a failure
+/// exactly if a write failed or took nothing.
 pub fn write<W: Write>(
     alloc: Global,
     recording: &Recording,
@@ -67,7 +67,7 @@ pub fn write<W: Write>(
     ensures ok { OnOk result
         (Sends out.old out.new (text recording.now)) }
 
-    // What was written is read again as the recording.
+    // The written text is read again as the recording.
     ensures again { OnOk result (IsTextOf (text recording.now) recording.now) }
     ensures read_again { OnOk result (reading (text recording.now) ≡ Ok recording.now) }
 
@@ -75,11 +75,11 @@ pub fn write<W: Write>(
     ensures memory { result ≡ Err (WriteFault.Memory refused_memory) → SendsLines
         out.old out.new (line_texts recording.now) }
 
-    // Just a prefix of the text went out, and not all of it.
+    // A part of the text went out, from its beginning, and not all of it.
     ensures device { result ≡ Err WriteFault.Device
         → SendsPart out.old out.new (text recording.now) }
 
-    // Where no write had failed before, one failed exactly where that is reported.
+    // If no write failed before, one failed exactly if the result reports that.
     ensures failed { out.new.failed ≡ (out.old.failed || is_device_failure result) }
 {
     let header = header_value(alloc, recording.version(), recording.limits())?;

@@ -1,10 +1,10 @@
--- Beside `Answer`: what contracts and proofs cite, and no law of THEOREM.md rests on.
+-- Definitions that contracts and proofs cite beside `Answer`. No law of THEOREM.md rests on them.
 use Rattle.std.specs.Prelude.{◌≡◌, ℕ, ◌<◌, ◌^◌, List, codes, ⊤}
 use Rattle.serde_json.specs.Data.{Data, number, unsigned, string, array, no_items, item}
 use Rattle.nr_rev.specs.declared.answer.Answer.{Answer}
 use Rattle.nr_rev.specs.declared.answer.Answer.TheVariants as answers
 
--- ---- what is written
+-- ---- the written form
 
 -- the JSON of a word and a number
 abbrev pub counted_data : List ℕ → ℕ → Data
@@ -27,7 +27,7 @@ answer_data answers.Again = string (codes "again")
 answer_data answers.Stale = string (codes "stale")
 answer_data answers.Pipe = string (codes "pipe")
 
--- the number of an answer is in the range of its type
+-- true if the answer's number is in the range of its type
 abbrev pub IsAnswerInType : Answer → Type 0
 IsAnswerInType (answers.Number n) = n < 2 ^ 32
 IsAnswerInType (answers.Code c) = c < 2 ^ 32
@@ -35,7 +35,7 @@ IsAnswerInType (answers.Got k) = k < 2 ^ 32
 IsAnswerInType (answers.Put k) = k < 2 ^ 32
 IsAnswerInType _ = ⊤
 
--- d is the JSON of the answer, whose number is in the range of its type
+-- true if d is the JSON of the answer, and the answer's number is in the range of its type
 pub record IsAnswer (d : Data) (answer : Answer) : Type 0 where
   pub is : d ≡ answer_data answer
   pub typed : IsAnswerInType answer

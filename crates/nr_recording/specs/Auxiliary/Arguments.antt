@@ -1,4 +1,5 @@
--- Beside `Arguments`: what contracts and proofs cite, and no law of THEOREM.md rests on.
+-- Definitions that contracts and proofs cite beside `Arguments`. No law of THEOREM.md rests on
+-- them.
 use Rattle.std.specs.Prelude.{ℕ, ◌%◌, ◌==◌, List, length, Bool, false, not, ◌&&◌, Result, Ok, Err, nat_lt}
 use Rattle.std.specs.Option.{option_map_or}
 use Rattle.serde_json.specs.Data.{Data, Items, no_items, item}
@@ -6,28 +7,29 @@ use Rattle.serde_json.specs.Find.{as_str}
 use Rattle.nr_recording.specs.declared.fault.Fault.{Fault}
 use Rattle.nr_recording.specs.Arguments.{most_digits}
 
--- the bytes of a text take memory to read where it has an even number of digits, not too many
+-- true if reading the bytes of a text takes memory: it has an even number of digits, and not too
+-- many
 abbrev pub digits_take_memory : List ℕ → Bool
 digits_take_memory text = not (nat_lt most_digits (length text)) && (length text % 2 == 0)
 
--- an argument that is read as bytes takes memory, where it is a text with an even number of digits,
--- not too many
+-- true if reading an argument as bytes takes memory: it is a text with an even number of digits,
+-- and not too many
 abbrev pub argument_takes_memory : Data → Bool
 argument_takes_memory d = option_map_or digits_take_memory (as_str d) false
 
--- what a function returned that reads arguments, and what it left
+-- the result of a function that reads arguments, with the arguments that it left
 abbrev pub with_rest : {A : Type 0} → Items → Result A Fault → Result (A × Items) Fault
 with_rest ds (Ok x) = Ok (x, ds)
 with_rest ds (Err f) = Err f
 
--- ---- what takes memory to read
+-- ---- reading that takes memory
 
--- the first argument does
+-- true if reading the first argument does
 abbrev pub first_takes_memory : Items → Bool
 first_takes_memory no_items = false
 first_takes_memory (item d ds) = argument_takes_memory d
 
--- the argument behind these does
+-- true if reading the argument after these does
 abbrev pub next_takes_memory : {A : Type 0} → Result (A × Items) Fault → Bool
 next_takes_memory (Ok found) = first_takes_memory found.1
 next_takes_memory (Err f) = false

@@ -1,4 +1,5 @@
--- Beside `Recording`: what contracts and proofs cite, and no law of THEOREM.md rests on.
+-- Definitions that contracts and proofs cite beside `Recording`. No law of THEOREM.md rests on
+-- them.
 use Rattle.std.specs.Prelude.{◌≡◌, ◌≤◌, ◌==◌, pos, int_le, List, length, Bool, true, not, ◌&&◌, nat_lt, nat_le, if◌then◌else◌, Result, Ok, Err}
 use Rattle.std.specs.List.{list_all}
 use Rattle.nr_rev.specs.Kind.{kind_of}
@@ -17,42 +18,42 @@ use Rattle.nr_recording.specs.declared.recording.TheConstants.{MOST_STEPS, MOST_
 use Rattle.nr_recording.specs.declared.version.Version.{Version}
 use Rattle.nr_recording.specs.Recording.{Recorded, recorded}
 
--- the step has room in a line: it doesn't carry too many bytes, and sets no clock below 0
+-- true if the step fits in a line: it doesn't carry too many bytes, and sets no clock below 0
 abbrev pub fits : Step → Bool
 fits (Arrive s bytes) = nat_le (length bytes) MOST_BYTES
 fits (SysWrite g s bytes) = nat_le (length bytes) MOST_BYTES
 fits (Tick t) = int_le (pos 0) t
 fits _ = true
 
--- the version has a line for the step: it has its kind, and the step has room there
+-- true if the version has a line for the step: it has its kind, and the step fits in a line
 abbrev pub has_line : Version → Step → Bool
 has_line version step = has_kind version (kind_of step) && fits step
 
--- the step has a line, and an answer where the version wants one
+-- true if the step has a line, and an answer if the version requires one
 abbrev pub is_writable : Version → RecordedStep → Bool
 is_writable version recorded = has_line version recorded.step && may_have version recorded.answer
 
--- each step has
+-- true if each step is writable
 abbrev pub are_writable : Version → List RecordedStep → Bool
 are_writable version steps = list_all (is_writable version) steps
 
--- what holds of each recording
+-- the invariant of recordings
 pub record IsRecording (r : Recorded) : Type 0 where
   pub limits : AreInRange r.limits
   pub buffer : r.limits.buffer ≤ most_buffer r.version
   pub few : length r.steps ≤ MOST_STEPS
   pub writable : are_writable r.version r.steps ≡ true
 
--- each step has a line
+-- true if each step has a line
 abbrev pub have_lines : Version → List Step → Bool
 have_lines version steps = list_all (has_line version) steps
 
--- each step has a line, and there are as many answers as the version wants
+-- true if each step has a line, and there are as many answers as the version requires
 abbrev pub make_lines : Version → List Step → List Answer → Bool
 make_lines version steps answers = have_lines version steps
     && (length answers == answer_count version (length steps))
 
--- the recording of these limits, steps and answers, or why there is none
+-- the recording of these limits, steps and answers, or the reason why they make none
 abbrev pub recording_of : Version → Limits → List Step → List Answer → Result Recorded MakeFault
 recording_of version limits steps answers =
     if not (are_in_range limits) then Err fault.Limit

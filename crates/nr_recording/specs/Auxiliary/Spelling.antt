@@ -1,4 +1,4 @@
--- Beside `Spelling`: what contracts and proofs cite, and no law of THEOREM.md rests on.
+-- Definitions that contracts and proofs cite beside `Spelling`. No law of THEOREM.md rests on them.
 use Rattle.std.specs.Prelude.{◌≡◌, ℕ, ◌<◌, ◌^◌, ℤ, pos, negsuc, Bool, true, false, List, [], ◌∷◌, slice_index, codes, ⊤}
 use Rattle.hex.specs.Hex.{encode_lower}
 use Rattle.serde_json.specs.Data.{Data, number, unsigned, string, array, no_items, item, Items}
@@ -42,12 +42,12 @@ abbrev pub arguments_data : List Argument → Items
 arguments_data [] = no_items
 arguments_data (a ∷ rest) = item (argument_data a) (arguments_data rest)
 
--- a number of 64 bits with a sign
+-- true for a signed number of 64 bits
 abbrev pub IsMoment : ℤ → Type 0
 IsMoment (pos n) = n < 2 ^ 63
 IsMoment (negsuc n) = n < 2 ^ 63
 
--- the argument is in the range of its type
+-- true if the argument is in the range of its type
 abbrev pub IsInType : Argument → Type 0
 IsInType (numeral n) = n < 2 ^ 32
 IsInType (tag n) = n < 2 ^ 64
@@ -58,7 +58,7 @@ IsInType (bit b) = ⊤
 IsInType (digits bytes) = (i : ℕ) → slice_index bytes i < 256
 IsInType (answer a) = IsAnswerInType a
 
--- each argument is
+-- true if each argument is in the range of its type
 abbrev pub AreInTypes : List Argument → Type 0
 AreInTypes [] = ⊤
 AreInTypes (a ∷ rest) = IsInType a × AreInTypes rest
@@ -67,7 +67,7 @@ AreInTypes (a ∷ rest) = IsInType a × AreInTypes rest
 abbrev pub line_data : List ℕ × List Argument → Data
 line_data line = array (item (string line.0) (arguments_data line.1))
 
--- d is the JSON of the line, whose arguments are in the ranges of their types
+-- true if d is the JSON of the line, and its arguments are in the ranges of their types
 pub record IsSpelling (d : Data) (line : List ℕ × List Argument) : Type 0 where
   pub is : d ≡ line_data line
   pub typed : AreInTypes line.1

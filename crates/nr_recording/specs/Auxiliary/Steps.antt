@@ -1,4 +1,4 @@
--- Beside `Steps`: what contracts and proofs cite, and no law of THEOREM.md rests on.
+-- Definitions that contracts and proofs cite beside `Steps`. No law of THEOREM.md rests on them.
 use Rattle.std.specs.Prelude.{ℕ, List, [], ◌∷◌, ◌++◌, Bool, false, Option, Some, None, option_and_then}
 use Rattle.std.specs.Option.{option_map_or}
 use Rattle.serde_json.specs.Data.{Data, Items}
@@ -49,7 +49,7 @@ arguments_of Step.Pop = []
 arguments_of (Step.Fire i) = numeral i ∷ []
 arguments_of (Step.CloseWrite g s) = numeral g ∷ numeral s ∷ []
 
--- the arguments of this kind take memory to read: only those with bytes do
+-- true if reading the arguments of this kind takes memory: only those with bytes do
 abbrev pub kind_takes_memory : Kind → Items → Bool
 kind_takes_memory Kind.Arrive ds = next_takes_memory (number ds)
 kind_takes_memory Kind.SysWrite ds = next_takes_memory ((number and number) ds)
@@ -66,19 +66,19 @@ abbrev pub answer_arguments : Option Answer → List Argument
 answer_arguments None = []
 answer_arguments (Some a) = answer a ∷ []
 
--- the name of the kind, the arguments, and behind them the answer
+-- the name of the kind, the arguments, and then the answer
 abbrev pub spelling_of : RecordedStep → List ℕ × List Argument
 spelling_of recorded = (
   kind_name (kind_of recorded.step),
   arguments_of recorded.step ++ answer_arguments recorded.answer,
 )
 
--- a line with this name and these arguments takes memory to read
+-- true if reading a line with this name and these arguments takes memory
 abbrev pub named_takes_memory : Version → List ℕ → Items → Bool
 named_takes_memory version name ds =
     option_map_or (λ kind. kind_takes_memory kind ds) (kind_in version name) false
 
--- the value of a line does
+-- true if reading the value of a line takes memory
 unfoldable pub step_takes_memory : Version → Data → Bool
 step_takes_memory version d =
     option_map_or (λ parts. option_map_or (λ name. named_takes_memory version name parts.1)

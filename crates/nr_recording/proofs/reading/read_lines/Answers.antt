@@ -19,7 +19,7 @@ overflow_add-number c =
     let left : length (lines_behind (option_map (λ (text : Bor (List ℕ)). text.now) c.loop-left.left)) ≡ length (lines c.in-Some.text.now) = ap (λ (l : Option (Bor (List ℕ))). length (lines_behind (option_map (λ text. text.now) l))) c.in-Some.is in
     omega arith
 
--- the lines that are left begin with the one that was read
+-- the remaining lines begin with the line just read
 pub returns-in-Err-clause-exact : goal.returns-in-Err-clause-exact
 returns-in-Err-clause-exact c =
     let number = c.loop-left.number in
