@@ -1,4 +1,4 @@
--- What the lines of a front are answered among the words of others.
+-- The replies to a front's lines when other fronts also place words.
 use Rattle.std.specs.Prelude.{◌≡◌, ℕ, ◌+◌, Bool, List, [], ◌∷◌, length, drop, Option, Some, None, Result, Ok, ⊤, if◌then◌else◌}
 use Rattle.std.specs.List.{concat}
 use Rattle.nr_rev.specs.Run.{Recording}
@@ -12,28 +12,29 @@ use Rattle.nr_lines.specs.Engine.{lines_of}
 use Rattle.nr_lines.specs.Turn.{is_quit, text_or_none}
 use Rattle.nr_programs.specs.Transcript.{Answered, CommandMayHave, JournalSize, LookMayHave, ResumeMayHave, SessionState, Supply, UnlessQuit, enough, line_answer}
 
--- what a line meets: the words that others placed before it, and what there is for it
+-- what a line encounters: the words that other fronts placed before it, and its supply
 pub record Met : Type 0 where
   pub others : List ℕ
   pub supply : Supply
 
--- nothing of others, and enough
+-- the encounter of a line with no words of others and enough memory and room
 abbrev pub calm : Met
 calm = record { others = []; supply = enough }
 
--- what the next of several lines meets: those that nothing is said of meet nothing
+-- what the next line encounters; past the end of the list, nothing
 abbrev pub next_met : List Met → Met
 next_met [] = calm
 next_met (m ∷ met) = m
 
--- behind words that others placed
+-- the front after it has seen the words that others placed
 abbrev pub behind_others : Recording → List ℕ → SessionState → SessionState
 behind_others r words s = record s {
   debugger = after_words r s.debugger words;
   placed = s.placed + length words;
 }
 
--- a line, by whether a reply is owed: a command is run, and a look shows, behind others' words
+-- the answer to a line, given the command whose reply is owed: a command runs, and a query reads,
+-- after the words of others
 abbrev pub answer_among : Recording → Option Command → Result Line LineFault → Met → SessionState
     → Answered
 answer_among r None (Ok (Run command)) m s =
@@ -42,8 +43,8 @@ answer_among r None (Ok (Look query)) m s =
     line_answer r None (Ok (Look query)) m.supply (behind_others r m.others s)
 answer_among r owed asked m s = line_answer r owed asked m.supply s
 
--- What a line may meet, by whether a reply is owed, where the journal is of this size. All lines
--- that place no command and show nothing meet nothing.
+-- What a line may encounter, given the command whose reply is owed, with a journal of this size.
+-- Lines that neither place a command nor query encounter nothing.
 abbrev pub MayMeet : Recording → JournalSize → Option Command → Result Line LineFault → Met
     → SessionState → Type 0
 MayMeet r journal None (Ok (Run command)) m s =
@@ -53,7 +54,7 @@ MayMeet r journal (Some command) (Ok Resume) m s =
     (m.others ≡ []) × ResumeMayHave r command m.supply s
 MayMeet r journal owed asked m s = m ≡ calm
 
--- the texts of lines, one for each, up to the first `quit`
+-- the replies to these lines, one text per line, up to the first `quit`
 abbrev pub texts_among : Recording → SessionState → List (List ℕ) → List Met → List (List ℕ)
 texts_among r s [] met = []
 texts_among r s (line ∷ lines) met =
@@ -61,7 +62,7 @@ texts_among r s (line ∷ lines) met =
     let a = answer_among r s.owed asked (next_met met) s in
     text_or_none a.0 ∷ (if is_quit asked then [] else texts_among r a.1 lines (drop 1 met))
 
--- each of some lines, up to the first `quit`, met what it may
+-- each of these lines, up to the first `quit`, encountered only what it may
 abbrev pub AllMayMeet : Recording → JournalSize → SessionState → List (List ℕ) → List Met → Type 0
 AllMayMeet r journal s [] met = ⊤
 AllMayMeet r journal s (line ∷ lines) met =
@@ -70,7 +71,7 @@ AllMayMeet r journal s (line ∷ lines) met =
     MayMeet r journal s.owed asked (next_met met) s
     × UnlessQuit (is_quit asked) (AllMayMeet r journal a.1 lines (drop 1 met))
 
--- The replies to the lines of a text, by what they met. Where the text isn't at its end, what
--- follows the last line feed is no line yet.
+-- The replies to the lines of a text, from what they encountered. Unless the text is at its end,
+-- the bytes after the last line feed aren't a line yet.
 abbrev pub replies_among : Recording → SessionState → Bool → List ℕ → List Met → List ℕ
 replies_among r s ended commands met = concat (texts_among r s (lines_of ended commands) met)

@@ -1,4 +1,4 @@
--- What the program `changes` writes: the cells that each step changed.
+-- The output of the program `changes`: the cells that each step changed.
 use Rattle.std.specs.Prelude.{◌⊎◌, ℕ, ◌+◌, List, [], ◌∷◌, ◌++◌, flat_map, Option, Some, None, Result, Ok, Err, codes, decimal}
 use Rattle.nr_rev.specs.Run.{Recording, next_of}
 use Rattle.nr_rev.specs.Step.{outcome}
@@ -20,7 +20,8 @@ use Rattle.nr_programs.specs.declared.opening.OpenFault.{OpenFault}
 use Rattle.nr_programs.specs.declared.run.ExitStatus.{ExitStatus}
 use Rattle.nr_programs.specs.declared.run.ExitStatus.TheVariants.{Done, Refused}
 
--- A line: the number of a step, and a cell with its value behind the step, as `print` is answered.
+-- A line: the number of a step, and a cell with its value after the step, in the form of a reply to
+-- `print`.
 abbrev pub change_line : ℕ → CellWithValue → List ℕ
 change_line n change = decimal n ++ codes " " ++ text_of (Printed change.cell change.value)
 
@@ -28,13 +29,13 @@ change_line n change = decimal n ++ codes " " ++ text_of (Printed change.cell ch
 abbrev pub lines_of_changes : ℕ → List CellWithValue → List ℕ
 lines_of_changes n changes = flat_map (change_line n) changes
 
--- these lines, unless the step has a fault
+-- these lines, or none if the step has a fault
 abbrev pub unless_fault : Option LoadFault → List ℕ → List ℕ
 unless_fault None lines = lines
 unless_fault (Some fault) lines = []
 
--- What steps from a world on changed, the first of which has this number: for each step in turn a
--- line for each cell that shows another value behind it; up to the first step that has a fault.
+-- The changes of these steps from a world on, the first of which has this number: for each step in
+-- turn, a line for each cell whose value it changed, up to the first step that has a fault.
 abbrev pub change_lines : ℕ → World → List RecordedStep → List ℕ
 change_lines n w [] = []
 change_lines n w (recorded ∷ steps) =
@@ -43,23 +44,23 @@ change_lines n w (recorded ∷ steps) =
     unless_fault (step_fault n recorded.answer came)
     (lines_of_changes n (changes_between w next) ++ change_lines (n + 1) next steps)
 
--- the lines of what was read; of a text that is no recording there are none
+-- the lines for what was read, or none if it isn't a recording
 abbrev pub change_lines_of : Result Recorded ReadFault → List ℕ
 change_lines_of (Ok r) = change_lines 1 (empty_world r.limits) r.steps
 change_lines_of (Err fault) = []
 
--- the last line: how many steps there are, or the first fault
+-- the last line: the number of steps, or the first fault
 abbrev pub last_line : Result Recording OpenFault → List ℕ
 last_line (Ok r) = ok_line r
 last_line (Err fault) = fault_line fault
 
--- the status: whether there is no fault
+-- the status: `Done` if there is no fault, `Refused` otherwise
 abbrev pub status_of_opened : Result Recording OpenFault → ExitStatus
 status_of_opened (Ok r) = Done
 status_of_opened (Err fault) = Refused
 
--- What was read has these lines and this last one, and they are written; or there was no memory to
--- begin, which is printed.
+-- The lines of what was read and the last line are written; or memory ran out at the start, and
+-- that is printed.
 abbrev pub WritesChanges : Result Recorded ReadFault → Outgoing → Outgoing → ExitStatus → Type 0
 WritesChanges r old new status =
     EndsPrinting (change_lines_of r ++ last_line (opened_as r)) (status_of_opened (opened_as r)) old

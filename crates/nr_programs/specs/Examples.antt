@@ -1,4 +1,4 @@
--- Examples: their runs, and the files of that name in examples/ as bytes.
+-- The runs of the examples, and the files of the same names in examples/ as bytes.
 use Rattle.std.specs.Prelude.{ℕ, List, [], ◌∷◌, ◌++◌, codes, pos, negsuc, true, false}
 use Rattle.nr_rev.specs.Run.{Recording}
 use Rattle.nr_rev.specs.declared.sides.Mode.TheVariants as modes

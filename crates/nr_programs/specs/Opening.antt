@@ -1,4 +1,4 @@
--- Why the bytes of a file are no recording that can be walked.
+-- Whether the bytes of a file are a recording that netrev accepts, and why not.
 use Rattle.std.specs.Prelude.{◌≡◌, ℕ, ◌+◌, Bool, List, [], ◌∷◌, Option, Some, None, Result, Ok, Err, if◌then◌else◌}
 use Rattle.nr_rev.specs.Run.{Recording, IsGood, next_of}
 use Rattle.nr_rev.specs.Step.{Outcome, outcome}
@@ -19,8 +19,8 @@ use Rattle.nr_snaps.specs.declared.fault.LoadFault.TheVariants as load
 use Rattle.nr_programs.specs.declared.opening.OpenFault.{OpenFault}
 use Rattle.nr_programs.specs.declared.opening.OpenFault.TheVariants.{Read, Load}
 
--- the bytes are a text of a recording of this run: all its steps apply, and give the answers that
--- are recorded of them
+-- the bytes are a text of a recording of this run: all its steps apply and give their recorded
+-- answers
 pub record IsGoodText (bytes : List ℕ) (r : Recording) : Type 0 where
   pub recorded : Recorded
   pub text : IsTextOf bytes recorded
@@ -28,7 +28,7 @@ pub record IsGoodText (bytes : List ℕ) (r : Recording) : Type 0 where
   pub good : IsGood r
   pub answers : AnswersAgree recorded
 
--- the bytes have this fault and none before it, or there was no memory
+-- this is the first fault of the bytes, or memory ran out
 abbrev pub IsFirstFault : List ℕ → OpenFault → Type 0
 IsFirstFault bytes (Read (read.Memory refused)) = Unit {0}
 IsFirstFault bytes (Read (read.Line n fault)) = reading bytes ≡ Err (read.Line n fault)
@@ -37,24 +37,24 @@ IsFirstFault bytes (Load fault) = (r : Recorded) × IsTextOf bytes r × IsStepFa
 
 -- ---- computed
 
--- whether two answers are the same
+-- true if two answers are equal
 abbrev pub same_answer : Answer → Answer → Bool
 same_answer = (answer_eq.ghosts).eq
 
--- The fault of the step of this number, if it has one: it doesn't apply, or it gives another answer
--- than the one that is recorded of it.
+-- The fault of the step of this number, if it has one: it doesn't apply, or its answer differs from
+-- the recorded one.
 abbrev pub step_fault : ℕ → Option Answer → Outcome → Option LoadFault
 step_fault n recorded (Err reason) = Some (load.Refused n reason)
 step_fault n None (Ok (answer, next)) = None
 step_fault n (Some recorded) (Ok (answer, next)) =
     if same_answer recorded answer then None else Some (load.OtherAnswer n)
 
--- a fault, or the one behind it
+-- the first fault if there is one, and otherwise the later one
 abbrev pub fault_or : Option LoadFault → Option LoadFault → Option LoadFault
 fault_or None later = later
 fault_or (Some fault) later = Some fault
 
--- the first fault of steps from a world on, the first of which has this number
+-- the first fault of these steps from a world on, the first of which has this number
 abbrev pub first_fault : ℕ → World → List RecordedStep → Option LoadFault
 first_fault n w [] = None
 first_fault n w (recorded ∷ steps) =
@@ -71,11 +71,11 @@ abbrev pub opened_as : Result Recorded ReadFault → Result Recording OpenFault
 opened_as (Ok r) = run_or (first_fault 1 (empty_world r.limits) r.steps) r
 opened_as (Err fault) = Err (Read fault)
 
--- The run that bytes are the recording of, or their first fault.
+-- The run whose recording the bytes are, or the bytes' first fault.
 abbrev pub opened : List ℕ → Result Recording OpenFault
 opened bytes = opened_as (reading bytes)
 
--- the line that a fault is printed as
+-- the line of a fault
 abbrev pub fault_line : OpenFault → List ℕ
 fault_line (Read fault) = read_fault_line fault
 fault_line (Load fault) = load_fault_line fault

@@ -1,27 +1,27 @@
--- What the programs read and write, and how they end.
+-- What the programs read and write, and their exit status.
 use Rattle.std.specs.Prelude.{◌≡◌, ◌⊎◌, ℕ, List, ◌++◌, length, codes, decimal}
 use Rattle.nr_rev.specs.Run.{Recording}
 use Rattle.nr_text.specs.Streams.{Outgoing, WritesAll, WritesPrefix}
 use Rattle.nr_programs.specs.declared.run.ExitStatus.{ExitStatus}
 use Rattle.nr_programs.specs.declared.run.ExitStatus.TheVariants.{Refused, StreamFailed}
 
--- The text went out and the status is the given one; or a write failed, and a prefix of it is
--- out.
+-- The whole text is written, and the status is the given one; or a write failed after a prefix of
+-- the text.
 abbrev pub EndsPrinting : List ℕ → ExitStatus → Outgoing → Outgoing → ExitStatus → Type 0
 EndsPrinting text wanted old new status =
     ((status ≡ wanted) × WritesAll old new text)
     ⊎ ((status ≡ StreamFailed) × ((part : ℕ) × WritesPrefix old new text part))
 
--- Nothing was read, and a fault's line is all that was written.
+-- Nothing is read, and only the line of a fault is written.
 pub record PrintsFault {I : Type 0} (line : List ℕ) (input left : I) (old new : Outgoing)
     (status : ExitStatus) : Type 0 where
   pub unread : left ≡ input
   pub printed : EndsPrinting line Refused old new status
 
--- the line that accepts a recording of so many steps
+-- the line for an accepted recording of so many steps
 abbrev pub accepted_line : ℕ → List ℕ
 accepted_line steps = codes "ok " ++ decimal steps ++ codes " steps\n"
 
--- the line that accepts a recording
+-- the line for an accepted recording
 abbrev pub ok_line : Recording → List ℕ
 ok_line r = accepted_line (length r.steps)

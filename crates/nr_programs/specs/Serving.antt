@@ -1,4 +1,4 @@
--- What a session does that several people share.
+-- Sessions that several callers share.
 use Rattle.std.specs.Prelude.{◌≡◌, ◌⊎◌, ℕ, Bool, List, ◌++◌, length, Option, Some, None, codes, decimal, if◌then◌else◌}
 use Rattle.nr_rev.specs.Run.{Recording}
 use Rattle.nr_text.specs.Streams.{Outgoing}
@@ -13,31 +13,32 @@ use Rattle.nr_programs.specs.declared.run.TheConstants.{DELTAS_KEPT}
 use Rattle.nr_programs.specs.declared.run.ExitStatus.{ExitStatus}
 use Rattle.nr_programs.specs.declared.run.ExitStatus.TheVariants.{Done, Refused, StreamFailed}
 
--- the line that says how many commands were placed
+-- the line with the number of commands that were placed
 abbrev pub placed_line : List ℕ → List ℕ
 placed_line history = codes "placed " ++ decimal (length history) ++ codes "\n"
 
--- how a session ends in which a stream failed, or none did
+-- the status of a session, by whether a stream failed
 abbrev pub exit_status_of : Bool → ExitStatus
 exit_status_of failed = if failed then StreamFailed else Done
 
--- what is printed of a session that was shared: how many commands were placed, or that collecting
--- them ran out of memory
+-- what is printed at the end of a shared session: the number of commands that were placed, or out
+-- of memory if the history couldn't be collected
 abbrev pub PrintsHistory : Option (List ℕ) → Bool → Outgoing → Outgoing → ExitStatus → Type 0
 PrintsHistory (Some history) failed old new status =
     EndsPrinting (placed_line history) (exit_status_of failed) old new status
 PrintsHistory None failed old new status = EndsPrinting memory_line Refused old new status
 
--- As many fronts as were asked for were opened, and this passed with their callers. They shared the
--- recording over one journal, each with as many workers as were asked for and a walker as deep as
--- that of `run`.
+-- The requested number of fronts was opened, with these conversations. They shared the recording
+-- over one journal, each with the requested number of workers and a walker as deep as that of
+-- `run`.
 abbrev pub SharesAll : Recording → Sharing → FrontsLog → FrontsLog → Option (List ℕ) → Bool → Type 0
 SharesAll r sharing before after history failed =
     (passed : List Passed) × Opens sharing.fronts passed before after
     × IsShared r sharing.journal sharing.fronts DELTAS_KEPT sharing.workers passed history failed
 
--- What is printed is how many commands the fronts placed, or that collecting these ran out of
--- memory. Or there was no memory to share the recording, and that is printed: no port was opened.
+-- The number of commands that the fronts placed is printed, or out of memory if the history
+-- couldn't be collected. Or memory ran out before the recording was shared: that is printed, and no
+-- port was opened.
 abbrev pub Shares : Recording → Sharing → FrontsLog → FrontsLog → Outgoing → Outgoing → ExitStatus
     → Type 0
 Shares r sharing before after old new status =
@@ -47,8 +48,8 @@ Shares r sharing before after old new status =
     × PrintsHistory None failed old new status)
     ⊎ ((after ≡ before) × EndsPrinting memory_line Refused old new status)
 
--- The bytes are a recording whose steps all apply, and it is shared; or its first fault is printed,
--- and no port was opened.
+-- Either the bytes are a recording whose steps all apply, and it is shared; or its first fault is
+-- printed, and no port was opened.
 abbrev pub ServesAll : List ℕ → Sharing → FrontsLog → FrontsLog → Outgoing → Outgoing → ExitStatus
     → Type 0
 ServesAll bytes sharing before after old new status =

@@ -1,4 +1,4 @@
--- What the callers of a shared session are answered.
+-- The replies to the callers of a shared session.
 use Rattle.std.specs.Prelude.{◌≡◌, ◌⊎◌, ℕ, ◌<◌, false, true, not, is_err, List, [], ◌∷◌, ◌++◌, length, take, drop, Option, None, Result, Ok, if◌then◌else◌}
 use Rattle.std.specs.List.{All, concat}
 use Rattle.nr_rev.specs.Run.{Recording}
@@ -18,22 +18,22 @@ use Rattle.nr_serving.specs.Conversations.{Conversation}
 use Rattle.nr_programs.specs.Among.{AllMayMeet, Met, answer_among, next_met, replies_among, texts_among}
 use Rattle.nr_programs.specs.Transcript.{JournalSize, SessionState, Supply, enough, no_memory_to_search}
 
--- the lines begin with these
+-- the list of lines starts with these lines
 abbrev pub StartsList : List (List ℕ) → List (List ℕ) → Type 0
 StartsList lines front = (more : List (List ℕ)) × (lines ≡ front ++ more)
 
--- the word of a line's own command, where the line places it
+-- the word of the line's own command, if the line places one
 abbrev pub own_word : ℕ → Option Command → Result Line LineFault → Supply → List ℕ
 own_word tag None (Ok (Run command)) enough = word_of tag command ∷ []
 own_word tag None (Ok (Run command)) no_memory_to_search = word_of tag command ∷ []
 own_word tag owed asked supply = []
 
 -- The words that a front sees with a line: those that others placed before it, and then the line's
--- own.
+-- own word.
 abbrev pub words_with : ℕ → Option Command → Result Line LineFault → Met → List ℕ
 words_with tag owed asked m = m.others ++ own_word tag owed asked m.supply
 
--- the words that a front with this tag sees with some lines, up to the first `quit`
+-- the words that a front with this tag sees with these lines, up to the first `quit`
 abbrev pub words_seen : ℕ → Recording → SessionState → List (List ℕ) → List Met → List ℕ
 words_seen tag r s [] met = []
 words_seen tag r s (line ∷ lines) met =
@@ -42,16 +42,16 @@ words_seen tag r s (line ∷ lines) met =
     words_with tag s.owed asked (next_met met)
     ++ (if is_quit asked then [] else words_seen tag r a.1 lines (drop 1 met))
 
--- what a line met of others has none of the front's own words
+-- none of the words of others that a line encountered has the front's tag
 abbrev pub MeetsOthers : ℕ → Met → Type 0
 MeetsOthers tag m = All (IsOthers tag) m.others
 
--- When the caller was read, each whole line that had come from it was answered, and its reply was
--- out. No earlier read had found the caller's end.
+-- When the front read from the caller, each whole line received so far was answered, and its reply
+-- was sent. No earlier read had reached the end of the caller's input.
 abbrev pub HeardOut : Recording → SessionState → List Met → Moment → Type 0
 HeardOut r s met m = (m.sent ≡ replies_among r s false m.received met) × (m.ended ≡ false)
 
--- The texts before the last were sent whole, and of the last its first n bytes, and not all of it.
+-- All texts before the last were sent whole, and of the last only its first n bytes.
 pub record EndsWithin (texts : List (List ℕ)) (sent : List ℕ) : Type 0 where
   pub whole : List (List ℕ)
   pub last : List ℕ
@@ -60,13 +60,13 @@ pub record EndsWithin (texts : List (List ℕ)) (sent : List ℕ) : Type 0 where
   pub within : n < length last
   pub sent_is : sent ≡ concat whole ++ take n last
 
--- One caller of a front: what was sent to it is a prefix of the replies to what was received from
--- it, from where the front was; all of it unless a write failed. Where a read failed, an unfinished
--- last line is no command. Before each read all whole lines were answered. Where neither failed,
--- a read found the caller's end, or a line is `quit`. These lines were run: the first ones, up to
--- one that is `quit`, or whose reply wasn't written, or all; nothing was sent but their texts. If a
--- write failed, the last of them is the line whose text was cut. They met what lines may meet,
--- where the journal is of this size.
+-- One caller of a front. What was sent is a prefix of the replies to what was received, starting
+-- from the front's state, and all of it unless a write failed. If a read failed, an unfinished last
+-- line isn't a command. Before each read all whole lines were answered. If neither failed, a read
+-- reached the end of the caller's input, or a line is `quit`. The lines `ran` were run: the first
+-- lines, up to one that is `quit` or whose reply wasn't written, or all. Only their texts were
+-- sent. If a write failed, the last of them is the line whose text was cut. They encountered only
+-- what lines may encounter with a journal of this size.
 pub record IsAnswered (r : Recording) (journal : JournalSize) (tag : ℕ) (c : Conversation)
     (s : SessionState) : Type 0 where
   pub met : List Met
@@ -84,17 +84,17 @@ pub record IsAnswered (r : Recording) (journal : JournalSize) (tag : ℕ) (c : C
   pub stops : c.output.failed ≡ true → EndsWithin (texts_among r s ran met) c.output.sent
   pub others : All (MeetsOthers tag) met
 
--- The front has run a prefix of the history: its debugger is that of these words, less the last
--- where its reply is owed.
+-- The front has run a prefix of the history: its debugger is the one after these words, without the
+-- last if its reply is owed.
 pub record HasRun (r : Recording) (history seen : List ℕ) (s : SessionState) : Type 0 where
   pub prefix : StartsWith history seen
   pub placed : s.placed ≡ length seen
   pub at : IsAt r seen s.owed s.debugger
 
--- The callers of a front, one after the other, where it had seen these words. Behind each the front
--- is in the one history, and further on by the words that it saw with the caller's lines: those of
--- others before each, and each placed command's own, once. Behind the last, no word of the history
--- that it hasn't seen has its tag.
+-- The callers of a front, one after the other, after it had seen these words. After each caller the
+-- front has run a longer prefix of the one history, by the words that it saw with the caller's
+-- lines: those of others before each line, and each placed command's own word, once. After the last
+-- caller, no word of the history that the front hasn't seen has its tag.
 abbrev pub AreAnswered : Recording → JournalSize → ℕ → List ℕ → SessionState → List ℕ
     → List Conversation → Type 0
 AreAnswered r journal tag history s seen [] = Covers history tag seen

@@ -1,9 +1,9 @@
--- What a session that is shared is to be like.
+-- The parameters of a shared session.
 use Rattle.std.specs.Prelude.{◌+◌, ◌-◌, ◌&&◌, not, nat_lt, Bool}
 use Rattle.nr_programs.specs.declared.sharing.TheConstants.{MOST_FRONTS, MOST_JOURNAL, MOST_PORT, MOST_WORKERS}
 use Rattle.nr_programs.specs.declared.sharing.Sharing.{Sharing}
 
--- each number is in its range, and so are the ports of all fronts
+-- true if each number is in its range, and the ports of all fronts are
 abbrev pub is_in_range : Sharing → Bool
 is_in_range s =
     not (nat_lt s.port 1) && not (nat_lt s.fronts 1) && not (nat_lt MOST_FRONTS s.fronts)

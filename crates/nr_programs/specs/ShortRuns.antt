@@ -46,14 +46,14 @@ taken_run = record {
       ∷ RwLock 1 0 sides.Read ∷ [];
 }
 
--- no step
+-- a run without steps
 abbrev pub empty_run : Recording
 empty_run = record {
   limits = record { goroutines = 4; sockets = 2; descriptors = 2; buffer = 16 };
   steps = [];
 }
 
--- a deadline at the last moment there is
+-- a run with a deadline at the last possible time
 abbrev pub last_moment_run : Recording
 last_moment_run = record {
   limits = record { goroutines = 4; sockets = 2; descriptors = 2; buffer = 16 };
@@ -62,7 +62,7 @@ last_moment_run = record {
       ∷ SetDeadline 0 0 modes.Read (pos 9223372036854775807) ∷ [];
 }
 
--- a descriptor that is opened again, and an event of its first life
+-- a run that reopens a descriptor, with an event of its first opening
 abbrev pub reopened_run : Recording
 reopened_run = record {
   limits = record { goroutines = 4; sockets = 2; descriptors = 2; buffer = 16 };
@@ -71,7 +71,7 @@ reopened_run = record {
       ∷ PollEvent 0 1 modes.Read false ∷ [];
 }
 
--- a goroutine swaps the word of a side that it doesn't wait for
+-- a run in which a goroutine swaps the word of a side for which it doesn't wait
 abbrev pub early_swap_run : Recording
 early_swap_run = record {
   limits = record { goroutines = 4; sockets = 2; descriptors = 2; buffer = 16 };
@@ -81,7 +81,7 @@ early_swap_run = record {
       ∷ PollEvent 0 1 modes.Read false ∷ BlockSwap 0 ∷ SysRead 0 0 8 ∷ RwUnlock 0 0 sides.Read ∷ [];
 }
 
--- three firings of a descriptor, which has room for two
+-- a run with three firings of a descriptor, which has room for two
 abbrev pub three_firings_run : Recording
 three_firings_run = record {
   limits = record { goroutines = 1; sockets = 1; descriptors = 1; buffer = 1 };
@@ -91,7 +91,7 @@ three_firings_run = record {
       ∷ SetDeadline 0 0 modes.Read (pos 1) ∷ Tick (pos 3) ∷ Pop ∷ [];
 }
 
--- a recording of version 1 of a run, which has no answers
+-- a version-1 recording of a run, which contains no answers
 abbrev pub of_version_one : Recording → Recorded
 of_version_one r = record {
   version = One;

@@ -1,4 +1,4 @@
--- What the program `suspects` writes: what came of deadlines, the lost wake-ups, the goroutines
+-- The output of the program `suspects`: what became of deadlines, the lost wake-ups, the goroutines
 -- that sleep on, and the held references of closed sockets.
 use Rattle.std.specs.Prelude.{◌⊎◌, ℕ, List, [], ◌++◌, Result, Ok, Err}
 use Rattle.nr_rev.specs.Run.{Recording}
@@ -12,13 +12,13 @@ use Rattle.nr_programs.specs.declared.opening.OpenFault.{OpenFault}
 use Rattle.nr_programs.specs.declared.run.ExitStatus.{ExitStatus}
 use Rattle.nr_programs.specs.declared.run.ExitStatus.TheVariants.{Refused}
 
--- the lines of a run; if there is a fault there are none
+-- the lines of a run, or none if there is a fault
 abbrev pub suspects_of : Result Recording OpenFault → List ℕ
 suspects_of (Ok r) = suspect_lines r
 suspects_of (Err fault) = []
 
--- What was opened has these suspects, and the last line of `check`, and they are written; or there
--- was no memory, which is printed.
+-- The lines of the suspects and the last line of `check` are written; or memory ran out, and that
+-- is printed.
 abbrev pub WritesSuspects : Result Recording OpenFault → Outgoing → Outgoing → ExitStatus → Type 0
 WritesSuspects r old new status =
     EndsPrinting (suspects_of r ++ last_line r) (status_of_opened r) old new status

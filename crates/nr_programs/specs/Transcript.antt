@@ -1,4 +1,4 @@
--- The transcript: what the lines of a front are answered, as a function of the bytes.
+-- The transcript: the replies to a front's lines, as a function of the bytes.
 use Rattle.std.specs.Prelude.{◌≡◌, ◌≢◌, ◌⊎◌, ℕ, ◌+◌, Bool, true, false, not, ◌||◌, List, [], ◌∷◌, ◌++◌, drop, Option, Some, None, Result, Ok, Err, ⊤, if◌then◌else◌}
 use Rattle.nr_text.specs.Moments.{Moment}
 use Rattle.nr_text.specs.Streams.{Incoming, IsOver, Outgoing, Passes, Receives, Sends}
@@ -28,37 +28,37 @@ use Rattle.nr_programs.specs.declared.run.ExitStatus.TheVariants.{Done, Refused,
 
 -- ---- what there is for a line
 
--- What there is for a line: memory and room; no memory; no memory to search for the reply of its
--- command, which is placed; or no room in the journal.
+-- What is available to a line: enough memory and room; no memory; no memory to search for the reply
+-- to its command, which is placed; or no room in the journal.
 pub data Supply : Type 0 where
   enough : Supply
   no_memory : Supply
   no_memory_to_search : Supply
   no_room : Supply
 
--- what there is for the next of several lines: enough for those that nothing is said of
+-- the supply of the next line; past the end of the list, enough
 abbrev pub next_supply : List Supply → Supply
 next_supply [] = enough
 next_supply (supply ∷ supplies) = supply
 
 -- ---- a front between two lines
 
--- The debugger that the words placed so far lead to, how many these are, and the command whose
--- reply is owed. Where one is, its word is the last, and the debugger is that of the words before.
+-- The debugger after the words placed so far, their number, and the command whose reply is owed. If
+-- there is such a command, its word is the last, and the debugger is the one before it.
 pub record SessionState : Type 0 where
   pub debugger : Debugger
   pub placed : ℕ
   pub owed : Option Command
 
--- before the first line
+-- the session before the first line
 abbrev pub start : SessionState
 start = record { debugger = opening; placed = 0; owed = None }
 
--- what a line is answered, if anything, and the front behind it
+-- the reply to a line, if any, and the front after it
 abbrev pub Answered : Type 0
 Answered = Option Reply × SessionState
 
--- a command was run, which is the last word
+-- a command was run; its word is the last one
 abbrev pub with_run : Ran → ℕ → Answered
 with_run ran placed = (Some ran.0, record { debugger = ran.1; placed = placed; owed = None })
 
@@ -66,7 +66,7 @@ with_run ran placed = (Some ran.0, record { debugger = ran.1; placed = placed; o
 abbrev pub owing : SessionState → Answered
 owing s = (Some (Fault (faults.Placed s.placed)), s)
 
--- a command is placed and run
+-- the answer to a command, which is placed and run
 abbrev pub command_answer : Recording → Command → Supply → SessionState → Answered
 command_answer r command enough s = with_run (run r command s.debugger) (s.placed + 1)
 command_answer r command no_memory s = (Some (Fault (faults.Memory refused_memory)), s)
@@ -74,12 +74,12 @@ command_answer r command no_memory_to_search s =
     owing (record s { placed = s.placed + 1; owed = Some command })
 command_answer r command no_room s = (Some (Fault faults.JournalFull), s)
 
--- a look shows what the debugger shows
+-- the answer to a query, which reads the debugger's state
 abbrev pub look_answer : Recording → Query → Supply → SessionState → Answered
 look_answer r query enough s = (Some (query_reply r s.debugger query), s)
 look_answer r query _ s = (Some (Fault (faults.Memory refused_memory)), s)
 
--- a line where no reply is owed
+-- the answer to a line when no reply is owed
 abbrev pub answer : Recording → Result Line LineFault → Supply → SessionState → Answered
 answer r (Ok (Run command)) supply s = command_answer r command supply s
 answer r (Ok (Look query)) supply s = look_answer r query supply s
@@ -88,12 +88,12 @@ answer r (Ok Quit) supply s = (Some Bye, s)
 answer r (Ok Empty) supply s = (None, s)
 answer r (Err fault) supply s = (Some (Fault (faults.Line fault)), s)
 
--- `resume` gives the reply that is owed
+-- the answer to `resume`, which gives the owed reply
 abbrev pub resume_answer : Recording → Command → Supply → SessionState → Answered
 resume_answer r command enough s = with_run (run r command s.debugger) s.placed
 resume_answer r command _ s = owing s
 
--- a line where the reply to this command is owed
+-- the answer to a line when the reply to this command is owed
 abbrev pub answer_owing : Recording → Command → Result Line LineFault → Supply → SessionState
     → Answered
 answer_owing r command (Ok (Run next)) supply s = owing s
@@ -101,7 +101,7 @@ answer_owing r command (Ok (Look query)) supply s = owing s
 answer_owing r command (Ok Resume) supply s = resume_answer r command supply s
 answer_owing r command asked supply s = answer r asked supply s
 
--- a line, by whether a reply is owed
+-- the answer to a line, given the command whose reply is owed, if any
 abbrev pub line_answer : Recording → Option Command → Result Line LineFault → Supply → SessionState
     → Answered
 line_answer r None asked supply s = answer r asked supply s
@@ -109,18 +109,19 @@ line_answer r (Some command) asked supply s = answer_owing r command asked suppl
 
 -- ---- what there may be for a line
 
--- how many words a journal has room for, and how many passes it has at most
+-- the number of words for which a journal has room, and its maximum number of passes
 pub record JournalSize : Type 0 where
   pub room : ℕ
   pub passes : ℕ
 
--- the journal of a session of one: 65,536 words and one pass
+-- the journal of a session with one front: 65,536 words and one pass
 abbrev pub journal_of_one : JournalSize
 journal_of_one = record { room = 65536; passes = 1 }
 
--- This there may be for a command, as the line finds the session: there is no memory before it is
--- placed only where others may have placed words; its search runs out of memory only where it
--- searches by copies of worlds; there is no room only where the journal has so many words.
+-- The supply that a command may have when the session is in this state. Memory may be missing
+-- before the command is placed only if others may have placed words; its search may run out of
+-- memory only if it searches through copies of worlds; the journal may be full only if it has so
+-- many words.
 abbrev pub CommandMayHave : Recording → JournalSize → Command → Supply → SessionState → Type 0
 CommandMayHave r journal command enough s = ⊤
 CommandMayHave r journal command no_memory s = journal.passes ≢ 1
@@ -134,15 +135,15 @@ LookMayHave no_memory = ⊤
 LookMayHave no_memory_to_search = ⊥
 LookMayHave no_room = ⊥
 
--- the search of the command whose reply is owed may run out of memory once more
+-- the search of the command whose reply is owed may run out of memory again
 abbrev pub ResumeMayHave : Recording → Command → Supply → SessionState → Type 0
 ResumeMayHave r command enough s = ⊤
 ResumeMayHave r command no_memory s = Searches r command s.debugger
 ResumeMayHave r command no_memory_to_search s = ⊥
 ResumeMayHave r command no_room s = ⊥
 
--- What there may be for a line, by whether a reply is owed, where the journal is of this size. For
--- all lines that place no command and show nothing there is enough.
+-- The supply that a line may have, given the command whose reply is owed, with a journal of this
+-- size. Lines that neither place a command nor query have enough.
 abbrev pub MayHave : Recording → JournalSize → Option Command → Result Line LineFault → Supply
     → SessionState → Type 0
 MayHave r journal None (Ok (Run command)) supply s = CommandMayHave r journal command supply s
@@ -152,7 +153,7 @@ MayHave r journal owed asked supply s = supply ≡ enough
 
 -- ---- line after line
 
--- the texts of lines, one for each, up to the first `quit`
+-- the replies to these lines, one text per line, up to the first `quit`
 abbrev pub texts : Recording → SessionState → List (List ℕ) → List Supply → List (List ℕ)
 texts r s [] supplies = []
 texts r s (line ∷ lines) supplies =
@@ -160,12 +161,12 @@ texts r s (line ∷ lines) supplies =
     let a = line_answer r s.owed asked (next_supply supplies) s in
     text_or_none a.0 ∷ (if is_quit asked then [] else texts r a.1 lines (drop 1 supplies))
 
--- what holds behind a line, unless it is `quit`
+-- this holds after a line, unless it is `quit`
 abbrev pub UnlessQuit : Bool → Type 0 → Type 0
 UnlessQuit true later = ⊤
 UnlessQuit false later = later
 
--- for each of some lines, up to the first `quit`, there was what there may be
+-- each of these lines, up to the first `quit`, had a supply that it may have
 abbrev pub AllMayHave : Recording → JournalSize → SessionState → List (List ℕ) → List Supply
     → Type 0
 AllMayHave r journal s [] supplies = ⊤
@@ -175,31 +176,31 @@ AllMayHave r journal s (line ∷ lines) supplies =
     MayHave r journal s.owed asked (next_supply supplies) s
     × UnlessQuit (is_quit asked) (AllMayHave r journal a.1 lines (drop 1 supplies))
 
--- The replies to the lines of a text, by what there was for them. Where the text isn't at its end,
--- what follows the last line feed is no line yet.
+-- The replies to the lines of a text, given their supplies. Unless the text is at its end, the
+-- bytes after the last line feed aren't a line yet.
 abbrev pub replies : Recording → SessionState → Bool → List ℕ → List Supply → List ℕ
 replies r s ended commands supplies = concat (texts r s (lines_of ended commands) supplies)
 
--- the replies to commands over the run that was opened, or the line of its fault
+-- the replies to commands over the opened run, or the line of its fault
 abbrev pub replies_over : Result Recording OpenFault → Bool → List ℕ → List Supply → List ℕ
 replies_over (Ok r) ended commands supplies = replies r start ended commands supplies
 replies_over (Err fault) ended commands supplies = fault_line fault
 
--- The transcript of the bytes of a recording and of commands, by what there was for their lines.
+-- The transcript of a recording's bytes and of commands, given the supplies of the command lines.
 abbrev pub transcript_by : List ℕ → Bool → List ℕ → List Supply → List ℕ
 transcript_by recording ended commands supplies =
     replies_over (opened recording) ended commands supplies
 
 -- ---- what the program did
 
--- the status, by what was opened, and whether a read and whether a write failed
+-- the status, from what was opened and whether a read or a write failed
 abbrev pub status_of : Result Recording OpenFault → Bool → Bool → ExitStatus
 status_of (Ok r) read_failed write_failed =
     if read_failed || write_failed then StreamFailed else Done
 status_of (Err fault) read_failed write_failed = if write_failed then StreamFailed else Refused
 
--- When a read was made, what had been sent was the transcript of what had been received: each whole
--- line was answered, and its reply was out. The read before it had not found the end.
+-- At each read, the bytes sent so far were the transcript of the bytes received so far: each whole
+-- line was answered, and its reply was sent. The read before had not reached the end.
 pub record WasPrompt (recording : List ℕ) (from : Incoming) (old : Outgoing)
     (supplies : List Supply) (m : Moment) : Type 0 where
   pub commands : List ℕ
@@ -207,11 +208,10 @@ pub record WasPrompt (recording : List ℕ) (from : Incoming) (old : Outgoing)
   pub sent : m.sent ≡ old.sent ++ transcript_by recording false commands supplies
   pub unended : from.ended ≡ false → m.ended ≡ false
 
--- Commands were read and replies written: a prefix of the transcript of the commands, by what there
--- was for their lines, and all of it unless a write failed. Where a read failed, an unfinished last
--- line is no command. Before each read all whole lines were answered. Where it
--- ended well, the input is at its end, or a line is `quit`. Of a recording with a fault no command
--- was read.
+-- Commands were read and replies written: a prefix of the transcript of the commands, given their
+-- lines' supplies, and all of it unless a write failed. If a read failed, an unfinished last line
+-- isn't a command. Before each read all whole lines were answered. If the status is `Done`, the
+-- input is at its end, or a line is `quit`. If the recording has a fault, no command was read.
 pub record Transcribes (recording : List ℕ) (from left : Incoming) (old new : Outgoing)
     (status : ExitStatus) : Type 0 where
   pub commands : List ℕ
@@ -232,7 +232,7 @@ pub record Transcribes (recording : List ℕ) (from left : Incoming) (old new : 
   pub unread : (fault : OpenFault) → opened recording ≡ Err fault → commands ≡ []
   pub ends : status ≡ status_of (opened recording) left.failed new.failed
 
--- The program `run`: it writes its transcript, or there was no memory to begin, which is printed.
+-- The program `run` writes its transcript; or memory ran out at the start, and that is printed.
 abbrev pub RunsTranscript : List ℕ → Incoming → Incoming → Outgoing → Outgoing → ExitStatus
     → Type 0
 RunsTranscript recording from left old new status =

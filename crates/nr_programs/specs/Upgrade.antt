@@ -1,4 +1,4 @@
--- What the program `upgrade` writes.
+-- The output of the program `upgrade`.
 use Rattle.std.specs.Prelude.{◌⊎◌, ℕ, ◌<◌, List, ◌++◌, length, take}
 use Rattle.std.specs.List.{concat}
 use Rattle.nr_recording.specs.Faults.{memory_line}
@@ -12,8 +12,8 @@ use Rattle.nr_programs.specs.declared.opening.OpenFault.{OpenFault}
 use Rattle.nr_programs.specs.declared.run.ExitStatus.{ExitStatus}
 use Rattle.nr_programs.specs.declared.run.ExitStatus.TheVariants.{Done, Refused}
 
--- The run's text in version 2 is written, each step with the answer that it gives. Or there was no
--- memory for a line of it: the lines before that one are written, and then that.
+-- The run's text in version 2 is written, each step with its answer. Or memory ran out for one of
+-- its lines: the lines before that one are written, followed by the line of that fault.
 abbrev pub WritesAnswered : Recording → Outgoing → Outgoing → ExitStatus → Type 0
 WritesAnswered r old new status =
     EndsPrinting (text (answered r)) Done old new status
@@ -21,7 +21,7 @@ WritesAnswered r old new status =
     × EndsPrinting (concat (take n (line_texts (answered r))) ++ memory_line) Refused old new
     status)
 
--- The bytes are a recording whose steps all apply and answer as is recorded of them, and it is
+-- Either the bytes are a recording whose steps all apply and give their recorded answers, and it is
 -- written with its answers; or its first fault is printed.
 abbrev pub Upgrades : List ℕ → Outgoing → Outgoing → ExitStatus → Type 0
 Upgrades bytes old new status =

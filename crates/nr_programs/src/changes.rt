@@ -1,4 +1,4 @@
-//! The program `changes`, over the bytes of the file and the output.
+//! The program `changes`, from the file's bytes to the output.
 
 ghost use Rattle.std.specs.Prelude.{◌≡◌, ◌≤◌, ◌<◌, ◌+◌, ◌++◌, Ok, IfErr, OnOk, length};
 ghost use Rattle.nr_rev.specs.World.{empty_world};
@@ -17,7 +17,7 @@ use nr_text::{Buffered, Parts, Sink, Text, Token, WriteFailed, send_all};
 use std::alloc::Global;
 use std::io::Write;
 
-/// How many lines are joined at most before they go out.
+/// The maximum number of lines that are joined before they are written.
 const LINES_AT_ONCE: usize = 256;
 
 /// A line: a step, and a cell that it changed.
@@ -25,11 +25,11 @@ const LINES_AT_ONCE: usize = 256;
 pub(crate) struct ChangeLine {
     /// The number of the step, counted from 1.
     step: usize,
-    /// The cell, with its value behind the step.
+    /// The cell, with its value after the step.
     change: CellWithValue,
 }
 
-/// It is the step's number, and what `print` is answered: `7 lock 0 = 18`.
+/// Prints as the step's number and the reply to `print`: `7 lock 0 = 18`.
 impl Text for ChangeLine {
     ghost text = { change_text };
 
@@ -40,16 +40,17 @@ impl Text for ChangeLine {
     }
 }
 
-/// Lines that are to go out.
+/// The lines to write next.
 type Lines = ArrayVec<ChangeLine, LINES_AT_ONCE>;
 
-/// Opens the recording, and prints a line for each cell that a step changed, `7 lock 0 = 18`, step after step, the cells of
-/// a step in the order in which `COMMANDS.md` lists them; then the line that `check` prints. Of a recording whose steps
-/// don't all apply, or answer otherwise than is recorded of them, the lines up to the first such step are printed, and then
-/// its fault; of a text that is no recording its fault alone. The steps are made once, and no copy of the world is kept.
+/// Opens the recording, and prints a line for each cell that a step changed, such as `7 lock 0 = 18`. The lines are
+/// sorted by step, and the cells of a step are in the order of `COMMANDS.md`. The line that `check` prints follows. If
+/// a step doesn't apply, or its answer differs from the recorded one, prints the lines before the first such step, and
+/// then its fault. If the text isn't a recording, prints only its fault. The steps are applied once, and no copy of the
+/// world is kept.
 ///
-/// `Refused`: a fault was the last line, or `fault 108 memory` the only one. `StreamFailed`: a write failed; then a prefix of
-/// these texts is written.
+/// Returns `Refused` if a fault was the last line, or `fault 108 memory` the only one; `StreamFailed` if a write
+/// failed, so that only a prefix of the output is written; and otherwise `Done`.
 pub fn changes_bytes<W: TouchesCells + Drop, O: Write>(
     alloc: Global,
     bytes: &[u8],
@@ -57,7 +58,7 @@ pub fn changes_bytes<W: TouchesCells + Drop, O: Write>(
 ) -> ExitStatus
 where
     W::Snapshot: Drop,
-    // What was written, whatever the bytes are.
+    // The output, for any bytes.
     ensures { Changes bytes.now output.old output.new result }
 {
     let recording = match read(alloc, bytes) {
@@ -71,7 +72,7 @@ where
     print_changes(&mut world, &recording, output)
 }
 
-// Makes the steps of the recording, and prints what they changed.
+// Applies the steps of the recording, and prints what they changed.
 fn print_changes<W: TouchesCells, O: Write>(
     world: &mut W,
     recording: &Recording,
@@ -99,8 +100,8 @@ fn print_changes<W: TouchesCells, O: Write>(
     end(lines.as_slice(), &accepted, ExitStatus::Done, output)
 }
 
-// Makes the step after position n, and puts the lines of what it changed behind the others. A fault is the step's. The list of
-// changes is for its own use.
+// Applies the step after position n, and appends the lines for its changes. Fails with the step's fault. The list of
+// changes is scratch space.
 fn step_on<W: TouchesCells>(
     world: &mut W,
     recording: &Recording,
@@ -138,7 +139,7 @@ fn step_on<W: TouchesCells>(
     Ok(())
 }
 
-// Puts a line for each of the changes of a step behind the others.
+// Appends a line for each change of a step.
 fn add_lines(step: usize, changes: &[CellWithValue], lines: &mut Lines)
     requires { length lines.old.items + length changes.now ≤ 256 }
     ensures items { lines.new.items ≡ lines.old.items ++ as_lines step changes.now }
@@ -152,7 +153,7 @@ fn add_lines(step: usize, changes: &[CellWithValue], lines: &mut Lines)
     }
 }
 
-// Prints the lines and the last one, and returns the given status where all went out.
+// Prints the lines and the last one. Returns the given status if all were written.
 fn end<T: Text, O: Write>(
     lines: &[ChangeLine],
     last: &T,

@@ -1,5 +1,5 @@
-//! What the theorem rests on, as calls of two lines: undoing a step restores the state, and a position is the replay of the
-//! steps before it.
+//! The two facts on which the theorem rests, as short functions: undoing a step restores the state, and a position is
+//! the replay of the steps before it.
 
 ghost use Rattle.std.specs.Prelude.{◌≡◌, ◌≤◌, length, IfErr, IfOk, OnErr, OnOk};
 ghost use Rattle.nr_rev.specs.Cell.{cell};
@@ -11,9 +11,9 @@ ghost use Rattle.nr_walker.specs.Walk.{IsRefusedBy, route};
 use nr_rev::{Cell, CellValue, Memory, Refusal, Reversible, Worlds};
 use nr_walker::Walker;
 
-/// Applies an operation to a machine whose operations can be undone, in any well-formed state, and undoes it. The state is
-/// what it was, in every part; so it is where the operation doesn't apply. Returns the operation's answer, or why it
-/// doesn't apply.
+/// Applies an operation to a machine whose operations can be undone, in any well-formed state, and undoes it.
+/// Afterwards the state is the same in every part, even if the operation doesn't apply. Returns the operation's answer,
+/// or why it doesn't apply.
 pub fn there_and_back<M: Reversible>(machine: &mut M, op: &M::Op) -> Result<M::Answer, Refusal>
     requires { M.is_well_formed machine.old }
     ensures same { machine.new ≡ machine.old }
@@ -25,9 +25,9 @@ pub fn there_and_back<M: Reversible>(machine: &mut M, op: &M::Op) -> Result<M::A
     Ok(answer)
 }
 
-/// Leads a walker to position n, from wherever it is, and returns the value of a cell there: that of the world which
-/// replaying the first n steps of its recording leads to, which is a well-formed one. Out of memory, the walker is where
-/// `Walker::goto` leaves it then.
+/// Moves a walker to position n, from anywhere, and returns the value of a cell there: its value in the world after a
+/// replay of the recording's first n steps, which is well-formed. Fails with `Memory` if memory runs out, and the
+/// walker is then where `Walker::goto` leaves it.
 pub fn value_at<W: Worlds + Drop>(
     walker: &mut Walker<'_, W>,
     n: usize,

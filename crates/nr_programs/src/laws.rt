@@ -26,8 +26,8 @@ ghost use Rattle.nr_programs.specs.declared.run.ExitStatus.TheVariants.{Done};
 ghost use Rattle.nr_programs.specs.declared.run.TheConstants.{DELTAS_KEPT, JOURNAL_ROOM};
 ghost use Rattle.nr_programs.specs.declared.sharing.TheConstants.{MOST_FRONTS, MOST_JOURNAL, MOST_PORT, MOST_WORKERS};
 
-/// Where no line was refused memory or room, and nobody else placed a word, there is one transcript: that of the bytes of the
-/// recording and of the commands, and of nothing else.
+/// If no line ran out of memory or room, and no other front placed a word, there is exactly one transcript: a function
+/// of the bytes of the recording and of the commands, and of nothing else.
 pub fn a_calm_session_has_one_transcript()
     ensures calm { (recording commands : List ℕ) (ended : Bool) (supplies : List Supply)
         → All (λ supply. supply ≡ enough) supplies
@@ -36,11 +36,11 @@ pub fn a_calm_session_has_one_transcript()
         → transcript recording commands ≡ transcript_by recording true commands [] }
 {}
 
-/// Each caller of a shared session is answered by the transcript of what was received from it, from where the front is that
-/// serves it. Every front is in the one history, whose length `placed K` prints: with each line that was run it sees the
-/// words that others placed before it, none of them its own, and then the line's own, once, where the line places a command. All
-/// of its own words in the history are among these, and each word of the history is one front's. The callers are those of the
-/// ports: these conversations passed, and no others.
+/// Each caller of a shared session gets the transcript of what was received from it, starting from the state of the
+/// front that serves it. All fronts share one history, whose length `placed K` prints. With each line that it runs, a
+/// front sees the words that others placed before it, none of which is its own, and then the line's own word, once, if
+/// the line places a command. These include all of its own words in the history, and each word of the history belongs
+/// to one front. The callers are those of the ports: exactly these conversations took place.
 pub fn callers_are_answered_in_one_history()
     ensures answered { (r : Recording) (room fronts depth workers : ℕ) (passed : List Passed) (history : List ℕ) (failed : Bool)
         → (shared : IsShared r room fronts depth workers passed (Some history) failed)
@@ -51,7 +51,7 @@ pub fn callers_are_answered_in_one_history()
         → All (IsTheirs (map last_pass_state shared.courses)) history }
 {}
 
-/// A caller who sent nothing and was sent a byte isn't answered.
+/// `IsAnswered` doesn't hold for a caller that sent nothing but was sent a byte.
 pub fn a_lie_is_no_answer()
     ensures { (r : Recording) (journal : JournalSize) (tag : ℕ) → ¬ (IsAnswered r journal tag (record {
       input = unread None;
@@ -60,7 +60,7 @@ pub fn a_lie_is_no_answer()
     }) start) }
 {}
 
-/// A caller who was let go unread isn't answered: his end wasn't found, and no line was `quit`.
+/// `IsAnswered` doesn't hold for a caller whose input was never read: its end wasn't reached, and no line was `quit`.
 pub fn an_unread_caller_is_not_answered()
     ensures { (r : Recording) (journal : JournalSize) (tag : ℕ) → ¬ (IsAnswered r journal tag (record {
       input = unread None;
@@ -69,7 +69,8 @@ pub fn an_unread_caller_is_not_answered()
     }) start) }
 {}
 
-/// A caller who was read once more before his line was answered isn't answered, even if the reply comes in the end.
+/// `IsAnswered` doesn't hold for a caller that was read again before its line was answered, even if the reply is sent
+/// later.
 pub fn a_late_reply_is_no_answer()
     ensures { (r : Recording) (journal : JournalSize) (tag : ℕ) → ¬ (IsAnswered r journal tag (record {
       input = record {
@@ -84,7 +85,8 @@ pub fn a_late_reply_is_no_answer()
     }) start) }
 {}
 
-/// A caller who was read once more after his end was found isn't answered, even if the reply to his last line comes in the end.
+/// `IsAnswered` doesn't hold for a caller that was read again after the end of its input, even if the reply to its last
+/// line is sent later.
 pub fn an_end_read_twice_is_no_answer()
     ensures { (r : Recording) (journal : JournalSize) (tag : ℕ) → ¬ (IsAnswered r journal tag (record {
       input = record {
@@ -99,7 +101,7 @@ pub fn an_end_read_twice_is_no_answer()
     }) start) }
 {}
 
-/// A run over streams of which nothing is known, that received nothing and sent a byte, is none.
+/// `Transcribes` doesn't hold for a run over arbitrary streams that received nothing but sent a byte.
 pub fn a_lie_is_no_run()
     ensures { (recording : List ℕ) (r : Recording) → opened recording ≡ Ok r → ¬ (Transcribes recording
         (unread None)
@@ -108,24 +110,24 @@ pub fn a_lie_is_no_run()
         (record { contents = None; sent = 65 ∷ []; failed = false }) Done) }
 {}
 
-/// Of the words that a front sees with its callers' lines its own are those of the commands that the lines placed: in the lines'
-/// order, each once, and no others. So they are in the one history, of which these words are a part.
+/// Among the words that a front sees with its callers' lines, its own are exactly those of the commands that the lines
+/// placed, in the lines' order and each once. So they are in the one history, which contains these words.
 pub fn each_placed_command_is_there_once()
     ensures { (tag : ℕ) (r : Recording) (s : SessionState) (lines : List (List ℕ)) (met : List Met) → tag < 256
         → All (MeetsOthers tag) met
         → filter (λ word. tag_of word == tag) (words_seen tag r s lines met) ≡ placed_words tag r s lines met }
 {}
 
-/// What a look at the world shows is decided by the position alone, whatever marks, checkpoints and direction there are, and
-/// whichever way led there: two sessions that are at one position show the same.
+/// A query about the world depends only on the position, not on marks, checkpoints, the direction or the way to that
+/// position: two sessions at the same position give the same reply.
 pub fn a_position_shows_one_thing()
     ensures { (r : Recording) (query : Query) (s t : SessionState) → is_at_world query ≡ true
         → s.debugger.position ≡ t.debugger.position
         → (look_answer r query enough s).0 ≡ (look_answer r query enough t).0 }
 {}
 
-/// A recording that is accepted is a run of the machine: each of its steps applies where it is and leads to the next
-/// position, and the answer that is recorded of it, if any, is the one that it gives.
+/// An accepted recording is a run of the machine: each of its steps applies at its position and leads to the next, and
+/// gives its recorded answer, if any.
 pub fn an_accepted_recording_is_a_run()
     ensures runs { (bytes : List ℕ) (r : Recording) (n : ℕ) (step : Step) → IsGoodText bytes r
         → slice_get r.steps n ≡ Some step → LeadsOnAt r n step }
@@ -133,8 +135,8 @@ pub fn an_accepted_recording_is_a_run()
         → answer_at r n ≡ Some given → Agrees (recorded_at good.recorded n) given }
 {}
 
-/// What may be asked for: ports up to 65,535, 64 fronts, 16 workers, a journal of 1,000,000 words. What the programs choose: a
-/// journal of 65,536 words for `run`, 4,096 deltas, and a copy each 1,024 steps for `run` and `serve`.
+/// The limits of `serve`: ports up to 65,535, 64 fronts, 16 workers, a journal of 1,000,000 words. The constants of the
+/// programs: a journal of 65,536 words for `run`, 4,096 deltas, and a copy every 1,024 steps for `run` and `serve`.
 pub fn the_numbers()
     ensures port { MOST_PORT ≡ 65535 }
     ensures fronts { MOST_FRONTS ≡ 64 }

@@ -1,4 +1,4 @@
-//! The programs over the bytes of the file and the streams, from a recording's text to the exit status.
+//! The programs, from the bytes of the file and the streams to the exit status.
 #![tactic(auto)]
 
 mod changes;

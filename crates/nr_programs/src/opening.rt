@@ -1,4 +1,4 @@
-//! Opening a recording: its text is read, and its steps are replayed once.
+//! Opening a recording: reading its text and replaying its steps once.
 
 ghost use Rattle.std.specs.Prelude.{◌≡◌, ◌≤◌, IfOk, IfErr};
 ghost use Rattle.nr_programs.specs.Opening.{IsGoodText, IsFirstFault, fault_line};
@@ -15,10 +15,10 @@ use std::io::Write;
 /// Why a recording is refused: its first fault.
 #[derive(Clone, Copy, Debug, PartialEq, Eq)]
 pub enum OpenFault {
-    /// A line is none of a recording, or there was no memory to read it.
+    /// A line isn't part of a recording, or memory ran out while reading it.
     Read(ReadFault),
-    /// A step does not apply after the ones before it, or answers otherwise than is recorded of it, or there was no memory
-    /// to replay them.
+    /// A step doesn't apply after the ones before it, or its answer differs from the recorded one, or memory ran out
+    /// during the replay.
     Load(LoadFault),
 }
 
@@ -38,8 +38,8 @@ impl From<LoadFault> for OpenFault {
     }
 }
 
-/// It is the line of its cause, as `line 6: fault 102 not JSON`, `step 5: fault 107 reason 2`, `step 5: fault 109 answer`
-/// or `fault 108 memory`.
+/// Prints as the line of its cause, such as `line 6: fault 102 not JSON`, `step 5: fault 107 reason 2`, `step 5: fault
+/// 109 answer` or `fault 108 memory`.
 impl Text for OpenFault {
     ghost text = { fault_line };
 
@@ -51,12 +51,12 @@ impl Text for OpenFault {
     }
 }
 
-/// How many steps lie between two copies of the world in a session. `check` and `upgrade`, which never go back, keep the
-/// fewest copies that a film may have.
+/// The number of steps between two copies of the world in a session. `check` and `upgrade` never go back, so they keep
+/// the fewest copies that a film may have.
 pub(crate) const COPY_EVERY: usize = 1_024;
 
-/// Reads the recording that the bytes are a text of, and replays it once, with a copy of the world each `every` steps.
-/// Else returns the first fault: of the lines, or, where they are all right, of the steps; or that there was no memory.
+/// Reads the recording from the bytes and replays it once, with a copy of the world every `every` steps. Fails with the
+/// first fault of the lines or, if these are all right, of the steps; or with lack of memory.
 pub(crate) fn open<W: Worlds + Drop>(
     alloc: Global,
     bytes: &[u8],
@@ -75,7 +75,7 @@ where
     Ok(film)
 }
 
-/// As `open`, of a text that is given away: once it is read it is let go, and what a session keeps may take its place.
+/// Opens like `open`, but takes the text and frees it after reading, so that the session can reuse its memory.
 pub(crate) fn open_given<W: Worlds + Drop>(
     alloc: Global,
     text: Vec<u8>,

@@ -1,4 +1,4 @@
-//! The programs `run` and `check`, over the bytes of the file and the streams.
+//! The programs `run` and `check`, from the bytes of the file and the streams to the exit status.
 
 ghost use Rattle.std.specs.Prelude.{◌≡◌, ◌⊎◌, ◌++◌, false};
 ghost use Rattle.std.specs.Process.{exit_status};
@@ -24,27 +24,27 @@ use std::io::{Read, Write};
 use std::process::ExitCode;
 use std::thread::Threads;
 
-/// How many commands the one front of `run` can place.
+/// The number of commands that the only front of `run` can place.
 pub const JOURNAL_ROOM: usize = 65_536;
 
-/// How many steps a walker can undo at most before it goes from a copy.
+/// The maximum number of steps that a walker can undo before it starts from a copy.
 pub(crate) const DELTAS_KEPT: usize = 4_096;
 
 /// How a program ended.
 #[derive(Clone, Copy, Debug, PartialEq, Eq)]
 pub enum ExitStatus {
-    /// It did all that it was asked for.
+    /// The program completed.
     Done,
-    /// The recording was refused, or there was no memory for it.
+    /// The recording was refused, or memory ran out for it.
     Refused,
-    /// The program's arguments ask for nothing.
+    /// Usage error: the arguments don't select a program.
     Usage,
     /// A read or a write failed.
     StreamFailed,
 }
 
 impl ExitStatus {
-    /// The process's exit status: 0, 1, 2 or 3, in the order above.
+    /// Returns the process's exit status: 0, 1, 2 or 3, in the order above.
     pub fn code(self) -> u8
         ensures { result ≡ status_code self }
     {
@@ -65,14 +65,14 @@ impl From<ExitStatus> for ExitCode {
     }
 }
 
-/// Opens the recording, whose text it lets go, and answers the lines of the input on the output, one after the other, as
-/// a debugger does that begins at position 0. Each reply is about the world after so many of the
-/// recording's first steps as the position says. A look, and a command that searches for a hit, may
-/// run out of memory, which is reported; the command's reply can be asked for again.
+/// Opens the recording, whose text it frees, and answers the lines of the input on the output, one after the other,
+/// like a debugger that starts at position 0. Each reply describes the world at the debugger's position, that is, after
+/// so many of the recording's steps. A query, or a command that searches for a hit, may run out of memory, which is
+/// reported; the command's reply can be requested again.
 ///
-/// `Done`: a line was `quit`, or the input's end was reached. `Refused`: the recording's first
-/// fault was printed, or `fault 108 memory`, as one line, and nothing was read. `StreamFailed`: a
-/// read or a write failed; then a prefix of these texts is written, and nothing else.
+/// Returns `Done` if a line was `quit` or the input ended; `Refused` if the recording's first fault or `fault 108
+/// memory` was printed as one line, and nothing was read; and `StreamFailed` if a read or a write failed, so that only
+/// a prefix of the output is written.
 pub fn run_bytes<W, R, I, O>(
     _rt: &R,
     alloc: Global,
@@ -90,15 +90,16 @@ where
     requires input { input.old.failed ≡ false }
     requires output { output.old.failed ≡ false }
 
-    // What was read and written, whatever the text is.
+    // The bytes that are read and written, for any text.
     ensures runs { Runs text.items input.old input.new output.old output.new result }
 
-    // A recording whose steps all apply, and answer as is recorded of them, is walked, unless memory runs out before the first line.
+    // A recording whose steps all apply and give their recorded answers gets a session, unless memory runs out before
+    // the first line.
     ensures good { (r : Recording) → IsGoodText text.items r
         → Walks input.old input.new output.old output.new r result
         ⊎ PrintsFault memory_line input.old input.new output.old output.new result }
 
-    // What is written is the transcript of the recording and of what is read.
+    // The output is the transcript of the recording and of the input.
     ensures transcript { RunsTranscript text.items input.old input.new output.old output.new result }
 {
     match open_given::<W>(alloc, text, COPY_EVERY) {
@@ -107,7 +108,7 @@ where
     }
 }
 
-// Walks a film by the lines of the input.
+// Walks a film as the input's lines command.
 fn walk<W, R, I, O>(
     alloc: Global,
     film: &Film<W>,
@@ -141,14 +142,15 @@ where
     }
 }
 
-/// Prints the fault, as one line: `Refused`, or `StreamFailed` where a write failed; then a prefix of it is written.
+/// Prints the fault as one line. Returns `Refused`, or `StreamFailed` if a write failed, so that only a prefix of the
+/// line is written.
 pub fn refuse<T: Text, O: Write>(fault: &T, output: &mut Sink<O>) -> ExitStatus
     ensures { EndsPrinting (T.text fault.now) statuses.Refused output.old output.new result }
 {
     print(fault, ExitStatus::Refused, output)
 }
 
-// Prints the text, and returns the given status where it went out whole.
+// Prints the text. Returns the given status if it was written whole.
 pub(crate) fn print<T: Text, O: Write>(
     text: &T,
     wanted: ExitStatus,
@@ -162,7 +164,7 @@ pub(crate) fn print<T: Text, O: Write>(
     }
 }
 
-// Prints two texts, and returns the given status where both went out.
+// Prints two texts. Returns the given status if both were written whole.
 pub(crate) fn print_both<A: Text, B: Text, O: Write>(
     first: &A,
     last: &B,
@@ -177,10 +179,10 @@ pub(crate) fn print_both<A: Text, B: Text, O: Write>(
     }
 }
 
-/// Opens the recording, and prints `ok L steps`, where L is how many steps it has, as one line.
+/// Opens the recording, and prints the line `ok L steps`, where L is its number of steps.
 ///
-/// `Refused`: the recording's first fault was printed, or `fault 108 memory`, as one line.
-/// `StreamFailed`: a write failed; then a prefix of that line is written.
+/// Returns `Refused` if the recording's first fault or `fault 108 memory` was printed as one line; `StreamFailed` if a
+/// write failed, so that only a prefix of the line is written; and otherwise `Done`.
 pub fn check_bytes<W: Worlds + Drop, O: Write>(
     alloc: Global,
     bytes: &[u8],
@@ -188,10 +190,10 @@ pub fn check_bytes<W: Worlds + Drop, O: Write>(
 ) -> ExitStatus
 where
     W::Snapshot: Drop,
-    // What was written, whatever the bytes are.
+    // The output, for any bytes.
     ensures checks { Checks bytes.now output.old output.new result }
 
-    // A recording whose steps all apply, and answer as is recorded of them, is accepted, unless memory runs out.
+    // A recording whose steps all apply and give their recorded answers is accepted, unless memory runs out.
     ensures good { (r : Recording) → IsGoodText bytes.now r
         → EndsPrinting (ok_line r) statuses.Done
         output.old output.new result
@@ -204,7 +206,7 @@ where
     }
 }
 
-// Prints how many steps the film has, which keeps the fewest copies that a film may have.
+// Prints the number of the film's steps. The film keeps the fewest copies that a film may have.
 fn accept<W: Worlds + Drop, O: Write>(film: &Film<W>, output: &mut Sink<O>) -> ExitStatus
 where
     W::Snapshot: Drop,
@@ -214,11 +216,11 @@ where
     print(&Accepted(film.len()), ExitStatus::Done, output)
 }
 
-/// A recording of so many steps is accepted.
+/// The acceptance of a recording with so many steps.
 #[derive(Clone, Copy)]
 pub(crate) struct Accepted(pub(crate) usize);
 
-/// It is the line `ok 260 steps`.
+/// Prints as the line `ok 260 steps`.
 impl Text for Accepted {
     ghost text = { λ accepted. accepted_line accepted.0 };
 

@@ -1,4 +1,4 @@
-//! The program `serve`, over the bytes of the file and the callers of each front.
+//! The program `serve`, from the bytes of the file and each front's callers to the exit status.
 
 ghost use Rattle.std.specs.Prelude.{◌≡◌, IfOk, OnErr, true};
 ghost use Rattle.nr_rev.specs.Run.{Recording};
@@ -23,13 +23,14 @@ use std::alloc::Global;
 use std::io::Write;
 use std::thread::Threads;
 
-/// Opens the recording, whose text it lets go, and serves the callers of each front in a thread of its own, all in one session. Prints `placed
-/// K` when the last of them has ended, where K is how many commands they placed. What passed with the callers is in the log of the
-/// ports: where an error is printed in place of that, no port was opened.
+/// Opens the recording, whose text it frees, and serves the callers of each front in a thread of its own, all in one
+/// session. Prints `placed K` when the last front has ended, where K is the number of commands that they placed. The
+/// log of the ports contains the conversations with the callers; if a fault is printed instead, no port was opened,
+/// except if memory runs out for the history.
 ///
-/// `Done`: no connection failed. `StreamFailed`: one did, or a front's callers couldn't be had, or the last line couldn't
-/// be written. `Refused`: the recording's first fault was printed, or `fault 108 memory`, as one line. The latter
-/// replaces the last line where there is no memory to collect the history.
+/// Returns `Done` if no connection failed; `StreamFailed` if one did, or a front couldn't accept callers, or the last
+/// line couldn't be written; and `Refused` if the recording's first fault or `fault 108 memory` was printed as one
+/// line. `fault 108 memory` replaces the last line if memory runs out for the history.
 pub fn serve_bytes<W, R, P, O>(
     rt: &R,
     alloc: Global,
@@ -47,10 +48,10 @@ where
     O: Write,
     requires { is_in_range sharing ≡ true }
 
-    // What was served and written, whatever the text is.
+    // The conversations and the output, for any text.
     ensures serves { ServesAll text.items sharing ports.old ports.new output.old output.new result }
 
-    // A recording whose steps all apply, and answer as is recorded of them, is shared, unless memory runs out.
+    // A recording whose steps all apply and give their recorded answers is shared, unless memory runs out.
     ensures good { (r : Recording) → IsGoodText text.items r
         → Shares r sharing ports.old ports.new output.old output.new result }
 {
@@ -60,7 +61,7 @@ where
     }
 }
 
-// Shares a film, and prints what came of it.
+// Shares a film, and prints the result.
 fn share_film<W, R, P, O>(
     rt: &R,
     alloc: Global,
@@ -84,7 +85,7 @@ where
     tell(&shared, output)
 }
 
-// Shares a film among as many fronts, with searches of as many workers, as are asked for.
+// Shares a film among the requested number of fronts, with the requested number of workers for searches.
 fn share_among<W, R, P>(
     rt: &R,
     alloc: Global,
@@ -116,8 +117,8 @@ where
     }
 }
 
-// Prints how many commands were placed, or that there was no memory: to share the recording, or for the
-// history.
+// Prints the number of commands that were placed; or out of memory, if the recording couldn't be shared or the history
+// couldn't be collected.
 fn tell<O: Write>(shared: &Result<Ended, Memory>, output: &mut Sink<O>) -> ExitStatus
     ensures { PrintsSession shared.now output.old output.new result }
 {
@@ -131,7 +132,7 @@ fn tell<O: Write>(shared: &Result<Ended, Memory>, output: &mut Sink<O>) -> ExitS
     }
 }
 
-// Prints how many commands were placed.
+// Prints the number of commands that were placed.
 fn tell_placed<O: Write>(history: &[u64], failed: bool, output: &mut Sink<O>) -> ExitStatus
     ensures { EndsPrinting (placed_line history.now) (exit_status_of failed) output.old output.new result }
 {

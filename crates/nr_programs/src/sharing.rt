@@ -1,4 +1,4 @@
-//! What a session that is shared is to be like.
+//! The parameters of a shared session.
 
 ghost use Rattle.std.specs.Prelude.{◌≡◌};
 ghost use Rattle.nr_programs.specs.Sharing.{is_in_range};
@@ -8,32 +8,32 @@ use std::num::NonZeroU32;
 /// The greatest port.
 pub const MOST_PORT: u32 = 65_535;
 
-/// The most fronts that share a session.
+/// The maximum number of fronts that share a session.
 pub const MOST_FRONTS: u32 = 64;
 
-/// The most threads that search for one front.
+/// The maximum number of threads that search for one front.
 pub const MOST_WORKERS: u32 = 16;
 
-/// How many words a session's journal has room for at most.
+/// The maximum number of words in a session's journal.
 pub const MOST_JOURNAL: u32 = 1_000_000;
 
-/// What a session that is shared is to be like.
+/// The parameters of a shared session.
 #[derive(Clone, Copy, Debug, PartialEq, Eq)]
 pub struct Sharing {
-    /// The port of the first front, from 1. The others' are the next ones, up to `MOST_PORT`.
+    /// The port of the first front, from 1. The other fronts have the next ports, up to `MOST_PORT`.
     pub port: u32,
-    /// How many fronts there are, from 1 to `MOST_FRONTS`.
+    /// The number of fronts, from 1 to `MOST_FRONTS`.
     pub fronts: u32,
-    /// How many threads search for each front, from 1 to `MOST_WORKERS`.
+    /// The number of threads that search for each front, from 1 to `MOST_WORKERS`.
     pub workers: u32,
-    /// How many commands the session has room for, from 1 to `MOST_JOURNAL`.
+    /// The number of commands for which the session has room, from 1 to `MOST_JOURNAL`.
     pub journal: u32,
-    /// After how many connections each front ends, if it ever does.
+    /// The number of connections after which each front ends, if it ever does.
     pub connections: Option<NonZeroU32>,
 }
 
 impl Sharing {
-    /// Whether each number is in its range.
+    /// Returns whether each number is in its range.
     pub fn is_in_range(&self) -> bool
         ensures { result ≡ is_in_range self.now }
     {

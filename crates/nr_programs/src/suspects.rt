@@ -1,4 +1,4 @@
-//! The program `suspects`, over the bytes of the file and the output.
+//! The program `suspects`, from the file's bytes to the output.
 
 ghost use Rattle.std.specs.Prelude.{◌≡◌, ◌≤◌, ◌<◌, OnOk, IfOk, IfErr, length};
 ghost use Rattle.nr_recording.specs.Recording.{run_of};
@@ -16,23 +16,31 @@ use nr_text::Sink;
 use std::alloc::Global;
 use std::io::Write;
 
-/// Opens the recording, and prints a line for each deadline that passed, `at 89 passed-deadline desc 0 r set 60 by 2 rw moved 75 by 3`,
-/// for each call that ended with one, `at 91 timeout gor 2 desc 0 r set 60 by 2 rw`, and for each that was set anew before the
-/// goroutine that it woke had looked, `at 92 taken-back gor 2 desc 0 r set 60 by 2 rw`, step by step; then, as they are at the last
-/// position, a line for each lost wake-up, `at 71 lost-wakeup gor 2 desc 0 r event 60 taken 66 by 2`, and for each goroutine that sleeps
-/// although its side has to be answered, `at 71 asleep gor 2 desc 0 r because bytes`, both by descriptor, reading before writing; and for
-/// each goroutine that holds references of a closed socket, `at 90 held-reference sock 1 gor 3 count 1 since 45`, by socket and goroutine;
-/// and last the line that `check` prints. Of a text that is no recording, or whose steps don't all apply or
-/// answer otherwise than is recorded of them, just its fault is printed. The steps are made once, and no copy of the world is kept;
-/// what came of deadlines is kept until the end.
+/// Opens the recording and prints its suspects, one line each.
 ///
-/// `Refused`: a fault was the line, or `fault 108 memory`. `StreamFailed`: a write failed; then a prefix of these texts is written.
+/// First it prints what became of deadlines, step by step: `at 89 passed-deadline desc 0 r set 60 by 2 rw moved 75 by
+/// 3` for each deadline that passed, `at 91 timeout gor 2 desc 0 r set 60 by 2 rw` for each call that ended with one,
+/// and `at 92 taken-back gor 2 desc 0 r set 60 by 2 rw` for each deadline that was set again before the goroutine that
+/// it woke had checked its side.
+///
+/// For the last position it then prints `at 71 lost-wakeup gor 2 desc 0 r event 60 taken 66 by 2` for each lost
+/// wake-up, and `at 71 asleep gor 2 desc 0 r because bytes` for each goroutine that sleeps although it should have been
+/// woken, both sorted by descriptor, reading before writing; and `at 90 held-reference sock 1 gor 3 count 1 since 45`
+/// for each goroutine that holds references of a closed socket, sorted by socket and goroutine. The line that `check`
+/// prints comes last.
+///
+/// If the text isn't a recording, or a step doesn't apply, or its answer differs from the recorded one, prints only
+/// that fault. The steps are applied once, and no copy of the world is kept; findings about deadlines are kept until
+/// the end.
+///
+/// Returns `Refused` if a fault or `fault 108 memory` was the only line; `StreamFailed` if a write failed, so that only
+/// a prefix of the output is written; and otherwise `Done`.
 pub fn suspects_bytes<W: TouchesCells + Drop, O: Write>(
     alloc: Global,
     bytes: &[u8],
     output: &mut Sink<O>,
 ) -> ExitStatus
-    // What was written, whatever the bytes are.
+    // The output, for any bytes.
     ensures { ShowsSuspects bytes.now output.old output.new result }
 {
     let recording = match read(alloc, bytes) {
@@ -50,7 +58,7 @@ pub fn suspects_bytes<W: TouchesCells + Drop, O: Write>(
     }
 }
 
-// Makes the steps of the recording, and finds what is suspect at its last position.
+// Applies the steps of the recording, and finds the suspects at its last position.
 fn find_suspects<W: TouchesCells + Drop>(
     alloc: Global,
     recording: &Recording,
@@ -68,7 +76,7 @@ fn find_suspects<W: TouchesCells + Drop>(
     Ok(suspects)
 }
 
-// Makes the step after position n, and writes down what it did. A fault is the step's.
+// Applies the step after position n, and updates the notes. Fails with the step's fault.
 fn make_step<W: TouchesCells>(
     world: &mut W,
     recording: &Recording,

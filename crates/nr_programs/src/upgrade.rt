@@ -1,4 +1,4 @@
-//! The program `upgrade`, over the bytes of the file and the output.
+//! The program `upgrade`, from the file's bytes to the output.
 
 ghost use Rattle.std.specs.Prelude.{◌≡◌, ◌⊎◌};
 ghost use Rattle.nr_rev.specs.Run.{Recording};
@@ -17,11 +17,11 @@ use nr_text::Sink;
 use std::alloc::Global;
 use std::io::Write;
 
-/// Opens the recording, of either version, and writes it in version 2: each step with the answer that it gives.
+/// Opens the recording, of either version, and writes it in version 2: each step with its answer.
 ///
-/// `Refused`: the recording's first fault was printed, or `fault 108 memory`, as one line; the latter may follow
-/// whole lines of the recording, where there was no memory for the next one. `StreamFailed`: a write failed; then a
-/// prefix of these texts is written.
+/// Returns `Refused` if the recording's first fault or `fault 108 memory` was printed as one line (the latter may
+/// follow whole lines of the recording, if memory ran out for the next line); `StreamFailed` if a write failed, so that
+/// only a prefix of the output is written; and otherwise `Done`.
 pub fn upgrade_bytes<W: Worlds + Drop, O: Write>(
     alloc: Global,
     bytes: &[u8],
@@ -29,10 +29,10 @@ pub fn upgrade_bytes<W: Worlds + Drop, O: Write>(
 ) -> ExitStatus
 where
     W::Snapshot: Drop,
-    // What was written, whatever the bytes are.
+    // The output, for any bytes.
     ensures upgrades { Upgrades bytes.now output.old output.new result }
 
-    // A recording whose steps all apply, and answer as is recorded of them, is written, unless memory runs out.
+    // A recording whose steps all apply and give their recorded answers is written, unless memory runs out.
     ensures good { (r : Recording) → IsGoodText bytes.now r
         → WritesAnswered r output.old output.new result
         ⊎ EndsPrinting memory_line statuses.Refused output.old output.new result }
@@ -43,7 +43,7 @@ where
     }
 }
 
-// Writes the film's steps with the answers that they give. The film keeps the fewest copies that a film may have.
+// Writes the film's steps with their answers. The film keeps the fewest copies that a film may have.
 fn write_answered<W: Worlds + Drop, O: Write>(
     alloc: Global,
     film: &Film<W>,

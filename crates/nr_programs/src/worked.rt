@@ -1,12 +1,12 @@
-//! Worked sessions: what the transcript says of the examples, and of lines that meet something. The bodies are empty; the prover
-//! computes each clause.
+//! Worked sessions: the transcripts of the examples, and of lines that lack memory or room or follow another front's
+//! words. The bodies are empty; the prover computes each clause.
 
 ghost use Rattle.std.specs.Prelude.{◌≡◌, ◌∷◌, [], true, codes};
 ghost use Rattle.nr_programs.specs.Examples.{answers_commands, answers_replies, answers_run, first_commands, first_replies, first_run, leaked_reference_commands, leaked_reference_replies, leaked_reference_run, lost_wakeup_commands, lost_wakeup_replies, lost_wakeup_run, past_deadline_commands, past_deadline_replies, past_deadline_run, reused_descriptor_commands, reused_descriptor_replies, reused_descriptor_run, shut_write_side_commands, shut_write_side_replies, shut_write_side_run, stale_deadline_commands, stale_deadline_replies, stale_deadline_run, temporary_break_commands, temporary_break_replies, temporary_break_run};
 ghost use Rattle.nr_programs.specs.Among.{replies_among};
 ghost use Rattle.nr_programs.specs.Transcript.{enough, no_memory, no_memory_to_search, no_room, replies, start};
 
-/// The sessions of examples/, from the bytes of the commands to those of the replies. The first is the README's.
+/// The sessions of examples/, from the bytes of the commands to the bytes of the replies. The first is the README's.
 pub fn examples_have_their_replies()
     ensures first { replies first_run start true first_commands [] ≡ first_replies }
     ensures leaked_reference { replies leaked_reference_run start true leaked_reference_commands [] ≡ leaked_reference_replies }
@@ -19,8 +19,8 @@ pub fn examples_have_their_replies()
     ensures shut_write_side { replies shut_write_side_run start true shut_write_side_commands [] ≡ shut_write_side_replies }
 {}
 
-/// What a line is answered that lacks something: memory for a look; memory for a search, until `resume` has it; room in the
-/// journal. And a command behind another front's `stepi 5`.
+/// The replies to lines that lack something: memory for a query; memory for a search, until `resume` has enough; room
+/// in the journal. And the reply to a command after another front's `stepi 5`.
 pub fn what_lines_meet_is_answered()
     ensures refused_look { replies first_run start true (codes "print lock 0\nprint lock 0\n")
         (no_memory ∷ []) ≡ codes "fault 301 memory\nlock 0 = absent\n" }

@@ -1,4 +1,5 @@
--- Beside `Changes`: what contracts and proofs cite, and no law of THEOREM.md rests on.
+-- Definitions besides `Changes`: contracts and proofs cite them, but no law of THEOREM.md rests on
+-- them.
 use Rattle.std.specs.Prelude.{◌≡◌, ℕ, ◌+◌, List, ◌++◌, map, slice_get, Some, None}
 use Rattle.nr_rev.specs.Run.{next_of}
 use Rattle.nr_rev.specs.Step.{outcome}
@@ -16,12 +17,12 @@ use Rattle.nr_programs.specs.declared.changes.ChangeLine.{ChangeLine}
 abbrev pub change_text : ChangeLine → List ℕ
 change_text line = change_line line.step line.change
 
--- the lines of what the step of this number changed
+-- the lines for the changes of the step with this number
 abbrev pub as_lines : ℕ → List CellWithValue → List ChangeLine
 as_lines n changes = map (λ change. record { step = n; change = change }) changes
 
--- The step after position n leads from a world to the next one, has no fault, and its lines are
--- behind the others.
+-- The step after position n leads from one world to the next, has no fault, and its lines were
+-- appended.
 pub record StepsOn (r : Recorded) (n : ℕ) (w : World) (before : List ChangeLine) (next : World)
     (after : List ChangeLine) : Type 0 where
   pub recorded : RecordedStep
@@ -30,7 +31,7 @@ pub record StepsOn (r : Recorded) (n : ℕ) (w : World) (before : List ChangeLin
   pub leads : next ≡ next_of w (outcome w recorded.step)
   pub listed : after ≡ before ++ as_lines (n + 1) (changes_between w next)
 
--- It has this fault, and there are no lines more.
+-- The step after position n has this fault, and no line was appended.
 pub record HasFault (r : Recorded) (n : ℕ) (w : World) (before after : List ChangeLine)
     (fault : LoadFault) : Type 0 where
   pub recorded : RecordedStep

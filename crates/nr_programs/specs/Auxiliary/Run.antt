@@ -1,4 +1,5 @@
--- Beside `Run`: what contracts and proofs cite, and no law of THEOREM.md rests on.
+-- Definitions besides `Run`: contracts and proofs cite them, but no law of THEOREM.md rests on
+-- them.
 use Rattle.std.specs.Prelude.{◌≡◌, ◌⊎◌, ℕ, List, Result, Ok, Err}
 use Rattle.atomic_table.specs.Seated.{TableId}
 use Rattle.nr_rev.specs.Run.{Recording}
@@ -19,21 +20,21 @@ use Rattle.nr_programs.specs.declared.opening.TheConstants.{COPY_EVERY}
 use Rattle.nr_programs.specs.declared.run.TheConstants.{DELTAS_KEPT, JOURNAL_ROOM}
 use Rattle.nr_programs.specs.Run.{EndsPrinting, PrintsFault, ok_line}
 
--- the number of a status
+-- the exit status as a number
 abbrev pub status_code : ExitStatus → ℕ
 status_code Done = 0
 status_code Refused = 1
 status_code Usage = 2
 status_code StreamFailed = 3
 
--- serving fails by its streams alone
+-- the status after serving, which fails only if a stream fails
 abbrev pub status_after : Result End LineEnd → ExitStatus
 status_after (Ok ending) = Done
 status_after (Err stopped) = StreamFailed
 
--- The lines that were read are answered by a front that had seen no word, over a journal whose only
--- pass it has, with one worker and a walker that keeps its last DELTAS_KEPT deltas. A failure of a
--- stream is reported where there was one, and only there.
+-- The lines that were read are answered by a front that has seen no word, over a journal whose only
+-- pass it has, with one worker and a walker that keeps its last DELTAS_KEPT deltas. A stream's
+-- failure is reported if and only if there was one.
 pub record Walks (from left : Incoming) (old new : Outgoing) (r : Recording) (status : ExitStatus) :
     Type 0 where
   pub table : TableId
@@ -49,14 +50,16 @@ pub record Walks (from left : Incoming) (old new : Outgoing) (r : Recording) (st
   pub read_failed : left.failed ≡ is_read_failure ending
   pub write_failed : new.failed ≡ is_write_failure ending
 
--- The bytes are a recording whose steps all apply, and it is walked; or its first fault is printed.
+-- Either the bytes are a recording whose steps all apply, and its session runs; or its first fault
+-- is printed.
 abbrev pub Runs : List ℕ → Incoming → Incoming → Outgoing → Outgoing → ExitStatus → Type 0
 Runs bytes input left old new status =
     ((r : Recording) × IsGoodText bytes r × Walks input left old new r status)
     ⊎ ((fault : OpenFault) × IsFirstFault bytes fault
     × PrintsFault (fault_line fault) input left old new status)
 
--- The bytes are a recording whose steps all apply, and that is printed; or its first fault is.
+-- Either the bytes are a recording whose steps all apply, and `ok` is printed; or its first fault
+-- is printed.
 abbrev pub Checks : List ℕ → Outgoing → Outgoing → ExitStatus → Type 0
 Checks bytes old new status =
     ((r : Recording) × IsGoodText bytes r × EndsPrinting (ok_line r) Done old new status)

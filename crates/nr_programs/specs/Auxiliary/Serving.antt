@@ -1,4 +1,5 @@
--- Beside `Serving`: what contracts and proofs cite, and no law of THEOREM.md rests on.
+-- Definitions besides `Serving`: contracts and proofs cite them, but no law of THEOREM.md rests on
+-- them.
 use Rattle.std.specs.Prelude.{Result, Ok, Err}
 use Rattle.nr_rev.specs.declared.memory.Memory.{Memory}
 use Rattle.nr_text.specs.Streams.{Outgoing}
@@ -10,7 +11,7 @@ use Rattle.nr_programs.specs.declared.run.ExitStatus.{ExitStatus}
 use Rattle.nr_programs.specs.declared.run.ExitStatus.TheVariants.{Refused}
 use Rattle.nr_programs.specs.Serving.{PrintsHistory}
 
--- What is printed of a session, by what came of it: out of memory where it wasn't shared.
+-- What is printed at the end of a session; out of memory if it couldn't be shared.
 abbrev pub PrintsSession : Result Ended Memory → Outgoing → Outgoing → ExitStatus → Type 0
 PrintsSession (Ok ended) old new status =
     PrintsHistory (words_of ended.history) ended.failed old new status

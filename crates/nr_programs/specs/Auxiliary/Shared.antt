@@ -1,4 +1,5 @@
--- Beside `Shared`: what contracts and proofs cite, and no law of THEOREM.md rests on.
+-- Definitions besides `Shared`: contracts and proofs cite them, but no law of THEOREM.md rests on
+-- them.
 use Rattle.std.specs.Prelude.{ℕ, List, [], ◌∷◌, ◌++◌, drop, if◌then◌else◌}
 use Rattle.nr_rev.specs.Run.{Recording}
 use Rattle.nr_command.specs.Command.{meaning_of}
@@ -8,7 +9,7 @@ use Rattle.nr_programs.specs.Among.{Met, answer_among, next_met}
 use Rattle.nr_programs.specs.Transcript.{SessionState}
 use Rattle.nr_programs.specs.Shared.{own_word}
 
--- the words of the commands that some lines placed, up to the first `quit`
+-- the words of the commands that these lines placed, up to the first `quit`
 abbrev pub placed_words : ℕ → Recording → SessionState → List (List ℕ) → List Met → List ℕ
 placed_words tag r s [] met = []
 placed_words tag r s (line ∷ lines) met =

@@ -1,4 +1,5 @@
--- Beside `Suspects`: what contracts and proofs cite, and no law of THEOREM.md rests on.
+-- Definitions besides `Suspects`: contracts and proofs cite them, but no law of THEOREM.md rests on
+-- them.
 use Rattle.std.specs.Prelude.{◌≡◌, ℕ, ◌+◌, drop, Option, Some, Ok}
 use Rattle.nr_rev.specs.Run.{world_at}
 use Rattle.nr_rev.specs.World.{World}
@@ -13,13 +14,13 @@ use Rattle.nr_programs.specs.Opening.{first_fault, opened_as}
 abbrev pub fault_from : Recorded → ℕ → Option LoadFault
 fault_from r n = first_fault (n + 1) (world_at (run_of r) n) (drop n r.steps)
 
--- it is this one, or there was no memory
+-- this is the first fault from position n on, or memory ran out
 abbrev pub IsFaultFrom : Recorded → ℕ → LoadFault → Type 0
 IsFaultFrom r n (load.Memory refused) = Unit {0}
 IsFaultFrom r n fault = fault_from r n ≡ Some fault
 
--- The step after position n was made: the world is that of the next position, the notes are those
--- of it, and no fault was passed.
+-- The step after position n was applied: the world and the notes are those of the next position,
+-- and no fault was skipped.
 pub record IsStepMade (r : Recorded) (n : ℕ) (w : World) (kept : Notes) : Type 0 where
   pub there : w ≡ world_at (run_of r) (n + 1)
   pub notes : AreNotes (run_of r) (n + 1) kept
