@@ -20,7 +20,7 @@ from .beside import OF_UNIX, Beside
 from .leading import close_write, lead
 from .orders import Made
 from .points import LOCKING, Kind, Point
-from .prelude import NOBODY, Lead
+from .prelude import NOBODY, Lead, passing
 from .repeated import REPEATED, read_line, repeated_line
 from .sockets import AGAIN, BUFFER, FEW_BYTES, Socket
 from .zeros import Line, arrival, drained, put_line, written
@@ -28,8 +28,7 @@ from .zeros import Line, arrival, drained, put_line, written
 CURRENT_READ, STALE = 1, 4
 EVENT_ERROR, EVENT_STALE = 1, 2
 GREATEST = 2**63 - 1
-SOONEST = 3  # nanoseconds to the latest possible deadline, because the steps that lead to others let two pass
-READ, FIRE = int(Kind.READ), int(Kind.FIRE)
+READ, FIRE, NOTED = int(Kind.READ), int(Kind.FIRE), int(Kind.NOTED)
 
 # The bytes that arrive before, the goroutine's own line and its number, and the stack of its call.
 Repeated = tuple[Line | None, Line, int, list[int]]
@@ -61,6 +60,7 @@ class Converter:
         self.descriptors = 0
         self.tags: list[int] = []
         self.clock = 0
+        self.behind = sum(passing(socket.leads) for point, socket in points if point[1] == NOTED)  # nanoseconds
         self.deadlines = Deadlines()
         self.later_fires = {(socket, *self.firing(point)) for point, socket in points if point[1] == FIRE}
         self.early: dict[int, int] = {}  # of writes whose points a closewrite overtook, the number of steps after each
@@ -295,7 +295,7 @@ class Converter:
         g, mode, number = self.goroutine(identity), mode_of(point), socket.descriptor
         now = passed - self.begin
         if now > self.clock:
-            self.go_on_to(now)
+            self.go_on_to(now - self.behind)
         first = ends = deadline_of(now, time)
         changes = self.deadlines.changing(number, mode, first)
         for side, _ in changes:
@@ -326,12 +326,14 @@ class Converter:
     def fire(self, point: Point, socket: Socket) -> None:
         side, sequence = self.firing(point)
         sequence -= socket.sequences[side]
-        self.go_on_to(point.time - self.begin)
+        now = point.time - self.begin
+        self.go_on_to(now - self.behind)
         place = self.deadlines.place(socket.descriptor, side, sequence)
         while place is None:
             least = self.deadlines.least()
-            if not least or least.due > self.clock:
+            if not least or least.due > max(now, self.clock):
                 raise Unconvertible(messages.NO_TIMER.format(point=point.number))
+            self.go_on_to(least.due)
             self.pop()
             place = self.deadlines.place(socket.descriptor, side, sequence)
         sides = "".join(name for bit, name in enumerate(SIDES) if point.b & 1 << bit)
@@ -343,12 +345,14 @@ class Converter:
 
     def noted(self, point: Point, socket: Socket) -> None:
         """The steps that lead to a noted socket. The clock advances to the first note, but past no deadline that is
-        still to be set."""
+        still to be set. It stays behind Go's by the time that the steps for later notes let pass, so that deadlines which are
+        set between the notes are Go's."""
         if not self.clock:
             sockets = {socket for one, socket in self.points if one.kind == Kind.NOTED}
-            dues = [due - SOONEST for socket in sockets if socket.note for due in socket.note.deadlines if due > 0]
-            self.go_on_to(min([point.time, *dues]) - self.begin)
+            dues = [due - 1 for socket in sockets if socket.note for due in socket.note.deadlines if due > 0]
+            self.go_on_to(min([point.time, *dues]) - self.begin - self.behind)
         lead(self, socket)
+        self.behind -= passing(socket.leads)
 
     def noted_name(self, point: Point, socket: Socket) -> None:
         if point.c != OF_UNIX:  # (their ends are paired by their goroutines)

@@ -222,6 +222,11 @@ def spelled(lead: Lead, g: int, s: int, d: int, tag: int) -> tuple[Any, ...]:
     return (lead.kind, *(known[name] if name in known else next(others) for name in KINDS[lead.kind].arguments))
 
 
+def passing(leads: list[Lead]) -> int:
+    """The nanoseconds that these steps let pass, so that deadlines pass."""
+    return max((lead.arguments[1] for lead in leads if lead.kind == "soon"), default=0)
+
+
 def by_the_model(note: Note, leads: list[Lead], begin: int, buffer: int) -> None:
     """Runs the steps, and compares the resulting state with the note; raises Unreachable if they differ."""
     numbers = {NOBODY: 0}

@@ -13,6 +13,8 @@ KEPT = (
     "85-programs-1718",
     "85-programs-4489",
     "87-programs-59424",
+    "87-programs-59842",
+    "87-programs-62078",
     "87-programs-63649",
 )  # seeds whose recordings were refused, or had another end
 
