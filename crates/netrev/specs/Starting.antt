@@ -1,4 +1,4 @@
--- What a program does over its file, and what is printed where none runs.
+-- What a program does with its file, and what is printed if none runs.
 use Rattle.std.specs.Prelude.{◌≡◌, ◌⊎◌, ℕ, List, ◌++◌, codes}
 use Rattle.std.specs.declared.io.ErrorKind.{ErrorKind}
 use Rattle.std.specs.declared.io.ErrorKind.TheVariants as kind
@@ -22,17 +22,17 @@ use Rattle.nr_arguments.specs.declared.arguments.Program.TheVariants as program
 use Rattle.nr_arguments.specs.declared.arguments.ArgumentsFault.{ArgumentsFault}
 use Rattle.nr_arguments.specs.declared.arguments.ArgumentsFault.TheVariants as arguments
 
--- a fault of the arguments
+-- the reason for a fault of the arguments
 abbrev pub unstarted_of_arguments : ArgumentsFault → Unstarted
 unstarted_of_arguments arguments.Usage = unstarted.Usage
 unstarted_of_arguments (arguments.Memory refused) = unstarted.Memory refused
 
--- `Memory` where the error is out of memory, and the other reason where it is any other
+-- `Memory` if the error is lack of memory, and otherwise the other reason
 abbrev pub unstarted_by : ErrorKind → Unstarted → Unstarted
 unstarted_by kind.OutOfMemory other = unstarted.Memory refused_memory
 unstarted_by _ other = other
 
--- how netrev is called
+-- the usage text
 abbrev pub usage_text : List ℕ
 usage_text =
     codes "usage: netrev run FILE\n"
@@ -43,7 +43,7 @@ usage_text =
     ++ codes "       netrev serve FILE --port P [--fronts N] [--workers W] [--journal H]"
     ++ codes " [--connections C]\n"
 
--- What a program does over the bytes of its file. Only `run` reads input, and it writes its
+-- What a program does with the bytes of its file. Only `run` reads input, and it writes its
 -- transcript. Only `serve` opens ports.
 abbrev pub Plays : Program → List ℕ → Incoming → Incoming → FrontsLog → FrontsLog → Outgoing
     → Outgoing → ExitStatus → Type 0
@@ -60,8 +60,8 @@ Plays (program.Suspects file) bytes input left before after old new status =
 Plays (program.Serve file sharing) bytes input left before after old new status =
     (left ≡ input) × ServesAll bytes sharing before after old new status
 
--- What is printed where no program runs: how netrev is called, on the second stream, whole unless a
--- write failed; out of memory, on the first; nothing.
+-- What is printed if no program runs: after a usage error, the usage text on standard error, whole
+-- unless a write failed; if memory ran out, a fault on standard output; and otherwise nothing.
 abbrev pub PrintsUnstarted : Unstarted → Outgoing → Outgoing → Outgoing → Outgoing → ExitStatus
     → Type 0
 PrintsUnstarted unstarted.Usage old new before after status =

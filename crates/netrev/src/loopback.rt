@@ -9,34 +9,34 @@ use std::net::{Ipv4Addr, Shutdown, SocketAddr, TcpListener, TcpStream};
 use std::num::NonZeroU32;
 use std::time::Duration;
 
-/// How many milliseconds a read waits once no reply comes any more. A caller who reads up to the end of the replies and
-/// closes is heard in that time; one who stays and says nothing doesn't hold up the next.
+/// The time in milliseconds that a read waits after the last reply. It suffices for a caller that reads up to the end
+/// of the replies and closes, and a caller that stays silent doesn't delay the next one.
 const FAREWELL: u64 = 100;
 
-/// The callers at a port, one after the other.
+/// The callers at a port, served one after the other.
 #[derive(Drop)]
 pub(crate) struct Callers {
-    /// None where the port couldn't be bound.
+    /// The listener, or `None` if the port couldn't be bound.
     listener: Option<TcpListener>,
-    /// How many are served before it ends, if it ever does.
+    /// The number of callers still to serve, if it is limited.
     left: Option<u32>,
-    /// What came of waiting so far.
+    /// The arrivals so far.
     log: Conversations,
 }
 
 impl Callers {
-    // Notes what came of waiting once.
+    // Logs an arrival.
     fn note(&mut self, arrival: Arrival)
         ensures { self.new.log.arrivals ≡ self.old.log.arrivals ++ arrival ∷ [] }
     {
         self.log = self.log.arrived(&arrival);
     }
 
-    // Waits for a caller, who has two handles of its socket.
+    // Waits for a caller, and returns two handles of its socket.
     fn accept(&self) -> Option<(TcpStream, TcpStream)> {
         let (reader, _) = self.listener.as_ref()?.accept().ok()?;
         let writer = reader.try_clone().ok()?;
-        // replies are short, and go out when they are there; if that can't be set they go out later
+        // Replies are short, so they are sent at once; without this option they are sent later.
         let _ = writer.set_nodelay(true);
         Some((reader, writer))
     }
@@ -69,20 +69,20 @@ impl Connections for Callers {
     }
 }
 
-/// Ports of 127.0.0.1, one above the other.
+/// Consecutive ports of 127.0.0.1.
 #[derive(Drop)]
 pub(crate) struct Loopback<'a> {
     rt: &'a HostRuntime,
-    /// That of the first front.
+    /// The port of the first front.
     port: u32,
-    /// After how many callers each ends, if it ever does.
+    /// The number of callers after which each port closes, if it is limited.
     connections: Option<NonZeroU32>,
     /// The ports that were opened.
     log: Fronts,
 }
 
 impl<'a> Loopback<'a> {
-    /// The ports that a program is asked for with.
+    /// Makes the ports that a program requests.
     pub(crate) fn new(rt: &'a HostRuntime, program: Program<'_>) -> Loopback<'a> {
         let (port, connections) = match program {
             Program::Serve { sharing, .. } => (sharing.port, sharing.connections),

@@ -1,11 +1,10 @@
-//! Walks a recorded schedule of goroutines, sockets and timers forwards and backwards.
+//! Replays a recorded schedule of goroutines, sockets and timers forwards and backwards.
 //!
-//! `netrev run FILE` reads commands from standard input and replies on standard output.
-//! `netrev check FILE` says whether the recording can be walked.
-//! `netrev upgrade FILE` writes the recording with the answer of each step.
-//! `netrev changes FILE` writes the cells that each step changed.
-//! `netrev suspects FILE` writes the lost wake-ups and the held references of closed sockets.
-//! `netrev serve FILE --port P` answers the commands of several people, who share one session, over the loopback.
+//! `netrev run FILE` reads commands from standard input and writes replies to standard output. `netrev check FILE`
+//! reports whether the recording can be replayed. `netrev upgrade FILE` writes the recording with the answer of each
+//! step. `netrev changes FILE` writes the cells that each step changed. `netrev suspects FILE` writes what became of
+//! deadlines, the lost wake-ups, the goroutines that sleep on and the held references of closed sockets. `netrev serve
+//! FILE --port P` answers the commands of several callers, who share one session, over the loopback.
 #![tactic(auto)]
 
 mod loopback;
@@ -22,7 +21,7 @@ use std::process::ExitCode;
 use std::thread::Threads;
 use std::{env, fs};
 
-// The process's arguments. One that is no text is none of a program.
+// Returns the process's arguments. An argument that isn't text makes them a usage error.
 fn collect_arguments(rt: &HostRuntime) -> Result<Vec<String>, Unstarted> {
     match env::args(rt) {
         Ok(args) => Ok(args.collect(rt.alloc())?),
@@ -30,7 +29,8 @@ fn collect_arguments(rt: &HostRuntime) -> Result<Vec<String>, Unstarted> {
     }
 }
 
-// Runs the program that the arguments ask for, on the process's streams and the ports of the loopback. `serve` starts threads.
+// Runs the program that the arguments select, with the process's streams and the ports of the loopback. `serve` starts
+// threads.
 fn run_program<H: Threads + Sync>(rt: &HostRuntime, handles: &H) -> Result<ExitStatus, Unstarted> {
     let alloc = rt.alloc();
     let texts = collect_arguments(rt)?;

@@ -1,4 +1,4 @@
-//! Starting a program: from its arguments and its file to the exit status.
+//! Starting a program, from its arguments and its file to the exit status.
 
 ghost use Rattle.std.specs.Prelude.{◌≡◌, false, IfOk, IfErr};
 ghost use Rattle.std.specs.IoError.{error_kind};
@@ -26,11 +26,11 @@ use std::thread::Threads;
 /// Why no program ran.
 #[derive(Clone, Copy, Debug, PartialEq, Eq)]
 pub enum Unstarted {
-    /// The arguments ask for no program.
+    /// Usage error: the arguments select no program.
     Usage,
-    /// There was no memory for the arguments or the file.
+    /// Memory ran out for the arguments or the file.
     Memory(Memory),
-    /// The file could not be read.
+    /// The file couldn't be read.
     File,
 }
 
@@ -54,8 +54,7 @@ impl From<AllocError> for Unstarted {
 }
 
 impl Unstarted {
-    /// What an error of this kind is reported as: as out of memory where it is that, and else as
-    /// `other`.
+    /// Returns the reason for an error of this kind: `Memory` for lack of memory, and otherwise `other`.
     pub fn of_kind(kind: ErrorKind, other: Unstarted) -> Unstarted
         ensures { result ≡ unstarted_by kind other }
     {
@@ -65,11 +64,11 @@ impl Unstarted {
         }
     }
 
-    /// Says why no program ran: how netrev is called goes to `errors`, out of memory to the output
-    /// as `fault 108 memory`, and of a file nothing is said.
+    /// Reports why no program ran. Writes the usage text to `errors` after a usage error, and `fault 108 memory` to the
+    /// output if memory ran out. Writes nothing if the file couldn't be read.
     ///
-    /// `Usage`, also where not all of that text could be written; `Refused` out of memory;
-    /// `StreamFailed` for a file, or where the write to the output failed.
+    /// Returns `Usage` after a usage error, even if the text couldn't be written whole; `Refused` if memory ran out;
+    /// and `StreamFailed` if the file couldn't be read or the write to the output failed.
     pub fn tell<O: Write, E: Write>(self, output: &mut Sink<O>, errors: &mut Sink<E>) -> ExitStatus
         ensures { PrintsUnstarted self output.old output.new errors.old errors.new result }
     {
@@ -84,8 +83,9 @@ impl Unstarted {
     }
 }
 
-/// Runs the program over what reading its file gave. Where that is an error nothing is read or
-/// written. `ports` are where the callers of `serve` come from; the other programs open none.
+/// Runs the program on the result of reading its file. If that is an error, reads and writes nothing, and returns
+/// `Memory` for lack of memory and otherwise `File`. `ports` supplies the callers of `serve`; the other programs open
+/// none.
 pub fn start<W, R, P, I, O>(
     rt: &R,
     alloc: Global,
@@ -119,7 +119,7 @@ where
     Ok(play::<W, R, P, I, O>(rt, alloc, program, text, input, output, ports))
 }
 
-// Runs the program over the text of its file.
+// Runs the program on the text of its file.
 fn play<W, R, P, I, O>(
     rt: &R,
     alloc: Global,

@@ -1,4 +1,4 @@
--- What the program's arguments ask for.
+-- The command line, and the program that the arguments select.
 use Rattle.std.specs.Prelude.{◌≡◌, ℕ, ◌==◌, List, [], ◌∷◌, Option, Some, None, codes, option_map, option_and_then, true, false, if◌then◌else◌}
 use Rattle.std.specs.Result.{result_ok}
 use Rattle.std.specs.Str.{bytes_eq}
@@ -17,27 +17,27 @@ use Rattle.nr_arguments.specs.declared.arguments.Program.TheVariants as program
 use Rattle.nr_arguments.specs.declared.arguments.ArgumentsFault.{ArgumentsFault}
 use Rattle.nr_arguments.specs.declared.arguments.ArgumentsFault.TheVariants as fault
 
--- the argument FILE, which has to be there
+-- the argument FILE, which is required
 abbrev pub file_rule : Rule
 file_rule = record (new_rule (codes "file")) { required = true }
 
--- a program of the name, with its FILE
+-- the subcommand of this name, with its FILE
 abbrev pub file_program : Text → App
 file_program name = with_rule (new_app name) file_rule
 
--- an option `--name`, which may be left out
+-- an optional argument `--name`
 abbrev pub option_rule : Text → Rule
 option_rule name = record (new_rule name) { long = Some name }
 
--- the program that is shared, with its FILE and its options
+-- the subcommand `serve`, with its FILE and its options
 abbrev pub serve_program : App
 serve_program =
     with_rule (with_rule (with_rule (with_rule (with_rule (file_program (codes "serve"))
     (option_rule (codes "port"))) (option_rule (codes "fronts"))) (option_rule (codes "workers")))
     (option_rule (codes "journal"))) (option_rule (codes "connections"))
 
--- `netrev run FILE`, `netrev check FILE`, `netrev upgrade FILE`, `netrev changes FILE`,
--- `netrev suspects FILE` and `netrev serve FILE --port P ..`, and no other
+-- `netrev run FILE`, `netrev check FILE`, `netrev upgrade FILE`, `netrev changes FILE`, `netrev
+-- suspects FILE` and `netrev serve FILE --port P ..`, and no other subcommand
 abbrev pub netrev : App
 netrev =
     with_subcommand (with_subcommand (with_subcommand (with_subcommand (with_subcommand
@@ -49,20 +49,20 @@ netrev =
     (file_program (codes "check")).top) (file_program (codes "upgrade")).top)
     (file_program (codes "changes")).top) (file_program (codes "suspects")).top) serve_program.top
 
--- the number of an option: that of its text, or where it isn't there this one
+-- the number in an option's text, or the default if the option isn't given
 abbrev pub number_or : Option ℕ → Option Text → Option ℕ
 number_or usual None = usual
 number_or usual (Some text) = result_ok (number_of text)
 
--- the number that rows give an option, or the usual one where they don't name it
+-- the number that the rows give for an option, or the default if they don't contain it
 abbrev pub number_in : Text → Option ℕ → List Row → Option ℕ
 number_in name usual rows = number_or usual (first_of name rows)
 
--- the sharing, none where one of its numbers is out of range
+-- the parameters of a session, or none if one of the numbers is out of range
 abbrev pub if_in_range : Sharing → Option Sharing
 if_in_range s = if is_in_range s then Some s else None
 
--- what the options ask for
+-- the parameters of a session, from the options
 abbrev pub sharing_in : List Row → Option Sharing
 sharing_in rows =
     option_and_then (λ port.
@@ -82,21 +82,21 @@ sharing_in rows =
     (number_in (codes "fronts") (Some 1) rows))
     (number_in (codes "port") None rows)
 
--- what is asked for: a program's name, its file, and for the program that is shared its numbers
+-- what the arguments select: a subcommand's name, its file, and for `serve` its parameters
 abbrev pub Asked : Type 0
 Asked = Text × Text × Option Sharing
 
--- what a subcommand asks of a file; for `serve` its rows have to give a sharing in range
+-- the selection by a subcommand for a file; for `serve`, the rows must give parameters in range
 abbrev pub asked_on : Text → List Row → Text → Option Asked
 asked_on name rows file =
     if bytes_eq name (codes "serve") then option_map (λ sharing. (name, file, Some sharing))
     (sharing_in rows) else Some (name, file, None)
 
--- what is asked for by a program's name and its arguments
+-- the selection by a subcommand's name and its arguments
 abbrev pub asked_in : Option (Text × List Row) → Option Asked
 asked_in = option_and_then (λ p. option_and_then (asked_on p.0 p.1) (first_of (codes "file") p.1))
 
--- the program
+-- the selection that a program stands for
 abbrev pub asked_of : Program → Asked
 asked_of (program.Run file) = (codes "run", file.now, None)
 asked_of (program.Check file) = (codes "check", file.now, None)
@@ -105,16 +105,16 @@ asked_of (program.Changes file) = (codes "changes", file.now, None)
 asked_of (program.Suspects file) = (codes "suspects", file.now, None)
 asked_of (program.Serve file sharing) = (codes "serve", file.now, Some sharing)
 
--- the arguments, the program's own name first, are a command line that asks for this
+-- the arguments, starting with the program's own name, are a command line with this selection
 pub record Ask (arguments : List Text) (asked : Asked) : Type 0 where
   pub faultless : fault_of netrev arguments ≡ []
   pub is_asked : asked_in (subcommand_of netrev arguments) ≡ Some asked
 
--- the arguments ask for this program
+-- the arguments select this program
 abbrev pub Asks : List Text → Program → Type 0
 Asks arguments program = Ask arguments (asked_of program)
 
--- the file that a program is asked for on
+-- the file of a program
 abbrev pub file_of : Program → Text
 file_of (program.Run file) = file.now
 file_of (program.Check file) = file.now
@@ -123,27 +123,27 @@ file_of (program.Changes file) = file.now
 file_of (program.Suspects file) = file.now
 file_of (program.Serve file sharing) = file.now
 
--- `Memory` where the error is out of memory, and `Usage` where it is any other
+-- `Memory` if the error is lack of memory, and otherwise `Usage`
 abbrev pub fault_of_kind : ErrorKind → ArgumentsFault
 fault_of_kind kind.OutOfMemory = fault.Memory refused_memory
 fault_of_kind _ = fault.Usage
 
--- usage is reported only of arguments that ask for no program
+-- a usage error is reported only if the arguments select no program
 abbrev pub IsArgumentsFault : List Text → ArgumentsFault → Type 0
 IsArgumentsFault arguments fault.Usage = (program : Program) → ¬ Asks arguments program
 IsArgumentsFault arguments (fault.Memory refused) = Unit {0}
 
--- what is found names this program, or no program
+-- the subcommand found selects this program, or no program
 abbrev pub IsNamed : Option (Text × List Row) → Option Program → Type 0
 IsNamed found None = (program : Program) → ¬ (asked_in found ≡ Some (asked_of program))
 IsNamed found (Some program) = asked_in found ≡ Some (asked_of program)
 
--- the text does not begin with a hyphen
+-- the text doesn't begin with a hyphen
 abbrev pub IsPlain : Text → Type 0
 IsPlain [] = Unit {0}
 IsPlain (x ∷ xs) = (x == 45) ≡ false
 
--- the numbers that a program is asked for with are in their ranges
+-- the program's numbers are in their ranges
 abbrev pub IsInRange : Program → Type 0
 IsInRange (program.Run file) = Unit {0}
 IsInRange (program.Check file) = Unit {0}

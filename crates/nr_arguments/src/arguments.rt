@@ -17,17 +17,17 @@ use nr_programs::Sharing;
 use nr_rev::Memory;
 use std::alloc::{AllocError, Global};
 
-/// How the program is called.
+/// The usage text.
 pub const USAGE: &str =
     "usage: netrev run FILE\n       netrev check FILE\n       netrev upgrade FILE\n       netrev changes FILE\n       netrev suspects FILE\n       netrev serve FILE --port P [--fronts N] [--workers W] [--journal H] [--connections C]\n";
 
-/// How many words a session's journal has room for, where the number isn't given.
+/// The default number of words in a session's journal.
 pub const USUAL_JOURNAL: u32 = 4_096;
 
-/// Which program is asked for, and on which file.
+/// The selected program, and its file.
 #[derive(Clone, Copy, Debug, PartialEq, Eq)]
 pub enum Program<'a> {
-    /// Commands from standard input, replies to standard output.
+    /// Reads commands from standard input and writes replies to standard output.
     Run { file: &'a str },
     /// Reads and loads the recording.
     Check { file: &'a str },
@@ -35,14 +35,15 @@ pub enum Program<'a> {
     Upgrade { file: &'a str },
     /// Writes the cells that each step changed, with their values, to standard output.
     Changes { file: &'a str },
-    /// Writes the lost wake-ups and the held references of closed sockets to standard output.
+    /// Writes what became of deadlines, the lost wake-ups, the goroutines that sleep on and the held references of
+    /// closed sockets to standard output.
     Suspects { file: &'a str },
-    /// Commands and replies over the loopback, of several people who share one session.
+    /// Answers the commands of several callers, who share one session, over the loopback.
     Serve { file: &'a str, sharing: Sharing },
 }
 
 impl<'a> Program<'a> {
-    /// The file that it is asked for on.
+    /// Returns the program's file.
     pub fn file(&self) -> &'a str
         ensures { result.now ≡ file_of self.now }
     {
@@ -57,12 +58,12 @@ impl<'a> Program<'a> {
     }
 }
 
-/// Why the arguments are not read.
+/// Why the arguments are refused.
 #[derive(Clone, Copy, Debug, PartialEq, Eq)]
 pub enum ArgumentsFault {
-    /// They name no program, or not just its file.
+    /// Usage error: the arguments select no program.
     Usage,
-    /// No memory.
+    /// Memory ran out.
     Memory(Memory),
 }
 
@@ -85,7 +86,7 @@ impl From<Error> for ArgumentsFault {
     }
 }
 
-// A program of the name, with its file.
+// Returns the subcommand of this name, with its file.
 fn file_command<'a>(alloc: Global, name: &'a str) -> Result<Command<'a>, AllocError>
     ensures app { IfOk result (λ command. app_of command ≡ file_program name.entry.now) }
     ensures local { IfOk result (λ command. (out-Command command).has_globals ≡ false) }
@@ -94,7 +95,7 @@ fn file_command<'a>(alloc: Global, name: &'a str) -> Result<Command<'a>, AllocEr
     Command::new(alloc, name).arg(file)
 }
 
-// The program with an option more, which may be left out.
+// Returns the subcommand with another optional argument.
 fn with_option<'a>(
     alloc: Global,
     program: Command<'a>,
@@ -108,7 +109,7 @@ fn with_option<'a>(
     program.arg(Arg::new(alloc, name).long(name))
 }
 
-// The program that is shared, with its file and its numbers.
+// Returns the subcommand `serve`, with its file and its options.
 fn serve_command<'a>(alloc: Global) -> Result<Command<'a>, AllocError>
     ensures app { IfOk result (λ command. app_of command ≡ serve_program) }
     ensures local { IfOk result (λ command. (out-Command command).has_globals ≡ false) }
@@ -121,7 +122,7 @@ fn serve_command<'a>(alloc: Global) -> Result<Command<'a>, AllocError>
     with_option(alloc, command, "connections")
 }
 
-// The command line of netrev.
+// Returns the command line of netrev.
 fn command<'a>(alloc: Global) -> Result<Command<'a>, AllocError>
     ensures { IfOk result (λ command. app_of command ≡ netrev) }
 {
@@ -143,7 +144,7 @@ fn command<'a>(alloc: Global) -> Result<Command<'a>, AllocError>
         .subcommand(serve)
 }
 
-// The number behind an option, or where the option isn't there this one.
+// Returns an option's number, or the default if the option isn't given.
 fn number_in(matches: &ArgMatches<'_>, name: &str, usual: Option<u32>) -> Option<u32>
     ensures { result ≡ number_in name.now usual (rows_of (found_of matches.now)) }
 {
@@ -153,7 +154,7 @@ fn number_in(matches: &ArgMatches<'_>, name: &str, usual: Option<u32>) -> Option
     }
 }
 
-// The numbers of the options.
+// Returns the parameters in the options, if they are in range.
 fn sharing_in(matches: &ArgMatches<'_>) -> Option<Sharing>
     ensures asked { result ≡ sharing_in (rows_of (found_of matches.now)) }
     ensures range { IfSome result (λ sharing. is_in_range sharing ≡ true) }
@@ -172,7 +173,7 @@ fn sharing_in(matches: &ArgMatches<'_>) -> Option<Sharing>
     }
 }
 
-// The program that the matches name, with its file.
+// Returns the program that the matches select, with its file.
 fn matched_program<'a>(matches: &ArgMatches<'a>) -> Option<Program<'a>>
     ensures named { IsNamed (subcommand_rows_of matches.now) result }
     ensures range { IfSome result IsInRange }
@@ -197,7 +198,8 @@ fn matched_program<'a>(matches: &ArgMatches<'a>) -> Option<Program<'a>>
     }
 }
 
-/// Reads the program's arguments, its own name first.
+/// Reads the program's arguments, which start with its own name, and returns the program that they select. Fails with
+/// `Usage` if they select none, and with `Memory` if memory runs out.
 pub fn read_words<'a>(
     alloc: Global,
     arguments: &'a [&'a str],
@@ -215,8 +217,7 @@ pub fn read_words<'a>(
     }
 }
 
-/// A program's name and the name of its file, which does not begin with a hyphen, ask for that
-/// program.
+/// A subcommand's name and the name of its file, which doesn't begin with a hyphen, select that program.
 pub fn plain_arguments_ask()
     ensures run { (program file : List ℕ) → IsPlain file
         → Ask (program ∷ codes "run" ∷ file ∷ []) (codes "run", file, None) }

@@ -1,4 +1,4 @@
-//! The program's arguments: which program they ask for, on which file, with which numbers.
+//! The program's arguments: which program they select, with which file and which numbers.
 #![tactic(auto)]
 
 mod arguments;

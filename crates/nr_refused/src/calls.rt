@@ -1,4 +1,4 @@
-//! The calls that can be asked for.
+//! The calls that the program can test.
 
 use crate::films::Recorded;
 use crate::fronts::Play;
@@ -11,7 +11,7 @@ use nr_plain::PlainWorld;
 use nr_search::Direction;
 use std::thread::Threads;
 
-/// A call that takes memory.
+/// A call that allocates memory.
 #[derive(Clone, Copy, Debug, PartialEq, Eq)]
 pub(crate) enum Call {
     Read,
@@ -64,7 +64,7 @@ pub(crate) enum Call {
     Serve,
 }
 
-/// Their names.
+/// The calls by name.
 pub(crate) static CALLS: [(&str, Call); 48] = [
     ("read", Call::Read),
     ("write", Call::Write),
@@ -117,7 +117,7 @@ pub(crate) static CALLS: [(&str, Call); 48] = [
 ];
 
 impl Call {
-    /// The call of this name.
+    /// Returns the call of this name.
     pub(crate) fn named(word: &str) -> Option<Call> {
         for (name, call) in CALLS.iter() {
             if *name == word {
@@ -127,8 +127,8 @@ impl Call {
         None
     }
 
-    /// Makes it while memory may be refused, and once more with memory. `None` where there was no memory for what comes
-    /// before.
+    /// Makes the call while requests for memory may be refused, and then again with memory. Returns `None` if memory
+    /// ran out while preparing it.
     pub(crate) fn make_twice<H: Threads + Sync>(
         self,
         rt: &HostRuntime,
@@ -151,7 +151,7 @@ impl Call {
         }
     }
 
-    // The calls that copy a world, put it to rest or restore it.
+    // Tests the calls that copy, snapshot or restore a world.
     fn make_of_world_twice<H: Threads + Sync>(
         self,
         rt: &HostRuntime,
@@ -174,7 +174,7 @@ impl Call {
         }
     }
 
-    // The calls of a world's parts and of walks.
+    // Tests the calls on a world's parts, and walks.
     fn make_part_twice<H: Threads + Sync>(self, rt: &HostRuntime, handles: &H) -> Option<Twice> {
         match self {
             Call::TableWithLimits => Some(parts::make_table_twice(rt)),
@@ -194,7 +194,7 @@ impl Call {
         }
     }
 
-    // The calls of searches, journals and fronts.
+    // Tests the calls of searches, journals and fronts.
     fn make_session_twice<H: Threads + Sync>(self, rt: &HostRuntime, handles: &H) -> Option<Twice> {
         match self {
             Call::SearchForward => searches::search_twice(rt, handles, Direction::Forward),

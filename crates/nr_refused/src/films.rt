@@ -1,4 +1,4 @@
-//! Films, and what is seen at each of their positions.
+//! Films, and the expected cells at each of their positions.
 
 use crate::texts::{TEXT, answer_twice};
 use crate::twice::{Came, Twice, grant, refuse};
@@ -8,13 +8,14 @@ use nr_rev::{Cell, CellValue, Refusal, Worlds};
 use nr_snaps::{Film, LoadFault, Snaps};
 use std::alloc::{AllocError, Global};
 
-/// How many steps the long recording has: those of the text, and behind them some that set the clock to 1, 2 and so on.
+/// The number of steps in the long recording: those of the text, followed by steps that set the clock to 1, 2 and so
+/// on.
 pub(crate) const STEPS: usize = 192;
 
-/// A copy each so many.
+/// The number of steps between two copies.
 const EVERY: usize = 64;
 
-// The long recording's text.
+// Returns the long recording's text.
 fn long_text(alloc: Global) -> Result<String, AllocError> {
     let mut text = String::from_str(alloc, TEXT)?;
     for time in 1..=180 {
@@ -29,18 +30,18 @@ fn long_recording(alloc: Global) -> Option<Recording> {
     read(alloc, text.as_bytes()).ok()
 }
 
-/// The film of the long recording.
+/// Returns the film of the long recording.
 pub(crate) fn film(alloc: Global) -> Option<Film<World>> {
     Snaps::load(alloc, long_recording(alloc)?, EVERY).ok()
 }
 
-/// The film of the text.
+/// Returns the film of the text.
 pub(crate) fn short_film(alloc: Global) -> Option<Film<World>> {
     let recording = read(alloc, TEXT.as_bytes()).ok()?;
     Snaps::load(alloc, recording, EVERY).ok()
 }
 
-/// Whether the cells are those that the long recording has at a position.
+/// Returns whether the cells have the values of the long recording at a position.
 pub(crate) fn is_at<W: Worlds>(world: &W, position: usize) -> bool
     requires { W.is_well_formed world.now }
 {
@@ -53,7 +54,7 @@ pub(crate) fn is_at<W: Worlds>(world: &W, position: usize) -> bool
     world.cell(Cell::Clock) == CellValue::Time(time) && world.cell(Cell::Input(0)) == bytes
 }
 
-// Whether the film has all steps and copies.
+// Returns whether the film contains all steps and copies.
 fn is_whole(film: &Film<World>) -> bool {
     let mut is_whole = film.len() == STEPS && film.every() == EVERY;
     for n in 0..=STEPS {
@@ -67,17 +68,17 @@ fn is_whole(film: &Film<World>) -> bool {
     is_whole
 }
 
-// The text, and behind it a step that sets the clock back.
+// Returns the recording of the text, followed by steps that set the clock forward and then back.
 fn late_recording(alloc: Global) -> Option<Recording> {
     let text = format!(in alloc; "{TEXT}[\"tick\",5]\n[\"tick\",4]\n").ok()?;
     read(alloc, text.as_bytes()).ok()
 }
 
-/// A recording that is loaded.
+/// The recording to load.
 #[derive(Clone, Copy, PartialEq, Eq)]
 pub(crate) enum Recorded {
     Long,
-    /// One whose last step doesn't apply.
+    /// A recording whose last step doesn't apply.
     Late,
 }
 
@@ -102,7 +103,7 @@ fn came_of_loading(recorded: Recorded, loaded: Result<Film<World>, LoadFault>) -
     }
 }
 
-/// Loads a recording twice.
+/// Tests loading a recording.
 pub(crate) fn load_twice(rt: &HostRuntime, recorded: Recorded) -> Option<Twice> {
     let alloc = rt.alloc();
     let recording = recording_of(alloc, recorded)?;
@@ -117,7 +118,7 @@ pub(crate) fn load_twice(rt: &HostRuntime, recorded: Recorded) -> Option<Twice> 
     })
 }
 
-/// Adds the answers to the film of the text twice.
+/// Tests adding the answers to the film of the text.
 pub(crate) fn answer_film_twice(rt: &HostRuntime) -> Option<Twice> {
     let film = short_film(rt.alloc())?;
     Some(answer_twice(rt, &film))

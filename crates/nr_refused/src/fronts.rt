@@ -1,4 +1,4 @@
-//! Fronts: they are made, run commands and look.
+//! Fronts: making them, running commands and answering queries.
 
 ghost use Rattle.std.specs.Prelude.{◌≡◌, [], IfSome};
 
@@ -14,30 +14,30 @@ use nr_text::Sink;
 use std::alloc::{AllocError, Global};
 use std::thread::Threads;
 
-/// A front that searches alone.
+/// A front with one worker.
 type Lone<'f, H> = Front<'f, World, OneWorker<H>>;
 
-/// How many deltas a front keeps here.
+/// The number of deltas that these fronts keep.
 const DEPTH: usize = 32;
 
-/// How many words a journal has here.
+/// The number of words in these journals.
 const WORDS: usize = 16;
 
-/// What a line is answered.
+/// The answer to a line.
 #[derive(Clone, Copy, PartialEq, Eq)]
 enum Answer {
-    /// The reply that it has to get.
+    /// The expected reply.
     Right,
     Memory,
     /// The command of this number ran out of memory, and its reply is owed.
     Owed(usize),
     NothingOwed,
-    /// None of these.
+    /// Any other answer.
     Other,
 }
 
 impl Answer {
-    // What it is where the reply has to print as this.
+    // Returns which answer this is, if the reply should print as this text.
     fn of(reply: Result<Reply, FrontFault>, text: &str) -> Answer {
         match reply {
             Ok(reply) => {
@@ -82,7 +82,7 @@ fn prints_as(reply: &Reply, text: &str) -> bool {
     is_out && room.get(..all.saturating_sub(left)) == Some(text.as_bytes())
 }
 
-/// Sends a front a line, whose reply has to print as this.
+/// Sends a line to a front, and returns which answer it got, if the reply should print as this text.
 fn ask<H: Threads + Sync>(
     front: &mut Lone<'_, H>,
     journal: &Journal,
@@ -103,7 +103,7 @@ fn ask<H: Threads + Sync>(
     }
 }
 
-/// Sends a front lines, and says whether each has its reply.
+/// Sends lines to a front, and returns whether each got its expected reply.
 fn ask_all<H: Threads + Sync>(
     front: &mut Lone<'_, H>,
     journal: &Journal,
@@ -119,7 +119,7 @@ fn ask_all<H: Threads + Sync>(
     are_right
 }
 
-// A pass that a seat of the journal gives.
+// Enters the journal by a seat, and returns the pass.
 fn enter(journal: &Journal, seat: Seat) -> Option<Pass>
     requires { seat.table ≡ journal.now }
     ensures { IfSome result (λ pass. (pass.table ≡ journal.now) × (pass.pass_state.seen ≡ [])) }
@@ -130,7 +130,7 @@ fn enter(journal: &Journal, seat: Seat) -> Option<Pass>
     }
 }
 
-/// A front at the film's first position.
+/// Makes a front at the film's first position.
 fn front<'f, H: Threads + Sync>(
     _handles: &H,
     alloc: Global,
@@ -146,7 +146,7 @@ fn front<'f, H: Threads + Sync>(
     }
 }
 
-// A front that a seat of the journal gives, at the film's first position.
+// Makes a front with a seat of the journal, at the film's first position.
 fn enter_front<'f, H: Threads + Sync>(
     handles: &H,
     alloc: Global,
@@ -161,7 +161,7 @@ fn enter_front<'f, H: Threads + Sync>(
     front(handles, alloc, pass, film)
 }
 
-/// A journal, and two fronts.
+/// Makes a journal and two fronts.
 fn share<'f, H: Threads + Sync>(
     handles: &H,
     alloc: Global,
@@ -176,7 +176,7 @@ fn share<'f, H: Threads + Sync>(
     Some((journal, one, other))
 }
 
-// Whether a front that was just made steps and looks.
+// Returns whether a new front runs a step and answers a query.
 fn steps_and_looks<H: Threads + Sync>(front: &mut Lone<'_, H>, journal: &Journal) -> Came
     requires { front.old.table ≡ journal.now }
 {
@@ -184,7 +184,7 @@ fn steps_and_looks<H: Threads + Sync>(front: &mut Lone<'_, H>, journal: &Journal
     Came::of(ask_all(front, journal, lines.as_slice()))
 }
 
-// Makes a front with the pass that came back.
+// Makes a front with the pass that was returned.
 fn make_again<H: Threads + Sync>(
     _handles: &H,
     alloc: Global,
@@ -201,7 +201,7 @@ fn make_again<H: Threads + Sync>(
     }
 }
 
-// Makes a front, and once more where the pass came back.
+// Makes a front, and makes it again if the pass was returned.
 fn make_with<H: Threads + Sync>(
     rt: &HostRuntime,
     handles: &H,
@@ -238,21 +238,21 @@ fn make_over<H: Threads + Sync>(
     Some(make_with(rt, handles, &journal, film, pass))
 }
 
-/// Makes a front twice; the second time with the pass that came back.
+/// Tests making a front; the second time it uses the pass that was returned.
 pub(crate) fn make_twice<H: Threads + Sync>(rt: &HostRuntime, handles: &H) -> Option<Twice> {
     let film = film(rt.alloc())?;
     make_over(rt, handles, &film)
 }
 
-/// What is done with two fronts over a film.
+/// A test with two fronts over a film.
 #[derive(Clone, Copy)]
 pub(crate) enum Play {
     /// A search.
     Exec,
-    /// A step behind another's search.
+    /// A step after another front's search.
     ExecBehindAnother,
     Look,
-    /// An owed reply is asked for.
+    /// A request for an owed reply.
     Resume,
     SixLines,
 }
@@ -273,10 +273,10 @@ fn play_over<H: Threads + Sync>(
     })
 }
 
-// The reply of the search in what follows.
+// The reply of the search in the tests below.
 const FOUND: &str = "at 2 by 1\n";
 
-// A search that may run out of memory, whose reply is owed then, and before which nothing else is done.
+// Tests a search that may run out of memory. If it does, its reply is owed, and commands are refused until then.
 fn exec<H: Threads + Sync>(rt: &HostRuntime, journal: &Journal, front: &mut Lone<'_, H>) -> Twice
     requires { front.old.table ≡ journal.now }
 {
@@ -297,7 +297,7 @@ fn exec<H: Threads + Sync>(rt: &HostRuntime, journal: &Journal, front: &mut Lone
     }
 }
 
-// A step behind another's search: where that runs out of memory, the step isn't placed.
+// Tests a step after another front's search. If the search runs out of memory, the step isn't placed.
 fn exec_behind<H: Threads + Sync>(
     rt: &HostRuntime,
     journal: &Journal,
@@ -312,7 +312,7 @@ fn exec_behind<H: Threads + Sync>(
     refuse(rt);
     let first = ask(other, journal, "stepi 3", "at 5\n").came();
     grant(rt);
-    // who had it placed would be at 5
+    // a front that had placed the step would be at 5
     let (there, line, text) = if first == Came::Refused {
         ("at 2 of 192 forward\n", "stepi 3", "at 5\n")
     } else {
@@ -329,7 +329,7 @@ fn exec_behind<H: Threads + Sync>(
     }
 }
 
-// A dump of bytes, to which the walker goes back from far ahead.
+// Tests a dump of bytes for which the walker must go back a long way.
 fn look<H: Threads + Sync>(rt: &HostRuntime, journal: &Journal, front: &mut Lone<'_, H>) -> Twice
     requires { front.old.table ≡ journal.now }
 {
@@ -351,7 +351,7 @@ fn look<H: Threads + Sync>(rt: &HostRuntime, journal: &Journal, front: &mut Lone
     }
 }
 
-// The reply of a search that ran out of memory, which runs out of it again.
+// Tests requesting the reply of a search that ran out of memory, when the search may run out of memory again.
 fn resume_owed<H: Threads + Sync>(
     rt: &HostRuntime,
     journal: &Journal,
@@ -363,7 +363,7 @@ fn resume_owed<H: Threads + Sync>(
     refuse_next(rt);
     let answer = ask(front, journal, "continue", FOUND);
     if answer != Answer::Owed(2) {
-        // nothing is refused at all
+        // no request is refused
         return Twice::once(Came::of(begun && answer.is_right()));
     }
     refuse(rt);
@@ -382,7 +382,7 @@ fn resume_owed<H: Threads + Sync>(
     }
 }
 
-/// Six lines, each with its reply and how many commands are placed behind it.
+/// Six lines, each with its reply and the number of commands placed after it.
 static SIX_LINES: [(&str, &str, usize); 6] = [
     ("watch rg 0", "mark 1\n", 1),
     ("continue", "at 2 by 1\n", 2),
@@ -392,8 +392,8 @@ static SIX_LINES: [(&str, &str, usize); 6] = [
     ("info position", "at 2 of 12 forward\n", 4),
 ];
 
-// Sends a line until it is answered: where it or another's command was refused memory it is sent again, and where its own
-// command is placed and its reply is owed, which only a search's is, that is asked for.
+// Sends a line until it is answered. If memory ran out for the line or for another front's command, sends it again. If
+// its own command was placed and its reply is owed, which happens only for a search, requests the reply.
 fn answered<H: Threads + Sync>(
     journal: &Journal,
     front: &mut Lone<'_, H>,
@@ -418,7 +418,7 @@ fn answered<H: Threads + Sync>(
     }
 }
 
-// The six lines. What comes of them all is wrong where one is, and else refused where one was.
+// Sends the six lines. Returns `Wrong` if one of the answers is wrong, or else `Refused` if one was refused.
 fn answered_all<H: Threads + Sync>(journal: &Journal, front: &mut Lone<'_, H>) -> Came
     requires { front.old.table ≡ journal.now }
     ensures { front.new.table ≡ journal.now }
@@ -431,7 +431,7 @@ fn answered_all<H: Threads + Sync>(journal: &Journal, front: &mut Lone<'_, H>) -
     all
 }
 
-// The six lines while one request is refused; and then by the other front what these left.
+// Tests the six lines while one request is refused, and then checks with the other front what they left.
 fn six_lines<H: Threads + Sync>(
     rt: &HostRuntime,
     journal: &Journal,
@@ -457,7 +457,7 @@ fn six_lines<H: Threads + Sync>(
     }
 }
 
-// The film that it is done over.
+// Returns the film for a test.
 fn film_of(alloc: Global, play: Play) -> Option<Film<World>> {
     match play {
         Play::SixLines => short_film(alloc),
@@ -465,7 +465,7 @@ fn film_of(alloc: Global, play: Play) -> Option<Film<World>> {
     }
 }
 
-/// Does it twice; of six lines each may be refused, and is sent once more.
+/// Runs the test. In `SixLines`, each of the lines may be refused, and is then sent again.
 pub(crate) fn play_twice<H: Threads + Sync>(
     rt: &HostRuntime,
     handles: &H,

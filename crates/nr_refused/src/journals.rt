@@ -1,4 +1,4 @@
-//! Journals: they are made, shared out and read to the end.
+//! Journals: making them, taking seats, and reading them at the end.
 
 ghost use Rattle.std.specs.Prelude.{◌≡◌};
 ghost use Rattle.nr_journal.specs.Rule.{tag_of};
@@ -9,14 +9,14 @@ use nr_journal::{Journal, Offered, Pass, Passes, Seat};
 use nr_rev::Memory;
 use std::alloc::Global;
 
-// A checkpoint's word with the pass's tag: opcode 9, and no argument.
+// Returns a checkpoint's word with the pass's tag: opcode 9 and no argument.
 fn word_of(pass: &Pass) -> u64
     ensures { HasOpcode result × (tag_of result ≡ pass.now.pass_state.tag) }
 {
     9 + 256 * u64::from(pass.tag())
 }
 
-// Places it.
+// Places that word.
 fn place(journal: &Journal, pass: &mut Pass) -> bool
     requires { pass.old.table ≡ journal.now }
     ensures { pass.new.table ≡ journal.now }
@@ -25,7 +25,7 @@ fn place(journal: &Journal, pass: &mut Pass) -> bool
     matches!(journal.offer(pass, word), Offered::Placed)
 }
 
-// Whether just two words can be placed in a new journal.
+// Returns whether exactly two words can be placed in a new journal.
 fn has_room_for_two(journal: &Journal, pass: &mut Pass) -> bool
     requires { pass.old.table ≡ journal.now }
 {
@@ -37,7 +37,7 @@ fn has_room_for_two(journal: &Journal, pass: &mut Pass) -> bool
     placed == [true, true, false] && pass.seen() == 2
 }
 
-// Whether just two words can be placed in a new journal, whose first seat this is.
+// Returns whether exactly two words can be placed in a new journal with this first seat.
 fn seats_two(journal: &Journal, seat: Seat) -> bool
     requires { seat.table ≡ journal.now }
 {
@@ -55,7 +55,7 @@ fn make(alloc: Global) -> Came {
     }
 }
 
-// Makes a journal of two words for one pass alone.
+// Makes a journal of two words for a single pass.
 fn make_alone(alloc: Global) -> Came {
     match Journal::alone(alloc, 2) {
         Ok((journal, mut pass)) => Came::of(has_room_for_two(&journal, &mut pass)),
@@ -63,7 +63,7 @@ fn make_alone(alloc: Global) -> Came {
     }
 }
 
-// Whether a journal of two words has two passes left, with the tags 0 and 1, and room for two words.
+// Returns whether a journal of two words has two passes left, with the tags 0 and 1, and room for two words.
 fn gives_two(journal: &Journal, passes: &mut Passes) -> bool
     requires table { passes.old.table ≡ journal.now }
     requires two { (passes.old.next ≡ 0) × (passes.old.passes ≡ 2) }
@@ -81,7 +81,7 @@ fn make_of_passes(alloc: Global) -> Came {
     }
 }
 
-/// Makes one of two passes twice.
+/// Tests making a journal of two passes.
 pub(crate) fn make_of_passes_twice(rt: &HostRuntime) -> Twice {
     refuse(rt);
     let first = make_of_passes(rt.alloc());
@@ -92,7 +92,7 @@ pub(crate) fn make_of_passes_twice(rt: &HostRuntime) -> Twice {
     }
 }
 
-/// Makes it twice.
+/// Tests making a journal.
 pub(crate) fn make_twice(rt: &HostRuntime) -> Twice {
     refuse(rt);
     let first = make(rt.alloc());
@@ -103,7 +103,7 @@ pub(crate) fn make_twice(rt: &HostRuntime) -> Twice {
     }
 }
 
-/// Makes one for one pass alone twice.
+/// Tests making a journal for a single pass.
 pub(crate) fn make_alone_twice(rt: &HostRuntime) -> Twice {
     refuse(rt);
     let first = make_alone(rt.alloc());
@@ -114,7 +114,7 @@ pub(crate) fn make_alone_twice(rt: &HostRuntime) -> Twice {
     }
 }
 
-// What comes of reading so many checkpoints with tag 0.
+// Returns the result of reading, if the words should be this many checkpoints with tag 0.
 fn is_read(words: Result<Vec<u64>, Memory>, count: usize) -> Came {
     match words {
         Ok(words) => {
@@ -125,7 +125,7 @@ fn is_read(words: Result<Vec<u64>, Memory>, count: usize) -> Came {
     }
 }
 
-// Whether two seats of a journal have two tags.
+// Returns whether two seats of a journal have distinct tags.
 fn have_two_tags(journal: &Journal, one: Seat, other: Seat) -> bool
     requires one { one.table ≡ journal.now }
     requires other { other.table ≡ journal.now }
@@ -136,7 +136,7 @@ fn have_two_tags(journal: &Journal, one: Seat, other: Seat) -> bool
     (one.tag(), other.tag()) == (0, 1)
 }
 
-/// Takes a seat of another, which takes no memory.
+/// Tests splitting a seat, which allocates no memory.
 pub(crate) fn split_twice(rt: &HostRuntime) -> Option<Twice> {
     let (journal, mut seat) = Journal::new(rt.alloc(), 2).ok()?;
     refuse(rt);
@@ -146,7 +146,7 @@ pub(crate) fn split_twice(rt: &HostRuntime) -> Option<Twice> {
     Some(Twice::once(Came::of(have_two_tags(&journal, first, again))))
 }
 
-// Reads a journal twice in which a word was placed.
+// Tests reading a journal in which one word was placed.
 fn finish_both(rt: &HostRuntime, journal: &Journal, seat: Seat) -> Option<Twice>
     requires { seat.table ≡ journal.now }
 {
@@ -167,7 +167,7 @@ fn finish_both(rt: &HostRuntime, journal: &Journal, seat: Seat) -> Option<Twice>
     })
 }
 
-/// Reads a journal twice.
+/// Tests reading a journal.
 pub(crate) fn finish_twice(rt: &HostRuntime) -> Option<Twice> {
     let (journal, seat) = Journal::new(rt.alloc(), 4).ok()?;
     finish_both(rt, &journal, seat)

@@ -1,9 +1,10 @@
-//! Makes a call of netrev's libraries while requests for memory may be refused, and then once more with memory:
-//! `nr_refused CALL`, or `nr_refused all` for one call after the other.
+//! Makes a call of netrev's libraries while requests for memory may be refused, and then again with memory: `nr_refused
+//! CALL`, or `nr_refused all` for all calls, one after the other.
 //!
-//! It refuses nothing itself. The line `refuse` says that requests may be refused from now on, and `grant` that none is any
-//! more; python/tests/program/each_call.py puts scripts/refused.c before the C library, which goes by these lines. Then a line
-//! says what came of both calls. Where a call was refused, what it had to leave as it was has been compared.
+//! The program refuses nothing itself. It prints the line `refuse` when requests may be refused from now on, and
+//! `grant` when they may not. python/tests/program/each_call.py preloads scripts/refused.c before the C library, which
+//! obeys these lines. A line with the result of both calls follows. If a call was refused, the program has also
+//! compared what the call must leave unchanged.
 #![tactic(auto)]
 
 mod calls;
@@ -35,7 +36,7 @@ fn main(rt: HostRuntime) -> ExitCode {
     }
 }
 
-// Does what the arguments ask for, and returns the exit status.
+// Runs the command of the arguments, and returns the exit status.
 fn run<H: Threads + Sync>(rt: &HostRuntime, handles: &H) -> io::Result<u8> {
     let words: Vec<String> = env::args(rt)?.collect(rt.alloc())?;
     let Some(word) = words.get(1) else {
@@ -50,7 +51,7 @@ fn run<H: Threads + Sync>(rt: &HostRuntime, handles: &H) -> io::Result<u8> {
     }
 }
 
-// Says which calls there are.
+// Prints the list of calls.
 fn list(rt: &HostRuntime) -> io::Result<u8> {
     for (name, _) in CALLS.iter() {
         println!(rt; "{name}")?;
@@ -66,7 +67,7 @@ fn play_all<H: Threads + Sync>(rt: &HostRuntime, handles: &H) -> io::Result<u8> 
     Ok(worst)
 }
 
-// Makes a call twice, and says what came of it.
+// Tests a call and prints the result.
 fn play<H: Threads + Sync>(
     rt: &HostRuntime,
     handles: &H,

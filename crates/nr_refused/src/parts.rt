@@ -1,4 +1,4 @@
-//! The parts of a packed world that have room of their own: goroutines, buffers and timers. A lock word and a descriptor
+//! The parts of a packed world with memory of their own: goroutines, buffers and timers. A lock word and a descriptor
 //! have none.
 
 use crate::twice::{Came, Twice, grant, refuse};
@@ -15,7 +15,7 @@ fn came_of_table(made: Result<GTable, Memory>, goroutines: u32) -> Came {
     }
 }
 
-// Whether just so many goroutines were made, which are idle, and nobody is queued.
+// Returns whether exactly so many goroutines were made, all idle, and none is queued.
 fn has_goroutines(table: &GTable, goroutines: u32) -> bool {
     let last = goroutines
         .checked_sub(1)
@@ -32,7 +32,7 @@ fn has_goroutines(table: &GTable, goroutines: u32) -> bool {
         && table.front_of(0, Side::Read).is_none()
 }
 
-/// Makes a table for four goroutines and a socket twice.
+/// Tests making a table for four goroutines and a socket.
 pub(crate) fn make_table_twice(rt: &HostRuntime) -> Twice {
     refuse(rt);
     let first = GTable::with_limits(rt.alloc(), 4, 1);
@@ -43,7 +43,7 @@ pub(crate) fn make_table_twice(rt: &HostRuntime) -> Twice {
     }
 }
 
-/// Makes one twice that counts those inside the waits of a descriptor.
+/// Tests making a table that counts the goroutines inside the waits of a descriptor.
 pub(crate) fn make_counting_table_twice(rt: &HostRuntime) -> Twice {
     refuse(rt);
     let first = GTable::with_descriptors(rt.alloc(), 4, 1, 1);
@@ -54,7 +54,7 @@ pub(crate) fn make_counting_table_twice(rt: &HostRuntime) -> Twice {
     }
 }
 
-// A table with two goroutines.
+// Makes a table with two goroutines.
 fn table_of_two(alloc: Global) -> Option<GTable> {
     let mut table = GTable::with_descriptors(alloc, 4, 1, 1).ok()?;
     table.apply(&GOperation::Spawn).ok()?;
@@ -62,7 +62,7 @@ fn table_of_two(alloc: Global) -> Option<GTable> {
     Some(table)
 }
 
-/// Copies a table of two goroutines twice.
+/// Tests copying a table of two goroutines.
 pub(crate) fn copy_table_twice(rt: &HostRuntime) -> Option<Twice> {
     let table = table_of_two(rt.alloc())?;
     refuse(rt);
@@ -81,7 +81,7 @@ fn came_of_sock(made: Result<Sock, Memory>, bytes: &[u8]) -> Came {
     }
 }
 
-// Whether just these bytes are to be read; where there are none, that it was not opened.
+// Returns whether exactly these bytes can be read, or, if there are none, whether the socket wasn't opened.
 fn has_bytes(sock: &Sock, bytes: &[u8]) -> bool {
     sock.is_made() != bytes.is_empty()
         && sock.byte(Side::Read, 0) == bytes.get(0).copied()
@@ -90,7 +90,7 @@ fn has_bytes(sock: &Sock, bytes: &[u8]) -> bool {
         && sock.byte(Side::Write, 0).is_none()
 }
 
-/// Makes a socket's buffers twice.
+/// Tests making a socket's buffers.
 pub(crate) fn make_sock_twice(rt: &HostRuntime) -> Twice {
     refuse(rt);
     let first = Sock::with_limits(rt.alloc(), 16);
@@ -106,7 +106,7 @@ const OPEN: Step = Step::SockOpen {
     write_capacity: 16,
 };
 
-// Buffers where two bytes have arrived.
+// Makes buffers into which two bytes have arrived.
 fn sock_of_two(alloc: Global) -> Option<Sock> {
     let mut sock = Sock::with_limits(alloc, 16).ok()?;
     let bytes = Bytes::new(Vec::from_slice(alloc, b"hi").ok()?);
@@ -115,7 +115,7 @@ fn sock_of_two(alloc: Global) -> Option<Sock> {
     Some(sock)
 }
 
-/// Copies a socket's buffers twice.
+/// Tests copying a socket's buffers.
 pub(crate) fn copy_sock_twice(rt: &HostRuntime) -> Option<Twice> {
     let sock = sock_of_two(rt.alloc())?;
     refuse(rt);
@@ -127,7 +127,7 @@ pub(crate) fn copy_sock_twice(rt: &HostRuntime) -> Option<Twice> {
     })
 }
 
-// Whether the buffers that are restored from a snapshot have just the two bytes.
+// Returns whether the buffers that are restored from a snapshot contain exactly the two bytes.
 fn keeps_two(alloc: Global, snapshot: &SockSnapshot) -> bool {
     match snapshot.restored(alloc) {
         Ok(sock) => has_bytes(&sock, b"hi"),
@@ -142,7 +142,7 @@ fn came_of_rest(made: Result<SockSnapshot, Memory>, alloc: Global) -> Came {
     }
 }
 
-/// Puts a socket's buffers to rest twice.
+/// Tests taking a snapshot of a socket's buffers.
 pub(crate) fn rest_sock_twice(rt: &HostRuntime) -> Option<Twice> {
     let sock = sock_of_two(rt.alloc())?;
     let last = sock.snapshot(None).ok()?;
@@ -155,7 +155,7 @@ pub(crate) fn rest_sock_twice(rt: &HostRuntime) -> Option<Twice> {
     })
 }
 
-/// Restores a socket's buffers twice.
+/// Tests restoring a socket's buffers.
 pub(crate) fn restore_sock_twice(rt: &HostRuntime) -> Option<Twice> {
     let snapshot = sock_of_two(rt.alloc())?.snapshot(None).ok()?;
     refuse(rt);
@@ -174,7 +174,7 @@ fn came_of_timers(made: Result<Timers, Memory>, times: &[i64]) -> Came {
     }
 }
 
-// Whether just these timers are armed, by their places, and none has gone off.
+// Returns whether exactly these timers are armed, in this order of places, and none has gone off.
 fn has_times(timers: &Timers, times: &[i64]) -> bool {
     let due = |place| timers.at_place(place).map(|entry| entry.timer.due);
     timers.len() == times.len()
@@ -184,7 +184,7 @@ fn has_times(timers: &Timers, times: &[i64]) -> bool {
         && due(1) == times.get(1).copied()
 }
 
-/// Makes the timers of two descriptors twice.
+/// Tests making the timers of two descriptors.
 pub(crate) fn make_timers_twice(rt: &HostRuntime) -> Twice {
     refuse(rt);
     let first = Timers::with_limits(rt.alloc(), 2);
@@ -205,7 +205,7 @@ fn arm(side: Side, due: i64) -> TimersOp {
     }
 }
 
-// Timers of which the one armed later is due first.
+// Makes timers of which the one armed later is due first.
 fn armed(alloc: Global) -> Option<Timers> {
     let mut timers = Timers::with_limits(alloc, 2).ok()?;
     timers.apply(&arm(Side::Read, 20)).ok()?;
@@ -213,7 +213,7 @@ fn armed(alloc: Global) -> Option<Timers> {
     Some(timers)
 }
 
-/// Copies two timers twice.
+/// Tests copying two timers.
 pub(crate) fn copy_timers_twice(rt: &HostRuntime) -> Option<Twice> {
     let timers = armed(rt.alloc())?;
     refuse(rt);

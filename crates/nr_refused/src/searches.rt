@@ -1,4 +1,4 @@
-//! Searches, by one worker and by three.
+//! Searches, with one worker and with three.
 
 use crate::films::film;
 use crate::twice::{Came, Twice, grant, refuse};
@@ -10,7 +10,7 @@ use nr_snaps::Film;
 use std::num::NonZeroU32;
 use std::thread::Threads;
 
-// Watches the bytes that are to be read, and breaks before step 151.
+// Returns marks that watch the unread bytes and break before step 151.
 fn marks() -> Marks {
     let mut marks = Marks::new();
     let _ = marks.add_watch(Cell::Input(0));
@@ -18,7 +18,7 @@ fn marks() -> Marks {
     marks
 }
 
-// From where it is searched, and the position and the mark that are found.
+// Returns the start of the search, and the expected position and mark.
 fn places(direction: Direction) -> (usize, usize, u32) {
     match direction {
         Direction::Forward => (11, 150, 2),
@@ -37,7 +37,7 @@ fn came_of_finding(direction: Direction, found: Result<Found, Memory>) -> Came {
     }
 }
 
-// Searches twice over a film.
+// Tests a search over a film.
 fn search_over<F: Finder>(
     rt: &HostRuntime,
     film: &Film<World>,
@@ -59,7 +59,7 @@ fn search_over<F: Finder>(
     })
 }
 
-/// Searches twice, alone.
+/// Tests a search with one worker.
 pub(crate) fn search_twice<H: Threads + Sync>(
     rt: &HostRuntime,
     _handles: &H,
@@ -69,7 +69,7 @@ pub(crate) fn search_twice<H: Threads + Sync>(
     search_over(rt, &film, &OneWorker::<H>::new(), direction)
 }
 
-/// Searches twice, by three workers in threads of their own.
+/// Tests a search with three workers in threads of their own.
 pub(crate) fn search_by_many_twice<H: Threads + Sync>(
     rt: &HostRuntime,
     handles: &H,

@@ -1,4 +1,4 @@
-//! A session of two fronts over callers in memory.
+//! A session of two fronts with callers in memory.
 
 use crate::switchboard::{Part, Seen, Switchboard};
 use crate::texts::TEXT;
@@ -10,7 +10,7 @@ use nr_text::Sink;
 use std::alloc::Global;
 use std::thread::Threads;
 
-/// Lines whose replies are the same whichever front is served first, and that take no memory.
+/// Lines whose replies don't depend on the front that is served first, and that allocate no memory.
 static PARTS: [Part; 2] = [
     Part {
         lines: "checkpoint\nquit\n",
@@ -30,12 +30,12 @@ const SHARING: Sharing = Sharing {
     connections: None,
 };
 
-// The text, to be given away.
+// Returns a copy of the text, which the call takes.
 fn copied_text(alloc: Global) -> Option<Vec<u8>> {
     Vec::from_slice(alloc, TEXT.as_bytes()).ok()
 }
 
-// Serves the callers, and says how many bytes are out.
+// Serves the callers, and returns the number of bytes that were written.
 fn serve_into<H: Threads + Sync>(
     handles: &H,
     alloc: Global,
@@ -55,7 +55,8 @@ fn serve_into<H: Threads + Sync>(
     (status, all.saturating_sub(left))
 }
 
-// Where memory is refused, none of the callers was served, or all were and only the words couldn't be collected.
+// Returns the result of serving. If memory was refused, either none of the callers may have been served, or all were
+// and only the words couldn't be collected.
 fn came_of_serving(status: ExitStatus, out: Option<&[u8]>, seen: &[Seen; 2]) -> Came {
     let are_right = seen[0].is_right(&PARTS[0]) && seen[1].is_right(&PARTS[1]);
     let are_untouched = seen[0].is_untouched() && seen[1].is_untouched();
@@ -68,7 +69,7 @@ fn came_of_serving(status: ExitStatus, out: Option<&[u8]>, seen: &[Seen; 2]) -> 
     }
 }
 
-/// Serves two callers twice. `None` where there is no memory before any may be refused.
+/// Tests serving two callers. Returns `None` if memory ran out before requests may be refused.
 pub(crate) fn serve_twice<H: Threads + Sync>(rt: &HostRuntime, handles: &H) -> Option<Twice> {
     let alloc = rt.alloc();
     let mut room = [0u8; 64];

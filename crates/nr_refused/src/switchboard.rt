@@ -1,4 +1,4 @@
-//! Callers in memory: each sends its lines at once, and what it is answered is compared.
+//! Callers in memory: each sends its lines at once, and the replies are compared.
 
 use nr_serving::{Arrival, Connections, Conversations, Fronts, Next, Ports};
 use std::io;
@@ -6,17 +6,17 @@ use std::io::{ErrorKind, Read, Write};
 use std::sync::atomic::AtomicU32;
 use std::sync::atomic::Ordering::SeqCst;
 
-/// The lines of a caller, and the replies that it has to get.
+/// The lines of a caller, and the expected replies.
 pub(crate) struct Part {
     pub(crate) lines: &'static str,
     pub(crate) replies: &'static str,
 }
 
-/// What was seen of a caller.
+/// The bytes that a caller received.
 #[derive(Drop)]
 pub(crate) struct Seen {
     reads: AtomicU32,
-    // how many bytes of the right replies came
+    // the number of bytes that matched the expected replies
     right: AtomicU32,
     written: AtomicU32,
 }
@@ -30,19 +30,19 @@ impl Seen {
         }
     }
 
-    /// Whether the right replies came, and nothing else.
+    /// Returns whether exactly the expected replies came.
     pub(crate) fn is_right(&self, part: &Part) -> bool {
         self.right.load(SeqCst) as usize == part.replies.len()
             && self.written.load(SeqCst) as usize == part.replies.len()
     }
 
-    /// Whether the caller was not served.
+    /// Returns whether the caller wasn't served.
     pub(crate) fn is_untouched(&self) -> bool {
         self.reads.load(SeqCst) == 0 && self.written.load(SeqCst) == 0
     }
 }
 
-/// A caller who plays a part.
+/// A caller that plays a part.
 #[derive(Clone, Copy)]
 pub(crate) struct Caller<'a> {
     part: &'a Part,
@@ -87,7 +87,7 @@ impl Write for Replies<'_> {
     }
 }
 
-/// One caller, or none any more.
+/// One caller, until it is taken.
 #[derive(Drop)]
 pub(crate) struct Callers<'a> {
     caller: Option<Caller<'a>>,
@@ -115,7 +115,7 @@ impl<'a> Connections for Callers<'a> {
     }
 }
 
-/// A caller at each front.
+/// One caller at each front.
 #[derive(Drop)]
 pub(crate) struct Switchboard<'a> {
     pub(crate) parts: &'a [Part],

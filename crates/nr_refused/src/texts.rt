@@ -1,4 +1,4 @@
-//! Recordings as texts: they are read, written and checked.
+//! Recordings as texts: reading, writing and checking them.
 
 use crate::twice::{Came, Twice, grant, refuse};
 use nr_machine::World;
@@ -9,7 +9,7 @@ use nr_snaps::Film;
 use nr_text::Sink;
 use std::alloc::Global;
 
-/// A goroutine waits for bytes at a socket and reads them. It is as `write` writes it.
+/// A goroutine waits for bytes at a socket and reads them. The text is in the form that `write` gives it.
 pub(crate) const TEXT: &str = r#"{"buf":16,"desc":2,"gor":4,"netrev":1,"sock":2}
 ["sockopen",16,16]
 ["pollopen",0,0]
@@ -75,10 +75,10 @@ const CHANGED: &str = "1 lock 0 = 0
 ok 12 steps
 ";
 
-/// Room for more bytes than any text has that is written here.
+/// Room for more bytes than any text that is written here.
 const ROOM: usize = 1_024;
 
-/// Reads the text twice.
+/// Tests reading the text.
 pub(crate) fn read_twice(rt: &HostRuntime) -> Twice {
     let alloc = rt.alloc();
     refuse(rt);
@@ -99,14 +99,14 @@ fn came_of_reading(alloc: Global, reading: Result<Recording, ReadFault>) -> Came
     }
 }
 
-// What comes of writing it into room enough, where it has to be this text.
+// Returns the result of writing a recording into enough room, if it should be this text.
 fn written(alloc: Global, recording: &Recording, text: &str) -> Came {
     let mut room = [0u8; ROOM];
     let (result, count) = write_into(alloc, recording, room.as_mut_slice());
     came_of_writing(result, room.get(..count), text)
 }
 
-// Writes a recording, and says how many bytes are out.
+// Writes a recording, and returns the number of bytes that were written.
 fn write_into(
     alloc: Global,
     recording: &Recording,
@@ -119,12 +119,12 @@ fn write_into(
     (result, all.saturating_sub(left))
 }
 
-// Whether these are whole lines of a text, from the first on.
+// Returns whether these bytes are whole lines from the beginning of a text.
 fn are_first_lines(out: &[u8], text: &str) -> bool {
     matches!(out.last(), None | Some(b'\n')) && text.as_bytes().starts_with(out)
 }
 
-// Where it was refused memory, just some first lines are out, whole.
+// Returns the result of writing. If memory was refused, only some first lines may be written, and whole.
 fn came_of_writing(outcome: Result<(), WriteFault>, out: Option<&[u8]>, text: &str) -> Came {
     let Some(out) = out else {
         return Came::Wrong;
@@ -136,7 +136,7 @@ fn came_of_writing(outcome: Result<(), WriteFault>, out: Option<&[u8]>, text: &s
     }
 }
 
-/// Writes the recording of the text twice.
+/// Tests writing the recording of the text.
 pub(crate) fn write_twice(rt: &HostRuntime) -> Option<Twice> {
     let recording = read(rt.alloc(), TEXT.as_bytes()).ok()?;
     let mut room = [0u8; ROOM];
@@ -149,7 +149,7 @@ pub(crate) fn write_twice(rt: &HostRuntime) -> Option<Twice> {
     })
 }
 
-/// Checks the text twice.
+/// Tests checking the text.
 pub(crate) fn check_twice(rt: &HostRuntime) -> Twice {
     let mut room = [0u8; ROOM];
     refuse(rt);
@@ -163,7 +163,7 @@ pub(crate) fn check_twice(rt: &HostRuntime) -> Twice {
     }
 }
 
-// Checks the text, and says how many bytes are out.
+// Checks the text, and returns the number of bytes that were written.
 fn check_into(alloc: Global, room: &mut [u8]) -> (ExitStatus, usize) {
     let all = room.len();
     let mut out = Sink::new(room);
@@ -187,7 +187,7 @@ fn came_of_answering(alloc: Global, answered: Result<Recording, Memory>) -> Came
     }
 }
 
-/// Adds the answers to a film of the text twice.
+/// Tests adding the answers to a film of the text.
 pub(crate) fn answer_twice(rt: &HostRuntime, film: &Film<World>) -> Twice {
     let alloc = rt.alloc();
     refuse(rt);
@@ -200,7 +200,7 @@ pub(crate) fn answer_twice(rt: &HostRuntime, film: &Film<World>) -> Twice {
     }
 }
 
-/// Upgrades the text twice.
+/// Tests upgrading the text.
 pub(crate) fn upgrade_twice(rt: &HostRuntime) -> Twice {
     let mut room = [0u8; ROOM];
     refuse(rt);
@@ -214,7 +214,7 @@ pub(crate) fn upgrade_twice(rt: &HostRuntime) -> Twice {
     }
 }
 
-// Upgrades the text, and says how many bytes are out.
+// Upgrades the text, and returns the number of bytes that were written.
 fn upgrade_into(alloc: Global, room: &mut [u8]) -> (ExitStatus, usize) {
     let all = room.len();
     let mut out = Sink::new(room);
@@ -223,7 +223,8 @@ fn upgrade_into(alloc: Global, room: &mut [u8]) -> (ExitStatus, usize) {
     (status, all.saturating_sub(left))
 }
 
-// Upgrading that was refused memory ends with the line of that fault, behind whole lines.
+// Returns the result of upgrading. If memory was refused, the output must end with the line of that fault, after whole
+// lines.
 fn came_of_upgrading(status: ExitStatus, out: Option<&[u8]>) -> Came {
     let Some(out) = out else {
         return Came::Wrong;
@@ -238,7 +239,7 @@ fn came_of_upgrading(status: ExitStatus, out: Option<&[u8]>) -> Came {
     }
 }
 
-/// Says twice what the steps of the text changed.
+/// Tests printing the changes of the text's steps.
 pub(crate) fn change_twice(rt: &HostRuntime) -> Twice {
     let mut room = [0u8; ROOM];
     refuse(rt);
@@ -252,7 +253,7 @@ pub(crate) fn change_twice(rt: &HostRuntime) -> Twice {
     }
 }
 
-// Says what the steps of the text changed, and how many bytes are out.
+// Prints the changes of the text's steps, and returns the number of bytes that were written.
 fn change_into(alloc: Global, room: &mut [u8]) -> (ExitStatus, usize) {
     let all = room.len();
     let mut out = Sink::new(room);
@@ -261,7 +262,7 @@ fn change_into(alloc: Global, room: &mut [u8]) -> (ExitStatus, usize) {
     (status, all.saturating_sub(left))
 }
 
-// Where memory was refused, the line of that fault is all.
+// Returns the result of printing changes. If memory was refused, the line of that fault must be the whole output.
 fn came_of_changing(status: ExitStatus, out: Option<&[u8]>) -> Came {
     match (status, out) {
         (ExitStatus::Done, Some(out)) => Came::of(out == CHANGED.as_bytes()),
@@ -272,7 +273,8 @@ fn came_of_changing(status: ExitStatus, out: Option<&[u8]>) -> Came {
     }
 }
 
-/// A call ends with a deadline; a goroutine takes an event and sleeps without a read; another closes the socket and keeps a reference.
+/// A call ends with a deadline; a goroutine takes an event and sleeps without a read; another closes the socket and
+/// keeps a reference.
 const SUSPICIOUS: &str = r#"{"buf":16,"desc":2,"gor":4,"netrev":1,"sock":2}
 ["sockopen",16,16]
 ["pollopen",0,0]
@@ -291,7 +293,7 @@ const SUSPICIOUS: &str = r#"{"buf":16,"desc":2,"gor":4,"netrev":1,"sock":2}
 ["decref",1,0]
 "#;
 
-/// What is found in it.
+/// The suspects of that recording.
 const SUSPECTED: &str = "at 4 timeout gor 0 desc 0 w set 3 by 0 w
 at 15 lost-wakeup gor 0 desc 0 r event 6 taken 7 by 0
 at 15 asleep gor 0 desc 0 r because bytes
@@ -299,7 +301,7 @@ at 15 held-reference sock 0 gor 1 count 1 since 14
 ok 15 steps
 ";
 
-/// Finds twice what is suspect in a recording.
+/// Tests finding the suspects of a recording.
 pub(crate) fn suspect_twice(rt: &HostRuntime) -> Twice {
     let mut room = [0u8; ROOM];
     refuse(rt);
@@ -313,7 +315,7 @@ pub(crate) fn suspect_twice(rt: &HostRuntime) -> Twice {
     }
 }
 
-// Finds what is suspect, and how many bytes are out.
+// Prints the suspects, and returns the number of bytes that were written.
 fn suspect_into(alloc: Global, room: &mut [u8]) -> (ExitStatus, usize) {
     let all = room.len();
     let mut out = Sink::new(room);
@@ -322,7 +324,7 @@ fn suspect_into(alloc: Global, room: &mut [u8]) -> (ExitStatus, usize) {
     (status, all.saturating_sub(left))
 }
 
-// Where memory was refused, the line of that fault is all.
+// Returns the result of printing suspects. If memory was refused, the line of that fault must be the whole output.
 fn came_of_suspecting(status: ExitStatus, out: Option<&[u8]>) -> Came {
     match (status, out) {
         (ExitStatus::Done, Some(out)) => Came::of(out == SUSPECTED.as_bytes()),

@@ -1,23 +1,23 @@
-//! What came of a call, and of the same one again.
+//! The results of a test: of the call while requests for memory may be refused, and of the same call with memory.
 
-/// What came of a call.
+/// The result of a call.
 #[derive(Clone, Copy, Debug, PartialEq, Eq)]
 pub(crate) enum Came {
-    /// What it has to give.
+    /// The expected result.
     Right,
-    /// It was refused memory, and left what it has to leave.
+    /// Memory was refused, and the call left unchanged what it must.
     Refused,
     /// Anything else.
     Wrong,
 }
 
 impl Came {
-    /// What is right, or wrong.
+    /// Returns `Right` or `Wrong`.
     pub(crate) fn of(is_right: bool) -> Came {
         if is_right { Came::Right } else { Came::Wrong }
     }
 
-    /// What came of one thing and of another behind it.
+    /// Returns the combined result of two calls.
     pub(crate) fn and(self, other: Came) -> Came {
         match (self, other) {
             (Came::Wrong, _) | (_, Came::Wrong) => Came::Wrong,
@@ -26,12 +26,12 @@ impl Came {
         }
     }
 
-    /// What came of it, where all was right before; else it is wrong.
+    /// Returns the result if everything before was right, and otherwise `Wrong`.
     pub(crate) fn behind(self, was_right: bool) -> Came {
         if was_right { self } else { Came::Wrong }
     }
 
-    /// Where it was refused, that counts only if this holds too.
+    /// Returns `Wrong` instead of `Refused` unless this holds.
     pub(crate) fn leaving(self, as_it_was: bool) -> Came {
         match self {
             Came::Refused if !as_it_was => Came::Wrong,
@@ -40,7 +40,7 @@ impl Came {
     }
 }
 
-/// What came of a call while memory may be refused, and of the same call with memory.
+/// The results of a call while requests for memory may be refused, and of the same call with memory.
 #[derive(Clone, Copy, Debug, PartialEq, Eq)]
 pub(crate) struct Twice {
     pub(crate) first: Came,
@@ -48,7 +48,8 @@ pub(crate) struct Twice {
 }
 
 impl Twice {
-    /// What came of a call that had all that it asked for, or takes nothing, and need not be made again.
+    /// Returns the results of a call that got all the memory that it requested, or requests none, and needn't be
+    /// repeated.
     pub(crate) fn once(came: Came) -> Twice {
         Twice {
             first: came,
@@ -56,7 +57,7 @@ impl Twice {
         }
     }
 
-    /// Whether the call was right in the end, and before that no worse than refused.
+    /// Returns whether the call was right with memory, and before that right or refused.
     pub(crate) fn is_right(self) -> bool {
         self.first != Came::Wrong && self.again == Came::Right
     }
@@ -77,13 +78,12 @@ pub(crate) fn refuse(rt: &HostRuntime) {
     let _printed = println!(rt; "refuse");
 }
 
-/// The next request for memory is refused, and that isn't counted: it is how a call is prepared that comes behind a
-/// refused one.
+/// Has the next request for memory refused without counting it. This prepares a call that follows a refused one.
 pub(crate) fn refuse_next(rt: &HostRuntime) {
     let _printed = println!(rt; "refuse the next");
 }
 
-/// No request is refused any more.
+/// From now on no request is refused.
 pub(crate) fn grant(rt: &HostRuntime) {
     let _printed = println!(rt; "grant");
 }

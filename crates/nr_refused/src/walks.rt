@@ -1,4 +1,4 @@
-//! Walkers: they are made, and go to positions.
+//! Walkers: making them and moving them to positions.
 
 use crate::films::{film, is_at};
 use crate::twice::{Came, Twice, grant, refuse};
@@ -8,38 +8,38 @@ use nr_snaps::Film;
 use nr_walker::{Moved, Walker};
 use std::alloc::AllocError;
 
-/// How many deltas a walker keeps here.
+/// The number of deltas that these walkers keep.
 const DEPTH: usize = 32;
 
-/// A position, and how many deltas are kept there.
+/// A position, and the number of deltas kept there.
 struct Stop {
     position: usize,
     kept: usize,
 }
 
-/// A walk from one position to another, and where the walker may be when it was refused memory: where it was, or before the
-/// step that took some.
+/// A walk from one position to another, and where the walker may be after a refused request: at the start, or before
+/// the step that allocates memory.
 pub(crate) struct Leg {
     from: usize,
     to: usize,
     stops: [Stop; 2],
 }
 
-/// Before the step that reads bytes, the eleventh.
+/// The position before the step that reads bytes, the eleventh.
 const AT_READ: Stop = Stop {
     position: 10,
     kept: 10,
 };
 
 impl Leg {
-    /// Over the step that reads bytes.
+    /// A walk over the step that reads bytes.
     pub(crate) const FORWARD: Leg = Leg {
         from: 0,
         to: 20,
         stops: [AT_READ, AT_READ],
     };
 
-    /// Farther than to the next copy.
+    /// A walk beyond the next copy.
     pub(crate) const TO_COPY: Leg = Leg {
         from: 3,
         to: 150,
@@ -55,7 +55,7 @@ impl Leg {
         ],
     };
 
-    /// From the first copy over that step, since the deltas don't reach so far.
+    /// A walk back, from the first copy on and over the step that reads bytes, because the deltas don't reach so far.
     pub(crate) const BACK: Leg = Leg {
         from: 190,
         to: 15,
@@ -69,12 +69,12 @@ impl Leg {
     };
 }
 
-// Whether the walker is at a position, with its world.
+// Returns whether the walker is at a position, with its world.
 fn is_at_position(walker: &Walker<'_, World>, position: usize) -> bool {
     walker.position() == position && is_at(walker.world(), position)
 }
 
-// Whether it is at a stop.
+// Returns whether the walker is at a stop.
 fn stops_at(walker: &Walker<'_, World>, stop: &Stop) -> bool {
     is_at_position(walker, stop.position) && walker.kept() == stop.kept
 }
@@ -97,13 +97,13 @@ fn make_over(rt: &HostRuntime, film: &Film<World>) -> Twice {
     }
 }
 
-/// Makes a walker twice.
+/// Tests making a walker.
 pub(crate) fn make_twice(rt: &HostRuntime) -> Option<Twice> {
     let film = film(rt.alloc())?;
     Some(make_over(rt, &film))
 }
 
-// Goes to a position, where the film has it.
+// Moves the walker to a position, if the film contains it.
 fn go(walker: &mut Walker<'_, World>, position: usize) -> Result<Moved, Memory> {
     if position > walker.film().len() {
         return Err(Memory::from(AllocError));
@@ -121,7 +121,7 @@ fn came_of_going(walker: &Walker<'_, World>, leg: &Leg, went: Result<Moved, Memo
     }
 }
 
-// Goes there twice. From where it was refused it goes on.
+// Tests a walk. The second call continues from where the first one stopped.
 fn go_on(rt: &HostRuntime, walker: &mut Walker<'_, World>, leg: &Leg) -> Twice {
     refuse(rt);
     let went = go(walker, leg.to);
@@ -141,7 +141,7 @@ fn go_over(rt: &HostRuntime, film: &Film<World>, leg: &Leg) -> Option<Twice> {
     if went { Some(twice) } else { None }
 }
 
-/// Goes there twice.
+/// Tests a walk.
 pub(crate) fn go_twice(rt: &HostRuntime, leg: &Leg) -> Option<Twice> {
     let film = film(rt.alloc())?;
     go_over(rt, &film, leg)

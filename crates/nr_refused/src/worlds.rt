@@ -1,4 +1,4 @@
-//! Worlds of either representation: they are made, copied, put to rest and restored.
+//! Worlds of either representation: making, copying, snapshotting and restoring them.
 
 ghost use Rattle.std.specs.Prelude.{◌≡◌};
 
@@ -16,7 +16,7 @@ const LIMITS: Limits = Limits {
     buffer: 16,
 };
 
-/// Cells of which each has a value where bytes have arrived.
+/// Cells that all have a value when bytes have arrived.
 static CELLS: [Cell; 12] = [
     Cell::Clock,
     Cell::Waiters,
@@ -32,7 +32,7 @@ static CELLS: [Cell; 12] = [
     Cell::DescriptorSequence(0),
 ];
 
-// Whether nothing but goroutine 0 is there, and nothing is waited for.
+// Returns whether the world contains only goroutine 0, and nothing waits.
 fn is_empty<W: Worlds>(world: &W) -> bool
     requires { W.is_well_formed world.now }
 {
@@ -50,7 +50,7 @@ fn make<W: Worlds + Drop>(alloc: Global) -> Came {
     }
 }
 
-/// Makes it twice.
+/// Tests making a world.
 pub(crate) fn make_twice<W: Worlds + Drop>(rt: &HostRuntime) -> Twice {
     refuse(rt);
     let first = make::<W>(rt.alloc());
@@ -61,10 +61,10 @@ pub(crate) fn make_twice<W: Worlds + Drop>(rt: &HostRuntime) -> Twice {
     }
 }
 
-/// The position behind which bytes have arrived, and a goroutine is to be woken.
+/// The position at which bytes have arrived and a goroutine is about to be woken.
 const ARRIVED: usize = 9;
 
-// Takes the steps up to that position, and says whether they all apply.
+// Applies the steps up to that position, and returns whether they all apply.
 fn lead<W: Worlds>(world: &mut W, recording: &Recording) -> bool
     requires { W.is_well_formed world.old }
     ensures { W.is_well_formed world.new }
@@ -79,7 +79,7 @@ fn lead<W: Worlds>(world: &mut W, recording: &Recording) -> bool
     has_applied
 }
 
-// Whether two worlds have the same cells, and the same bytes to be read.
+// Returns whether two worlds have the same cells and the same unread bytes.
 fn are_alike<W: Worlds>(one: &W, other: &W) -> bool
     requires one { W.is_well_formed one.now }
     requires other { W.is_well_formed other.now }
@@ -98,7 +98,7 @@ fn have_same_bytes<W: Worlds>(one: &W, other: &W) -> bool {
     }
 }
 
-// Copies a world. From then on there is memory.
+// Copies a world. From then on no request is refused.
 fn copy<W: Worlds + Drop>(rt: &HostRuntime, world: &W) -> Came
     requires { W.is_well_formed world.now }
 {
@@ -114,7 +114,7 @@ fn copy<W: Worlds + Drop>(rt: &HostRuntime, world: &W) -> Came
     }
 }
 
-// Whether the world that is restored from a snapshot is like this one.
+// Returns whether the world that is restored from a snapshot equals this one.
 fn keeps<W: Worlds + Drop>(world: &W, snapshot: &W::Snapshot) -> bool
     requires well_formed { W.is_well_formed world.now }
     requires kept { W.kept snapshot.now ≡ world.now }
@@ -125,7 +125,7 @@ fn keeps<W: Worlds + Drop>(world: &W, snapshot: &W::Snapshot) -> bool
     }
 }
 
-// Puts a world to rest, which may share with its last snapshot. From then on there is memory.
+// Takes a snapshot of a world, which may share bytes with the last snapshot. From then on no request is refused.
 fn rest<W: Worlds + Drop>(rt: &HostRuntime, world: &W, last: &W::Snapshot) -> Came
 where
     W::Snapshot: Drop,
@@ -143,7 +143,7 @@ where
     }
 }
 
-// Restores a world from its snapshot. From then on there is memory.
+// Restores a world from its snapshot. From then on no request is refused.
 fn restore<W: Worlds + Drop>(rt: &HostRuntime, world: &W, snapshot: &W::Snapshot) -> Came
     requires well_formed { W.is_well_formed world.now }
     requires kept { W.kept snapshot.now ≡ world.now }
@@ -160,7 +160,7 @@ fn restore<W: Worlds + Drop>(rt: &HostRuntime, world: &W, snapshot: &W::Snapshot
     }
 }
 
-// Another world becomes the one of a snapshot, in the room that it has. From then on there is memory.
+// Restores a snapshot in the memory of another world. From then on no request is refused.
 fn restore_in_place<W: Worlds + Drop>(
     rt: &HostRuntime,
     world: &W,
@@ -184,14 +184,14 @@ fn restore_in_place<W: Worlds + Drop>(
     }
 }
 
-/// What is made of a world.
+/// What a test makes from a world.
 #[derive(Clone, Copy)]
 pub(crate) enum Made {
     Copy,
     Snapshot,
     /// The world, from its snapshot.
     Restored,
-    /// The world, from its snapshot in the room of another one.
+    /// The world, from its snapshot, in the memory of another world.
     RestoredInPlace,
 }
 
@@ -233,7 +233,7 @@ where
     })
 }
 
-// Makes it of a world that the recording leads to that position.
+// Tests a call on the world at that position of the recording.
 fn make_of_recorded<W: Worlds + Drop>(
     rt: &HostRuntime,
     recording: &Recording,
@@ -248,7 +248,7 @@ where
     if has_applied { twice } else { None }
 }
 
-/// Makes it of a world at that position twice.
+/// Tests a call on a world at that position.
 pub(crate) fn make_of_world_twice<W: Worlds + Drop>(rt: &HostRuntime, made: Made) -> Option<Twice>
 where
     W::Snapshot: Drop,
