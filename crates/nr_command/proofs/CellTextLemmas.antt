@@ -15,7 +15,7 @@ use Rattle.nr_command.specs.declared.command.LineFault.TheVariants.{BadArgument}
 use Rattle.nr_command.specs.Command.{◌>>=◌, cell_of, number_of, words}
 use Rattle.nr_command.specs.Value.{cell_text, text_with}
 
--- digits lie in one part between spaces
+-- digits contain no space, so they are one part
 digits-split : (ds : List ℕ) → AllDigits 10 ds → slice_split (λ b. nat_eq b 32) ds ≡ ds ∷ []
 digits-split [] all = refl
 digits-split (d ∷ ds) all =

@@ -1,4 +1,4 @@
--- What the first words of a line tell, and numbers by their digits.
+-- The first words of a line determine its meaning, and the digits of a number its value.
 use Rattle.std.proofs.Common.{◌≡◌, ℕ, ◌+◌, ◌*◌, ◌^◌, ◌≤◌, Bool, false, cond, List, [], ◌∷◌, arith, length, take, refl, sym, ap, ◌∙◌, nat_lt, ◌&&◌, Ok, Err}
 use Rattle.std.proofs.Math.Bool.{and-false}
 use Rattle.std.proofs.lemmas.Bool.{le-ltb}
@@ -9,7 +9,7 @@ use Rattle.nr_command.specs.declared.command.LineFault.TheVariants.{BadArgument,
 use Rattle.nr_command.specs.declared.parsing.TheConstants.{MAX_LINE}
 use Rattle.nr_command.specs.Command.{meaning_of, break_of, cell_of, meaning_of_words, number_of, without_return, words}
 
--- no line asks for something by more than three words
+-- no request has more than three words
 meaning_of_words-take : (ws : List (List ℕ)) → meaning_of_words (take 4 ws) ≡ meaning_of_words ws
 meaning_of_words-take [] = refl
 meaning_of_words-take (a ∷ []) = refl
@@ -17,12 +17,12 @@ meaning_of_words-take (a ∷ b ∷ []) = refl
 meaning_of_words-take (a ∷ b ∷ c ∷ []) = refl
 meaning_of_words-take (a ∷ b ∷ c ∷ d ∷ ws) = refl
 
--- the first words of a line tell what it asks for
+-- the first words of a line determine its request
 pub meaning_of-first : (line : List ℕ) (first : List (List ℕ)) → nat_lt MAX_LINE (length line) ≡ false → first ≡ take 4 (words (without_return line)) → meaning_of_words first ≡ meaning_of line
 meaning_of-first line first short is =
     ap meaning_of_words is ∙ meaning_of_words-take (words (without_return line)) ∙ sym (ap (λ long. cond long (Err TooLong) (meaning_of_words (words (without_return line)))) short)
 
--- more digits make no smaller number
+-- a number with more digits is not smaller
 pub value_grows : (n : ℕ) (ds : List ℕ) → n ≤ digits_value_after 10 n ds
 value_grows n [] = omega arith
 value_grows n (d ∷ ds) = let next = value_grows (n * 10 + digit_value d) ds in omega (arith, next)
@@ -39,7 +39,7 @@ break_of-more [] more = refl
 break_of-more (a ∷ []) more = absurd (omega (arith, more))
 break_of-more (a ∷ b ∷ ws) more = refl
 
--- a cell takes two words at most
+-- a cell takes at most two words
 pub cell_of-more : (ws : List (List ℕ)) → 3 ≤ length ws → cell_of ws ≡ Err BadArgument
 cell_of-more [] more = absurd (omega (arith, more))
 cell_of-more (a ∷ []) more = absurd (omega (arith, more))

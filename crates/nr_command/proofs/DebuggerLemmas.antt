@@ -1,4 +1,4 @@
--- What a debugger finds lies in its recording.
+-- The hits that a debugger finds are in its recording.
 use Rattle.std.proofs.Common.{◌≡◌, ℕ, ◌+◌, ◌≤◌, List, length, sym, subst, arith}
 use Rattle.nr_rev.specs.Run.{Recording}
 use Rattle.nr_marks.specs.Hit.{hits_at}
@@ -11,7 +11,7 @@ use Rattle.nr_search.specs.declared.found.Found.{Found}
 use Rattle.nr_search.specs.declared.found.Found.TheVariants.{Hit, Nothing}
 use Rattle.nr_search.proofs.FinderLemmas.{backward-is, forward-is}
 
--- a position that is found is none behind the last
+-- true if a found position, if any, isn't after the last
 abbrev pub LiesWithin : ℕ → Found → Type 0
 LiesWithin last (Hit h) = h.position ≤ last
 LiesWithin last Nothing = Unit {0}

@@ -28,7 +28,7 @@ use Rattle.nr_command.specs.declared.reply.Reply.{Reply}
 use Rattle.nr_command.specs.declared.reply.Reply.TheVariants as replies
 use Rattle.nr_command.proofs.DebuggerLemmas.{found_within}
 
--- a checkpoint that is found is such as they all are
+-- a property of all checkpoints is one of the checkpoint that is found
 found_kept : (P : Checkpoint → Type 0) (test : Checkpoint → Bool) (xs : List Checkpoint) (c : Checkpoint) → All P xs → find test xs ≡ Some c → P c
 found_kept P test [] c all e = cc
 found_kept P test (x ∷ xs) c all e =
@@ -101,7 +101,7 @@ module _ (r : Recording) (d : Debugger) (w : IsWithin (length r.steps) d) where
       (λ other. restarted-within (length r.steps) d w number (find (λ c. c.number == number) d.checkpoints.present) refl)
   run-within (commands.DeleteCheckpoint number) = unkept-within (length r.steps) d w number (checkpoints.checkpoint_deletion number d.checkpoints)
 
--- after a command that was run, or that was refused memory
+-- after a command that was run, or that ran out of memory
 pub exec-within : {E : Type 0} (r : Recording) (command : Command) (old new : Debugger) (result : Result Reply E) → IsWithin (length r.steps) old
     → IfOk result (λ reply. (reply, new) ≡ run r command old) → OnErr result (new ≡ old) → IsWithin (length r.steps) new
 exec-within r command old new (Ok reply) w ran same = subst (IsWithin (length r.steps)) (sym (ap (λ (x : Ran). x.1) ran)) (run-within r old w command)

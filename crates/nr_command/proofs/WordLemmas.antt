@@ -1,4 +1,4 @@
--- Commands are read from their words, and nothing else is.
+-- Commands are read from their words, and from no other numbers.
 use Rattle.std.proofs.Common.{◌≡◌, ℕ, zero, suc, ◌+◌, ◌*◌, ◌/◌, ◌%◌, ◌^◌, ◌<◌, ◌≤◌, Bool, true, false, cond, Option, Some, None, nat_eq, nat_lt, refl, sym, ap, subst, ◌∙◌, arith}
 use Rattle.std.specs.Prelude.{IfSome}
 use Rattle.std.specs.Option.{option_map, option_or}
@@ -21,7 +21,7 @@ use Rattle.nr_command.specs.Word.{◌>>=◌, argument_of, break_number, break_nu
 use Rattle.nr_command.specs.Auxiliary.Word.{HasTypedNumbers, HasTypedStep}
 use Rattle.nr_command.proofs.CountLemmas.{from_one_is}
 
--- a word's lowest byte, its next one, and the rest
+-- the lowest byte of a word, its next byte, and the rest
 opcode_again : (o t a : ℕ) → o < 256 → (o + 256 * t + 65536 * a) % 256 ≡ o
 opcode_again o t a h = omega (arith, h)
 
@@ -59,7 +59,7 @@ kind_number_small : (kind : Kind) → kind_number kind < 256
 kind_number_small Kind.Spawn = omega arith
 kind_number_small _ = omega arith
 
--- a number that is no byte is no kind's
+-- a number that isn't a byte isn't that of a kind
 pub no_kind : (n : ℕ) → 256 ≤ n → kind_numbered n ≡ None
 no_kind n big = read_back (kind_numbered n) refl
   where
@@ -108,7 +108,7 @@ watch_again cell h =
     ∙ ap (λ o. o >>= cell_at n) (small_again i (index_small cell h))
     ∙ cell_at_again cell
 
--- a command's opcode and argument make it again
+-- a command can be made from its opcode and its argument
 made_again : (command : Command) → HasTypedNumbers command → command_with (opcode_of command) (argument_of command) ≡ Some command
 made_again (Step count) h = ap (option_map Step) (count_again count h)
 made_again (ReverseStep count) h = ap (option_map ReverseStep) (count_again count h)
@@ -134,7 +134,7 @@ read_again tag command fits typed =
     ∙ ap (λ k. option_map (λ c. (tag, c)) (command_with o k)) (argument_again o tag a low fits)
     ∙ ap (option_map (λ c. (tag, c))) (made_again command typed)
 
--- what a command was read from
+-- true if a command was read from this opcode and argument
 abbrev Reads : ℕ → ℕ → Command → Type 0
 Reads o a command = (o ≡ opcode_of command) × (a ≡ argument_of command) × HasTypedNumbers command
 
@@ -204,7 +204,7 @@ either_read : {A : Type 0} (x y : Option A) (c : A) (P : Type 0) → (x ≡ Some
 either_read None y c P first second e = second e
 either_read (Some x) y c P first second e = first e
 
--- a cell that was found by a number and an index
+-- a cell that is read from a number and an index
 numbered_read : (n : ℕ) (index : Option ℕ) (cell : Cell) → IfSome index (λ i. i < 2 ^ 32) → cell_numbered n index ≡ Some cell
     → (n + 256 * index_or_0 index ≡ argument_of (Watch cell)) × HasTypedNumbers (Watch cell)
 numbered_read n index cell fits e =

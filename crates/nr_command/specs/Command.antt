@@ -1,4 +1,4 @@
--- What a line asks for.
+-- The meanings of lines.
 use Rattle.std.specs.Prelude.{ℕ, ◌^◌, ◌==◌, ◌||◌, ◌&&◌, nat_lt, List, [], ◌∷◌, length, filter, Some, None, ok_or, option_map, Result, Ok, Err, codes, if◌then◌else◌}
 use Rattle.std.specs.List.{slice_split, list_all}
 use Rattle.std.specs.Str.{bytes_eq}
@@ -26,7 +26,7 @@ use Rattle.nr_command.specs.declared.command.LineFault.{LineFault}
 use Rattle.nr_command.specs.declared.command.LineFault.TheVariants.{UnknownCommand, BadArgument, TooLong}
 
 infixl 10 ◌>>=◌
--- what follows from a value, or the fault where there is none
+-- goes on with a value, or stops at the fault
 abbrev pub ◌>>=◌ : {A B : Type 0} → Result A LineFault → (A → Result B LineFault)
     → Result B LineFault
 (Ok x) >>= f = f x
@@ -36,50 +36,50 @@ abbrev pub ◌>>=◌ : {A B : Type 0} → Result A LineFault → (A → Result B
 abbrev pub without_return : List ℕ → List ℕ
 without_return line = strip_carriage_return line
 
--- the words of a text: what lies between spaces, and isn't empty
+-- the words of a text: the parts between spaces that aren't empty
 abbrev pub words : List ℕ → List (List ℕ)
 words bs = filter (λ word. nat_lt 0 (length word)) (slice_split (λ b. b == 32) bs)
 
--- a number below 2 ^ 32 in decimal digits, with leading zeros or not
+-- a number below 2 ^ 32 in decimal digits, with or without leading zeros
 abbrev pub number_of : List ℕ → Result ℕ LineFault
 number_of ds =
     if nat_lt 0 (length ds) && list_all is_ascii_digit ds && nat_lt (digits_value 10 ds) (2 ^ 32)
     then Ok (digits_value 10 ds)
     else Err BadArgument
 
--- a number that has to be at least 1
+-- a number, which must be at least 1
 abbrev pub at_least_one : ℕ → Result NonZeroU32 LineFault
 at_least_one n = ok_or (from_one n) BadArgument
 
--- how often: once where nothing is said, and never 0 times
+-- a count, which is 1 if no word follows, and never 0
 abbrev pub count_of : List (List ℕ) → Result NonZeroU32 LineFault
 count_of [] = at_least_one 1
 count_of (word ∷ []) = number_of word >>= at_least_one
 count_of _ = Err BadArgument
 
--- one number and nothing else
+-- a single number
 abbrev pub only_number : List (List ℕ) → Result ℕ LineFault
 only_number (word ∷ []) = number_of word
 only_number _ = Err BadArgument
 
--- the way that commands go
+-- the direction of commands
 abbrev pub direction_of : List ℕ → Result Direction LineFault
 direction_of way =
     if bytes_eq way (codes "forward") then Ok Forward
     else if bytes_eq way (codes "reverse") then Ok Backward
     else Err BadArgument
 
--- the way is all that can be set
+-- the value of a setting: the direction is the only one
 abbrev pub way_of : List ℕ → List ℕ → Result Direction LineFault
 way_of what way =
     if bytes_eq what (codes "exec-direction") then direction_of way else Err BadArgument
 
--- the direction of `set exec-direction WAY`, from the words behind `set`
+-- the direction in `set exec-direction WAY`, from the words after `set`
 abbrev pub setting_of : List (List ℕ) → Result Direction LineFault
 setting_of (what ∷ way ∷ []) = way_of what way
 setting_of _ = Err BadArgument
 
--- where a break stops: before the step of a number, which is behind @, or before each step of a
+-- the steps before which a break hits: the step with a number, given after @, or each step of a
 -- kind
 abbrev pub break_at : List ℕ → Result Break LineFault
 break_at [] = Err BadArgument
@@ -87,7 +87,7 @@ break_at (b ∷ bs) =
     if b == 64 then (number_of bs >>= λ n. at_least_one n >>= λ step. Ok (breaks.Step step))
     else ok_or (option_map breaks.Kind (kind_named (b ∷ bs))) BadArgument
 
--- where a `break` or a `tbreak` stops: one word says it
+-- the steps before which a `break` or a `tbreak` hits, in one word
 abbrev pub break_of : List (List ℕ) → Result Break LineFault
 break_of (word ∷ []) = break_at word
 break_of _ = Err BadArgument
@@ -98,7 +98,7 @@ cell_of (name ∷ []) = ok_or (cell_named name None) BadArgument
 cell_of (name ∷ word ∷ []) = number_of word >>= λ n. ok_or (cell_named name (Some n)) BadArgument
 cell_of _ = Err BadArgument
 
--- what is deleted: a mark, or behind the word `checkpoint` a checkpoint
+-- the deletion of a mark, or, after the word `checkpoint`, of a checkpoint
 abbrev pub deletion_of : List (List ℕ) → Result Command LineFault
 deletion_of (word ∷ []) = number_of word >>= λ n. Ok (commands.Delete n)
 deletion_of (what ∷ word ∷ []) =
@@ -106,7 +106,7 @@ deletion_of (what ∷ word ∷ []) =
     then (number_of word >>= λ n. Ok (commands.DeleteCheckpoint n)) else Err BadArgument
 deletion_of _ = Err BadArgument
 
--- what of a socket is dumped
+-- the query for a socket's buffer or queue
 abbrev pub buffer_or_queue : List ℕ → ℕ → Result Query LineFault
 buffer_or_queue kind s =
     if bytes_eq kind (codes "in") then Ok (queries.DumpBytes Read s)
@@ -115,12 +115,12 @@ buffer_or_queue kind s =
     else if bytes_eq kind (codes "wq") then Ok (queries.DumpQueue Write s)
     else Err BadArgument
 
--- a buffer or a queue: one word and a socket's number
+-- the query of a `dump`: one word and a socket's number
 abbrev pub dump_of : List (List ℕ) → Result Query LineFault
 dump_of (kind ∷ word ∷ []) = number_of word >>= λ s. buffer_or_queue kind s
 dump_of _ = Err BadArgument
 
--- what is asked of the session
+-- the query for a topic of `info`
 abbrev pub topic_of : List ℕ → Result Query LineFault
 topic_of topic =
     if bytes_eq topic (codes "position") then Ok queries.Position
@@ -128,17 +128,17 @@ topic_of topic =
     else if bytes_eq topic (codes "checkpoints") then Ok queries.Checkpoints
     else Err BadArgument
 
--- what an `info` asks for: one word says it
+-- the query of an `info`, in one word
 abbrev pub info_of : List (List ℕ) → Result Query LineFault
 info_of (topic ∷ []) = topic_of topic
 info_of _ = Err BadArgument
 
--- what takes no further words
+-- a request that takes no further words
 abbrev pub alone : Line → List (List ℕ) → Result Line LineFault
 alone line [] = Ok line
 alone line _ = Err BadArgument
 
--- what the words of a line ask for
+-- the request that the words of a line make
 abbrev pub meaning_of_words : List (List ℕ) → Result Line LineFault
 meaning_of_words [] = Ok Empty
 meaning_of_words (verb ∷ rest) =
@@ -169,7 +169,7 @@ meaning_of_words (verb ∷ rest) =
     else if bytes_eq verb (codes "quit") || bytes_eq verb (codes "q") then alone Quit rest
     else Err UnknownCommand
 
--- what a line asks for, without its line feed
+-- the request that a line makes; the line has no line feed
 abbrev pub meaning_of : List ℕ → Result Line LineFault
 meaning_of bytes = if nat_lt MAX_LINE (length bytes) then Err TooLong
     else meaning_of_words (words (without_return bytes))

@@ -1,4 +1,4 @@
--- The debugger as a machine: what each command is answered, and what it leaves.
+-- The debugger as a state machine: the reply to each command, and the state after it.
 use Rattle.std.specs.Prelude.{◌≡◌, true, ℕ, ◌+◌, ◌-◌, ◌==◌, nat_lt, List, [], ◌∷◌, length, Option, Some, None, Result, Ok, Err, if◌then◌else◌}
 use Rattle.nr_rev.specs.Cell.{cell, bytes_of, queue_of}
 use Rattle.nr_rev.specs.Run.{Recording, world_at}
@@ -26,11 +26,11 @@ use Rattle.nr_command.specs.declared.reply.Fault.TheVariants as faults
 use Rattle.nr_command.specs.declared.reply.Reply.{Reply}
 use Rattle.nr_command.specs.declared.reply.Reply.TheVariants as replies
 
--- before the first command
+-- the state before the first command
 abbrev pub opening : Debugger
 opening = record { position = 0; direction = Forward; marks = empty; checkpoints = empty }
 
--- what a command is answered, and the debugger after it
+-- the reply to a command, and the debugger after it
 abbrev pub Ran : Type 0
 Ran = Reply × Debugger
 
@@ -38,20 +38,20 @@ Ran = Reply × Debugger
 abbrev pub moved_to : ℕ → Debugger → Debugger
 moved_to p d = record d { position = p }
 
--- it goes to where the recording ends that way, and says so
+-- goes to the end of the recording in that direction, and replies so
 abbrev pub to_end : Direction → ℕ → Debugger → Ran
 to_end Forward last d = (replies.AtEnd last, moved_to last d)
 to_end Backward last d = (replies.AtStart, moved_to 0 d)
 
--- it goes so many steps that way, or to the end there
+-- goes this many steps in that direction, but not beyond the end there
 abbrev pub step : Direction → ℕ → ℕ → Debugger → Ran
 step Forward n last d = if nat_lt last (d.position + n) then to_end Forward last d
     else (replies.At (d.position + n), moved_to (d.position + n) d)
 step Backward n last d = if nat_lt d.position n then to_end Backward last d
     else (replies.At (d.position - n), moved_to (d.position - n) d)
 
--- It goes to what was found, and says which marks hit there; those of them that are temporary are
--- gone then. Where nothing was found it goes to the end that way, and the marks stay.
+-- Goes to the hit that was found, replies with the marks that hit there, and deletes the temporary
+-- ones among them. If there is no hit, it goes to the end in that direction, and the marks stay.
 abbrev pub stop_at : Direction → Recording → Debugger → Found → Ran
 stop_at way r d (Hit h) = (
   replies.AtHit h.position h.marks,
@@ -59,63 +59,63 @@ stop_at way r d (Hit h) = (
 )
 stop_at way r d Nothing = to_end way (length r.steps) d
 
--- it goes to the nearest hit that way
+-- goes to the nearest hit in that direction
 abbrev pub continue : Direction → Recording → Debugger → Ran
 continue way r d = stop_at way r d (nearest_hit way r d.marks.present d.position)
 
--- it makes a mark
+-- adds a mark
 abbrev pub mark_made : Mark → Debugger → Result ℕ MarkFault → Ran
 mark_made mark d (Ok number) =
     (replies.MarkMade number, record d { marks = with_item mark d.marks })
 mark_made mark d (Err fault) = (replies.Fault (faults.Mark fault), d)
 
--- it makes a mark with the next number, or says why there is none
+-- makes a mark with the next number, or replies why it can't
 abbrev pub make_mark : Mark → Debugger → Ran
 make_mark mark d = mark_made mark d (next_number d.marks)
 
--- it deletes a mark
+-- removes a mark
 abbrev pub mark_deleted : ℕ → Debugger → Result (Unit {0}) MarkFault → Ran
 mark_deleted number d (Ok _) =
     (replies.MarkDeleted number, record d { marks = without_item number d.marks })
 mark_deleted number d (Err fault) = (replies.Fault (faults.Mark fault), d)
 
--- it deletes the mark with this number, or says why it can't
+-- deletes the mark with this number, or replies why it can't
 abbrev pub delete_mark : ℕ → Debugger → Ran
 delete_mark number d = mark_deleted number d (mark_deletion number d.marks)
 
--- it keeps its position
+-- adds a checkpoint for the position
 abbrev pub position_kept : Debugger → Result Checkpoint CheckpointFault → Ran
 position_kept d (Ok made) =
     (replies.CheckpointMade made, record d { checkpoints = with_item d.position d.checkpoints })
 position_kept d (Err fault) = (replies.Fault (faults.Checkpoint fault), d)
 
--- it keeps its position as the next checkpoint, or says why it can't
+-- keeps the position as the next checkpoint, or replies why it can't
 abbrev pub keep_position : Debugger → Ran
 keep_position d = position_kept d (next_checkpoint d.position d.checkpoints)
 
--- it goes to a position that was kept
+-- goes to a kept position
 abbrev pub restarted : Debugger → Option ℕ → Ran
 restarted d (Some p) = (replies.At p, moved_to p d)
 restarted d None = (replies.Fault (faults.Checkpoint NoSuchCheckpoint), d)
 
--- checkpoint 0 is the start
+-- goes to the checkpoint with this number; checkpoint 0 is the start
 abbrev pub restart : ℕ → Debugger → Ran
 restart number d =
     if number == 0 then (replies.At 0, moved_to 0 d) else restarted d (item_of number d.checkpoints)
 
--- it deletes a checkpoint
+-- removes a checkpoint
 abbrev pub checkpoint_deleted : ℕ → Debugger → Result (Unit {0}) CheckpointFault → Ran
 checkpoint_deleted number d (Ok _) =
     (replies.CheckpointDeleted number, record d { checkpoints = without_item number d.checkpoints })
 checkpoint_deleted number d (Err fault) = (replies.Fault (faults.Checkpoint fault), d)
 
--- it deletes the checkpoint with this number, or says why it can't
+-- deletes the checkpoint with this number, or replies why it can't
 abbrev pub delete_checkpoint : ℕ → Debugger → Ran
 delete_checkpoint number d =
     checkpoint_deleted number d (checkpoints.checkpoint_deletion number d.checkpoints)
 
--- What a command does. `stepi` and `continue` go the way that is set, those whose names begin with
--- `reverse` backwards.
+-- The effect of a command. `stepi` and `continue` go in the current direction, and commands whose
+-- names begin with `reverse` go backwards.
 abbrev pub run : Recording → Command → Debugger → Ran
 run r (commands.Step count) d = step d.direction count.value (length r.steps) d
 run r (commands.ReverseStep count) d = step Backward count.value (length r.steps) d
@@ -130,28 +130,28 @@ run r commands.Checkpoint d = keep_position d
 run r (commands.Restart number) d = restart number d
 run r (commands.DeleteCheckpoint number) d = delete_checkpoint number d
 
--- a search this way goes over worlds: there is a watch, and a copy of the world is needed
+-- true if a search in this direction needs worlds: there is a watch, and the search leads a copy
 abbrev pub NeedsWorlds : Direction → Recording → Debugger → Type 0
 NeedsWorlds way r d = (any_watch d.marks.present ≡ true) × NeedsCopy way r d.position
 
--- The command searches the recording, by copies of its worlds: it continues, there is a watch, and
--- a position other than the start lies that way.
+-- True if the command searches the recording with copies of its worlds: it continues, there is a
+-- watch, and its way has a position other than the start.
 abbrev pub Searches : Recording → Command → Debugger → Type 0
 Searches r commands.Continue d = NeedsWorlds d.direction r d
 Searches r commands.ReverseContinue d = NeedsWorlds Backward r d
 Searches r _ d = ⊥
 
--- the debugger after a word: one that is no command's changes nothing
+-- the debugger after a word: a word that isn't a command's changes nothing
 abbrev pub after_tagged : Recording → Debugger → Option (ℕ × Command) → Debugger
 after_tagged r d None = d
 after_tagged r d (Some tagged) = (run r tagged.1 d).1
 
--- the debugger after a history, which is a list of words
+-- the debugger after a history, a list of words
 abbrev pub after_words : Recording → Debugger → List ℕ → Debugger
 after_words r d [] = d
 after_words r d (word ∷ words) = after_words r (after_tagged r d (command_of word)) words
 
--- what a look shows: the world of the position, or what the debugger keeps
+-- the reply to a query about the world at the position, or about the debugger itself
 abbrev pub query_reply : Recording → Debugger → Query → Reply
 query_reply r d (queries.Print c) = replies.Printed c (cell (world_at r d.position) c)
 query_reply r d (queries.DumpBytes side s) =

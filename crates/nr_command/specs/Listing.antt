@@ -9,12 +9,12 @@ use Rattle.nr_marks.specs.declared.mark.Mark.{Mark}
 use Rattle.nr_marks.specs.declared.mark.Mark.TheVariants as marks
 use Rattle.nr_marks.specs.Marks.{NumberedMark}
 
--- where a break hits: the kind of the steps, or the number of the step
+-- the steps before which a break hits: their kind, or the number of one
 abbrev pub break_text : Break → List ℕ
 break_text (breaks.Kind kind) = kind_name kind
 break_text (breaks.Step step) = codes "@" ++ decimal step.value
 
--- a mark, as the command that makes it
+-- the command that makes a mark
 abbrev pub mark_text : Mark → List ℕ
 mark_text (marks.Break wanted) = codes "break " ++ break_text wanted
 mark_text (marks.TemporaryBreak wanted) = codes "tbreak " ++ break_text wanted
@@ -28,7 +28,7 @@ mark_line m = decimal m.number ++ codes " " ++ mark_text m.item ++ codes "\n"
 abbrev pub checkpoint_line : Checkpoint → List ℕ
 checkpoint_line c = decimal c.number ++ codes " at " ++ decimal c.item ++ codes "\n"
 
--- the list of marks: how many, and a line for each
+-- the list of marks: their number, and a line for each
 abbrev pub marks_text : List NumberedMark → List ℕ
 marks_text marks =
     codes "marks " ++ decimal (length marks) ++ codes "\n" ++ flat_map mark_line marks

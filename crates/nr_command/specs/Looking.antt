@@ -1,9 +1,9 @@
--- Which looks are at the world.
+-- Queries about the world.
 use Rattle.std.specs.Prelude.{Bool, true, false}
 use Rattle.nr_command.specs.declared.command.Query.{Query}
 use Rattle.nr_command.specs.declared.command.Query.TheVariants as queries
 
--- the look shows something of the world; the others show what the debugger keeps
+-- true if the query is about the world; the others are about the debugger itself
 abbrev pub is_at_world : Query → Bool
 is_at_world (queries.Print c) = true
 is_at_world (queries.DumpBytes side s) = true

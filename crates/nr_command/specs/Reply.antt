@@ -1,4 +1,4 @@
--- The text that a reply is.
+-- The text of a reply.
 use Rattle.std.specs.Prelude.{ℕ, List, [], ◌∷◌, ◌++◌, flat_map, Option, Some, None, codes, decimal}
 use Rattle.nr_rev.specs.declared.sides.Side.{Side}
 use Rattle.nr_rev.specs.declared.sides.Side.TheVariants.{Read, Write}
@@ -15,7 +15,7 @@ use Rattle.nr_command.specs.declared.reply.Fault.TheVariants as faults
 use Rattle.nr_command.specs.declared.reply.Reply.{Reply}
 use Rattle.nr_command.specs.declared.reply.Reply.TheVariants as replies
 
--- why nothing was done: a number, and what it means
+-- the reason why a line did nothing: a number and its meaning
 abbrev pub reply_fault_text : Fault → List ℕ
 reply_fault_text (faults.Line UnknownCommand) = codes "fault 201 unknown command\n"
 reply_fault_text (faults.Line BadArgument) = codes "fault 202 bad argument\n"
@@ -29,7 +29,7 @@ reply_fault_text (faults.Mark MarksFull) = codes "fault 402 marks full\n"
 reply_fault_text (faults.Checkpoint NoSuchCheckpoint) = codes "fault 403 no such checkpoint\n"
 reply_fault_text (faults.Checkpoint CheckpointsFull) = codes "fault 404 checkpoints full\n"
 
--- which way
+-- the name of a direction
 abbrev pub direction_text : Direction → List ℕ
 direction_text Forward = codes "forward"
 direction_text Backward = codes "reverse"
@@ -40,23 +40,23 @@ bytes_text None = codes "absent"
 bytes_text (Some []) = codes "-"
 bytes_text (Some (b ∷ bs)) = flat_map hex_pair (b ∷ bs)
 
--- the goroutines of a queue, if there is one, each behind a space
+-- the goroutines of a queue, if there is one, each after a space
 abbrev pub queue_text : Option (List ℕ) → List ℕ
 queue_text None = codes " absent"
 queue_text (Some []) = codes " -"
 queue_text (Some (g ∷ gs)) = flat_map spaced_number (g ∷ gs)
 
--- what a buffer is called
+-- the name of a buffer
 abbrev pub buffer_name : Side → List ℕ
 buffer_name Read = codes "in "
 buffer_name Write = codes "out "
 
--- what a queue is called
+-- the name of a queue
 abbrev pub queue_name : Side → List ℕ
 queue_name Read = codes "rq "
 queue_name Write = codes "wq "
 
--- the reply, with its line feeds
+-- the text of a reply, with its line feeds
 abbrev pub text_of : Reply → List ℕ
 text_of (replies.At p) = codes "at " ++ decimal p ++ codes "\n"
 text_of (replies.AtEnd p) = codes "at " ++ decimal p ++ codes " end\n"

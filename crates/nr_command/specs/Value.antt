@@ -1,4 +1,4 @@
--- How cells, and the values that they have, are written.
+-- The texts of cells and of their values.
 use Rattle.std.specs.Prelude.{ℕ, List, ◌++◌, Option, Some, None, codes, decimal}
 use Rattle.std.specs.Fmt.{signed_decimal}
 use Rattle.nr_rev.specs.declared.cell.Cell.{Cell}
@@ -12,12 +12,12 @@ use Rattle.nr_rev.specs.declared.status.Status.TheVariants.{Idle, Acquiring, Que
 use Rattle.nr_rev.specs.declared.sides.Side.{Side}
 use Rattle.nr_rev.specs.declared.sides.Side.TheVariants.{Read, Write}
 
--- a name, and a number behind it if there is one
+-- a name, and a number after it if there is one
 abbrev pub text_with : List ℕ → Option ℕ → List ℕ
 text_with name None = name
 text_with name (Some n) = name ++ codes " " ++ decimal n
 
--- how a cell is written
+-- the text of a cell
 abbrev pub cell_text : Cell → List ℕ
 cell_text cell = text_with (cell_name cell) (cell_index cell)
 
@@ -28,12 +28,12 @@ wait_word_text Ready = codes "ready"
 wait_word_text Wait = codes "wait"
 wait_word_text (Held g) = codes "g" ++ decimal g
 
--- which side, behind what is on it
+-- a side, after the text that it qualifies
 abbrev pub side_text : Side → List ℕ
 side_text Read = codes " r"
 side_text Write = codes " w"
 
--- a status, with the socket or descriptor that it is about
+-- a status, with the socket or descriptor that it concerns
 abbrev pub status_text : Status → List ℕ
 status_text Idle = codes "idle"
 status_text (Acquiring s side) = codes "acquiring " ++ decimal s ++ side_text side

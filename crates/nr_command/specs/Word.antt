@@ -14,7 +14,7 @@ use Rattle.nr_command.specs.declared.command.Command.{Command}
 use Rattle.nr_command.specs.declared.command.Command.TheVariants.{Step, ReverseStep, Continue, ReverseContinue, SetDirection, Watch, Delete, Checkpoint, Restart, DeleteCheckpoint, TemporaryBreak}
 use Rattle.nr_command.specs.declared.command.Command.TheVariants as commands
 
--- which command it is
+-- the opcode of a command
 abbrev pub opcode_of : Command → ℕ
 opcode_of (Step count) = 1
 opcode_of (ReverseStep count) = 2
@@ -29,17 +29,17 @@ opcode_of (Restart number) = 10
 opcode_of (DeleteCheckpoint number) = 11
 opcode_of (TemporaryBreak at) = 12
 
--- an index, and 0 where there is none
+-- an index, or 0 if there is none
 abbrev pub index_or_0 : Option ℕ → ℕ
 index_or_0 None = 0
 index_or_0 (Some index) = index
 
--- a break as a number: its low byte says of which sort it is, the rest which one
+-- a break as a number: its low byte gives the sort, the rest the kind or the step
 abbrev pub break_number : Break → ℕ
 break_number (breaks.Kind kind) = 256 * kind_number kind
 break_number (breaks.Step step) = 1 + 256 * step.value
 
--- what is asked of it
+-- the argument of a command
 abbrev pub argument_of : Command → ℕ
 argument_of (Step count) = count.value
 argument_of (ReverseStep count) = count.value
@@ -58,7 +58,7 @@ abbrev pub word_of : ℕ → Command → ℕ
 word_of tag command = opcode_of command + 256 * tag + 65536 * argument_of command
 
 infixl 10 ◌>>=◌
--- what follows from a value, if there is one
+-- goes on with a value, if there is one
 abbrev pub ◌>>=◌ : {A B : Type 0} → Option A → (A → Option B) → Option B
 None >>= f = None
 (Some x) >>= f = f x
@@ -67,11 +67,11 @@ None >>= f = None
 abbrev pub small : ℕ → Option ℕ
 small n = if nat_lt n (2 ^ 32) then Some n else None
 
--- one that is not 0
+-- a number of 32 bits that is not 0
 abbrev pub from_one_below : ℕ → Option NonZeroU32
 from_one_below n = small n >>= from_one
 
--- a command of which nothing is asked
+-- a command that has no argument
 abbrev pub only_without : ℕ → Command → Option Command
 only_without argument command = if argument == 0 then Some command else None
 
@@ -80,24 +80,24 @@ abbrev pub direction_numbered : ℕ → Option Direction
 direction_numbered argument =
     if argument == 0 then Some Forward else if argument == 1 then Some Backward else None
 
--- the break of a number
+-- the break that a number stands for
 abbrev pub break_numbered : ℕ → Option Break
 break_numbered argument =
     if argument % 256 == 0 then option_map breaks.Kind (kind_numbered (argument / 256))
     else if argument % 256 == 1 then option_map breaks.Step (from_one_below (argument / 256))
     else None
 
--- the cell of a number and an index, which is 0 where there is one such cell
+-- the cell with a number and an index, which is 0 if there is only one such cell
 abbrev pub cell_at : ℕ → ℕ → Option Cell
 cell_at number index =
     if index == 0 then option_or (cell_numbered number None) (cell_numbered number (Some index))
     else cell_numbered number (Some index)
 
--- the cell that a word's argument names: its low byte says of which sort, the rest which one
+-- the cell that a word's argument names: its low byte gives the sort, the rest the index
 abbrev pub watch_at : ℕ → Option Cell
 watch_at argument = small (argument / 256) >>= cell_at (argument % 256)
 
--- the command of an opcode, with what is asked of it
+-- the command with an opcode and an argument
 abbrev pub command_with : ℕ → ℕ → Option Command
 command_with opcode argument =
     if opcode == 1 then option_map Step (from_one_below argument)
@@ -114,7 +114,7 @@ command_with opcode argument =
     else if opcode == 12 then option_map TemporaryBreak (break_numbered argument)
     else None
 
--- the tag and the command of a word, if it is a command's
+-- the tag and the command of a word, if it is the word of a command
 abbrev pub command_of : ℕ → Option (ℕ × Command)
 command_of word =
     option_map (λ command. (word / 256 % 256, command)) (command_with (word % 256) (word / 65536))

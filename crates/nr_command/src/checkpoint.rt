@@ -1,4 +1,4 @@
-//! Positions that are kept, by number.
+//! Checkpoints: numbered positions.
 
 ghost use Rattle.std.specs.Prelude.{◌≡◌, ◌≤◌, length, OnErr};
 ghost use Rattle.nr_marks.specs.Numbered.{empty, item_of, with_item, without_item};
@@ -11,15 +11,15 @@ use std::marker::Model;
 /// The most checkpoints at once.
 pub const MOST_CHECKPOINTS: usize = MOST_NUMBERED;
 
-/// A position that is kept, with its number.
+/// A kept position and its number.
 pub type Checkpoint = Numbered<usize>;
 
-/// Why the checkpoints stay as they are.
+/// The reason why a call has left the checkpoints as they were.
 #[derive(Clone, Copy, Debug, PartialEq, Eq)]
 pub enum CheckpointFault {
-    /// There is no checkpoint of this number.
+    /// No checkpoint has this number.
     NoSuchCheckpoint,
-    /// No checkpoint can be made: there are 64, or the numbers up to 4,294,967,295 are used up.
+    /// No checkpoint can be made: there are 64 already, or the numbers up to 4,294,967,295 are used up.
     CheckpointsFull,
 }
 
@@ -39,7 +39,7 @@ impl Model for Checkpoints {
 }
 
 impl Checkpoints {
-    /// No checkpoints.
+    /// Makes an empty list of checkpoints.
     pub fn new() -> Checkpoints
         ensures { result ≡ empty }
     {
@@ -48,8 +48,8 @@ impl Checkpoints {
         }
     }
 
-    /// Keeps a position under the next number. Where there are 64 checkpoints or the numbers are used up, it is refused and
-    /// nothing changes.
+    /// Keeps a position under the next number. Fails, without any change, if there are 64 checkpoints already or the
+    /// numbers are used up.
     pub fn make(&mut self, position: usize) -> Result<Checkpoint, CheckpointFault>
         ensures answer { result ≡ next_checkpoint position self.old }
         ensures kept { self.new ≡ with_item position self.old }
@@ -61,15 +61,15 @@ impl Checkpoints {
         }
     }
 
-    /// The position of the checkpoint of this number, if there is one.
+    /// Returns the position of the checkpoint with this number, if there is one.
     pub fn position_of(&self, number: u32) -> Option<usize>
         ensures { result ≡ item_of number self.now }
     {
         self.list.find(number)
     }
 
-    /// Deletes the checkpoint of this number. The others keep theirs. Where there is none of this number, it is refused
-    /// and nothing changes.
+    /// Deletes the checkpoint with this number. The others keep their numbers. Fails, without any change, if no
+    /// checkpoint has this number.
     pub fn delete(&mut self, number: u32) -> Result<(), CheckpointFault>
         ensures answer { result ≡ checkpoint_deletion number self.old }
         ensures gone { self.new ≡ without_item number self.old }
@@ -82,7 +82,7 @@ impl Checkpoints {
         }
     }
 
-    /// The checkpoints, rising by number.
+    /// Returns the checkpoints, in rising order of their numbers.
     pub fn as_slice(&self) -> &[Checkpoint]
         ensures checkpoints { result.now ≡ self.now.present }
         ensures few { length result.now ≤ MOST_CHECKPOINTS }

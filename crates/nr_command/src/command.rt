@@ -1,51 +1,51 @@
-//! What a line can ask for.
+//! The requests that a line can make.
 
 use nr_marks::Break;
 use nr_rev::{Cell, Side};
 use nr_search::Direction;
 use std::num::NonZeroU32;
 
-/// What moves the debugger or changes what it keeps. Each is named after GDB's command of that name; an instruction
-/// there is a recorded step here.
+/// A command that moves the debugger or changes its state. Each is named after GDB's command of that name; what is an
+/// instruction there is a recorded step here.
 #[derive(Clone, Copy, Debug, PartialEq, Eq)]
 pub enum Command {
-    /// Goes so many steps the way that is set, and no further than the end there.
+    /// Goes this many steps in the current direction, but not beyond the end of the recording there.
     Step(NonZeroU32),
-    /// Goes so many steps backwards, or to the start.
+    /// Goes this many steps backwards, but not beyond the start.
     ReverseStep(NonZeroU32),
-    /// Goes the way that is set to the nearest position where a mark hits, or to the end there.
+    /// Goes in the current direction to the nearest position at which a mark hits, or else to the end there.
     Continue,
-    /// Goes backwards to the nearest position where a mark hits, or to the start.
+    /// Goes backwards to the nearest position at which a mark hits, or else to the start.
     ReverseContinue,
-    /// Sets which way `Step` and `Continue` go.
+    /// Sets the direction of `Step` and `Continue`.
     SetDirection(Direction),
     /// Marks the positions before some steps.
     Break(Break),
-    /// Marks the positions where a cell has changed.
+    /// Marks the positions at which a cell has changed.
     Watch(Cell),
-    /// Deletes the mark of this number.
+    /// Deletes the mark with this number.
     Delete(u32),
-    /// Keeps the position, under a number.
+    /// Keeps the position under the next number.
     Checkpoint,
-    /// Goes to the position of the checkpoint of this number, or to the start for 0.
+    /// Goes to the position of the checkpoint with this number, or to the start for 0.
     Restart(u32),
-    /// Deletes the checkpoint of this number.
+    /// Deletes the checkpoint with this number.
     DeleteCheckpoint(u32),
-    /// Marks the positions before some steps, as `Break` does. The mark is gone after the first stop of `Continue` or
-    /// `ReverseContinue` where it hits.
+    /// Marks the positions before some steps, as `Break` does. The mark is deleted at the first stop of `Continue` or
+    /// `ReverseContinue` at which it hits.
     TemporaryBreak(Break),
 }
 
-/// What is looked at. A look changes nothing.
+/// A query. It changes nothing.
 #[derive(Clone, Copy, Debug, PartialEq, Eq)]
 pub enum Query {
     /// The value of a cell.
     Print(Cell),
-    /// The bytes in a socket's buffer: reading, the input.
+    /// The bytes in a socket's buffer. For the read side, that is the input.
     DumpBytes { side: Side, socket: u32 },
     /// The goroutines queued at a socket's semaphore.
     DumpQueue { side: Side, socket: u32 },
-    /// The debugger's position, and which way it goes.
+    /// The debugger's position and direction.
     Position,
     /// The marks.
     Breakpoints,
@@ -53,19 +53,19 @@ pub enum Query {
     Checkpoints,
 }
 
-/// What a line asks for.
+/// The request that a line makes.
 #[derive(Clone, Copy, Debug, PartialEq, Eq)]
 pub enum Line {
     Run(Command),
     Look(Query),
-    /// The reply that is owed, if one is.
+    /// The reply that is still owed, if there is one.
     Resume,
     Quit,
-    /// It has no words, and no reply.
+    /// The line has no words, and gets no reply.
     Empty,
 }
 
-/// Why a line asks for nothing.
+/// The reason why a line isn't a request.
 #[derive(Clone, Copy, Debug, PartialEq, Eq)]
 pub enum LineFault {
     UnknownCommand,

@@ -5,7 +5,7 @@ ghost use Rattle.nr_command.specs.Count.{from_one};
 
 use std::num::NonZeroU32;
 
-/// A number as one from 1 on; none for 0.
+/// Returns a number as one from 1 on, or `None` for 0.
 pub fn from_one(number: u32) -> Option<NonZeroU32>
     ensures { result ≡ from_one number }
 {

@@ -1,4 +1,4 @@
-//! A debugger, a state machine: its position in a film, what it keeps, and what it answers.
+//! The debugger, a state machine: its position in a film, its marks and checkpoints, and its replies.
 
 ghost use Rattle.std.specs.Prelude.{◌≡◌, ◌<◌, ◌≤◌, ◌^◌, length, false, IfOk, OnErr};
 ghost use Rattle.nr_command.specs.Debugger.{NeedsWorlds, Searches, stop_at, continue, delete_checkpoint, delete_mark, keep_position, make_mark, opening, restart, run, step, to_end};
@@ -12,19 +12,19 @@ use nr_rev::{Memory, Worlds};
 use nr_search::{Direction, Finder, Found, nearest_hit};
 use nr_snaps::Film;
 
-/// A position of a film, with marks and checkpoints. It has no world: commands move the position alone.
+/// A position in a film, with marks and checkpoints. It holds no world: commands only move the position.
 #[derive(Debug, Drop)]
 pub struct Debugger {
-    /// How many steps lie behind it.
+    /// The number of steps before the position.
     pub(crate) position: usize,
-    /// Which way `stepi` and `continue` go.
+    /// The direction of `stepi` and `continue`.
     pub(crate) direction: Direction,
     pub(crate) marks: Marks,
     pub(crate) checkpoints: Checkpoints,
 }
 
 impl Debugger {
-    /// At position 0, going forwards; there are no marks and no checkpoints.
+    /// Makes a debugger at position 0 that goes forwards, without marks and checkpoints.
     pub fn new() -> Debugger
         ensures { result ≡ opening }
     {
@@ -36,38 +36,38 @@ impl Debugger {
         }
     }
 
-    /// How many steps lie behind it.
+    /// Returns the number of steps before the debugger's position.
     pub fn position(&self) -> usize
         ensures { result ≡ self.now.position }
     {
         self.position
     }
 
-    /// Which way `stepi` and `continue` go.
+    /// Returns the direction of `stepi` and `continue`.
     pub fn direction(&self) -> Direction
         ensures { result ≡ self.now.direction }
     {
         self.direction
     }
 
-    /// What stops `continue` and `reverse-continue`, by number.
+    /// Returns the marks, which stop `continue` and `reverse-continue`.
     pub fn marks(&self) -> &Marks
         ensures { result.now ≡ self.now.marks }
     {
         &self.marks
     }
 
-    /// The positions that are kept, by number.
+    /// Returns the checkpoints.
     pub fn checkpoints(&self) -> &Checkpoints
         ensures { result.now ≡ self.now.checkpoints }
     {
         &self.checkpoints
     }
 
-    /// Runs a command: what it returns and leaves is what `run` of the definitions says.
+    /// Runs a command: returns the reply and leaves the state that `run` in the definitions computes.
     ///
-    /// Only `continue` and `reverse-continue` take memory, for copies of the film's worlds, and only where there
-    /// are marks and a position other than the start lies that way. Out of memory, nothing has changed.
+    /// Only `continue` and `reverse-continue` take memory, for copies of the film's worlds, and only if there is a
+    /// watch and the way has a position other than the start. If memory runs out, nothing has changed.
     pub fn exec<W: Worlds + Drop + Sync, F: Finder>(
         &mut self,
         film: &Film<W>,
@@ -86,7 +86,7 @@ impl Debugger {
         self.dispatch(film, finder, command)
     }
 
-    /// Calls what does this command, from any position in the recording.
+    /// Runs a command, by the function for its kind, from any position in the recording.
     fn dispatch<W: Worlds + Drop + Sync, F: Finder>(
         &mut self,
         film: &Film<W>,
@@ -108,7 +108,7 @@ impl Debugger {
         }
     }
 
-    /// Runs a command that searches nothing.
+    /// Runs a command that doesn't search.
     fn obey<W: Worlds + Drop>(&mut self, film: &Film<W>, command: Command) -> Reply
     where
         W::Snapshot: Drop,
@@ -135,7 +135,7 @@ impl Debugger {
         }
     }
 
-    /// Goes to where the film ends that way.
+    /// Goes to the end of the film in that direction.
     fn to_end(&mut self, direction: Direction, last: usize) -> Reply
         ensures { (result, self.new) ≡ to_end direction last self.old }
     {
@@ -151,7 +151,7 @@ impl Debugger {
         }
     }
 
-    /// Goes so many steps that way, and no further than the end there.
+    /// Goes this many steps in that direction, but not beyond the end there.
     fn step(&mut self, direction: Direction, count: u32, last: usize) -> Reply
         requires within { self.old.position ≤ last }
         requires last { last < 2 ^ 63 }
@@ -172,7 +172,8 @@ impl Debugger {
         }
     }
 
-    /// Goes to the nearest hit that way, after which the temporary marks that hit are gone, or to the end there.
+    /// Goes to the nearest hit in that direction and deletes the temporary marks that hit, or else goes to the end
+    /// there.
     fn continue_in<W: Worlds + Drop + Sync, F: Finder>(
         &mut self,
         film: &Film<W>,
@@ -228,7 +229,7 @@ impl Debugger {
         }
     }
 
-    /// Goes to a position that was kept, or for 0 to the start.
+    /// Goes to a kept position, or to the start for 0.
     fn restart(&mut self, number: u32) -> Reply
         ensures { (result, self.new) ≡ restart number self.old }
     {

@@ -1,4 +1,4 @@
-//! What holds of the definitions.
+//! Laws of the definitions.
 
 ghost use Rattle.std.specs.Prelude.{◌≡◌, ◌<◌, ◌^◌, ℕ, List, length, Ok, Some, IfSome};
 ghost use Rattle.nr_rev.specs.CellName.{cell_index};
@@ -14,7 +14,8 @@ ghost use Rattle.nr_command.specs.declared.command.Command.{Command};
 ghost use Rattle.nr_command.specs.declared.checkpoint.TheConstants.{MOST_CHECKPOINTS};
 ghost use Rattle.nr_command.specs.declared.parsing.TheConstants.{MAX_LINE};
 
-/// Each command with each tag is read from its word; and whatever is read from a number, the number is its word.
+/// Each command, with each tag, can be read back from its word; and if a command is read from a number, that number is
+/// its word.
 pub fn commands_are_read_from_their_words()
     ensures read { (tag : ℕ) (command : Command) → tag < 256 → HasTypedNumbers command
         → command_of (word_of tag command) ≡ Some (tag, command) }
@@ -22,14 +23,14 @@ pub fn commands_are_read_from_their_words()
         → (n ≡ word_of tag command) × (tag < 256) × HasTypedNumbers command }
 {}
 
-/// What a cell is printed as is read as that cell.
+/// The printed form of a cell is read as that cell.
 pub fn printed_cells_are_read()
     ensures { (cell : Cell) → IfSome (cell_index cell) (λ n. n < 2 ^ 32)
         → cell_of (words (cell_text cell)) ≡ Ok cell }
 {}
 
-/// After any history, whose words need not be commands', the debugger is in the recording, and so are its
-/// checkpoints.
+/// After any history, the debugger's position and its checkpoints are in the recording. The words of the history need
+/// not be those of commands.
 pub fn histories_stay_in_the_recording()
     ensures { (r : Recording) (words : List ℕ)
         → IsWithin (length r.steps) (after_words r opening words) }

@@ -1,4 +1,4 @@
-//! The debugger's front: what a line asks for, commands as words of a journal, replies and their texts.
+//! The debugger's front end: the meanings of lines, commands as words of a journal, replies and their texts.
 #![tactic(auto)]
 
 mod checkpoint;

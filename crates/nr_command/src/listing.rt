@@ -11,17 +11,17 @@ use nr_marks::{Break, Mark, NumberedMark};
 use nr_text::{Buffered, Text, Token, WriteFailed, send_all};
 use std::io::Write;
 
-/// What is listed, each on a line of its own.
+/// An item of a list, printed on a line of its own.
 trait Listed {
-    /// Its line.
+    /// The item's line.
     ghost line: { Self → List ℕ };
 
-    /// Sends the line.
+    /// Sends the item's line.
     fn send_line<W: Write>(&self, w: &mut Buffered<W>) -> Result<(), WriteFailed>
         ensures { Writes w.old w.new (line self.now) result };
 }
 
-/// A mark's line is its number, and the command that makes such a mark.
+/// A mark's line has its number, and the command that makes such a mark.
 impl Listed for NumberedMark {
     ghost line = { mark_line };
 
@@ -41,7 +41,7 @@ impl Listed for NumberedMark {
     }
 }
 
-/// Writes the line of a break: its number, the command that makes it, and where it hits.
+/// Writes the line of a break: its number, the command that makes it, and the steps before which it hits.
 fn send_break<W: Write>(
     number: u32,
     command: &'static [u8],
@@ -68,7 +68,7 @@ fn send_break<W: Write>(
     }
 }
 
-/// A checkpoint's line is its number and its position.
+/// A checkpoint's line has its number and its position.
 impl Listed for Checkpoint {
     ghost line = { checkpoint_line };
 
@@ -86,11 +86,11 @@ impl Listed for Checkpoint {
 /// A part of a list.
 #[derive(Clone, Copy)]
 enum Listing<'a> {
-    /// What is listed, and how many.
+    /// The kind of the items, and their number.
     Heading(&'static [u8], usize),
-    /// A line for each mark.
+    /// The marks, one on each line.
     Marks(&'a [NumberedMark]),
-    /// A line for each checkpoint.
+    /// The checkpoints, one on each line.
     Checkpoints(&'a [Checkpoint]),
 }
 
@@ -109,7 +109,7 @@ impl Text for Listing<'_> {
     }
 }
 
-/// Sends the lines one after the other.
+/// Sends the lines of the items, one after the other.
 fn send_lines<T: Listed, W: Write>(items: &[T], w: &mut Buffered<W>) -> Result<(), WriteFailed>
     ensures { Writes w.old w.new (flat_map T.line items.now) result }
 {
@@ -119,7 +119,7 @@ fn send_lines<T: Listed, W: Write>(items: &[T], w: &mut Buffered<W>) -> Result<(
     Ok(())
 }
 
-/// Writes how many marks there are, and a line for each.
+/// Writes the number of marks, and a line for each.
 pub(crate) fn send_marks<W: Write>(
     marks: &[NumberedMark],
     w: &mut Buffered<W>,
@@ -130,7 +130,7 @@ pub(crate) fn send_marks<W: Write>(
     send_all(&[heading, Listing::Marks(marks)], w)
 }
 
-/// Writes how many checkpoints there are, and a line for each.
+/// Writes the number of checkpoints, and a line for each.
 pub(crate) fn send_checkpoints<W: Write>(
     checkpoints: &[Checkpoint],
     w: &mut Buffered<W>,

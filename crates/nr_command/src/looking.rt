@@ -1,4 +1,4 @@
-//! What a look shows.
+//! The replies to queries.
 
 ghost use Rattle.std.specs.Prelude.{◌≡◌, ◌≤◌, length, true, false, IfOk, OnErr};
 ghost use Rattle.nr_rev.specs.Auxiliary.Run.{IsWorldAt};
@@ -15,7 +15,8 @@ use nr_rev::{Memory, Side, Worlds};
 use nr_snaps::Film;
 
 impl Query {
-    /// Whether it looks at the world, as a value and the dumps do. The others look at what the debugger keeps.
+    /// Returns whether the query is about the world, as those for a value and for dumps are. The others are about the
+    /// debugger.
     pub fn is_at_world(self) -> bool
         ensures { result ≡ is_at_world self }
     {
@@ -26,13 +27,13 @@ impl Query {
     }
 }
 
-// A reply has room for 64 marks, and a function clears all its locals when it is entered. So each kind of look is a function of
+// A reply has room for 64 marks, and a function clears all its locals on entry. So each kind of query has a function of
 // its own.
 impl Debugger {
-    /// What a look shows: of the world, which is that of the debugger's position, or of what the debugger keeps. It
+    /// Returns the reply to a query about the world at the debugger's position, or about the debugger itself. It
     /// changes nothing.
     ///
-    /// Only a dump takes memory, for the bytes or goroutines that it prints, so one that prints none never runs out of it.
+    /// Only a dump takes memory, for the bytes or goroutines that it prints. A dump that prints none takes no memory.
     pub fn look<W: Worlds + Drop>(
         &self,
         film: &Film<W>,
@@ -51,7 +52,7 @@ impl Debugger {
         Ok(self.look_within(film, query))
     }
 
-    /// What a look at the world shows. It fails as `look` does.
+    /// Returns the reply to a query about the world. It fails as `look` does.
     pub fn look_at_world<W: Worlds + Drop>(
         &self,
         film: &Film<W>,
@@ -76,7 +77,7 @@ impl Debugger {
         }
     }
 
-    /// What a look shows that is at the debugger alone: it needs no world, and takes no memory.
+    /// Returns the reply to a query about the debugger itself. It needs no world, and takes no memory.
     pub fn look_within<W: Worlds + Drop>(&self, film: &Film<W>, query: Query) -> Reply
     where
         W::Snapshot: Drop,
@@ -140,7 +141,7 @@ impl Debugger {
     }
 }
 
-/// The items, in room of their own.
+/// Returns a copy of the items.
 fn listed<T: Copy + Default, const N: usize>(items: &[T]) -> ArrayVec<T, N>
     requires { length items.now ≤ N }
     ensures { result.items ≡ items.now }

@@ -1,4 +1,4 @@
-//! Reads what a line asks for.
+//! Parses the lines that a client sends.
 
 ghost use Rattle.std.specs.Prelude.{◌≡◌, ◌∷◌, map, take};
 ghost use Rattle.std.specs.Str.{bytes_eq};
@@ -12,24 +12,24 @@ use nr_rev::{Cell, Kind, Side};
 use nr_search::Direction;
 use std::num::NonZeroU32;
 
-/// The longest line that is read, in bytes.
+/// The length of the longest valid line, in bytes.
 pub const MAX_LINE: usize = 256;
 
-/// One word more than any line may have that asks for something.
+/// One word more than the longest request has.
 const MAX_WORDS: usize = 4;
 
 impl Command {
-    /// What a line asks for, given without its line feed. Takes no memory.
+    /// Returns the request that a line makes. The line is given without its line feed. Takes no memory.
     ///
     /// The words are those of GDB's manual, chapters "Running Programs Backward" and "Setting a Bookmark to Return to
-    /// Later". Commands are `stepi` and `reverse-stepi` with how often, `continue`, `reverse-continue`,
-    /// `set exec-direction`, `break` and `tbreak` with a kind of step or `@` and a step's number, `watch` with a cell,
-    /// `delete` and `delete checkpoint`, `checkpoint`, `restart`. Looks are `print`, `dump` and `info`. Besides, there are
-    /// `resume` and `quit`.
+    /// Later". The commands are `stepi` and `reverse-stepi` with a count, `continue`, `reverse-continue`, `set
+    /// exec-direction`, `break` and `tbreak` with a kind of step or `@` and a step's number, `watch` with a cell,
+    /// `delete` and `delete checkpoint`, `checkpoint`, and `restart`. The queries are `print`, `dump` and `info`.
+    /// Further requests are `resume` and `quit`.
     ///
-    /// Words are separated by spaces. One carriage return at the end of the line is left out. A line of more than 256
-    /// bytes is too long whatever it holds. Where the first word is none of these that is the fault, else any other
-    /// mistake is a bad argument.
+    /// Words are separated by spaces. One carriage return at the end of the line is ignored. A line of more than 256
+    /// bytes is too long, whatever it contains. If the first word is none of these, the fault is an unknown command;
+    /// any other mistake is a bad argument.
     pub fn parse(line: &[u8]) -> Result<Line, LineFault>
         ensures { result ≡ meaning_of line.now }
     {
@@ -44,7 +44,7 @@ impl Command {
     }
 }
 
-/// What a first word and those behind it ask for.
+/// Returns the request of a first word and the words after it.
 fn request(verb: &[u8], rest: &[&[u8]]) -> Result<Line, LineFault>
     ensures { result ≡ meaning_of_words (verb.now ∷ map (λ word. word.now) rest.now) }
 {
@@ -77,7 +77,7 @@ fn request(verb: &[u8], rest: &[&[u8]]) -> Result<Line, LineFault>
     Ok(Line::Run(run))
 }
 
-/// The line without the carriage return at its end, if there is one.
+/// Returns the line without the carriage return at its end, if it has one.
 fn trim_return(line: &[u8]) -> &[u8]
     ensures { result.now ≡ without_return line.now }
 {
@@ -87,7 +87,7 @@ fn trim_return(line: &[u8]) -> &[u8]
     }
 }
 
-/// The first words of a line, as many as decide what it asks for.
+/// Returns the first words of a line, as many as determine its request.
 fn first_words(line: &[u8]) -> ArrayVec<&[u8], MAX_WORDS>
     ensures { map (λ word. word.now) result.items ≡ take MAX_WORDS (words line.now) }
 {
@@ -107,7 +107,7 @@ fn is(word: &[u8], name: &[u8]) -> bool
     word == name
 }
 
-/// What takes no further words.
+/// Returns a request that takes no further words.
 fn alone(line: Line, rest: &[&[u8]]) -> Result<Line, LineFault>
     ensures { result ≡ alone line (map (λ word. word.now) rest.now) }
 {
@@ -117,7 +117,7 @@ fn alone(line: Line, rest: &[&[u8]]) -> Result<Line, LineFault>
     }
 }
 
-/// How often, from 1 on: once where nothing is said.
+/// Reads a count from 1 on, which is 1 if no word follows.
 fn count(words: &[&[u8]]) -> Result<NonZeroU32, LineFault>
     ensures { result ≡ count_of (map (λ word. word.now) words.now) }
 {
@@ -128,7 +128,7 @@ fn count(words: &[&[u8]]) -> Result<NonZeroU32, LineFault>
     }
 }
 
-/// One number, and nothing else.
+/// Reads a single number.
 fn only_number(words: &[&[u8]]) -> Result<u32, LineFault>
     ensures { result ≡ only_number (map (λ word. word.now) words.now) }
 {
@@ -138,7 +138,7 @@ fn only_number(words: &[&[u8]]) -> Result<u32, LineFault>
     }
 }
 
-/// Which way commands are to go.
+/// Reads the direction that `set` gives.
 fn setting(words: &[&[u8]]) -> Result<Direction, LineFault>
     ensures { result ≡ setting_of (map (λ word. word.now) words.now) }
 {
@@ -168,7 +168,7 @@ fn direction(way: &[u8]) -> Result<Direction, LineFault>
     }
 }
 
-/// Where a break is to stop.
+/// Reads the steps before which a break hits.
 fn break_of(words: &[&[u8]]) -> Result<Break, LineFault>
     ensures { result ≡ break_of (map (λ word. word.now) words.now) }
 {
@@ -190,7 +190,7 @@ fn break_at(word: &[u8]) -> Result<Break, LineFault>
     }
 }
 
-/// The cell of a name, or of one and a number.
+/// Reads a cell: its name, and its number if it has one.
 fn cell(words: &[&[u8]]) -> Result<Cell, LineFault>
     ensures { result ≡ cell_of (map (λ word. word.now) words.now) }
 {
@@ -204,7 +204,7 @@ fn cell(words: &[&[u8]]) -> Result<Cell, LineFault>
     }
 }
 
-/// Which mark or checkpoint is to be deleted.
+/// Reads which mark or checkpoint to delete.
 fn deletion(words: &[&[u8]]) -> Result<Command, LineFault>
     ensures { result ≡ deletion_of (map (λ word. word.now) words.now) }
 {
@@ -215,7 +215,7 @@ fn deletion(words: &[&[u8]]) -> Result<Command, LineFault>
     }
 }
 
-/// The buffer or queue of one word and a socket's number.
+/// Reads which buffer or queue to dump: a word and a socket's number.
 fn dump(words: &[&[u8]]) -> Result<Query, LineFault>
     ensures { result ≡ dump_of (map (λ word. word.now) words.now) }
 {
@@ -225,7 +225,7 @@ fn dump(words: &[&[u8]]) -> Result<Query, LineFault>
     }
 }
 
-/// What of a socket is dumped.
+/// Returns the query for a socket's buffer or queue with this name.
 fn buffer_or_queue(kind: &[u8], socket: u32) -> Result<Query, LineFault>
     ensures { result ≡ buffer_or_queue kind.now socket }
 {
@@ -245,7 +245,7 @@ fn buffer_or_queue(kind: &[u8], socket: u32) -> Result<Query, LineFault>
     }
 }
 
-/// What is asked of the session.
+/// Reads the topic of an `info`.
 fn info(words: &[&[u8]]) -> Result<Query, LineFault>
     ensures { result ≡ info_of (map (λ word. word.now) words.now) }
 {
@@ -266,14 +266,15 @@ fn topic_of(topic: &[u8]) -> Result<Query, LineFault>
     }
 }
 
-/// A number that has to be at least 1.
+/// Returns a number, which must be at least 1.
 fn at_least_one(number: u32) -> Result<NonZeroU32, LineFault>
     ensures { result ≡ at_least_one number }
 {
     from_one(number).ok_or(LineFault::BadArgument)
 }
 
-/// A number below 2^32 in decimal digits, with leading zeros or without. `BadArgument` where it is none.
+/// Reads a number below 2^32 in decimal digits, with or without leading zeros. Fails with `BadArgument` if the word
+/// isn't one.
 pub fn number(word: &[u8]) -> Result<u32, LineFault>
     ensures { result ≡ number_of word.now }
 {

@@ -1,4 +1,4 @@
-//! What a line is answered, and how it is written.
+//! The replies to lines, and their texts.
 
 ghost use Rattle.std.specs.Prelude.{◌≡◌, ◌++◌, codes, decimal};
 ghost use Rattle.nr_command.specs.declared.reply.Fault.TheVariants as faults;
@@ -18,73 +18,73 @@ use nr_search::Direction;
 use nr_text::{Buffered, Part, Sink, Text, Token, WriteFailed, send_all};
 use std::io::Write;
 
-/// What a line is answered.
+/// The reply to a line.
 #[derive(Drop)]
 pub enum Reply {
-    /// It is at a position.
+    /// The debugger is at this position.
     At(usize),
-    /// It is at the last position, and was to go further.
+    /// The debugger is at the last position, and can't go further.
     AtEnd(usize),
-    /// It is at position 0, and was to go further back.
+    /// The debugger is at position 0, and can't go further back.
     AtStart,
-    /// It is at a position where marks hit: their numbers, rising.
+    /// The debugger is at a position at which marks hit, given by their numbers in rising order.
     AtHit {
         position: usize,
         marks: ArrayVec<u32, MOST_MARKS>,
     },
-    /// Commands go this way from now on.
+    /// The direction of later commands is now this one.
     Direction(Direction),
-    /// A mark was made, and has this number.
+    /// A mark with this number was made.
     MarkMade(u32),
-    /// The mark of this number was deleted.
+    /// The mark with this number was deleted.
     MarkDeleted(u32),
     /// A checkpoint was made.
     CheckpointMade(Checkpoint),
-    /// The checkpoint of this number was deleted.
+    /// The checkpoint with this number was deleted.
     CheckpointDeleted(u32),
     /// A cell and its value.
     Printed {
         cell: Cell,
         value: CellValue,
     },
-    /// The bytes in a socket's buffer; `None` where there is no such socket.
+    /// The bytes in a socket's buffer, or `None` if the socket doesn't exist.
     Bytes {
         side: Side,
         socket: u32,
         bytes: Option<Bytes>,
     },
-    /// The goroutines at a socket's semaphore, front first; `None` where there is no such socket.
+    /// The goroutines queued at a socket's semaphore, front first, or `None` if the socket doesn't exist.
     Queue {
         side: Side,
         socket: u32,
         queue: Option<Queue>,
     },
-    /// Its position, how many there are, and which way commands go.
+    /// The debugger's position, the last position, and the direction.
     Position {
         position: usize,
         last: usize,
         direction: Direction,
     },
-    /// The marks, rising by number.
+    /// The marks, in rising order of their numbers.
     Marks(ArrayVec<NumberedMark, MOST_MARKS>),
-    /// The checkpoints, rising by number.
+    /// The checkpoints, in rising order of their numbers.
     Checkpoints(ArrayVec<Checkpoint, MOST_CHECKPOINTS>),
     /// No reply is owed.
     NothingOwed,
     /// The line was `quit`.
     Bye,
-    /// Nothing was done.
+    /// The line did nothing.
     Fault(Fault),
 }
 
-/// Why a line did nothing.
+/// The reason why a line did nothing.
 #[derive(Clone, Copy, Debug, PartialEq, Eq)]
 pub enum Fault {
-    /// It asks for nothing.
+    /// The line isn't a request.
     Line(LineFault),
-    /// There was no memory for it.
+    /// The line ran out of memory.
     Memory(Memory),
-    /// A command at this index of the journal, from 1, ran out of memory. Its reply is owed.
+    /// The command at this index of the journal, counted from 1, ran out of memory. Its reply is still owed.
     Placed(usize),
     /// The journal is full.
     JournalFull,
@@ -95,8 +95,8 @@ pub enum Fault {
 impl Reply {
     ghost use Rattle.nr_text.specs.Auxiliary.Streams.{Prints};
 
-    /// Writes the reply's text. Where a write fails or takes nothing, `Part(k)` says that exactly its first k bytes are
-    /// out, and no more are written. It takes no memory.
+    /// Writes the reply's text. If a write fails or takes nothing, writes no more, and `Part(k)` says that exactly the
+    /// first k bytes are out. It takes no memory.
     pub fn print<W: Write>(&self, out: &mut Sink<W>) -> Result<(), Part>
         ensures { Prints out.old out.new (text_of self.now) result }
     {
@@ -191,7 +191,7 @@ fn direction_token(direction: Direction) -> Token<'static>
     }
 }
 
-/// Writes what a number is of, and the number.
+/// Writes a label and a number.
 fn send_numbered<W: Write>(
     name: &'static [u8],
     number: u32,
@@ -218,7 +218,7 @@ fn send_checkpoint<W: Write>(checkpoint: Checkpoint, w: &mut Buffered<W>) -> Res
     send_all(&tokens, w)
 }
 
-/// Writes the line that shows a cell with its value, as `print` is answered.
+/// Writes the line that shows a cell with its value, which is the reply to `print`.
 pub fn send_printed<W: Write>(
     cell: Cell,
     value: CellValue,

@@ -1,4 +1,4 @@
-//! Sends cells, and the values that they have.
+//! Sends cells and their values.
 
 ghost use Rattle.std.specs.Prelude.{◌++◌, decimal};
 ghost use Rattle.nr_rev.specs.declared.status.Status.TheVariants.{Owing};
@@ -10,7 +10,7 @@ use nr_rev::{Cell, CellValue, Side, Status, WaitWord};
 use nr_text::{Buffered, Text, Token, WriteFailed, send_all};
 use std::io::Write;
 
-/// Writes how the cell is spelled: its name, and its number behind a space if it has one.
+/// Writes a cell: its name, and its number after a space if it has one.
 pub(crate) fn send_cell<W: Write>(cell: Cell, w: &mut Buffered<W>) -> Result<(), WriteFailed>
     ensures { Writes w.old w.new (cell_text cell) result }
 {

@@ -14,8 +14,8 @@ use nr_search::Direction;
 use std::num::NonZeroU32;
 
 impl Command {
-    /// The command and the tag as one number: the command's opcode, and 256 times the tag, and 65,536 times what is
-    /// asked of it. The opcode is one that words of a journal have.
+    /// Returns the command and the tag as one number: the command's opcode, plus 256 times the tag, plus 65,536 times
+    /// the command's argument. The opcode is one of those for words of a journal.
     pub fn to_word(&self, tag: u8) -> u64
         ensures word { result ≡ word_of tag self.now }
         ensures back { command_of result ≡ Some (tag, self.now) }
@@ -25,7 +25,7 @@ impl Command {
         u64::from(self.opcode()) + 256 * u64::from(tag) + 65536 * self.argument()
     }
 
-    /// The tag and the command of a word. None for a number that is no command's word, whatever the tag.
+    /// Returns the tag and the command of a word, or `None` for a number that isn't the word of a command with any tag.
     pub fn of_word(word: u64) -> Option<(u8, Command)>
         ensures { result ≡ command_of word }
     {
@@ -53,7 +53,7 @@ impl Command {
         }
     }
 
-    /// What is asked of the command, in 48 bits.
+    /// Returns the command's argument, in 48 bits.
     fn argument(self) -> u64
         ensures value { result ≡ argument_of self }
         ensures fits { result < 2 ^ 48 }
@@ -75,7 +75,7 @@ impl Command {
     }
 }
 
-/// A break as a number, whose lowest byte says whether it is of a kind or of a step.
+/// Returns a break as a number. Its lowest byte says whether the break names a kind or a step.
 fn break_number(wanted: Break) -> u64
     ensures value { result ≡ break_number wanted }
     ensures fits { result < 2 ^ 48 }
@@ -87,7 +87,7 @@ fn break_number(wanted: Break) -> u64
     }
 }
 
-/// The command of an opcode with what is asked of it.
+/// Returns the command with this opcode and argument.
 fn with_argument(opcode: u64, argument: u64) -> Option<Command>
     ensures { result ≡ command_with opcode argument }
 {
@@ -108,21 +108,21 @@ fn with_argument(opcode: u64, argument: u64) -> Option<Command>
     }
 }
 
-/// A command of which nothing is asked.
+/// Returns a command that has no argument.
 fn only_without(argument: u64, command: Command) -> Option<Command>
     ensures { result ≡ only_without argument command }
 {
     if argument == 0 { Some(command) } else { None }
 }
 
-/// A number below 2^32.
+/// Returns a number if it is below 2^32.
 fn small(argument: u64) -> Option<u32>
     ensures { result ≡ small argument }
 {
     u32::try_from(argument).ok()
 }
 
-/// A number from 1 to 2^32 - 1.
+/// Returns a number if it is from 1 to 2^32 - 1.
 fn from_one_below(argument: u64) -> Option<NonZeroU32>
     ensures { result ≡ from_one_below argument }
 {
@@ -139,7 +139,7 @@ fn direction_numbered(argument: u64) -> Option<Direction>
     }
 }
 
-/// The break of a number.
+/// Returns the break that a number stands for.
 fn break_numbered(argument: u64) -> Option<Break>
     ensures { result ≡ break_numbered argument }
 {
@@ -159,7 +159,7 @@ fn kind_numbered(number: u64) -> Option<Kind>
     }
 }
 
-/// A cell by its number and its index.
+/// Returns the cell that a word's argument stands for.
 fn watch_at(argument: u64) -> Option<Cell>
     ensures { result ≡ watch_at argument }
 {
@@ -168,7 +168,7 @@ fn watch_at(argument: u64) -> Option<Cell>
     cell_at(number, index)
 }
 
-/// A cell by its number and its index, which is 0 where there is one such cell.
+/// Returns the cell with this number and index. The index is 0 if there is only one such cell.
 fn cell_at(number: u8, index: u32) -> Option<Cell>
     ensures { result ≡ cell_at number index }
 {

@@ -1,4 +1,4 @@
--- Beside `Debugger`: what contracts and proofs cite, and no law of THEOREM.md rests on.
+-- Definitions that contracts and proofs cite beside `Debugger`. No law of THEOREM.md rests on them.
 use Rattle.std.specs.Prelude.{ℕ, ◌≤◌, Bool, true, false, All, List}
 use Rattle.nr_rev.specs.Cell.{bytes_of, queue_of}
 use Rattle.nr_rev.specs.Run.{Recording, world_at}
@@ -12,22 +12,22 @@ use Rattle.nr_command.specs.declared.debugger.Debugger.{Debugger}
 use Rattle.nr_command.specs.declared.reply.Reply.{Reply}
 use Rattle.nr_command.specs.Debugger.{after_words, opening, run}
 
--- its position is in the recording, and so are the positions that it keeps
+-- true if the debugger's position and its checkpoints are in the recording
 pub record IsWithin (last : ℕ) (d : Debugger) : Type 0 where
   pub position : d.position ≤ last
   pub kept : All (λ c. c.item ≤ last) d.checkpoints.present
 
--- the command is `continue` or `reverse-continue`: no other searches
+-- true if the command is `continue` or `reverse-continue`: no other command searches
 abbrev pub continues : Command → Bool
 continues commands.Continue = true
 continues commands.ReverseContinue = true
 continues command = false
 
--- what a command is answered behind a history
+-- the reply to a command after a history
 abbrev pub reply_behind : Recording → List ℕ → Command → Reply
 reply_behind r words command = (run r command (after_words r opening words)).0
 
--- a look copies what it shows of the world: a dump does, where there are bytes or goroutines to
+-- true if the query copies a part of the world: a dump does, if there are bytes or goroutines to
 -- show
 abbrev pub Copies : Recording → Debugger → Query → Type 0
 Copies r d (queries.DumpBytes side s) = HasItems (bytes_of (world_at r d.position) s side)

@@ -1,11 +1,11 @@
--- Beside `Value`: what contracts and proofs cite, and no law of THEOREM.md rests on.
+-- Definitions that contracts and proofs cite beside `Value`. No law of THEOREM.md rests on them.
 use Rattle.std.specs.Prelude.{ℕ, List, decimal}
 use Rattle.nr_rev.specs.declared.cell.Cell.{Cell}
 use Rattle.nr_command.specs.declared.value.Piece.{Piece}
 use Rattle.nr_command.specs.declared.value.Piece.TheVariants as pieces
 use Rattle.nr_command.specs.Value.{cell_text, value_text}
 
--- a part of a text that shows a cell
+-- the text of a part of a line that shows a cell
 abbrev pub piece_text : Piece → List ℕ
 piece_text (pieces.Text text) = text.now
 piece_text (pieces.Number number) = decimal number

@@ -1,4 +1,4 @@
--- Beside `Word`: what contracts and proofs cite, and no law of THEOREM.md rests on.
+-- Definitions that contracts and proofs cite beside `Word`. No law of THEOREM.md rests on them.
 use Rattle.std.specs.Prelude.{◌^◌, ◌<◌, IfSome, ⊤}
 use Rattle.nr_rev.specs.CellName.{cell_index}
 use Rattle.nr_marks.specs.declared.mark.Break.{Break}
@@ -7,12 +7,12 @@ use Rattle.nr_command.specs.declared.command.Command.{Command}
 use Rattle.nr_command.specs.declared.command.Command.TheVariants.{Step, ReverseStep, Watch, Delete, Restart, DeleteCheckpoint, TemporaryBreak}
 use Rattle.nr_command.specs.declared.command.Command.TheVariants as commands
 
--- the number of a step that a break holds has 32 bits, as its type says
+-- true if the number of the step that a break names, if any, has 32 bits, as its type says
 abbrev pub HasTypedStep : Break → Type 0
 HasTypedStep (breaks.Kind kind) = ⊤
 HasTypedStep (breaks.Step step) = step.value < 2 ^ 32
 
--- the numbers that a command holds have 32 bits, as its type says
+-- true if the numbers in a command have 32 bits, as their types say
 abbrev pub HasTypedNumbers : Command → Type 0
 HasTypedNumbers (Step count) = count.value < 2 ^ 32
 HasTypedNumbers (ReverseStep count) = count.value < 2 ^ 32
