@@ -1,7 +1,7 @@
--- A buffer as it is read.
+-- The model of a buffer.
 use Rattle.nr_rev.specs.Socket.{Buffer}
 use Rattle.nr_plain.specs.declared.buffer.PlainBuffer.{PlainBuffer}
 
--- the buffer that a row of bytes shows
+-- the buffer that a row of bytes models
 abbrev pub buffer_view : PlainBuffer → Buffer
 buffer_view p = record { bytes = p.bytes.now; capacity = p.capacity }

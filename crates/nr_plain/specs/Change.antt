@@ -1,4 +1,4 @@
--- What an operation leaves of a descriptor, as it is seen.
+-- The model of a descriptor's change.
 use Rattle.std.specs.Prelude.{ℕ, List, [], ◌++◌, option_to_list}
 use Rattle.nr_rev.specs.declared.descriptor.WaitWord.{WaitWord}
 use Rattle.nr_rev.specs.Descriptor.{Change}
@@ -6,7 +6,7 @@ use Rattle.nr_plain.specs.declared.change.PlainChange.{PlainChange}
 use Rattle.nr_plain.specs.declared.change.Followed.{Followed}
 use Rattle.nr_plain.specs.declared.change.Unblocked.{Unblocked}
 
--- the change that a packed one means
+-- the change that a packed one encodes
 abbrev pub change_view : PlainChange → Change
 change_view c =
     record {
@@ -15,10 +15,10 @@ change_view c =
       woken = option_to_list c.woken.read ++ option_to_list c.woken.write;
     }
 
--- the change that a packed one with one order at most means, which wakes none
+-- the change that a packed one with at most one order encodes; it wakes no goroutine
 abbrev pub followed_view : Followed → Change
 followed_view f = record { descriptor = f.descriptor; orders = option_to_list f.order; woken = [] }
 
--- the new word and who is woken
+-- the new word, and the goroutines that are woken
 abbrev pub unblocked_view : Unblocked → WaitWord × List ℕ
 unblocked_view u = (u.word, option_to_list u.woken)

@@ -1,4 +1,4 @@
--- The primitive changes of a world: what each leaves, and what undoing it leaves.
+-- The primitive changes of a world, and their undos.
 use Rattle.std.specs.Prelude.{◌≡◌, ℕ, ◌+◌, ◌-◌, ◌*◌, ◌<◌, ◌≤◌, List, [], ◌∷◌, ◌++◌, length, take, drop, insert, remove, slice_get, slice_set, Option, Some, None, option_map, IfSome}
 use Rattle.nr_rev.specs.declared.status.Status.TheVariants as status
 use Rattle.nr_rev.specs.Socket.{new_socket}
@@ -11,16 +11,16 @@ use Rattle.nr_plain.specs.declared.edit.Undo.{Undo}
 use Rattle.nr_plain.specs.declared.edit.Undo.TheVariants as undo
 use Rattle.nr_plain.specs.SocketEdit.{CanEditSocket, CanUndoSocket, socket_edit_weight, after_socket_edit, after_socket_undo, socket_undo_weight}
 
--- a list with another element at an index, where there is one
+-- a list with another element at an index, if that index exists
 abbrev pub with_item : {X : Type 0} → ℕ → Option X → List X → List X
 with_item place None xs = xs
 with_item place (Some x) xs = slice_set xs place x
 
--- the list with the item at a place changed, the same list where there is none
+-- the list with the item at a place changed, or the same list if that place doesn't exist
 abbrev pub with_changed : {X : Type 0} → ℕ → (X → X) → List X → List X
 with_changed place change xs = with_item place (option_map change (slice_get xs place)) xs
 
--- a change of the world
+-- the world after a change
 abbrev pub after_edit : Edit → World → World
 after_edit (edit.Status g status) w = with_status g status w
 after_edit edit.AddGoroutine w = record w { goroutines = w.goroutines ++ status.Idle ∷ [] }
@@ -38,7 +38,7 @@ after_edit (edit.Clock time) w = record w { clock = time }
 after_edit (edit.AddFiring entry) w = record w { firings = w.firings ++ entry ∷ [] }
 after_edit (edit.TakeFiring place) w = record w { firings = remove w.firings place }
 
--- what undoing a change of the world leaves
+-- the world after an undo
 abbrev pub after_undo : Undo → World → World
 after_undo (undo.Status g status) w = with_status g status w
 after_undo undo.RemoveGoroutine w =
@@ -59,7 +59,7 @@ after_undo (undo.Clock time) w = record w { clock = time }
 after_undo undo.RemoveFiring w = record w { firings = take (length w.firings - 1) w.firings }
 after_undo (undo.ReturnFiring place entry) w = record w { firings = insert w.firings place entry }
 
--- there is room for the change, and there is what it takes away
+-- there is room for what the change adds, and what it removes exists
 abbrev pub CanEdit : Edit → World → Type 0
 CanEdit (edit.Status g status) w = Unit {0}
 CanEdit edit.AddGoroutine w = length w.goroutines < w.limits.goroutines
@@ -77,7 +77,7 @@ CanEdit (edit.Clock time) w = Unit {0}
 CanEdit (edit.AddFiring entry) w = length w.firings < 2 * w.limits.descriptors
 CanEdit (edit.TakeFiring place) w = place < length w.firings
 
--- there is room for what comes back
+-- there is room for what the undo restores
 abbrev pub CanUndo : Undo → World → Type 0
 CanUndo (undo.Socket s change) w =
     IfSome (slice_get w.sockets s) (CanUndoSocket w.limits.goroutines w.limits.buffer change)
@@ -86,11 +86,11 @@ CanUndo (undo.ReturnFiring place entry) w =
     (place ≤ length w.firings) × (length w.firings < 2 * w.limits.descriptors)
 CanUndo _ w = Unit {0}
 
--- undoing leads from the new world back to the old one
+-- the undo leads from the new world back to the old one
 abbrev pub Undoes : Undo → World → World → Type 0
 Undoes undo new old = CanUndo undo new × (old ≡ after_undo undo new)
 
--- how many words an undo holds
+-- the number of words in an undo
 abbrev pub undo_weight : Undo → ℕ
 undo_weight (undo.Status g status) = variant_weight + number_weight g + status_weight status
 undo_weight undo.RemoveGoroutine = variant_weight
@@ -109,7 +109,7 @@ undo_weight undo.RemoveFiring = variant_weight
 undo_weight (undo.ReturnFiring place entry) =
     variant_weight + number_weight place + entry_weight entry
 
--- how many the undo of a change holds at most
+-- the maximum number of words in the undo of a change
 abbrev pub edit_weight : Edit → ℕ
 edit_weight (edit.Status g status) = 6
 edit_weight edit.AddGoroutine = 1

@@ -1,4 +1,4 @@
--- What making a step leaves, and where its way back is put.
+-- The result of applying a step, and where its undo is stored.
 use Rattle.std.specs.Prelude.{◌≡◌, ℕ, ◌+◌, ◌/◌, ◌≤◌, Bool, true, List, drop, length, take, slice_get, IfSome, Result, Ok, Err}
 use Rattle.nr_rev.specs.declared.answer.Answer.{Answer}
 use Rattle.nr_rev.specs.declared.refusal.Refusal.{Refusal}
@@ -29,12 +29,12 @@ IsFrontOf s side count w bytes =
     (length bytes ≡ count) × IfSome (slice_get w.sockets s)
     (λ (socket : Socket). bytes ≡ take count (of_side side socket.buffers).bytes)
 
--- a delta leads back from the new world to the old one, and holds at most so many words
+-- a delta leads from the new world back to the old one, and has at most so many words
 abbrev pub LeadsBackWithin : ℕ → World → World → PlainDelta → Type 0
 LeadsBackWithin most new old delta = PlainBack delta new old × (delta_weight delta ≤ most)
 
--- A step is made, and the place holds the way back over it where it keeps one. Or the step has its
--- reason; or it is out of memory, where bytes are to be kept.
+-- A step is applied, and the place stores its undo if it keeps one. Or the step is refused for its
+-- reason; or memory ran out while bytes had to be kept.
 abbrev pub Makes : {Place : Type 0} → Bool → (Place → PlainDelta → Type 0) → Place → Step → World
     → Result Answer Refusal → World → Type 0
 Makes {Place} keeps holds place step old (Ok answer) new =

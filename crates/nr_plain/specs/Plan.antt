@@ -1,4 +1,4 @@
--- What a step comes to: an answer and the changes to make.
+-- The plan of a step: its answer and the changes to make.
 use Rattle.std.specs.Prelude.{◌≡◌, ℕ, ◌+◌, ◌/◌, ◌≤◌, List, [], ◌∷◌, length, sum_by, Option, Result, Ok, Err}
 use Rattle.nr_rev.specs.declared.refusal.Refusal.{Refusal}
 use Rattle.nr_rev.specs.declared.step.Step.{Step}
@@ -12,39 +12,39 @@ use Rattle.nr_plain.specs.declared.plan.Plan.{Plan}
 use Rattle.nr_plain.specs.declared.plan.TheConstants.{MOST_EDITS}
 use Rattle.nr_plain.specs.Edit.{CanEdit, edit_weight, after_edit}
 
--- some changes, one after the other
+-- the world after some changes, made one after the other
 abbrev pub after_edits : List Edit → World → World
 after_edits [] w = w
 after_edits (edit ∷ edits) w = after_edits edits (after_edit edit w)
 
--- each can be made where its turn comes
+-- each change can be made in its turn
 abbrev pub CanEditAll : List Edit → World → Type 0
 CanEditAll [] w = Unit {0}
 CanEditAll (edit ∷ edits) w = CanEdit edit w × CanEditAll edits (after_edit edit w)
 
--- the words that the undos of some changes hold at most
+-- the maximum number of words in the undos of some changes
 abbrev pub total_weight : List Edit → ℕ
 total_weight edits = sum_by edit_weight edits
 
 -- the plan leads from w to the outcome of the step; its changes can be made, and their undos are
--- light
+-- small enough
 pub record LeadsTo (step : Step) (w : World) (plan : Plan) : Type 0 where
   pub answer : outcome w step ≡ Ok (plan.answer, after_edits plan.edits.items w)
   pub can : CanEditAll plan.edits.items w
   pub light : total_weight plan.edits.items ≤ MOST_WORDS + (bytes_left step plan.answer + 7) / 8
   pub few : length plan.edits.items ≤ MOST_EDITS
 
--- why a step does not apply
+-- why a step is refused
 abbrev pub world_reason : World → Step → Option Refusal
 world_reason w step = refusal_of (outcome w step)
 
--- no bytes leave a buffer by the step, so it takes no memory
+-- the step removes no bytes from a buffer, so it allocates no memory
 abbrev pub IsPlanned : Step → Type 0
 IsPlanned (SysRead g s n) = ⊥
 IsPlanned (Drain s n) = ⊥
 IsPlanned _ = Unit {0}
 
--- a plan that leads to the step's outcome, or its reason
+-- the plan leads to the step's outcome, or the refusal has the step's reason
 abbrev pub Plans : Step → World → Result Plan Refusal → Type 0
 Plans step w (Ok plan) = LeadsTo step w plan
 Plans step w (Err reason) = outcome w step ≡ Err reason

@@ -1,4 +1,4 @@
--- The status of a goroutine that a step takes further.
+-- The status of a goroutine whose step continues an operation.
 use Rattle.std.specs.Prelude.{ℕ, Result}
 use Rattle.nr_rev.specs.declared.refusal.Refusal.{Refusal}
 use Rattle.nr_rev.specs.declared.sides.Side.{Side}
@@ -6,7 +6,7 @@ use Rattle.nr_rev.specs.Refusing.{◌>>=◌}
 use Rattle.nr_rev.specs.Step.{acquiring_of, status_of}
 use Rattle.nr_rev.specs.World.{World}
 
--- the socket and side that a goroutine acquires the semaphore of
+-- the socket and side whose semaphore a goroutine acquires
 abbrev pub acquiring_by : ℕ → World → Result (ℕ × Side) Refusal
 acquiring_by g w = do
   status ← status_of g w

@@ -1,5 +1,4 @@
--- What a machine owes whose steps can be undone, of a world over lists: the laws that `Reversible`
--- asks of it.
+-- The laws that `Reversible` requires of a world over lists.
 use Rattle.std.proofs.Common.{◌≡◌, ◌≤◌, Some, None, Ok, Err, sym, ap, ◌∙◌, lit≤}
 use Rattle.nr_rev.specs.declared.answer.Answer.{Answer}
 use Rattle.nr_rev.specs.declared.refusal.Refusal.{Refusal}
@@ -20,32 +19,32 @@ use Rattle.nr_plain.specs.Delta.{PlainBack}
 use Rattle.nr_plain.specs.Edit.{Undoes}
 use Rattle.nr_plain.specs.Plan.{world_reason}
 
--- a step that has a reason does not apply
+-- a step with a reason for refusal doesn't apply
 pub refused_has_no_step : (old : World) (step : Step) (e : Refusal) (answer : Answer) (new : World)
     → world_reason old step ≡ Some e → StepTo old step answer new → ⊥
 refused_has_no_step old step e answer new reason is =
     absurd (let none : Some e ≡ None = sym reason ∙ ap refusal_of is in cc)
 
--- a step has one outcome
+-- a step has exactly one outcome
 pub steps_unique : (old : World) (step : Step) (a b : Answer) (new other : World)
     → StepTo old step a new → StepTo old step b other → (a ≡ b) × (new ≡ other)
 steps_unique old step a b new other p q = same_parts a b new other (sym p ∙ q)
 
--- each step has the whole allowance
+-- each step may use the whole allowance
 pub weight_is_within : (step : Step) → MOST_WORDS ≤ MOST_WORDS
 weight_is_within step = lit≤ tt
 
--- what an outcome is refused for
+-- the refusal of an outcome
 refused_for : (o : Outcome) (e : Refusal) → refusal_of o ≡ Some e → ◌≡◌ {A = Outcome} o (Err e)
 refused_for (Ok left) e is = cc
 refused_for (Err reason) e is = cc
 
--- being out of memory is no reason
+-- lack of memory is never a step's reason
 pub memory_is_no_reason : (w : World) (step : Step) → WellFormed w
     → world_reason w step ≡ Some out_of_memory → ⊥
 memory_is_no_reason w step h is = none_for_memory w step h (refused_for (outcome w step) _ is)
 
--- a delta leads back to one world
+-- a delta leads back to exactly one world
 pub Undoes-unique : (undo : Undo) (new a b : World) → Undoes undo new a → Undoes undo new b → a ≡ b
 Undoes-unique undo new a b p q = p.1 ∙ sym q.1
 

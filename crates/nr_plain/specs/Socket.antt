@@ -1,4 +1,4 @@
--- A socket over lists, as it is seen: data of one size, queued goroutines and bytes.
+-- The model of a socket over lists: its state of fixed size, its queued goroutines and its bytes.
 use Rattle.std.specs.Prelude.{◌≡◌, ℕ, List}
 use Rattle.nr_rev.specs.declared.sides.Sides.{Sides}
 use Rattle.nr_rev.specs.Socket.{Socket}
@@ -23,7 +23,7 @@ socket_with state queues bytes =
       shut = state.shut;
     }
 
--- what a socket has beside its queues and its bytes
+-- the state of a socket besides its queues and its bytes
 abbrev pub state_of : Socket → SocketState
 state_of socket =
     record {
@@ -51,7 +51,7 @@ socket_view p =
       byte_room = p.input.room;
     }
 
--- both queues have the same room, and both buffers
+-- both queues have the same room, and so have both buffers
 pub record HasItsRoom (p : Inside) : Type 0 where
   pub queues : p.write_queue.room ≡ p.read_queue.room
   pub buffers : p.output.room ≡ p.input.room

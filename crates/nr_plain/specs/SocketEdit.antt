@@ -1,4 +1,4 @@
--- The primitive changes of a socket: what each leaves, and what undoing it leaves.
+-- The primitive changes of a socket, and their undos.
 use Rattle.std.specs.Prelude.{◌≡◌, ℕ, ◌+◌, ◌-◌, ◌<◌, ◌≤◌, ◌^◌, true, false, List, [], ◌∷◌, ◌++◌, length, take, drop, option_to_list}
 use Rattle.nr_rev.specs.declared.sides.Side.{Side}
 use Rattle.nr_rev.specs.Sides.{of_side, with_side}
@@ -10,7 +10,7 @@ use Rattle.nr_plain.specs.declared.socket_edit.SocketEdit.TheVariants as edit
 use Rattle.nr_plain.specs.declared.socket_edit.SocketUndo.{SocketUndo}
 use Rattle.nr_plain.specs.declared.socket_edit.SocketUndo.TheVariants as undo
 
--- a socket with another semaphore at a side
+-- a socket with the semaphore of a side changed
 abbrev pub on_semaphore : Side → (Semaphore → Semaphore) → Socket → Socket
 on_semaphore side change socket =
     record socket {
@@ -18,12 +18,12 @@ on_semaphore side change socket =
           socket.semaphores;
     }
 
--- a socket with another queue at a side
+-- a socket with the queue of a side changed
 abbrev pub on_queue : Side → (List ℕ → List ℕ) → Socket → Socket
 on_queue side change socket =
     on_semaphore side (λ semaphore. record semaphore { queue = change semaphore.queue }) socket
 
--- a socket with other bytes at a side
+-- a socket with the bytes of a side changed
 abbrev pub on_bytes : Side → (List ℕ → List ℕ) → Socket → Socket
 on_bytes side change socket =
     record socket {
@@ -31,7 +31,7 @@ on_bytes side change socket =
           { bytes = change (of_side side socket.buffers).bytes }) socket.buffers;
     }
 
--- a change of a socket
+-- the socket after a change
 abbrev pub after_socket_edit : SocketEdit → Socket → Socket
 after_socket_edit (edit.Lock lock) socket = record socket { lock = lock }
 after_socket_edit (edit.Count side count) socket =
@@ -45,7 +45,7 @@ after_socket_edit (edit.Append side bytes) socket = on_bytes side (λ held. held
 after_socket_edit edit.ClosePeer socket = record socket { peer_closed = true }
 after_socket_edit (edit.Shut shut) socket = record socket { shut = shut }
 
--- what undoing a change of a socket leaves
+-- the socket after an undo
 abbrev pub after_socket_undo : SocketUndo → Socket → Socket
 after_socket_undo (undo.Lock lock) socket = record socket { lock = lock }
 after_socket_undo (undo.Count side count) socket =
@@ -66,7 +66,7 @@ after_socket_undo (undo.Restore side bytes) socket = on_bytes side (λ held. byt
 after_socket_undo undo.OpenPeer socket = record socket { peer_closed = false }
 after_socket_undo (undo.Shut shut) socket = record socket { shut = shut }
 
--- there is room for the change in queues and buffers of this room
+-- the change fits into queues and buffers with this much room
 abbrev pub CanEditSocket : ℕ → ℕ → SocketEdit → Socket → Type 0
 CanEditSocket queue_room byte_room (edit.Lock lock) socket = Unit {0}
 CanEditSocket queue_room byte_room (edit.Count side count) socket = Unit {0}
@@ -79,7 +79,7 @@ CanEditSocket queue_room byte_room (edit.Append side bytes) socket =
 CanEditSocket queue_room byte_room edit.ClosePeer socket = socket.peer_closed ≡ false
 CanEditSocket queue_room byte_room (edit.Shut shut) socket = Unit {0}
 
--- there is room for what comes back
+-- what the undo restores fits into queues and buffers with this much room
 abbrev pub CanUndoSocket : ℕ → ℕ → SocketUndo → Socket → Type 0
 CanUndoSocket queue_room byte_room (undo.Lock lock) socket = Unit {0}
 CanUndoSocket queue_room byte_room (undo.Count side count) socket = Unit {0}
@@ -92,12 +92,12 @@ CanUndoSocket queue_room byte_room (undo.Restore side bytes) socket =
 CanUndoSocket queue_room byte_room undo.OpenPeer socket = Unit {0}
 CanUndoSocket queue_room byte_room (undo.Shut shut) socket = Unit {0}
 
--- undoing leads from the new socket back to the old one
+-- the undo leads from the new socket back to the old one
 abbrev pub UndoesSocket : ℕ → ℕ → SocketUndo → Socket → Socket → Type 0
 UndoesSocket queue_room byte_room undo new old =
     CanUndoSocket queue_room byte_room undo new × (old ≡ after_socket_undo undo new)
 
--- how many words the undo of a change holds
+-- the number of words in an undo
 abbrev pub socket_undo_weight : SocketUndo → ℕ
 socket_undo_weight (undo.Lock lock) = variant_weight + lock_weight lock
 socket_undo_weight (undo.Count side count) = variant_weight + side_weight side + number_weight count
@@ -110,7 +110,7 @@ socket_undo_weight (undo.Restore side bytes) =
 socket_undo_weight undo.OpenPeer = variant_weight
 socket_undo_weight (undo.Shut shut) = variant_weight + bool_weight shut
 
--- how many the undo of a change holds at most
+-- the maximum number of words in the undo of a change
 abbrev pub socket_edit_weight : SocketEdit → ℕ
 socket_edit_weight (edit.Lock lock) = variant_weight + lock_weight lock
 socket_edit_weight (edit.Count side count) = 3

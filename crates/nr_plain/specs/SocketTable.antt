@@ -1,4 +1,4 @@
--- What contracts see of a socket, and of a world's sockets.
+-- The models of a socket and of a world's sockets.
 use Rattle.std.specs.Prelude.{ℕ, List}
 use Rattle.nr_rev.specs.Socket.{Socket}
 
@@ -8,7 +8,8 @@ pub record RoomedSocket : Type 0 where
   pub queue_room : ℕ
   pub byte_room : ℕ
 
--- the sockets opened, how many there is room for, and the room of each one's queues and buffers
+-- the open sockets, the number of sockets for which there is room, and the room of each one's
+-- queues and buffers
 pub record SocketTable : Type 0 where
   pub sockets : List Socket
   pub room : ℕ

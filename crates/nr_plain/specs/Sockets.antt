@@ -8,12 +8,12 @@ use Rattle.nr_plain.specs.Edit.{with_changed}
 use Rattle.nr_plain.specs.SocketEdit.{CanUndoSocket, UndoesSocket, after_socket_edit, after_socket_undo, socket_edit_weight, socket_undo_weight}
 use Rattle.nr_plain.specs.SocketTable.{RoomedSocket, SocketTable}
 
--- it has queues and buffers of this room
+-- the socket's queues and buffers have this much room
 pub record HasRoom (queue_room byte_room : ℕ) (p : RoomedSocket) : Type 0 where
   pub queues : p.queue_room ≡ queue_room
   pub buffers : p.byte_room ≡ byte_room
 
--- the table that contracts see: of all that there is room for, those that are opened
+-- the table that contracts see, with the open sockets only
 abbrev pub table_view : Inside → SocketTable
 table_view t =
     record {
@@ -23,19 +23,19 @@ table_view t =
       byte_room = t.byte_room;
     }
 
--- no more are opened than there are, and each has its room
+-- no more sockets are open than exist, and each has its room
 pub record AreRoomed (t : Inside) : Type 0 where
   pub opened : t.opened ≤ length t.all.items
   pub roomed : All (HasRoom t.queue_room t.byte_room) t.all.items
 
--- the change of a socket was made, and this undoes it and is no heavier than the change allows
+-- the change of a socket was made, and this undoes it in as few words as allowed
 pub record Edits (edit : SocketEdit) (undo : SocketUndo) (old new : RoomedSocket) : Type 0 where
   pub after : new ≡ record old { socket = after_socket_edit edit old.socket }
   pub back : UndoesSocket old.queue_room old.byte_room undo
       (after_socket_edit edit old.socket) old.socket
   pub light : socket_undo_weight undo ≤ socket_edit_weight edit
 
--- the change of socket s was made, and this undoes it and is no heavier than the change allows
+-- the change of socket s was made, and this undoes it in as few words as allowed
 pub record EditsSocket (s : ℕ) (edit : SocketEdit) (undo : SocketUndo) (old new : SocketTable) :
     Type 0 where
   pub after : new ≡ record old { sockets = with_changed s (after_socket_edit edit) old.sockets }

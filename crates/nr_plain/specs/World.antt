@@ -1,4 +1,4 @@
--- The world over lists, as it is seen, and the room that it has.
+-- The model of the world over lists, and its room.
 use Rattle.std.specs.Prelude.{◌≡◌, ◌*◌, ◌^◌, ◌<◌, ◌≤◌}
 use Rattle.nr_rev.specs.World.{World}
 use Rattle.nr_plain.specs.declared.edit.Edit.{Edit}
@@ -21,7 +21,7 @@ world_view p =
       next_arming = p.next_arming;
     }
 
--- it has the room that its limits allow
+-- the world has the room that its limits allow
 pub record HasRooms (p : Inside) : Type 0 where
   pub goroutines : p.goroutines.room ≡ p.limits.goroutines
   pub sockets : p.sockets.room ≡ p.limits.sockets
@@ -32,7 +32,7 @@ pub record HasRooms (p : Inside) : Type 0 where
   pub free : p.free.room ≡ p.limits.descriptors
   pub small : p.limits.descriptors < 2 ^ 32
 
--- the change was made, and this undoes it and is no heavier than the change allows
+-- the change was made, and this undoes it in as few words as allowed
 pub record Performs (edit : Edit) (undo : Undo) (old new : World) : Type 0 where
   pub after : new ≡ after_edit edit old
   pub back : Undoes undo new old

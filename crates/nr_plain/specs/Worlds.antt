@@ -1,4 +1,5 @@
--- That a world over lists is a world of the machine: it means what is seen of it.
+-- The laws that `Worlds` requires: the world over lists behaves like the machine's world that it
+-- models.
 use Rattle.std.specs.Prelude.{◌≡◌, Ok}
 use Rattle.nr_rev.specs.declared.answer.Answer.{Answer}
 use Rattle.nr_rev.specs.declared.step.Step.{Step}
@@ -9,29 +10,29 @@ use Rattle.nr_rev.specs.World.{World}
 use Rattle.nr_rev.specs.Worlds.{LosesBytes, bytes_left, refusal_of}
 use Rattle.nr_plain.specs.Plan.{world_reason}
 
--- it means itself
+-- the machine's world, which is the model itself
 abbrev pub meant : World → World
 meant w = w
 
--- a step of this world is the machine's
+-- a step of this world is the machine's step
 pub steps_are : (old : World) (step : Step) (answer : Answer) (new : World)
     → StepTo old step answer new → outcome old step ≡ Ok (answer, new)
 steps_are old step answer new leads = leads
 
--- it is refused for the machine's reason
+-- a step of this world is refused for the machine's reason
 pub reasons_are : (old : World) (step : Step)
     → world_reason old step ≡ refusal_of (outcome old step)
 reasons_are old step = λ _. world_reason old step
 
--- a step that takes memory is one by which bytes leave a buffer
+-- a step that allocates memory removes bytes from a buffer
 pub memory_is_for_bytes : (old : World) (step : Step) → LosesBytes old step → LosesBytes old step
 memory_is_for_bytes old step loses = loses
 
--- as many bytes leave as of the machine
+-- a step removes as many bytes as the machine's step
 pub bytes_out_are : (step : Step) (answer : Answer)
     → bytes_left step answer ≡ bytes_left step answer
 bytes_out_are step answer = λ _. bytes_left step answer
 
--- a well formed world is one of the machine
+-- a well-formed world models a well-formed world of the machine
 pub means_well_formed : (state : World) → WellFormed state → WellFormed state
 means_well_formed state fits = fits

@@ -1,4 +1,4 @@
-//! Steps applied and undone.
+//! Applying and undoing steps.
 
 ghost use Rattle.std.specs.Prelude.{◌≡◌, ◌≤◌, ◌+◌, length, sum_by};
 ghost use Rattle.nr_rev.specs.Auxiliary.Step.{IsTimely};
@@ -16,7 +16,7 @@ use arrayvec::ArrayVec;
 use nr_rev::{Answer, Keeper, Refusal, Reversible, Step};
 
 impl PlainWorld {
-    /// Makes the step, and puts the way back over it; or changes nothing and says why it does not apply.
+    /// Applies the step and stores its undo. If the step is refused, changes nothing and returns the reason.
     #[tactic(auto, using(crate::proofs::PlanLemmas::makes_well_formed))]
     pub(crate) fn make<K: Keeper<PlainDelta>>(
         &mut self,
@@ -43,7 +43,8 @@ impl PlainWorld {
         }
     }
 
-    /// What a step comes to by which no bytes leave a buffer: its answer and the changes to make, or why it does not apply.
+    /// Plans a step that removes no bytes from a buffer: returns its answer and the changes to make, or why it is
+    /// refused.
     fn plan<'a>(&self, step: &'a Step) -> Result<Plan<'a>, Refusal>
         requires fits { WellFormed self.now }
         requires planned { IsPlanned step.now }
@@ -138,7 +139,7 @@ impl PlainWorld {
         }
     }
 
-    /// Makes the changes, in order, and returns what undoes them.
+    /// Makes the changes in order, and returns their undos.
     fn perform_all(&mut self, mut edits: ArrayVec<Edit, MOST_EDITS>) -> ArrayVec<Undo, MOST_EDITS>
         requires few { length edits.items ≤ MOST_EDITS }
         requires can { CanEditAll edits.items self.old }
@@ -154,7 +155,7 @@ impl PlainWorld {
     }
 }
 
-/// A step that is refused has changed nothing. Undoing one undoes its changes, from the last to the first.
+/// A refused step changes nothing. Undoing a step undoes its changes, from the last to the first.
 impl Reversible for PlainWorld {
     ghost use Rattle.nr_rev.specs.Auxiliary.Step.{StepTo};
     ghost use Rattle.nr_rev.specs.WellFormed.{WellFormed};

@@ -1,10 +1,10 @@
-//! A buffer as it is read: bytes, and how many they may be.
+//! The view of a buffer: its bytes and its capacity.
 
 ghost use Rattle.nr_rev.specs.Socket.{room_of};
 ghost use Rattle.nr_plain.specs.Buffer.{buffer_view};
 ghost use Rattle.std.specs.Prelude.{◌≡◌, ◌^◌, ◌<◌};
 
-/// Bytes, of which the capacity says how many they may be.
+/// The bytes of a buffer, and their maximum number.
 #[derive(Clone, Copy)]
 pub(crate) struct PlainBuffer<'a> {
     pub(crate) bytes: &'a [u8],
@@ -12,7 +12,7 @@ pub(crate) struct PlainBuffer<'a> {
 }
 
 impl PlainBuffer<'_> {
-    /// How many bytes more it may have.
+    /// Returns how many more bytes fit.
     pub(crate) fn room(self) -> usize
         ensures room { result ≡ room_of (buffer_view self.entry) }
         ensures small { result < 2 ^ 32 }

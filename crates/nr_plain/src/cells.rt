@@ -1,4 +1,4 @@
-//! The values of the cells that are more than a number of the world.
+//! The values of the cells that aren't simply a number of the world.
 
 ghost use Rattle.std.specs.Prelude.{◌≡◌, ◌^◌, ◌<◌, ◌≤◌, length, slice_get, option_map};
 ghost use Rattle.nr_rev.specs.Cell.{descriptor_value, socket_value};
@@ -13,7 +13,7 @@ use crate::world::PlainWorld;
 use nr_rev::{CellValue, Descriptor, DescriptorRow, Lock, Side};
 
 impl PlainWorld {
-    /// The number of a socket's lock.
+    /// Returns the number of a socket's lock.
     pub(crate) fn lock_value(&self, socket: u32) -> CellValue
         requires { WellFormed self.now }
         ensures { result
@@ -25,7 +25,7 @@ impl PlainWorld {
         }
     }
 
-    /// The count of a socket's semaphore.
+    /// Returns the count of a socket's semaphore.
     pub(crate) fn count_value(&self, socket: u32, side: Side) -> CellValue
         ensures { result
             ≡ socket_value socket self.now
@@ -37,7 +37,7 @@ impl PlainWorld {
         }
     }
 
-    /// How many bytes a socket's buffer holds.
+    /// Returns the number of bytes in a socket's buffer.
     pub(crate) fn length_value(&self, socket: u32, side: Side) -> CellValue
         ensures { result
             ≡ socket_value socket self.now
@@ -49,7 +49,7 @@ impl PlainWorld {
         }
     }
 
-    /// Whether a socket's write side is shut.
+    /// Returns whether a socket's write side is shut.
     pub(crate) fn shut_value(&self, socket: u32) -> CellValue
         ensures { result ≡ socket_value socket self.now (λ row. value.Number (bit row.shut)) }
     {
@@ -59,7 +59,7 @@ impl PlainWorld {
         }
     }
 
-    /// The wait word of a descriptor's side.
+    /// Returns the wait word of a descriptor's side.
     pub(crate) fn word_value(&self, descriptor: u32, side: Side) -> CellValue
         ensures { result
             ≡ descriptor_value descriptor self.now (λ x. value.WaitWord (of_side side x.words)) }
@@ -70,7 +70,7 @@ impl PlainWorld {
         }
     }
 
-    /// The deadline of a descriptor's side.
+    /// Returns the deadline of a descriptor's side.
     pub(crate) fn deadline_value(&self, descriptor: u32, side: Side) -> CellValue
         ensures { result
             ≡ descriptor_value descriptor self.now (λ x. value.Time (of_side side x.deadlines)) }
@@ -81,7 +81,7 @@ impl PlainWorld {
         }
     }
 
-    /// The sequence of a descriptor's side.
+    /// Returns the sequence of a descriptor's side.
     pub(crate) fn sequence_value(&self, descriptor: u32, side: Side) -> CellValue
         ensures { result
             ≡ descriptor_value descriptor self.now (λ x. value.Number (of_side side x.sequences)) }
@@ -92,7 +92,7 @@ impl PlainWorld {
         }
     }
 
-    /// A descriptor that was made.
+    /// Returns a descriptor that was made.
     pub(crate) fn descriptor(&self, descriptor: u32) -> Option<Descriptor>
         ensures { result
             ≡ option_map (λ (row : Row). row.descriptor)
@@ -105,14 +105,14 @@ impl PlainWorld {
     }
 }
 
-/// What one more that waits to read adds to a lock's word.
+/// What one more waiter for the read lock adds to a lock's word.
 const READ_WAITER: u64 = 8_388_608;
 
-/// What one more that waits to write adds to a lock's word.
+/// What one more waiter for the write lock adds to a lock's word.
 const WRITE_WAITER: u64 = 8_796_093_022_208;
 
-/// A lock as Go's 64-bit word: bit 0 closed, 1 and 2 locked for reading and writing, from bit 3
-/// references, from 23 and 43 those that wait to read and to write.
+/// Returns a lock as Go's 64-bit word: bit 0 is closed, bit 1 the read lock, bit 2 the write lock; the references start
+/// at bit 3, the read waiters at 23, the write waiters at 43.
 pub(crate) fn number(lock: Lock) -> u64
     requires { LockFits lock }
     ensures { result ≡ lock_number lock }
@@ -125,7 +125,7 @@ pub(crate) fn number(lock: Lock) -> u64
         + WRITE_WAITER * u64::from(lock.waiters.write)
 }
 
-/// 1 where it is so.
+/// Returns 1 for true, 0 for false.
 fn bit(flag: bool) -> u64
     ensures is { result ≡ bit flag }
     ensures small { result ≤ 1 }
@@ -133,7 +133,7 @@ fn bit(flag: bool) -> u64
     if flag { 1 } else { 0 }
 }
 
-/// How many timers these rows have armed.
+/// Returns the number of armed timers in these rows.
 pub(crate) fn armed_in(rows: &[DescriptorRow]) -> u64
     requires { length rows.now < 2 ^ 32 }
     ensures { result ≡ length (entries_of rows.now) }

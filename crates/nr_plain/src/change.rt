@@ -1,5 +1,5 @@
-//! What an operation leaves of a descriptor: its fields, orders to its timers, and who is woken. At most
-//! one order and one goroutine a side, reading first.
+//! The changes that operations make to a descriptor: its new fields, the orders to its timers, and the goroutines that
+//! are woken. There is at most one order and one goroutine per side, reading first.
 
 ghost use Rattle.std.specs.Prelude.{◌≡◌, ◌&&◌, IfOk, IsTrue, None, negsuc, option_map, option_to_list};
 ghost use Rattle.std.specs.Ordering.{int_eq};
@@ -16,7 +16,7 @@ use nr_rev::{
     deadline_from, raised_sequence,
 };
 
-/// What an operation leaves.
+/// The change that an operation makes.
 #[derive(Clone, Copy)]
 pub(crate) struct PlainChange {
     pub(crate) descriptor: Descriptor,
@@ -38,7 +38,7 @@ pub(crate) struct Unblocked {
     pub(crate) woken: Option<u32>,
 }
 
-/// A descriptor with no order and nobody woken.
+/// Returns the change to this descriptor without orders and without waking a goroutine.
 fn quiet(descriptor: Descriptor) -> PlainChange
     ensures viewed { change_view result ≡ spec.quiet descriptor }
     ensures orders { result.orders ≡ sides.twice None }
@@ -51,7 +51,7 @@ fn quiet(descriptor: Descriptor) -> PlainChange
     }
 }
 
-/// A word unblocked (Go's `netpollunblock`).
+/// Unblocks a word (Go's `netpollunblock`), and returns it with the goroutine that it held.
 fn unblock(word: WaitWord, ioready: bool) -> Unblocked
     ensures { unblocked_view result ≡ spec.unblock word ioready }
 {
@@ -74,7 +74,7 @@ fn unblock(word: WaitWord, ioready: bool) -> Unblocked
 }
 
 impl PlainChange {
-    /// A side unblocked. Reading comes before writing, and those woken are in that order.
+    /// Unblocks a side. The woken goroutines are in the order of the sides, reading first.
     fn unblock(self, side: Side, ioready: bool) -> PlainChange
         requires none { sides.of_side side self.woken ≡ None }
         requires first { self.woken.write ≡ None }
@@ -91,7 +91,7 @@ impl PlainChange {
     }
 }
 
-/// The descriptor with a side's timer armed at its deadline, or stopped.
+/// Returns the descriptor with the order to arm a side's timer at its deadline, or to stop it.
 fn timer_reset(side: Side, descriptor: Descriptor) -> Followed
     ensures { followed_view result ≡ spec.timer_reset side descriptor }
 {
@@ -115,7 +115,7 @@ fn timer_reset(side: Side, descriptor: Descriptor) -> Followed
     }
 }
 
-/// Whether a side's deadline needs a timer of its own: one for writing isn't armed under combo.
+/// Returns whether a side's deadline needs a timer of its own. The write deadline needs none under combo.
 fn wants_timer(side: Side, descriptor: Descriptor) -> bool
     ensures { result ≡ spec.wants_timer side descriptor }
 {
@@ -125,7 +125,7 @@ fn wants_timer(side: Side, descriptor: Descriptor) -> bool
     }
 }
 
-/// What a side's timer runs: under combo the one for reading serves both.
+/// Returns the function of a side's timer. Under combo the read timer serves both sides.
 fn timer_function(side: Side, descriptor: Descriptor) -> TimerFunction
     ensures { result ≡ spec.timer_function side descriptor }
 {
@@ -136,7 +136,7 @@ fn timer_function(side: Side, descriptor: Descriptor) -> TimerFunction
     }
 }
 
-/// A side's timer after the deadlines of `old` became those of the descriptor.
+/// Returns the descriptor with the order for a side's timer after the deadlines changed from those of `old`.
 fn timer_follows(side: Side, old: Descriptor, descriptor: Descriptor) -> Result<Followed, Refusal>
     ensures { Gives followed_view result (spec.timer_follows side old descriptor) }
 {
@@ -163,7 +163,7 @@ fn timer_follows(side: Side, old: Descriptor, descriptor: Descriptor) -> Result<
     ))
 }
 
-/// Whether a side's deadline and combo are as they were.
+/// Returns whether a side's deadline and combo are unchanged.
 fn is_unmoved(side: Side, old: Descriptor, descriptor: Descriptor) -> bool
     ensures { result
         ≡ (int_eq (sides.of_side side old.deadlines) (sides.of_side side descriptor.deadlines)
@@ -173,7 +173,7 @@ fn is_unmoved(side: Side, old: Descriptor, descriptor: Descriptor) -> bool
 }
 
 impl PlainChange {
-    /// The sides whose deadline is past unblocked, reading first.
+    /// Unblocks the sides whose deadline has passed, reading first.
     fn unblock_expired(self) -> PlainChange
         requires { self.woken ≡ sides.twice None }
         ensures { change_view result ≡ spec.expired_unblocked (change_view self) }
@@ -189,7 +189,7 @@ impl PlainChange {
     }
 }
 
-/// Both timers after the deadlines of `old` became those of the descriptor, reading first.
+/// Returns the orders for both timers after the deadlines changed from those of `old`, reading first.
 fn both_follow(old: Descriptor, descriptor: Descriptor) -> Result<PlainChange, Refusal>
     ensures viewed { Gives change_view result (auxiliary.both_follow old descriptor) }
     ensures woken { IfOk result (λ change. change.woken ≡ sides.twice None) }
@@ -206,8 +206,8 @@ fn both_follow(old: Descriptor, descriptor: Descriptor) -> Result<PlainChange, R
     })
 }
 
-/// A deadline set (Go's `poll_runtime_pollSetDeadline`): the timers follow, reading first, and the sides
-/// whose deadline is past are unblocked.
+/// Sets a deadline (Go's `poll_runtime_pollSetDeadline`): the timers follow, reading first, and the sides whose
+/// deadline has passed are unblocked.
 pub(crate) fn change_by_deadline(
     clock: i64,
     mode: Mode,
@@ -224,14 +224,14 @@ pub(crate) fn change_by_deadline(
     Ok(change.unblock_expired())
 }
 
-/// The descriptor with a deadline, counted from now, at the sides that a mode names.
+/// Returns the descriptor with a deadline, counted from now, for the sides that a mode names.
 fn with_deadlines_from(clock: i64, mode: Mode, time: i64, descriptor: Descriptor) -> Descriptor
     ensures { result ≡ spec.with_deadlines mode (spec.deadline_from clock time) descriptor }
 {
     with_deadlines(mode, deadline_from(clock, time), descriptor)
 }
 
-/// An order to stop a side's timer, if it runs.
+/// Returns an order to stop a side's timer, if it runs.
 fn stop_if(running: bool, side: Side) -> Option<TimerOrder>
     ensures { option_to_list result ≡ spec.stop_if running side }
 {
@@ -242,8 +242,8 @@ fn stop_if(running: bool, side: Side) -> Option<TimerOrder>
     }
 }
 
-/// A descriptor evicted (Go's `poll_runtime_pollUnblock`): it is closing, its timers are stopped, and both
-/// sides are unblocked.
+/// Evicts a descriptor (Go's `poll_runtime_pollUnblock`): it is closing, its timers are stopped, and both sides are
+/// unblocked.
 pub(crate) fn change_by_evict(descriptor: Descriptor) -> Result<PlainChange, Refusal>
     ensures { Gives change_view result (spec.change_by_evict descriptor) }
 {
@@ -271,7 +271,7 @@ pub(crate) fn change_by_evict(descriptor: Descriptor) -> Result<PlainChange, Ref
     )
 }
 
-/// The descriptor with a side's deadline past.
+/// Returns the descriptor with a side's deadline marked as passed.
 fn with_past(side: Side, descriptor: Descriptor) -> Descriptor
     ensures { result ≡ record descriptor {
       deadlines = sides.with_side side (negsuc 0) descriptor.deadlines;
@@ -284,7 +284,7 @@ fn with_past(side: Side, descriptor: Descriptor) -> Descriptor
 }
 
 impl PlainChange {
-    /// The sides that a function covers expired, reading first.
+    /// Expires the sides that a function covers, reading first.
     fn expire(self, function: TimerFunction) -> PlainChange
         requires { self.woken ≡ sides.twice None }
         ensures { change_view result
@@ -304,7 +304,7 @@ impl PlainChange {
     }
 }
 
-/// Whether a side that a function covers waits for its timer.
+/// Returns whether a side that a function covers waits for its timer.
 fn is_timed(function: TimerFunction, descriptor: Descriptor) -> bool
     ensures { result ≡ spec.is_timed function descriptor }
 {
@@ -316,7 +316,7 @@ fn is_timed(function: TimerFunction, descriptor: Descriptor) -> bool
     }
 }
 
-/// A firing run (Go's `netpollDeadline`), or `None` where its sequence is no longer the descriptor's.
+/// Runs a firing (Go's `netpollDeadline`), or returns `None` if its sequence is no longer the descriptor's.
 pub(crate) fn change_by_firing(
     function: TimerFunction,
     sequence: u64,
@@ -333,8 +333,8 @@ pub(crate) fn change_by_firing(
     Ok(Some(quiet(descriptor).expire(function)))
 }
 
-/// An event of the poller (Go's `netpollready`): the event error is the event's, and the sides that it names
-/// are ready.
+/// Applies an event of the poller (Go's `netpollready`): the descriptor gets the event's error, and the named sides
+/// become ready.
 pub(crate) fn change_by_event(mode: Mode, error: bool, descriptor: Descriptor) -> PlainChange
     ensures { change_view result ≡ spec.change_by_event mode error descriptor }
 {

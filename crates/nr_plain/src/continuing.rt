@@ -1,4 +1,5 @@
-//! What steps that change a descriptor with its timers have in common: its timers obey, and those who are woken go on.
+//! The common part of steps that change a descriptor with its timers: the orders to its timers are carried out, and the
+//! woken goroutines continue.
 
 ghost use Rattle.std.specs.Prelude.{◌≡◌, ◌++◌, ◌≤◌, [], length, map, option_to_list};
 ghost use Rattle.nr_rev.specs.Step as step;
@@ -14,8 +15,8 @@ use crate::world::PlainWorld;
 use nr_rev::{DescriptorRow, Refusal, Sides, Timer, TimerOrder, raised_sequence};
 
 impl PlainWorld {
-    /// The plan goes on by the change of a descriptor: the orders to its timers are obeyed, and those that
-    /// its words held go on.
+    /// Extends the plan by the change of a descriptor: carries out the orders to its timers, and lets the goroutines
+    /// that its words held continue.
     pub(crate) fn then_changed<'a>(
         &self,
         plan: Plan<'a>,
@@ -42,7 +43,7 @@ impl PlainWorld {
     }
 }
 
-/// The timers after an order, if there is one, and the next arming number.
+/// Returns the timers after an order, if there is one, and the next arming number.
 fn after_order(
     order: Option<TimerOrder>,
     timers: Sides<Option<Timer>>,
@@ -73,7 +74,7 @@ fn after_order(
     }
 }
 
-/// The plan goes on by those who are woken, reading first.
+/// Extends the plan by the woken goroutines, reading first.
 fn then_woken<'a>(plan: Plan<'a>, woken: Sides<Option<u32>>) -> Plan<'a>
     requires { length plan.edits.items ≤ 3 }
     ensures answer { result.answer ≡ plan.entry.answer }

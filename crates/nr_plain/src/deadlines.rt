@@ -9,7 +9,7 @@ use crate::world::PlainWorld;
 use nr_rev::{Answer, Mode, Refusal};
 
 impl PlainWorld {
-    /// The plan of `setdeadline`.
+    /// Returns the plan of `setdeadline`.
     pub(crate) fn setdeadline<'a>(
         &self,
         goroutine: u32,

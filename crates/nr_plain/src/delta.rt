@@ -1,4 +1,4 @@
-//! The way back over a step.
+//! The undo of a step.
 
 ghost use Rattle.std.specs.Prelude.{◌≡◌, ◌∷◌, []};
 
@@ -7,10 +7,10 @@ use crate::plan::MOST_EDITS;
 use arrayvec::ArrayVec;
 use nr_rev::Keeper;
 
-/// The most words that a delta holds, beside the bytes that left a buffer.
+/// The maximum number of words in a delta, besides the bytes that left a buffer.
 pub(crate) const MOST_WORDS: u32 = 64;
 
-/// What undoes a step: the undos of its changes, in the order in which these were made.
+/// The data that undoes a step: the undos of its changes, in the order in which they were made.
 #[derive(Drop)]
 pub struct PlainDelta {
     pub(crate) undos: ArrayVec<Undo, MOST_EDITS>,
@@ -25,7 +25,7 @@ impl Default for PlainDelta {
 }
 
 impl PlainDelta {
-    /// The way back over a single change.
+    /// Returns the delta of a single change.
     pub(crate) fn of(undo: Undo) -> PlainDelta
         ensures { result.undos.items ≡ undo ∷ [] }
     {
@@ -35,7 +35,7 @@ impl PlainDelta {
     }
 }
 
-/// A delta is a place for a delta.
+/// A delta can store a delta.
 impl Keeper<PlainDelta> for PlainDelta {
     ghost use Rattle.std.specs.Prelude.{◌≡◌, true};
 

@@ -1,4 +1,4 @@
-//! The steps that open a descriptor, evict and close it, and bring it events: Go's `poll_runtime_pollOpen`,
+//! The steps that open, evict and close a descriptor and bring it events: Go's `poll_runtime_pollOpen`,
 //! `poll_runtime_pollUnblock`, `poll_runtime_pollClose` and `netpollready`.
 
 ghost use Rattle.std.specs.Prelude.{◌≡◌, ◌<◌, ◌∷◌, [], List, MatchOption, ℕ, OnOk, length};
@@ -15,7 +15,7 @@ use crate::world::PlainWorld;
 use nr_rev::{Answer, DescriptorRow, Mode, Refusal, Side, Sides};
 
 impl PlainWorld {
-    /// The plan of `pollopen`.
+    /// Returns the plan of `pollopen`.
     #[tactic(auto, using(crate::proofs::OpenLemmas::pushed_here))]
     pub(crate) fn pollopen<'a>(&self, goroutine: u32, socket: u32) -> Result<Plan<'a>, Refusal>
         ensures { Plans (steps.PollOpen goroutine socket) self.now result }
@@ -50,7 +50,7 @@ impl PlainWorld {
         )
     }
 
-    /// The front of the free list, if there is one.
+    /// Returns the front of the free list, if there is one.
     #[tactic(auto, using(crate::proofs::OpenLemmas::front_or_none))]
     fn front_free(&self) -> Option<u32>
         ensures { MatchOption result (self.now.free ≡ [])
@@ -59,7 +59,7 @@ impl PlainWorld {
         self.free.get(0)
     }
 
-    /// The plan of `pollclose`.
+    /// Returns the plan of `pollclose`.
     pub(crate) fn pollclose<'a>(&self, goroutine: u32, descriptor: u32) -> Result<Plan<'a>, Refusal>
         requires { WellFormed self.now }
         ensures { Plans (steps.PollClose goroutine descriptor) self.now result }
@@ -83,7 +83,7 @@ impl PlainWorld {
         )
     }
 
-    /// A descriptor that is open, for which the free list has room.
+    /// Returns an open descriptor, if the free list has room for it.
     fn closable_row_of(&self, descriptor: u32) -> Result<DescriptorRow, Refusal>
         requires { WellFormed self.now }
         ensures row { result ≡ step.open_row_of descriptor self.now }
@@ -92,7 +92,7 @@ impl PlainWorld {
         self.open_row_of(descriptor)
     }
 
-    /// The plan of `evict`.
+    /// Returns the plan of `evict`.
     pub(crate) fn evict<'a>(&self, goroutine: u32, descriptor: u32) -> Result<Plan<'a>, Refusal>
         ensures { Plans (steps.Evict goroutine descriptor) self.now result }
     {
@@ -102,7 +102,7 @@ impl PlainWorld {
         self.then_changed(Plan::new(Answer::Done), descriptor, row, change)
     }
 
-    /// The plan of `pollevent`.
+    /// Returns the plan of `pollevent`.
     pub(crate) fn pollevent<'a>(
         &self,
         descriptor: u32,

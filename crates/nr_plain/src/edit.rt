@@ -1,4 +1,4 @@
-//! The primitive changes that steps are made of, and what undoes each.
+//! The primitive changes from which steps are built, and their undos.
 
 use crate::socket_edit::{SocketEdit, SocketUndo};
 use nr_rev::{DescriptorRow, Entry, Status};
@@ -11,9 +11,9 @@ pub(crate) enum Edit<'a> {
         goroutine: u32,
         status: Status,
     },
-    /// One goroutine more, idle.
+    /// Adds an idle goroutine.
     AddGoroutine,
-    /// One socket more, new.
+    /// Adds a new socket.
     AddSocket {
         read_capacity: u32,
         write_capacity: u32,
@@ -28,15 +28,15 @@ pub(crate) enum Edit<'a> {
         descriptor: u32,
         row: DescriptorRow,
     },
-    /// One descriptor more, never opened.
+    /// Adds a descriptor that was never opened.
     AddRow,
-    /// Takes the front of the free list.
+    /// Removes the front of the free list.
     TakeFree,
-    /// Puts a descriptor to the front of the free list.
+    /// Puts a descriptor at the front of the free list.
     GiveFree {
         descriptor: u32,
     },
-    /// A goroutine that a word held goes on.
+    /// Lets a goroutine that a word held continue.
     Wake {
         goroutine: u32,
     },
@@ -52,17 +52,17 @@ pub(crate) enum Edit<'a> {
     Clock {
         time: i64,
     },
-    /// Puts an entry to the back of the firings.
+    /// Appends an entry to the firings.
     AddFiring {
         entry: Entry,
     },
-    /// Takes the firing at a place out.
+    /// Removes the firing at a place.
     TakeFiring {
         place: u32,
     },
 }
 
-/// What undoes a change of the world.
+/// The undo of a change of the world.
 #[derive(Drop)]
 pub enum Undo {
     Status {
@@ -84,7 +84,7 @@ pub enum Undo {
         descriptor: u32,
     },
     RemoveFree,
-    /// The goroutine has its status again, and the count of waiters its number.
+    /// Restores the goroutine's status and the count of waiters.
     Sleep {
         goroutine: u32,
         status: Status,

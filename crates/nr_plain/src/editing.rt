@@ -12,7 +12,7 @@ use crate::world::PlainWorld;
 use nr_rev::{DescriptorRow, Entry, Sides, Status};
 
 impl PlainWorld {
-    /// Makes the change, and returns what undoes it.
+    /// Makes the change, and returns its undo.
     pub(crate) fn perform(&mut self, edit: Edit) -> Undo
         requires { CanEdit edit self.old }
         ensures { Performs edit.entry result self.old self.new }
@@ -174,7 +174,7 @@ impl PlainWorld {
     }
 }
 
-/// What a goroutine is that a word let go: one that was parked swaps next.
+/// Returns a goroutine's status after a word released it: a parked goroutine swaps next.
 fn after_wake(status: Status) -> Status
     ensures { result ≡ step.after_wake status }
 {

@@ -9,7 +9,7 @@ use crate::world::PlainWorld;
 use nr_rev::{Answer, Refusal, Status};
 
 impl PlainWorld {
-    /// The plan of `spawn`.
+    /// Returns the plan of `spawn`.
     pub(crate) fn spawn<'a>(&self) -> Result<Plan<'a>, Refusal>
         ensures { Plans steps.Spawn self.now result }
     {
@@ -20,7 +20,7 @@ impl PlainWorld {
         Ok(Plan::new(Answer::Number(made as u32)).then(Edit::AddGoroutine))
     }
 
-    /// The plan of `exit`.
+    /// Returns the plan of `exit`.
     pub(crate) fn exit<'a>(&self, goroutine: u32) -> Result<Plan<'a>, Refusal>
         ensures { Plans (steps.Exit goroutine) self.now result }
     {

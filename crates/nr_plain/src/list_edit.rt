@@ -8,17 +8,17 @@ use nr_rev::RoomedList;
 /// A change of a list.
 #[derive(Clone, Copy)]
 pub(crate) enum ListEdit<'a, T> {
-    /// Puts items at the end.
+    /// Appends items.
     Extend(&'a [T]),
-    /// Puts items at the front.
+    /// Prepends items.
     ExtendFront(&'a [T]),
-    /// So many items leave the front, or all where there are fewer.
+    /// Removes so many items from the front, or all if there are fewer.
     DropFront(usize),
-    /// So many items stay, or all where there are fewer.
+    /// Keeps so many items at the front, or all if there are fewer.
     Truncate(usize),
 }
 
-/// Makes the change of a list.
+/// Makes a change of a list.
 pub(crate) fn edit_list<T: Copy + Drop>(list: &mut RoomedList<T>, edit: ListEdit<T>)
     requires { CanEditList list.old.room edit list.old.items }
     ensures after { list.new ≡ record list.old {

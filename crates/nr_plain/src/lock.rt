@@ -1,15 +1,15 @@
-//! The operations of a lock, after `internal/poll/fd_mutex.go`: what Go does by compare and swap of one
-//! word, on the word's fields. Where Go panics, the operation is refused.
+//! The operations of a lock, after `internal/poll/fd_mutex.go`: on the fields of the word that Go changes by
+//! compare-and-swap. If Go panics, the operation is refused.
 
 ghost use Rattle.std.specs.Prelude.{◌≡◌};
 ghost use Rattle.nr_rev.specs.Lock as spec;
 
 use nr_rev::{Answer, Lock, LockOutcome, Refusal, Side, Sides};
 
-/// The greatest count of a field of 20 bits.
+/// The maximum of a field of 20 bits.
 const FULL: u32 = (1 << 20) - 1;
 
-/// A lock that nobody holds.
+/// Returns a lock that no goroutine holds.
 pub(crate) fn open_lock() -> Lock
     ensures { result ≡ spec.open_lock }
 {
@@ -21,7 +21,7 @@ pub(crate) fn open_lock() -> Lock
     }
 }
 
-/// The answer, with nothing owed.
+/// Returns the answer with no release owed.
 fn answered(answer: Answer, lock: Lock) -> LockOutcome
     ensures { result ≡ spec.answered answer lock }
 {
@@ -32,7 +32,7 @@ fn answered(answer: Answer, lock: Lock) -> LockOutcome
     }
 }
 
-/// A field raised by one, unless it is full.
+/// Returns a field increased by one, unless it is full.
 fn raised_field(count: u32) -> Result<u32, Refusal>
     ensures { result ≡ spec.raised_field count }
 {
@@ -42,7 +42,7 @@ fn raised_field(count: u32) -> Result<u32, Refusal>
     Ok(count + 1)
 }
 
-/// The answer where a reference was given up: `Last` where the lock is closed and none is left.
+/// Returns the answer after a reference was released: `Last` if the lock is closed and no reference is left.
 fn last_of(lock: Lock) -> Answer
     ensures { result ≡ spec.last_of lock }
 {
@@ -64,7 +64,7 @@ pub(crate) fn incref(lock: Lock) -> Result<LockOutcome, Refusal>
     Ok(answered(Answer::Yes, Lock { references, ..lock }))
 }
 
-/// Adds a reference, closes, and owes a release to each waiter (Go's `increfAndClose`).
+/// Adds a reference, closes the lock, and owes a release to each waiter (Go's `increfAndClose`).
 pub(crate) fn incref_close(lock: Lock) -> Result<LockOutcome, Refusal>
     ensures { result ≡ spec.incref_close lock }
 {
@@ -84,7 +84,7 @@ pub(crate) fn incref_close(lock: Lock) -> Result<LockOutcome, Refusal>
     })
 }
 
-/// Gives a reference up (Go's `decref`).
+/// Releases a reference (Go's `decref`).
 pub(crate) fn decref(lock: Lock) -> Result<LockOutcome, Refusal>
     ensures { result ≡ spec.decref lock }
 {
@@ -98,7 +98,7 @@ pub(crate) fn decref(lock: Lock) -> Result<LockOutcome, Refusal>
     Ok(answered(last_of(left), left))
 }
 
-/// Takes the lock of a side with a reference, or waits for it (Go's `rwlock`).
+/// Locks a side and adds a reference, or adds a waiter (Go's `rwlock`).
 pub(crate) fn rw_lock(side: Side, lock: Lock) -> Result<LockOutcome, Refusal>
     ensures { result ≡ spec.rw_lock side lock }
 {
@@ -122,7 +122,7 @@ pub(crate) fn rw_lock(side: Side, lock: Lock) -> Result<LockOutcome, Refusal>
     ))
 }
 
-/// Gives the lock of a side up with its reference, and owes a waiter of that side a release (Go's
+/// Unlocks a side and releases its reference, and owes a release to one waiter of that side, if it has any (Go's
 /// `rwunlock`).
 pub(crate) fn rw_unlock(side: Side, lock: Lock) -> Result<LockOutcome, Refusal>
     ensures { result ≡ spec.rw_unlock side lock }

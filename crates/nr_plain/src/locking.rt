@@ -16,7 +16,7 @@ use crate::world::PlainWorld;
 use nr_rev::{Answer, LockOutcome, Refusal, Side, Sides, Status};
 
 impl PlainWorld {
-    /// The plan of `incref`.
+    /// Returns the plan of `incref`.
     pub(crate) fn incref<'a>(&self, goroutine: u32, socket: u32) -> Result<Plan<'a>, Refusal>
         ensures { Plans (steps.Incref goroutine socket) self.now result }
     {
@@ -26,7 +26,7 @@ impl PlainWorld {
         Ok(left_lock(goroutine, Status::Idle, socket, left))
     }
 
-    /// The plan of `increfclose`.
+    /// Returns the plan of `increfclose`.
     pub(crate) fn increfclose<'a>(&self, goroutine: u32, socket: u32) -> Result<Plan<'a>, Refusal>
         ensures { Plans (steps.IncrefClose goroutine socket) self.now result }
     {
@@ -37,7 +37,7 @@ impl PlainWorld {
         Ok(left_lock(goroutine, status, socket, left))
     }
 
-    /// The plan of `decref`.
+    /// Returns the plan of `decref`.
     pub(crate) fn decref<'a>(&self, goroutine: u32, socket: u32) -> Result<Plan<'a>, Refusal>
         ensures { Plans (steps.Decref goroutine socket) self.now result }
     {
@@ -47,7 +47,7 @@ impl PlainWorld {
         Ok(left_lock(goroutine, Status::Idle, socket, left))
     }
 
-    /// The plan of `rwlock`.
+    /// Returns the plan of `rwlock`.
     pub(crate) fn rwlock<'a>(
         &self,
         goroutine: u32,
@@ -66,7 +66,7 @@ impl PlainWorld {
         Ok(left_lock(goroutine, status, socket, left))
     }
 
-    /// The plan of `rwunlock`.
+    /// Returns the plan of `rwunlock`.
     pub(crate) fn rwunlock<'a>(
         &self,
         goroutine: u32,
@@ -83,7 +83,7 @@ impl PlainWorld {
     }
 }
 
-/// The lock is left so, and the goroutine has this status.
+/// Returns the plan that sets the lock to this result and the goroutine to this status.
 fn left_lock<'a>(goroutine: u32, status: Status, socket: u32, left: LockOutcome) -> Plan<'a>
     ensures answer { result.answer ≡ left.answer }
     ensures edits { result.edits.items

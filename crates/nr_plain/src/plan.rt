@@ -1,4 +1,4 @@
-//! What a step comes to.
+//! The plan of a step.
 
 ghost use Rattle.std.specs.Prelude.{◌≡◌, ◌<◌, ◌∷◌, ◌++◌, [], length};
 
@@ -6,7 +6,7 @@ use crate::edit::{Edit, Undo};
 use arrayvec::ArrayVec;
 use nr_rev::Answer;
 
-/// The most changes that a step is made of.
+/// The maximum number of changes in a step.
 pub(crate) const MOST_EDITS: usize = 5;
 
 /// An answer, and the changes to make for it, in order.
@@ -29,7 +29,7 @@ impl Default for Undo {
 }
 
 impl<'a> Plan<'a> {
-    /// An answer with nothing to change.
+    /// Returns a plan with this answer and no changes.
     pub(crate) fn new(answer: Answer) -> Plan<'a>
         ensures answer { result.answer ≡ answer }
         ensures edits { result.edits.items ≡ [] }
@@ -40,7 +40,7 @@ impl<'a> Plan<'a> {
         }
     }
 
-    /// One change more.
+    /// Returns the plan with one more change.
     pub(crate) fn then(mut self, edit: Edit<'a>) -> Plan<'a>
         requires { length self.edits.items < MOST_EDITS }
         ensures answer { result.answer ≡ self.entry.answer }

@@ -1,4 +1,4 @@
-//! What the plans of steps read of a world, with the reasons where it isn't there.
+//! What plans read of a world, and the reasons if it doesn't exist.
 
 ghost use Rattle.std.specs.Prelude.{◌≡◌, Some, None, MatchResult, slice_get};
 ghost use Rattle.nr_rev.specs.declared.refusal.Refusal.TheVariants.{NoSuchSocket};
@@ -10,7 +10,7 @@ use crate::world::PlainWorld;
 use nr_rev::{DescriptorRow, Refusal, Side, Status};
 
 impl PlainWorld {
-    /// The status of a goroutine that was made and isn't gone.
+    /// Returns the status of a goroutine that was made and hasn't ended.
     pub(crate) fn status_of(&self, goroutine: u32) -> Result<Status, Refusal>
         ensures { result ≡ step.status_of goroutine self.now }
     {
@@ -20,7 +20,7 @@ impl PlainWorld {
         }
     }
 
-    /// Whether a goroutine is idle.
+    /// Succeeds if a goroutine is idle, and otherwise returns the reason.
     pub(crate) fn idle(&self, goroutine: u32) -> Result<(), Refusal>
         ensures { result ≡ step.idle goroutine self.now }
     {
@@ -30,7 +30,7 @@ impl PlainWorld {
         }
     }
 
-    /// A socket that is opened.
+    /// Returns an open socket.
     pub(crate) fn socket_of(&self, socket: u32) -> Result<&PlainSocket, Refusal>
         ensures { MatchResult result
             (λ p. slice_get self.now.sockets socket ≡ Some p.now.socket)
@@ -39,7 +39,7 @@ impl PlainWorld {
         self.sockets.get(socket).ok_or(Refusal::NoSuchSocket)
     }
 
-    /// Whether a size is from 1 to the limit of buffers.
+    /// Succeeds if a size is from 1 to the limit of buffers, and otherwise returns the reason.
     pub(crate) fn sized(&self, size: u32) -> Result<(), Refusal>
         ensures { result ≡ step.sized size self.now }
     {
@@ -49,7 +49,7 @@ impl PlainWorld {
         Ok(())
     }
 
-    /// A descriptor that was made, with its timers.
+    /// Returns a descriptor that was made, with its timers.
     pub(crate) fn row_in(&self, descriptor: u32) -> Result<DescriptorRow, Refusal>
         ensures { result ≡ step.row_of descriptor self.now }
     {
@@ -58,7 +58,7 @@ impl PlainWorld {
             .ok_or(Refusal::NoSuchDescriptor)
     }
 
-    /// A descriptor that is open, with its timers.
+    /// Returns an open descriptor, with its timers.
     pub(crate) fn open_row_of(&self, descriptor: u32) -> Result<DescriptorRow, Refusal>
         ensures { result ≡ step.open_row_of descriptor self.now }
     {
@@ -68,14 +68,14 @@ impl PlainWorld {
         self.row_in(descriptor)
     }
 
-    /// Whether a descriptor is one of the free ones.
+    /// Returns whether a descriptor is free.
     pub(crate) fn is_free(&self, descriptor: u32) -> bool
         ensures { result ≡ is_free_number descriptor self.now.free }
     {
         self.free.as_slice().iter().any(|free| descriptor == *free)
     }
 
-    /// Whether a goroutine is inside a wait of the descriptor and side.
+    /// Returns whether a goroutine is inside a wait at the descriptor's side.
     pub(crate) fn is_waited(&self, descriptor: u32, side: Side) -> bool
         ensures { result ≡ is_waited descriptor side self.now.goroutines }
     {

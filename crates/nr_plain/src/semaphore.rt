@@ -1,6 +1,6 @@
-//! A semaphore as it is read: a count and a queue.
+//! The view of a semaphore: a count and a queue.
 
-/// A count, and the goroutines that wait, front first.
+/// A count, and the waiting goroutines, front first.
 #[derive(Clone, Copy)]
 pub(crate) struct PlainSemaphore<'a> {
     pub(crate) count: u32,

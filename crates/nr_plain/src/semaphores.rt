@@ -15,7 +15,7 @@ use crate::world::PlainWorld;
 use nr_rev::{Answer, Refusal, Side, Sides, Status};
 
 impl PlainWorld {
-    /// The plan of `acquire`.
+    /// Returns the plan of `acquire`.
     pub(crate) fn acquire<'a>(&self, goroutine: u32) -> Result<Plan<'a>, Refusal>
         requires { WellFormed self.now }
         ensures { Plans (steps.Acquire goroutine) self.now result }
@@ -41,7 +41,7 @@ impl PlainWorld {
         )
     }
 
-    /// The socket and side of one that acquires, whose queue has room.
+    /// Returns the socket and side whose semaphore the goroutine acquires, if the queue has room.
     fn acquiring(&self, goroutine: u32) -> Result<(u32, Side), Refusal>
         requires { WellFormed self.now }
         ensures place { result ≡ acquiring_by goroutine self.now }
@@ -53,7 +53,7 @@ impl PlainWorld {
         acquiring_of(status)
     }
 
-    /// The plan of `release`.
+    /// Returns the plan of `release`.
     pub(crate) fn release<'a>(&self, goroutine: u32) -> Result<Plan<'a>, Refusal>
         ensures { Plans (steps.Release goroutine) self.now result }
     {
@@ -84,7 +84,7 @@ impl PlainWorld {
     }
 }
 
-/// The socket and side of one that acquires.
+/// Returns the socket and side whose semaphore a goroutine with this status acquires.
 fn acquiring_of(status: Status) -> Result<(u32, Side), Refusal>
     ensures { result ≡ step.acquiring_of status }
 {
@@ -94,7 +94,7 @@ fn acquiring_of(status: Status) -> Result<(u32, Side), Refusal>
     }
 }
 
-/// The socket and the releases that one owes.
+/// Returns the socket and the releases that a goroutine with this status owes.
 fn owing_of(status: Status) -> Result<(u32, Sides<u32>), Refusal>
     ensures { result ≡ step.owing_of status }
 {

@@ -1,4 +1,4 @@
-//! A socket: a lock, two semaphores, two buffers and two marks, with room that was made at once.
+//! A socket: a lock, two semaphores, two buffers and two marks, with memory that is allocated once.
 
 ghost use Rattle.std.specs.Prelude.{◌≡◌, ◌≤◌, [], length, IfOk};
 ghost use Rattle.nr_rev.specs.Sides.{of_side, twice};
@@ -17,7 +17,7 @@ use nr_rev::{Lock, Memory, RoomedList, Side, Sides};
 use std::alloc::Global;
 use std::marker::Model;
 
-/// What a socket has beside its queues and its bytes.
+/// The state of a socket besides its queues and its bytes.
 #[derive(Clone, Copy)]
 pub(crate) struct SocketState {
     pub(crate) lock: Lock,
@@ -28,7 +28,7 @@ pub(crate) struct SocketState {
 }
 
 impl SocketState {
-    /// That of a new socket with buffers of these capacities.
+    /// Returns the state of a new socket with buffers of these capacities.
     pub(crate) fn new(read_capacity: u32, write_capacity: u32) -> SocketState
         ensures { socket_with result (twice []) (twice [])
             ≡ new_socket read_capacity write_capacity }
@@ -69,7 +69,8 @@ impl Model for PlainSocket {
 }
 
 impl PlainSocket {
-    /// A new one with buffers of no capacity, and room for this many goroutines and bytes.
+    /// Makes a new socket with buffers of no capacity, and room for this many goroutines and bytes. Fails with `Memory`
+    /// if memory runs out.
     pub(crate) fn with_room(
         alloc: Global,
         queue_room: usize,
@@ -90,7 +91,7 @@ impl PlainSocket {
         })
     }
 
-    /// An equal one, in room of its own.
+    /// Returns an equal socket, in memory of its own. Fails with `Memory` if memory runs out.
     pub(crate) fn try_copy(&self, alloc: Global) -> Result<PlainSocket, Memory>
         ensures { IfOk result (λ p. p ≡ self.now) }
     {
@@ -103,7 +104,7 @@ impl PlainSocket {
         })
     }
 
-    /// Becomes an equal one of another with as much room. It takes no memory.
+    /// Makes this socket equal to another with the same room. Allocates no memory.
     pub(crate) fn copy_from(&mut self, other: &PlainSocket)
         requires queues { self.old.queue_room ≡ other.now.queue_room }
         requires buffers { self.old.byte_room ≡ other.now.byte_room }
@@ -116,7 +117,7 @@ impl PlainSocket {
         self.output.copy_from(&other.output);
     }
 
-    /// Makes it a new one with buffers of these capacities.
+    /// Resets this to a new socket with buffers of these capacities.
     pub(crate) fn renew(&mut self, read_capacity: u32, write_capacity: u32)
         ensures { self.new ≡ record self.old {
           socket = new_socket read_capacity write_capacity;
@@ -129,14 +130,14 @@ impl PlainSocket {
         self.output.truncate(0);
     }
 
-    /// What it has beside its queues and its bytes.
+    /// Returns the state besides queues and bytes.
     pub(crate) fn state(&self) -> SocketState
         ensures { result ≡ state_of self.now.socket }
     {
         self.state
     }
 
-    /// The semaphore of a side.
+    /// Returns the semaphore of a side.
     pub(crate) fn semaphore(&self, side: Side) -> PlainSemaphore<'_>
         ensures viewed { semaphore_view result ≡ of_side side self.now.socket.semaphores }
         ensures short { length result.queue.now ≤ self.now.queue_room }
@@ -151,7 +152,7 @@ impl PlainSocket {
         }
     }
 
-    /// The buffer of a side: reading, the input.
+    /// Returns the buffer of a side; the read side's is the input.
     pub(crate) fn buffer(&self, side: Side) -> PlainBuffer<'_>
         ensures viewed { buffer_view result ≡ of_side side self.now.socket.buffers }
         ensures short { length result.bytes.now ≤ self.now.byte_room }

@@ -1,4 +1,4 @@
-//! The primitive changes of a socket, and what undoes each.
+//! The primitive changes of a socket, and their undos.
 
 use nr_rev::{KeptBytes, Lock, Side};
 
@@ -9,30 +9,30 @@ pub(crate) enum SocketEdit<'a> {
     Lock(Lock),
     /// Sets a semaphore's count.
     Count { side: Side, count: u32 },
-    /// Puts a goroutine at the back of a semaphore's queue.
+    /// Appends a goroutine to a semaphore's queue.
     Enqueue { side: Side, goroutine: u32 },
-    /// Raises a semaphore's count, and lets the front of its queue go.
+    /// Increases a semaphore's count, and removes the front of its queue.
     Release { side: Side },
     /// Appends bytes to a buffer.
     Append { side: Side, bytes: &'a [u8] },
-    /// Marks that the peer closed.
+    /// Marks the peer as closed.
     ClosePeer,
-    /// Marks whether the write side is shut.
+    /// Sets whether the write side is shut.
     Shut(bool),
 }
 
-/// What undoes a change of a socket.
+/// The undo of a change of a socket.
 #[derive(Drop)]
 pub enum SocketUndo {
     Lock(Lock),
     Count { side: Side, count: u32 },
-    /// The back of the queue leaves it.
+    /// Removes the back of the queue.
     LeaveQueue { side: Side },
-    /// The count falls, and what was at the front of the queue is there again.
+    /// Decreases the count, and puts the former front back into the queue.
     Requeue { side: Side, front: Option<u32> },
-    /// The buffer has so many bytes.
+    /// Keeps only so many bytes in the buffer.
     Cut { side: Side, len: usize },
-    /// The bytes are at the front of the buffer again.
+    /// Puts the bytes back at the front of the buffer.
     Restore { side: Side, bytes: KeptBytes },
     OpenPeer,
     Shut(bool),

@@ -13,7 +13,7 @@ use crate::socket_edit::{SocketEdit, SocketUndo};
 use nr_rev::{Lock, Side};
 
 impl PlainSocket {
-    /// Makes the change, and returns what undoes it.
+    /// Makes the change, and returns its undo.
     pub(crate) fn edit(&mut self, edit: SocketEdit) -> SocketUndo
         requires { CanEditSocket self.old.queue_room self.old.byte_room edit self.old.socket }
         ensures { Edits edit.entry result self.old self.new }
@@ -98,7 +98,7 @@ impl PlainSocket {
         SocketUndo::Cut { side, len }
     }
 
-    /// So many bytes leave the front of a buffer.
+    /// Removes so many bytes from the front of a buffer.
     pub(crate) fn lose(&mut self, side: Side, count: usize)
         ensures after { self.new ≡ record self.old {
           socket = on_bytes side (λ held. drop count held) self.old.socket;

@@ -1,4 +1,4 @@
-//! The sockets of a world, in room that was made at once.
+//! The sockets of a world, in memory that is allocated once.
 
 ghost use Rattle.std.specs.Prelude.{◌≡◌, ◌-◌, ◌<◌, ◌∷◌, ◌++◌, ◌≤◌, [], drop, length, option_map, slice_get, take, IfOk, IfSome};
 ghost use Rattle.nr_rev.specs.Sides.{of_side};
@@ -13,7 +13,7 @@ use nr_rev::{Memory, Side};
 use std::alloc::Global;
 use std::marker::Model;
 
-/// The sockets opened so far, and behind them those that may be opened yet.
+/// The open sockets, followed by those that can still be opened.
 #[derive(Drop)]
 pub(crate) struct Sockets {
     all: Vec<PlainSocket>,
@@ -35,7 +35,8 @@ impl Model for Sockets {
 }
 
 impl Sockets {
-    /// None opened, with room for this many, and in each for this many goroutines and bytes.
+    /// Makes a table without open sockets, with room for this many, and for this many goroutines and bytes in each.
+    /// Fails with `Memory` if memory runs out.
     pub(crate) fn with_room(
         alloc: Global,
         room: u32,
@@ -61,7 +62,7 @@ impl Sockets {
         })
     }
 
-    /// An equal one, in room of its own.
+    /// Returns an equal table, in memory of its own. Fails with `Memory` if memory runs out.
     pub(crate) fn try_copy(&self, alloc: Global) -> Result<Sockets, Memory>
         ensures { IfOk result (λ s. s ≡ self.now) }
     {
@@ -77,7 +78,7 @@ impl Sockets {
         })
     }
 
-    /// Becomes an equal one of another with as much room. It takes no memory.
+    /// Makes this table equal to another with the same room. Allocates no memory.
     pub(crate) fn copy_from(&mut self, other: &Sockets)
         requires room { self.old.room ≡ other.now.room }
         requires queues { self.old.queue_room ≡ other.now.queue_room }
@@ -90,14 +91,14 @@ impl Sockets {
         self.opened = other.opened;
     }
 
-    /// How many are opened.
+    /// Returns the number of open sockets.
     pub(crate) fn len(&self) -> usize
         ensures { result ≡ length self.now.sockets }
     {
         self.opened
     }
 
-    /// A socket, if it is opened.
+    /// Returns a socket, if it is open.
     pub(crate) fn get(&self, socket: u32) -> Option<&PlainSocket>
         ensures viewed { option_map (λ p. p.now.socket) result ≡ slice_get self.now.sockets socket }
         ensures room { IfSome result (λ p. HasRoom self.now.queue_room self.now.byte_room p.now) }
@@ -116,7 +117,7 @@ impl Sockets {
         self.opened += 1;
     }
 
-    /// Takes the opening of the last one back.
+    /// Undoes the opening of the last socket.
     pub(crate) fn close_last(&mut self)
         ensures { self.new ≡ record self.old {
           sockets = take (length self.old.sockets - 1) self.old.sockets;
@@ -125,7 +126,7 @@ impl Sockets {
         self.opened = self.opened.saturating_sub(1);
     }
 
-    /// Changes a socket, if it is opened, and returns what undoes the change.
+    /// Changes a socket, if it is open, and returns the undo of the change.
     pub(crate) fn edit(&mut self, socket: u32, edit: SocketEdit) -> SocketUndo
         requires { IfSome (slice_get self.old.sockets socket)
             (CanEditSocket self.old.queue_room self.old.byte_room edit) }
@@ -152,7 +153,7 @@ impl Sockets {
         }
     }
 
-    /// So many bytes leave the front of a socket's buffer, if it is opened.
+    /// Removes so many bytes from the front of a socket's buffer, if it is open.
     pub(crate) fn lose(&mut self, socket: u32, side: Side, count: usize)
         ensures after { self.new ≡ record self.old {
           sockets = with_changed socket

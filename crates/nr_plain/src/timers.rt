@@ -1,4 +1,4 @@
-//! The steps of the clock and of timers: time goes on, a timer that is due goes off, a firing is run.
+//! The steps of the clock and of timers: advancing the time, popping a timer that is due, and running a firing.
 
 ghost use Rattle.std.specs.Prelude.{◌≡◌, ◌^◌, ◌<◌, ◌++◌, List, length};
 ghost use Rattle.nr_rev.specs.declared.step.Step.TheVariants as steps;
@@ -14,7 +14,7 @@ use crate::world::PlainWorld;
 use nr_rev::{Answer, DescriptorRow, Entry, Refusal, Side, Timer};
 
 impl PlainWorld {
-    /// The plan of `tick`.
+    /// Returns the plan of `tick`.
     pub(crate) fn tick<'a>(&self, time: i64) -> Result<Plan<'a>, Refusal>
         ensures { Plans (steps.Tick time) self.now result }
     {
@@ -24,7 +24,7 @@ impl PlainWorld {
         Ok(Plan::new(Answer::Done).then(Edit::Clock { time }))
     }
 
-    /// The plan of `pop`.
+    /// Returns the plan of `pop`.
     pub(crate) fn pop<'a>(&self) -> Result<Plan<'a>, Refusal>
         ensures { Plans steps.Pop self.now result }
     {
@@ -48,7 +48,7 @@ impl PlainWorld {
         )
     }
 
-    /// The plan of `fire`.
+    /// Returns the plan of `fire`.
     pub(crate) fn fire<'a>(&self, place: u32) -> Result<Plan<'a>, Refusal>
         ensures { Plans (steps.Fire place) self.now result }
     {
@@ -70,7 +70,7 @@ impl PlainWorld {
         }
     }
 
-    /// The entry that is due before all others.
+    /// Returns the entry that is due before all others.
     pub(crate) fn least_entry(&self) -> Option<Entry>
         ensures { result ≡ world.least_entry self.now }
     {
@@ -78,7 +78,7 @@ impl PlainWorld {
     }
 }
 
-/// The least entry of these rows, the first of which is descriptor 0.
+/// Returns the least entry of these rows, the first of which is descriptor 0.
 fn least_of_rows(rows: &[DescriptorRow]) -> Option<Entry>
     requires { length rows.now < 2 ^ 32 }
     ensures { result ≡ least_of (world.entries_of rows.now) }
@@ -94,7 +94,7 @@ fn least_of_rows(rows: &[DescriptorRow]) -> Option<Entry>
     least
 }
 
-/// The earlier of a timer, if there is one, and an entry.
+/// Returns the earlier of a timer, if there is one, and an entry.
 fn earlier(descriptor: u32, side: Side, timer: Option<Timer>, least: Option<Entry>) -> Option<Entry>
     ensures { (entries : List Entry) → least ≡ least_of entries
         → result ≡ least_of (entry_of descriptor side timer ++ entries) }

@@ -1,4 +1,4 @@
-//! The steps that open sockets, and move bytes into their buffers and out of them.
+//! The steps that open sockets, and move bytes into and out of their buffers.
 
 ghost use Rattle.std.specs.Prelude.{◌≡◌, ◌+◌, ◌/◌, ◌^◌, ◌<◌, ◌≤◌, true, IfOk, OnErr, length, min, take};
 ghost use Rattle.nr_rev.specs.declared.step.Step.TheVariants as steps;
@@ -21,7 +21,7 @@ use nr_rev::{Answer, Bytes, Keeper, KeptBytes, Memory, Refusal, Side};
 use std::alloc::Global;
 
 impl PlainWorld {
-    /// The plan of `sockopen`.
+    /// Returns the plan of `sockopen`.
     pub(crate) fn sockopen<'a>(
         &self,
         read_capacity: u32,
@@ -41,7 +41,7 @@ impl PlainWorld {
         }))
     }
 
-    /// The plan of `arrive`.
+    /// Returns the plan of `arrive`.
     #[tactic(auto, using(crate::proofs::BufferLemmas::capacity_within))]
     pub(crate) fn arrive<'a>(&self, socket: u32, bytes: &'a Bytes) -> Result<Plan<'a>, Refusal>
         requires { WellFormed self.now }
@@ -64,7 +64,7 @@ impl PlainWorld {
         Ok(Plan::new(Answer::Done).then(Edit::Socket { socket, edit }))
     }
 
-    /// The plan of `peerclose`.
+    /// Returns the plan of `peerclose`.
     pub(crate) fn peerclose<'a>(&self, socket: u32) -> Result<Plan<'a>, Refusal>
         ensures { Plans (steps.PeerClose socket) self.now result }
     {
@@ -76,7 +76,7 @@ impl PlainWorld {
         Ok(Plan::new(Answer::Done).then(Edit::Socket { socket, edit }))
     }
 
-    /// The plan of `syswrite`.
+    /// Returns the plan of `syswrite`.
     #[tactic(auto, using(crate::proofs::BufferLemmas::written_fits))]
     pub(crate) fn syswrite<'a>(
         &self,
@@ -102,7 +102,7 @@ impl PlainWorld {
         Ok(Plan::new(answer).then(Edit::Socket { socket, edit }))
     }
 
-    /// The plan of `closewrite`.
+    /// Returns the plan of `closewrite`.
     pub(crate) fn closewrite<'a>(&self, goroutine: u32, socket: u32) -> Result<Plan<'a>, Refusal>
         ensures { Plans (steps.CloseWrite goroutine socket) self.now result }
     {
@@ -113,9 +113,10 @@ impl PlainWorld {
     }
 }
 
-/// The steps by which bytes leave a buffer. They alone take memory, for a copy of these bytes, and none where no way back is kept.
+/// The steps that remove bytes from a buffer. Only these allocate memory, for a copy of the bytes, and none if no undo
+/// is kept.
 impl PlainWorld {
-    /// Makes a `sysread`, and puts the way back over it.
+    /// Applies a `sysread`, and stores its undo.
     pub(crate) fn sysread<K: Keeper<PlainDelta>>(
         &mut self,
         goroutine: u32,
@@ -137,7 +138,7 @@ impl PlainWorld {
         Ok(answer)
     }
 
-    /// Makes a `drain`, and puts the way back over it.
+    /// Applies a `drain`, and stores its undo.
     pub(crate) fn drain<K: Keeper<PlainDelta>>(
         &mut self,
         socket: u32,
@@ -160,7 +161,7 @@ impl PlainWorld {
         Ok(Answer::Done)
     }
 
-    /// So many bytes leave the front of a socket's buffer. These bytes lead back, where they are kept.
+    /// Removes so many bytes from the front of a socket's buffer, and stores the undo with these bytes, if it is kept.
     fn take<K: Keeper<PlainDelta>>(
         &mut self,
         socket: u32,
@@ -180,7 +181,8 @@ impl PlainWorld {
     }
 }
 
-/// A copy of so many bytes at the front, where the way back is kept. Else nobody reads it, and it is empty.
+/// Returns a copy of so many bytes at the front if an undo is kept; otherwise returns an empty copy, which isn't read.
+/// Fails with `Memory` if memory runs out.
 fn kept_front<K: Keeper<PlainDelta>>(
     alloc: Global,
     bytes: &[u8],
@@ -197,7 +199,7 @@ fn kept_front<K: Keeper<PlainDelta>>(
     }
 }
 
-/// The answer of `sysread` that got so many bytes.
+/// Returns the answer of a `sysread` that got so many bytes.
 fn read_answer(count: u32, peer_closed: bool) -> Answer
     ensures { result ≡ step.read_answer count peer_closed }
 {
@@ -210,7 +212,7 @@ fn read_answer(count: u32, peer_closed: bool) -> Answer
     }
 }
 
-/// The bytes that there is room for: none where the write side is shut.
+/// Returns the bytes for which there is room, or none if the write side is shut.
 fn writable<'a>(shut: bool, buffer: PlainBuffer, bytes: &'a [u8]) -> &'a [u8]
     ensures bytes { result.now
         ≡ take (min (output_room shut (buffer_view buffer.entry)) (length bytes.now)) bytes.now }
@@ -223,7 +225,7 @@ fn writable<'a>(shut: bool, buffer: PlainBuffer, bytes: &'a [u8]) -> &'a [u8]
     &bytes[..count]
 }
 
-/// The answer of `syswrite` that put so many bytes.
+/// Returns the answer of a `syswrite` that put so many bytes.
 fn write_answer(count: u32, shut: bool) -> Answer
     ensures { result ≡ step.write_answer count shut }
 {

@@ -1,5 +1,5 @@
-//! The steps of a wait for a descriptor's side: Go's `poll_runtime_pollReset`, `poll_runtime_pollWait`,
-//! `netpollblock` and `netpollblockcommit`.
+//! The steps of a wait at a descriptor's side: Go's `poll_runtime_pollReset`, `poll_runtime_pollWait`, `netpollblock`
+//! and `netpollblockcommit`.
 
 ghost use Rattle.std.specs.Prelude.{◌≡◌, ◌+◌, ◌∷◌, []};
 ghost use Rattle.nr_rev.specs.declared.step.Step.TheVariants as steps;
@@ -15,7 +15,7 @@ use crate::world::PlainWorld;
 use nr_rev::{Answer, DescriptorRow, Refusal, Side, Status, WaitWord};
 
 impl PlainWorld {
-    /// The plan of `pollreset`.
+    /// Returns the plan of `pollreset`.
     pub(crate) fn pollreset<'a>(
         &self,
         goroutine: u32,
@@ -37,7 +37,7 @@ impl PlainWorld {
         Ok(Plan::new(Answer::Code(code)).then(Edit::Row { descriptor, row }))
     }
 
-    /// The plan of `waitbegin`.
+    /// Returns the plan of `waitbegin`.
     pub(crate) fn waitbegin<'a>(
         &self,
         goroutine: u32,
@@ -59,7 +59,7 @@ impl PlainWorld {
         Ok(Plan::new(Answer::Code(code)).then(Edit::Status { goroutine, status }))
     }
 
-    /// The plan of `blockarm`.
+    /// Returns the plan of `blockarm`.
     pub(crate) fn blockarm<'a>(&self, goroutine: u32) -> Result<Plan<'a>, Refusal>
         ensures { Plans (steps.BlockArm goroutine) self.now result }
     {
@@ -86,7 +86,7 @@ impl PlainWorld {
         ))
     }
 
-    /// The plan of `blockcheck`.
+    /// Returns the plan of `blockcheck`.
     pub(crate) fn blockcheck<'a>(&self, goroutine: u32) -> Result<Plan<'a>, Refusal>
         ensures { Plans (steps.BlockCheck goroutine) self.now result }
     {
@@ -104,7 +104,7 @@ impl PlainWorld {
         Ok(Plan::new(Answer::Code(code)).then(Edit::Status { goroutine, status }))
     }
 
-    /// The plan of `parkcommit`.
+    /// Returns the plan of `parkcommit`.
     pub(crate) fn parkcommit<'a>(&self, goroutine: u32) -> Result<Plan<'a>, Refusal>
         requires { WellFormed self.now }
         ensures { Plans (steps.ParkCommit goroutine) self.now result }
@@ -129,8 +129,8 @@ impl PlainWorld {
         }
     }
 
-    /// The count of waiters with one more. A well-formed world has at most two for each descriptor, so `min` changes nothing:
-    /// it is there so that the sum is seen to fit.
+    /// Returns the count of waiters plus one. A well-formed world has at most two waiters per descriptor, so `min`
+    /// changes nothing; it makes clear that the sum fits.
     #[tactic(auto, using(nr_laws::proofs::WaitersLemmas::waiters_within))]
     fn one_waiter_more(&self) -> u64
         requires { WellFormed self.now }
@@ -140,7 +140,7 @@ impl PlainWorld {
         self.waiters.min(most) + 1
     }
 
-    /// The plan of `blockswap`.
+    /// Returns the plan of `blockswap`.
     pub(crate) fn blockswap<'a>(&self, goroutine: u32) -> Result<Plan<'a>, Refusal>
         ensures { Plans (steps.BlockSwap goroutine) self.now result }
     {
@@ -162,7 +162,7 @@ impl PlainWorld {
         ))
     }
 
-    /// The plan of `waitcheck`.
+    /// Returns the plan of `waitcheck`.
     pub(crate) fn waitcheck<'a>(&self, goroutine: u32) -> Result<Plan<'a>, Refusal>
         ensures { Plans (steps.WaitCheck goroutine) self.now result }
     {
@@ -181,7 +181,7 @@ impl PlainWorld {
     }
 }
 
-/// The row with another word at a side.
+/// Returns the row with another word at a side.
 fn reworded(row: DescriptorRow, side: Side, word: WaitWord) -> DescriptorRow
     ensures { result ≡ record row { descriptor = spec.with_wait_word side word row.descriptor } }
 {
@@ -191,7 +191,7 @@ fn reworded(row: DescriptorRow, side: Side, word: WaitWord) -> DescriptorRow
     }
 }
 
-/// The descriptor is set, and the goroutine goes on.
+/// Returns the plan that sets the descriptor and the goroutine's next status.
 fn moved<'a>(
     answer: Answer,
     goroutine: u32,

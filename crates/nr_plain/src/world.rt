@@ -5,7 +5,7 @@ use nr_rev::{DescriptorRow, Entry, Limits, RoomedList, Status};
 use std::alloc::Global;
 use std::marker::Model;
 
-/// A world over lists, all room of which is made at once.
+/// A world over lists, whose memory is allocated once.
 #[derive(Drop)]
 pub struct PlainWorld {
     pub(crate) alloc: Global,

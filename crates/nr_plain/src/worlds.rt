@@ -1,4 +1,4 @@
-//! The world over lists as a world.
+//! `Worlds` for the world over lists.
 
 ghost use Rattle.std.specs.Prelude.{◌≡◌, ◌<◌, length, IfOk, OnErr};
 
@@ -14,7 +14,7 @@ use nr_rev::{
 use std::alloc::Global;
 use std::mem;
 
-/// A copy of the items. Of none it takes no memory.
+/// Returns a copy of the items. Allocates no memory if there are none. Fails with `Memory` if memory runs out.
 fn copy_of<T: Copy + Drop>(alloc: Global, items: &[T]) -> Result<Vec<T>, Memory>
     ensures ok { IfOk result (λ copy. copy.items ≡ items.now) }
     ensures some { OnErr result (0 < length items.now) }
@@ -28,7 +28,7 @@ fn copy_of<T: Copy + Drop>(alloc: Global, items: &[T]) -> Result<Vec<T>, Memory>
 impl Worlds for PlainWorld {
     ghost use Rattle.nr_plain.specs.Worlds.{meant, steps_are, reasons_are, memory_is_for_bytes, bytes_out_are, means_well_formed};
 
-    /// This world is for tests alone: it keeps its room.
+    /// This world is only for tests: a snapshot is a whole world.
     type Snapshot = PlainWorld;
 
     ghost world = { meant };
