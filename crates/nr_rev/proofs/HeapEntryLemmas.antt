@@ -1,4 +1,4 @@
--- Heap entries: the least one is among them, and an entry among a side's is of its timer.
+-- Heap entries: the least one is among them, and the entry of a side has its timer.
 use Rattle.std.proofs.Common.{◌≡◌, ℕ, Bool, true, false, Some, None, ap, refl, sym, ◌∙◌, List, [], ◌∷◌, ◌++◌, Option, ◌⊎◌, inl, inr}
 use Rattle.std.proofs.lemmas.Option.{same_Some}
 use Rattle.std.specs.Prelude.{if◌then◌else◌}
@@ -7,7 +7,7 @@ use Rattle.nr_rev.specs.declared.timer.Timer.{Timer}
 use Rattle.nr_rev.specs.declared.timer.Entry.{Entry}
 use Rattle.nr_rev.specs.Timer.{earlier_of, entry_of, is_before, least_of}
 
--- an entry is among others
+-- true if an entry is among others
 abbrev pub In : Entry → List Entry → Type 0
 In e [] = ⊥
 In e (x ∷ xs) = (x ≡ e) ⊎ In e xs
@@ -30,7 +30,7 @@ least_in (x ∷ es) e is = go (least_of es) refl (same_Some _ _ is) (λ at. leas
         by true p = inr (among (at ∙ ap Some p))
         by false p = inl p
 
--- an entry made of a side's timer is that timer's
+-- an entry made from a side's timer has that timer
 pub entry_in : (d : ℕ) (side : Side) (o : Option Timer) (e : Entry) → In e (entry_of d side o) → (o ≡ Some e.timer) × (e.descriptor ≡ d) × (e.side ≡ side)
 entry_in d side None e p = absurd p
 entry_in d side (Some timer) e (inl p) = (ap (λ (x : Entry). Some x.timer) p, sym (ap (λ (x : Entry). x.descriptor) p), sym (ap (λ (x : Entry). x.side) p))

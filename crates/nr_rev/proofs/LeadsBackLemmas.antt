@@ -4,7 +4,7 @@ use Rattle.std.proofs.lemmas.List.{take_more}
 use Rattle.nr_rev.specs.Transaction.{Applied, LeadsBack, FirstRefused}
 
 module _ {State Delta : Type 0} (back : Delta → State → State → Type 0) where
-  -- one delta more leads back over one step more
+  -- one more delta leads back over one more step
   pub LeadsBack-push : (deltas : List Delta) (delta : Delta) (new mid old : State) → LeadsBack back deltas mid old → back delta new mid → LeadsBack back (deltas ++ delta ∷ []) new old
   LeadsBack-push [] delta new mid old rest last = (new, refl, subst (λ s. back delta new s) rest last)
   LeadsBack-push (first ∷ deltas) delta new mid old rest last =
@@ -18,7 +18,7 @@ module _ {State Delta : Type 0} (back : Delta → State → State → Type 0) wh
       (rest.0, rest.1, (h.0, rest.2, h.2))
 
 module _ {State Op Answer Delta : Type 0} (steps : State → Op → Answer → State → Type 0) (back : Delta → State → State → Type 0) (light : Op → Answer → Delta → Type 0) where
-  -- one operation more
+  -- one more operation
   pub Applied-push : (ops : List Op) (deltas : List Delta) (op : Op) (delta : Delta) (answer : Answer) (old mid new : State) → Applied steps back light old ops deltas mid → steps mid op answer new
       → back delta new mid → light op answer delta → Applied steps back light old (ops ++ op ∷ []) (deltas ++ delta ∷ []) new
   Applied-push [] deltas op delta answer old mid new h step last weighs =
@@ -26,22 +26,22 @@ module _ {State Op Answer Delta : Type 0} (steps : State → Op → Answer → S
   Applied-push (o ∷ ops) deltas op delta answer old mid new h step last weighs =
       (h.0, h.1, h.2, h.3 ++ delta ∷ [], ap (λ ds. ds ++ delta ∷ []) h.4, h.5, h.6, h.7, Applied-push ops h.3 op delta answer h.1 mid new h.8 step last weighs)
 
-  -- there is a delta for each operation
+  -- each operation has a delta
   pub length-Applied : (ops : List Op) (deltas : List Delta) (old new : State) → Applied steps back light old ops deltas new → length deltas ≡ length ops
   length-Applied [] deltas old new h = ap length h.0
   length-Applied (o ∷ ops) deltas old new h = ap length h.4 ∙ ap suc (length-Applied ops h.3 h.1 new h.8)
 
-  -- the deltas of what was applied lead back
+  -- the deltas of the applied operations lead back
   pub LeadsBack-Applied : (ops : List Op) (deltas : List Delta) (old new : State) → Applied steps back light old ops deltas new → LeadsBack back deltas new old
   LeadsBack-Applied [] deltas old new h = subst (λ ds. LeadsBack back ds new old) (sym h.0) h.1
   LeadsBack-Applied (o ∷ ops) deltas old new h =
       subst (λ ds. LeadsBack back ds new old) (sym h.4) (h.1, LeadsBack-Applied ops h.3 h.1 new h.8, h.6)
 
-  -- and from a state that was left unchanged
+  -- the deltas also lead back from a state that was left unchanged
   pub LeadsBack-unchanged : (ops : List Op) (deltas : List Delta) (old mid new : State) → Applied steps back light old ops deltas mid → new ≡ mid → LeadsBack back deltas new old
   LeadsBack-unchanged ops deltas old mid new h same = subst (λ s. LeadsBack back deltas s old) (sym same) (LeadsBack-Applied ops deltas old mid h)
 
-  -- what is refused after operations that apply is the first refusal of them all
+  -- a refusal after operations that apply is the first refusal of them all
   pub FirstRefused-after : {Reason : Type 0} (refuses : State → Op → Reason → Type 0) (ops : List Op) (deltas : List Delta) (rest : List Op) (reason : Reason) (old mid : State)
       → Applied steps back light old ops deltas mid → FirstRefused steps refuses mid rest reason → FirstRefused steps refuses old (ops ++ rest) reason
   FirstRefused-after refuses [] deltas rest reason old mid run h = subst (λ s. FirstRefused steps refuses s rest reason) run.1 h
@@ -49,7 +49,7 @@ module _ {State Op Answer Delta : Type 0} (steps : State → Op → Answer → S
       inr (run.0, run.1, run.5, FirstRefused-after refuses ops run.3 rest reason run.1 mid run.8 h)
 
 module _ {State Delta : Type 0} (back : Delta → State → State → Type 0) where
-  -- undoing the last delta leaves what the rest leads back from
+  -- undoing the last delta leaves the state from which the others lead back
   pub LeadsBack-undone : (unique : (delta : Delta) (new a b : State) → back delta new a → back delta new b → a ≡ b) → (deltas rest : List Delta) (delta : Delta) (new mid old : State)
       → deltas ≡ rest ++ delta ∷ [] → back delta new mid → LeadsBack back deltas new old → LeadsBack back rest mid old
   LeadsBack-undone unique deltas rest delta new mid old last undone h =
@@ -66,7 +66,7 @@ module _ {X : Type 0} where
   append-next xs i x within read =
       ap (λ y. take i xs ++ (y ∷ drop (suc i) xs)) read ∙ ap (λ ys. take i xs ++ ys) (sym (drop-cons xs i x within)) ∙ take-append-drop i xs
 
--- deltas lead back to one state, where each of them does
+-- deltas lead back to one state if each of them does
 pub LeadsBack-unique : {State Delta : Type 0} (back : Delta → State → State → Type 0) → ((delta : Delta) (new a b : State) → back delta new a → back delta new b → a ≡ b)
     → (deltas : List Delta) (new a b : State) → LeadsBack back deltas new a → LeadsBack back deltas new b → a ≡ b
 LeadsBack-unique back unique [] new a b p q = sym p ∙ q

@@ -1,4 +1,4 @@
--- What is found by its name or its number has it: kinds and cells.
+-- Kinds and cells that are found by a name or a number have that name or number.
 use Rattle.std.proofs.Common.{◌≡◌, ◌-◌, slice_get, slice_index_or, ℕ, Bool, true, false, cond, List, [], ◌∷◌, Option, Some, None, find, bytes_eq, nat_eq, ap, sym, subst, refl}
 use Rattle.std.specs.Prelude.{filter, length, map}
 use Rattle.std.proofs.lemmas.Bool.{eqb-true, eq-eqb}
@@ -18,7 +18,7 @@ found_passes {X} test (y ∷ ys) x e =
 pub found_named : {X : Type 0} (name : X → List ℕ) (xs : List X) (text : List ℕ) (x : X) → find (λ y. bytes_eq (name y) text) xs ≡ Some x → text ≡ name x
 found_named name xs text x e = sym ((bytes_eq-Decides (name x) text).0 (found_passes _ xs x e))
 
--- what is found is such as they all are
+-- a property of all items is one of the found item
 pub found_such : {X : Type 0} (P : X → Type 0) (test : X → Bool) (xs : List X) (x : X) → AllByRecursion P xs → find test xs ≡ Some x → P x
 found_such P test [] x all e = cc
 found_such {X} P test (y ∷ ys) x all e =
@@ -28,7 +28,7 @@ found_such {X} P test (y ∷ ys) x all e =
 pub found_numbered : {X : Type 0} (number : X → ℕ) (xs : List X) (n : ℕ) (x : X) → find (λ y. nat_eq (number y) n) xs ≡ Some x → n ≡ number x
 found_numbered number xs n x e = sym (eqb-true (number x) n (found_passes _ xs x e))
 
--- a cell that is found among those of an index has that index
+-- a cell found among those of an index has that index
 pub found_at : (test : Cell → Bool) (index : Option ℕ) (cell : Cell) → find test (cells_at index) ≡ Some cell → index ≡ cell_index cell
 found_at test index cell e = found_such (λ c. index ≡ cell_index c) test (cells_at index) cell (indexed index) e
   where
@@ -36,7 +36,7 @@ found_at test index cell e = found_such (λ c. index ≡ cell_index c) test (cel
     indexed None = (refl, (refl, (refl, (refl, (refl, tt)))))
     indexed (Some i) = (refl, (refl, (refl, (refl, (refl, (refl, (refl, (refl, (refl, (refl, (refl, (refl, (refl, (refl, (refl, tt)))))))))))))))
 
--- what is found by a name is found among those whose names have its length
+-- an item found by its name is found among the items whose names have its length
 pub found_by_length : {X : Type 0} (name : X → List ℕ) (text : List ℕ) (xs : List X) → find (λ x. bytes_eq (name x) text) (filter (λ x. nat_eq (length (name x)) (length text)) xs) ≡ find (λ x. bytes_eq (name x) text) xs
 found_by_length name text [] = refl
 found_by_length {X} name text (x ∷ xs) =
@@ -57,7 +57,7 @@ pub kind_again : (kind : Kind) → kind_named (kind_name kind) ≡ Some kind
 kind_again Kind.Spawn = refl
 kind_again _ = refl
 
--- so is its number
+-- a kind's number is read as that kind
 pub kind_counted : (kind : Kind) → kind_numbered (kind_number kind) ≡ Some kind
 kind_counted Kind.Spawn = refl
 kind_counted _ = refl

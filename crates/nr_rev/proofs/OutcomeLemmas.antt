@@ -1,4 +1,5 @@
--- What a part of a step comes to in a well-formed world: what holds of its value, and for which reasons it may be refused.
+-- The parts of a step in a well-formed world: the properties of their values, and the reasons for which they may be
+-- refused.
 use Rattle.std.specs.Prelude.{◌+◌, ◌-◌, ◌^◌, nat_lt, if◌then◌else◌}
 use Rattle.std.proofs.Common.{◌≡◌, ℕ, ◌<◌, Bool, true, false, Option, Some, None, Result, Ok, Err, refl, sym, ap, subst, ◌∙◌, arith}
 use Rattle.nr_rev.specs.declared.answer.Answer.{Answer}
@@ -14,22 +15,22 @@ use Rattle.nr_rev.specs.Step.{Outcome}
 use Rattle.nr_rev.proofs.NumberLemmas.{below_of}
 use Rattle.nr_rev.proofs.SideLemmas.{each_side}
 
--- the reasons that no well-formed world gives: out of memory is none, and no descriptor contradicts itself
+-- the reasons that no well-formed world gives: running out of memory, and a descriptor that contradicts itself
 abbrev pub is_never_given : Refusal → Bool
 is_never_given Refusal.CorruptedDescriptor = true
 is_never_given (Refusal.Memory _) = true
 is_never_given _ = false
 
--- this holds of its value, or it is refused for a reason that a well-formed world may give
+-- true if the value has this property, or the reason is one that a well-formed world may give
 pub record Ends {A : Type 0} (P : A → Type 0) (m : Result A Refusal) : Type 0 where
   pub value : (a : A) → m ≡ Ok a → P a
   pub given : (reason : Refusal) → m ≡ Err reason → is_never_given reason ≡ false
 
--- a step leaves a world well formed, under a premise
+-- true if a step leaves a world well formed, under a premise
 abbrev pub KeepsFor : Type 0 → Outcome → Type 0
 KeepsFor T o = Ends (λ (left : Answer × World). T → WellFormed left.1) o
 
--- the same, under none
+-- true if a step leaves a world well formed
 abbrev pub Keeps : Outcome → Type 0
 Keeps o = Ends (λ (left : Answer × World). WellFormed left.1) o
 
@@ -45,7 +46,7 @@ Ends-ok {P = P} p = record { value = λ b e. subst P (same_ok _ b e) p; given = 
 pub Ends-refused : {A : Type 0} {P : A → Type 0} {reason : Refusal} → is_never_given reason ≡ false → Ends P (Err reason)
 Ends-refused {A = A} given = record { value = λ a e. cc; given = λ r e. ap is_never_given (sym (same_err {A = A} _ r e)) ∙ given }
 
--- less may be said of the value
+-- a weaker property of the value
 pub Ends-map : {A : Type 0} {P Q : A → Type 0} {m : Result A Refusal} → Ends P m → ((a : A) → P a → Q a) → Ends Q m
 Ends-map first less = record { value = λ a e. less a (first.value a e); given = first.given }
 
@@ -69,7 +70,7 @@ pub Ends-refused_unless : (test : Bool) (reason : Refusal) → is_never_given re
 Ends-refused_unless true reason given = Ends-ok refl
 Ends-refused_unless false reason given = Ends-refused given
 
--- a test that holds refuses nothing
+-- a test that holds doesn't refuse
 pub Ends-certain : (test : Bool) (reason : Refusal) → test ≡ true → Ends (λ _. Unit {0}) (refused_unless test reason)
 Ends-certain true reason so = Ends-ok tt
 Ends-certain false reason so = cc
@@ -78,7 +79,7 @@ pub Ends-found_or : {A : Type 0} (o : Option A) (reason : Refusal) → is_never_
 Ends-found_or (Some a) reason given = Ends-ok refl
 Ends-found_or None reason given = Ends-refused given
 
--- a sequence that was raised
+-- true if a sequence was incremented
 abbrev pub Raised : ℕ → ℕ → Type 0
 Raised n m = (m ≡ n + 1) × (m < 2 ^ 64)
 
@@ -87,7 +88,7 @@ Ends-raised_sequence n =
     Ends-then (Ends-refused_unless (nat_lt n (2 ^ 64 - 1)) _ refl) λ below.
     Ends-ok (let b = below_of n (2 ^ 64 - 1) below in (refl, omega arith))
 
--- both sides' sequences
+-- true if both sides' sequences were incremented
 abbrev pub BothRaised : Sides ℕ → Sides ℕ → Type 0
 BothRaised old new = (side : Side) → Raised (of_side side old) (of_side side new)
 
@@ -97,7 +98,7 @@ Ends-both_raised sequences =
     Ends-bind (Ends-raised_sequence sequences.write) λ write write_raised.
     Ends-ok (each_side _ read_raised write_raised)
 
--- what goes well in one way has the same parts
+-- equal results have equal parts
 pub same_parts : {A B : Type 0} (a c : A) (b d : B) → ◌≡◌ {A = Result (A × B) Refusal} (Ok (a, b)) (Ok (c, d)) → (a ≡ c) × (b ≡ d)
 same_parts {A} {B} a c b d e =
     let pairs : ◌≡◌ {A = A × B} (a, b) (c, d) = cc in

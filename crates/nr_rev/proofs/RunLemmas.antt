@@ -11,14 +11,14 @@ use Rattle.nr_rev.specs.World.{empty_world, World}
 use Rattle.nr_rev.specs.declared.step.Step.{Step}
 use Rattle.nr_rev.specs.declared.answer.Answer.{Answer}
 
--- the first n steps apply
+-- true if the first n steps apply
 pub record IsGoodTo (r : Recording) (n : ℕ) : Type 0 where
   pub each : (k : ℕ) (step : Step) → k < n → slice_get r.steps k ≡ Some step → IsOk (outcome (world_at r k) step)
 
 below-next : (k n : ℕ) → k < n + 1 → (k < n) ⊎ (k ≡ n)
 below-next k n h = grind arith
 
--- what is among the first n is there
+-- an item among the first n is in the list
 slice_get-take : {X : Type 0} (xs : List X) (n k : ℕ) (x : X) → slice_get (take n xs) k ≡ Some x → (k < n) × (slice_get xs k ≡ Some x)
 slice_get-take [] zero k x e = cc
 slice_get-take [] (suc n) k x e = cc
@@ -28,7 +28,7 @@ slice_get-take (y ∷ xs) (suc n) (suc k) x e =
     let rest = slice_get-take xs n k x e in
     (omega (arith, rest.0), rest.1)
 
--- where the step after n applies, that of the same number does
+-- if the step after n applies, the step with the same number does
 same-place : (r : Recording) (n k : ℕ) (step : Step) → AppliesAt r n → k ≡ n → slice_get r.steps k ≡ Some step → IsOk (outcome (world_at r k) step)
 same-place r n k step here same read =
     let both : Some here.step ≡ Some step = sym here.next ∙ ap (slice_get r.steps) (sym same) ∙ read in
@@ -73,7 +73,7 @@ world_at-next : (r : Recording) (n : ℕ) (step : Step) (answer : Answer) (next 
 world_at-next r n step answer next read applies =
     ap (world_after _) (take-next r.steps n step read) ∙ world_after-push _ (take n r.steps) step ∙ ap (next_of (world_at r n)) applies
 
--- so does a state that is there
+-- so does a state that represents the position
 pub IsWorldAt-next : {State : Type 0} (is_well_formed : State → Type 0) (world : State → World) (r : Recording) (n : ℕ) (step : Step) (answer : Answer) (state next : State)
     → IsWorldAt is_well_formed world r n state → slice_get r.steps n ≡ Some step → outcome (world state) step ≡ Ok (answer, world next) → is_well_formed next
     → IsWorldAt is_well_formed world r (n + 1) next

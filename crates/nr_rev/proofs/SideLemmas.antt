@@ -1,11 +1,11 @@
--- What holds of reading and of writing holds of both sides; what is at a side after one is set.
+-- Properties of both sides, and the values of a pair after one is set.
 use Rattle.std.proofs.Common.{◌≡◌, ◌≢◌, ◌⊎◌, inl, inr, refl}
 use Rattle.nr_rev.specs.declared.sides.Side.{Side}
 use Rattle.nr_rev.specs.declared.sides.Side.TheVariants.{Read, Write}
 use Rattle.nr_rev.specs.declared.sides.Sides.{Sides}
 use Rattle.nr_rev.specs.Sides.{of_side, with_side, twice}
 
--- what holds of reading and of writing holds of a side
+-- a property of reading and of writing is one of each side
 pub each_side : (P : Side → Type 0) → P Read → P Write → (side : Side) → P side
 each_side P read write Read = read
 each_side P read write Write = write
@@ -29,7 +29,7 @@ of_side-with_side_other Write Write new both apart = absurd (apart refl)
 pub of_side-twice : {A : Type 0} (side : Side) (a : A) → of_side side (twice a) ≡ a
 of_side-twice side a = each_side (λ s. of_side s (twice a) ≡ a) refl refl side
 
--- what holds of both and of a new one holds with the new one at a side
+-- a property of both values and of a new one holds after the new one is set at a side
 pub with_side_all : {A : Type 0} (P : A → Type 0) (side : Side) (new : A) (both : Sides A) → P new → ((s : Side) → P (of_side s both)) → (s : Side) → P (of_side s (with_side side new both))
 with_side_all P Read new both p all = each_side _ p (all Write)
 with_side_all P Write new both p all = each_side _ (all Read) p

@@ -1,4 +1,4 @@
--- Which aspect of a world a cell shows, and which aspects a kind of step may change.
+-- The aspect of a world that a cell shows, and the aspects that a kind of step may change.
 use Rattle.std.specs.Prelude.{Bool, List, [], ◌∷◌}
 use Rattle.std.specs.List.{list_any}
 use Rattle.nr_rev.specs.declared.cell.Cell.{Cell}
@@ -7,7 +7,7 @@ use Rattle.nr_rev.specs.declared.aspect.Aspect.{Aspect}
 use Rattle.nr_rev.specs.declared.aspect.Aspect.TheVariants.{Clock, Waiters, Timers, Firings, Goroutines, Locks, Semaphores, Inputs, Outputs, ShutMarks, WaitWords, Deadlines, Sequences, Tags, Summaries}
 use Rattle.nr_rev.specs.contracts.aspect.AspectPartialEq.TheImpl as aspect_eq
 
--- what `==` says of two aspects
+-- `==` of two aspects
 abbrev pub same_aspect : Aspect → Aspect → Bool
 same_aspect = (aspect_eq.ghosts).eq
 
@@ -69,10 +69,10 @@ changed_aspects Kind.Pop = Timers ∷ Firings ∷ []
 changed_aspects Kind.Fire = Goroutines ∷ WaitWords ∷ Waiters ∷ Deadlines ∷ Summaries ∷ Firings ∷ []
 changed_aspects Kind.CloseWrite = ShutMarks ∷ []
 
--- whether an aspect is one of these
+-- true if an aspect is one of these
 abbrev pub is_among : List Aspect → Aspect → Bool
 is_among aspects aspect = list_any (λ one. same_aspect one aspect) aspects
 
--- whether a step of this kind may change the cell: it may change the aspect that the cell shows
+-- true if a step of this kind may change the cell: it may change the aspect that the cell shows
 abbrev pub can_change : Kind → Cell → Bool
 can_change kind cell = is_among (changed_aspects kind) (aspect_of cell)

@@ -1,4 +1,4 @@
--- What can be read of a world: its cells, its buffers' bytes and its queues.
+-- The readable parts of a world: its cells, the bytes of its buffers, and its queues.
 use Rattle.std.specs.Prelude.{ℕ, Bool, List, length, slice_get, Option, Some, None, option_map}
 use Rattle.nr_rev.specs.declared.sides.Side.{Side}
 use Rattle.nr_rev.specs.declared.cell.Cell.{Cell}
@@ -12,25 +12,25 @@ use Rattle.nr_rev.specs.Descriptor.{summary}
 use Rattle.nr_rev.specs.Socket.{Socket}
 use Rattle.nr_rev.specs.World.{World, entries_of, least_entry}
 
--- what `==` says of two values of cells
+-- `==` of two values of cells
 abbrev pub same_value : CellValue → CellValue → Bool
 same_value = (value_eq.ghosts).eq
 
--- the value, absent where there is none
+-- the value, or absent if there is none
 abbrev pub value_or_absent : {A : Type 0} → (A → CellValue) → Option A → CellValue
 value_or_absent value None = Absent
 value_or_absent value (Some a) = value a
 
--- what a cell of socket s shows; absent where s was not opened
+-- the value of a cell of socket s, or absent if s was not opened
 abbrev pub socket_value : ℕ → World → (Socket → CellValue) → CellValue
 socket_value s w value = value_or_absent value (slice_get w.sockets s)
 
--- a free descriptor's cells have values too
+-- the value of a cell of descriptor d; a free descriptor's cells have values too
 abbrev pub descriptor_value : ℕ → World → (Descriptor → CellValue) → CellValue
 descriptor_value d w value =
     value_or_absent (λ row. value row.descriptor) (slice_get w.descriptors d)
 
--- what a cell shows in a world: the counts, times, words and numbers that a debugger prints
+-- the value of a cell in a world: the counts, times, words and numbers that a debugger prints
 abbrev pub cell : World → Cell → CellValue
 cell w Cell.Clock = Time w.clock
 cell w Cell.Waiters = Number w.waiters
@@ -53,7 +53,7 @@ cell w (Cell.DescriptorSequence d) = descriptor_value d w (λ x. Number x.fdseq)
 cell w (Cell.Info d) = descriptor_value d w (λ x. Number (summary x))
 cell w (Cell.Shut s) = socket_value s w (λ socket. Number (bit socket.shut))
 
--- the bytes that a socket's buffer holds: reading, the input
+-- the bytes in a socket's buffer: the input for the read side
 abbrev pub bytes_of : World → ℕ → Side → Option (List ℕ)
 bytes_of w s side =
     option_map (λ (socket : Socket). (of_side side socket.buffers).bytes) (slice_get w.sockets s)

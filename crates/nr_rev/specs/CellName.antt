@@ -1,9 +1,9 @@
--- How cells are spelled, and read.
+-- The names and numbers of cells.
 use Rattle.std.specs.Prelude.{ℕ, ◌==◌, List, [], ◌∷◌, Option, Some, None, find, codes}
 use Rattle.std.specs.Str.{bytes_eq}
 use Rattle.nr_rev.specs.declared.cell.Cell.{Cell}
 
--- how a cell is spelled: its name, and the number of its goroutine, socket or descriptor
+-- the spelling of a cell: its name, and the number of its goroutine, socket or descriptor
 abbrev pub spelled : Cell → List ℕ × Option ℕ
 spelled Cell.Clock = (codes "clock", None)
 spelled Cell.Waiters = (codes "waiters", None)
@@ -26,7 +26,7 @@ spelled (Cell.DescriptorSequence i) = (codes "fdseq", Some i)
 spelled (Cell.Info i) = (codes "info", Some i)
 spelled (Cell.Shut i) = (codes "shut", Some i)
 
--- how a cell is spelled, without a number
+-- the name of a cell, without a number
 abbrev pub cell_name : Cell → List ℕ
 cell_name cell = (spelled cell).0
 
@@ -55,11 +55,11 @@ cells_at (Some i) =
     Cell.Shut i ∷
     []
 
--- the cell that a name and a number, if there is one, spell
+-- the cell with this name, and with this number if it has one
 abbrev pub cell_named : List ℕ → Option ℕ → Option Cell
 cell_named name index = find (λ cell. bytes_eq (cell_name cell) name) (cells_at index)
 
--- the number of what a cell shows, whatever it shows it of
+-- the number of a cell's sort, which doesn't depend on its goroutine, socket or descriptor
 abbrev pub cell_number : Cell → ℕ
 cell_number Cell.Clock = 1
 cell_number Cell.Waiters = 2
@@ -82,6 +82,6 @@ cell_number (Cell.DescriptorSequence i) = 18
 cell_number (Cell.Info i) = 19
 cell_number (Cell.Shut i) = 20
 
--- the cell with this number, of what the index names if there is one
+-- the cell of the sort with this number, and with this index if it has one
 abbrev pub cell_numbered : ℕ → Option ℕ → Option Cell
 cell_numbered number index = find (λ cell. cell_number cell == number) (cells_at index)

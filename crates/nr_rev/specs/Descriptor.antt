@@ -17,8 +17,8 @@ use Rattle.nr_rev.specs.declared.timer.TimerOrder.{TimerOrder}
 use Rattle.nr_rev.specs.declared.timer.TimerOrder.TheVariants.{Arm, Stop}
 use Rattle.nr_rev.specs.declared.descriptor.Descriptor.{Descriptor}
 
--- a descriptor as it is made, before its first opening: words nil, no deadline, no timer running,
--- sequences and fdseq at 0
+-- a descriptor before its first opening: words nil, no deadline, no timer running, sequences and
+-- fdseq at 0
 abbrev pub never_opened : Descriptor
 never_opened =
     record {
@@ -32,37 +32,37 @@ never_opened =
       socket = 0;
     }
 
--- whether a time is after 0: as a deadline, it is to come
+-- true if a time is after 0: as a deadline, it is in the future
 abbrev pub is_positive : ℤ → Bool
 is_positive t = int_lt (pos 0) t
 
--- whether a time is before 0: as a deadline, it has passed
+-- true if a time is before 0: as a deadline, it has passed
 abbrev pub is_negative : ℤ → Bool
 is_negative t = int_lt t (pos 0)
 
--- whether the side's deadline has passed
+-- true if the side's deadline has passed
 abbrev pub is_expired : Side → Descriptor → Bool
 is_expired side d = is_negative (of_side side d.deadlines)
 
--- the first that holds of: closing, 1; the side's deadline expired, 2; an event error, for reading
--- only, 3; else 0
+-- the first of these that holds: closing, 1; the side's deadline expired, 2; an event error, for
+-- reading only, 3; or else 0
 abbrev pub check : Side → Descriptor → ℕ
 check side d =
     if d.closing then 1 else (if is_expired side d then 2
     else (if is_read side && d.event_error then 3 else 0))
 
--- `pollInfo`, as a number: 1 closing, 2 an event error, 4 the read deadline expired, 8 the write
--- deadline expired, added up
+-- `pollInfo` as a number, the sum of: 1 closing, 2 an event error, 4 the read deadline expired, 8
+-- the write deadline expired
 abbrev pub summary : Descriptor → ℕ
 summary d = bit d.closing + 2 * bit d.event_error + 4 * bit (is_expired Read d)
     + 8 * bit (is_expired Write d)
 
--- whether two truth values are the same
+-- true if two truth values are the same
 abbrev pub same_bool : Bool → Bool → Bool
 same_bool true b = b
 same_bool false b = not b
 
--- one deadline for both sides, and it is to come
+-- true if both sides have the same deadline, which is in the future
 abbrev pub is_combo : Descriptor → Bool
 is_combo d = is_positive d.deadlines.read && int_eq d.deadlines.read d.deadlines.write
 
@@ -70,24 +70,24 @@ is_combo d = is_positive d.deadlines.read && int_eq d.deadlines.read d.deadlines
 abbrev pub with_wait_word : Side → WaitWord → Descriptor → Descriptor
 with_wait_word side word d = record d { words = with_side side word d.words }
 
--- Unblock: the new word, and the goroutine that is woken
+-- unblock: the new word, and the goroutine to wake
 abbrev pub unblock : WaitWord → Bool → WaitWord × List ℕ
 unblock Ready ioready = (Ready, [])
 unblock Nil ioready = (if ioready then Ready else Nil, [])
 unblock Wait ioready = (if ioready then Ready else Nil, [])
 unblock (Held g) ioready = (if ioready then Ready else Nil, g ∷ [])
 
--- what an operation leaves: the descriptor, the orders to its timers, and the goroutines woken
+-- the result of an operation: the descriptor, the orders to its timers, and the goroutines to wake
 pub record Change : Type 0 where
   pub descriptor : Descriptor
   pub orders : List TimerOrder
   pub woken : List ℕ
 
--- the change that gives no orders and wakes nobody
+-- a change that gives no orders and wakes no goroutine
 abbrev pub quiet : Descriptor → Change
 quiet d = record { descriptor = d; orders = []; woken = [] }
 
--- one change after another
+-- one change, followed by another
 abbrev pub and_then : Change → (Descriptor → Change) → Change
 and_then first next =
     let second : Change = next first.descriptor in
@@ -97,25 +97,25 @@ and_then first next =
       woken = first.woken ++ second.woken;
     }
 
--- one change, and after it another where the test holds
+-- one change, followed by another if the test holds
 abbrev pub then_if : Change → Bool → (Descriptor → Change) → Change
 then_if first test next = if test then and_then first next else first
 
--- a side's word is unblocked
+-- unblocks a side's word
 abbrev pub unblocked : Bool → Side → Descriptor → Change
 unblocked ioready side d =
     let new : WaitWord × List ℕ = unblock (of_side side d.words) ioready in
     record { descriptor = with_wait_word side new.0 d; orders = []; woken = new.1 }
 
--- both sequences raised by one, reading first: reason 18 where one is at its last value
+-- both sequences plus one, reading first; reason 18 if one is at its maximum
 abbrev pub both_raised : Sides ℕ → Result (Sides ℕ) Refusal
 both_raised sequences = do
   read ← raised_sequence sequences.read
   write ← raised_sequence sequences.write
   Ok (record { read = read; write = write })
 
--- pollopen: the descriptor, opened for this socket. Words and deadlines are cleared, timers of
--- before go stale, and an fdseq of 0 becomes 1
+-- pollopen: the descriptor, opened for this socket. Words and deadlines are cleared, earlier timers
+-- become stale, and an fdseq of 0 becomes 1
 abbrev pub opened_for : ℕ → Descriptor → Result Descriptor Refusal
 opened_for socket d = do
   sequences ← both_raised d.sequences
@@ -129,13 +129,13 @@ opened_for socket d = do
     socket = socket;
   })
 
--- pollclose: the descriptor with its fdseq raised, so that events still under way are stale
+-- pollclose: the descriptor with its fdseq incremented, so that events on the way are stale
 abbrev pub closed : Descriptor → Result Descriptor Refusal
 closed d = do
   fdseq ← raised_sequence d.fdseq
   Ok (record d { fdseq = fdseq })
 
--- a deadline that is to come is counted from now; the greatest time replaces a later one
+-- a future deadline is counted from now; a sum beyond the greatest time becomes that time
 abbrev pub deadline_from : ℤ → ℤ → ℤ
 deadline_from clock t = if is_positive t then int_min (clock +ℤ t) (pos (2 ^ 63 - 1)) else t
 
@@ -150,17 +150,17 @@ with_deadlines mode t d =
           };
     }
 
--- what a side's timer runs when it fires: the read timer serves both sides under combo
+-- the function of a side's timer: under combo, the read timer serves both sides
 abbrev pub timer_function : Side → Descriptor → TimerFunction
 timer_function Read d = if is_combo d then TimerFunction.Both else TimerFunction.Read
 timer_function Write d = TimerFunction.Write
 
--- whether a side's deadline wants a timer of its own: one for writing isn't armed under combo
+-- true if a side's deadline needs a timer of its own: under combo, no write timer is armed
 abbrev pub wants_timer : Side → Descriptor → Bool
 wants_timer Read d = is_positive d.deadlines.read
 wants_timer Write d = is_positive d.deadlines.write && not (is_combo d)
 
--- armed at the deadline with the sequence, or stopped
+-- arms the timer at the deadline with the sequence, or stops it
 abbrev pub timer_reset : Side → Descriptor → Change
 timer_reset side d =
     record {
@@ -173,7 +173,7 @@ timer_reset side d =
       woken = [];
     }
 
--- a side's timer after the deadlines of `old` became those of d
+-- adjusts a side's timer after the deadlines of `old` became those of d
 abbrev pub timer_follows : Side → Descriptor → Descriptor → Result Change Refusal
 timer_follows side old d =
     if not (of_side side d.running) then Ok (if wants_timer side d then timer_reset side d
@@ -185,14 +185,14 @@ timer_follows side old d =
       sequence ← raised_sequence (of_side side d.sequences)
       Ok (timer_reset side (record d { sequences = with_side side sequence d.sequences }))))
 
--- the sides whose deadline is past are unblocked, reading first
+-- unblocks the sides whose deadline is past, reading first
 abbrev pub expired_unblocked : Change → Change
 expired_unblocked change =
     then_if (then_if change (is_expired Read change.descriptor) (unblocked false Read))
     (is_expired Write change.descriptor) (unblocked false Write)
 
--- setdeadline, for the time t from now: the deadlines are set, their timers follow, and a side
--- whose deadline has passed is unblocked. A closing descriptor stays as it is
+-- setdeadline, for the time t from now: sets the deadlines, adjusts their timers, and unblocks a
+-- side whose deadline has passed. A closing descriptor stays as it is
 abbrev pub change_by_deadline : ℤ → Mode → ℤ → Descriptor → Result Change Refusal
 change_by_deadline clock mode t old =
     if old.closing then Ok (quiet old) else (do
@@ -200,13 +200,13 @@ change_by_deadline clock mode t old =
       write ← timer_follows Write old read.descriptor
       Ok (expired_unblocked (and_then read (λ _. write))))
 
--- the order to stop a side's timer, where the test holds
+-- the order to stop a side's timer, if the test holds
 abbrev pub stop_if : Bool → Side → List TimerOrder
 stop_if true side = Stop side ∷ []
 stop_if false side = []
 
--- evict: the descriptor is closing, its sequences rise, its timers stop, and both sides are
--- unblocked, reading first
+-- evict: the descriptor is closing, its sequences are incremented, its timers stop, and both sides
+-- are unblocked, reading first
 abbrev pub change_by_evict : Descriptor → Result Change Refusal
 change_by_evict d = do
   refused_if d.closing Refusal.AlreadyClosing
@@ -218,23 +218,23 @@ change_by_evict d = do
   }
   Ok (and_then (and_then stopped (unblocked false Read)) (unblocked false Write))
 
--- the side's deadline passes, and the side is unblocked without readiness
+-- the side's deadline passes, and the side is unblocked without becoming ready
 abbrev pub expire : Side → Descriptor → Change
 expire side d =
     unblocked false side (record d { deadlines = with_side side (negsuc 0) d.deadlines })
 
--- whether a firing is the one that the descriptor waits for
+-- true if a firing is the one that the descriptor waits for
 abbrev pub is_current : TimerFunction → ℕ → Descriptor → Bool
 is_current function sequence d = sequence == of_side (side_of_function function) d.sequences
 
--- a side that fires has a deadline to come and a running timer, under `both` the read timer's
+-- true if a firing side has a future deadline and a running timer; under `both`, the read timer
 abbrev pub is_timed : TimerFunction → Descriptor → Bool
 is_timed TimerFunction.Read d = is_positive d.deadlines.read && d.running.read
 is_timed TimerFunction.Write d = is_positive d.deadlines.write && d.running.write
 is_timed TimerFunction.Both d =
     is_positive d.deadlines.read && d.running.read && is_positive d.deadlines.write
 
--- a current firing, None for a stale one
+-- the change of a current firing; None for a stale one
 abbrev pub change_by_firing : TimerFunction → ℕ → Descriptor → Result (Option Change) Refusal
 change_by_firing function sequence d =
     if not (is_current function sequence d) then Ok None else (do
@@ -242,7 +242,7 @@ change_by_firing function sequence d =
       Ok (Some (then_if (then_if (quiet d) (covers_side function Read) (expire Read))
           (covers_side function Write) (expire Write))))
 
--- pollevent: the event error is set as reported, and the sides that the mode names become ready,
+-- pollevent: sets the event error as reported, and makes the sides that the mode names ready,
 -- reading first
 abbrev pub change_by_event : Mode → Bool → Descriptor → Change
 change_by_event mode error d =

@@ -1,4 +1,4 @@
--- The kinds of steps: their names, their numbers, and which kind a step is of.
+-- The kinds of steps: their names, their numbers, and the kind of each step.
 use Rattle.std.specs.Prelude.{ℕ, ◌+◌, ◌==◌, Bool, List, [], ◌∷◌, map, Option, find, position, codes}
 use Rattle.std.specs.Option.{option_map_or}
 use Rattle.std.specs.Str.{bytes_eq}
@@ -6,11 +6,11 @@ use Rattle.nr_rev.specs.declared.kind.Kind.{Kind}
 use Rattle.nr_rev.specs.declared.step.Step.{Step}
 use Rattle.nr_rev.specs.contracts.kind.KindPartialEq.TheImpl as kind_eq
 
--- what `==` says of two kinds
+-- `==` of two kinds
 abbrev pub same_kind : Kind → Kind → Bool
 same_kind = (kind_eq.ghosts).eq
 
--- each kind and how it is spelled, in the order of their numbers
+-- each kind and its name, in the order of their numbers
 abbrev pub spelled_kinds : List (Kind × List ℕ)
 spelled_kinds =
     (Kind.Spawn, codes "spawn") ∷
@@ -46,7 +46,7 @@ spelled_kinds =
     (Kind.CloseWrite, codes "closewrite") ∷
     []
 
--- how a kind is spelled
+-- the name of a kind
 abbrev pub kind_name : Kind → List ℕ
 kind_name kind = option_map_or (λ row. row.1) (find (λ row. same_kind kind row.0) spelled_kinds) []
 
@@ -54,7 +54,7 @@ kind_name kind = option_map_or (λ row. row.1) (find (λ row. same_kind kind row
 abbrev pub kinds : List Kind
 kinds = map (λ row. row.0) spelled_kinds
 
--- the kind of this name
+-- the kind with this name
 abbrev pub kind_named : List ℕ → Option Kind
 kind_named name = find (λ kind. bytes_eq (kind_name kind) name) kinds
 
@@ -62,11 +62,11 @@ kind_named name = find (λ kind. bytes_eq (kind_name kind) name) kinds
 abbrev pub kind_number : Kind → ℕ
 kind_number kind = option_map_or (λ place. place + 1) (position (same_kind kind) kinds) 0
 
--- the kind of this number
+-- the kind with this number
 abbrev pub kind_numbered : ℕ → Option Kind
 kind_numbered number = find (λ kind. kind_number kind == number) kinds
 
--- the kind that a step is of
+-- the kind of a step
 abbrev pub kind_of : Step → Kind
 kind_of Step.Spawn = Kind.Spawn
 kind_of (Step.Exit a) = Kind.Exit

@@ -3,11 +3,11 @@ use Rattle.std.specs.Prelude.{ℕ, ◌<◌, ◌≤◌, Bool, ◌&&◌, nat_lt, n
 use Rattle.nr_rev.specs.declared.limits.TheConstants.{MOST_GOROUTINES, MOST_SOCKETS, MOST_DESCRIPTORS, MOST_BUFFER}
 use Rattle.nr_rev.specs.declared.limits.Limits.{Limits}
 
--- from 1 to the most that there may be
+-- true if a limit is from 1 to `most`
 abbrev pub is_limit : ℕ → ℕ → Bool
 is_limit most n = nat_lt 0 n && nat_le n most
 
--- each limit is in its range, as facts
+-- each limit is in its range, as a proposition
 pub record AreInRange (l : Limits) : Type 0 where
   pub goroutines : 0 < l.goroutines
   pub goroutines_most : l.goroutines ≤ MOST_GOROUTINES

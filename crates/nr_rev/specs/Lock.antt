@@ -8,7 +8,7 @@ use Rattle.nr_rev.specs.Refusing.{◌>>=◌, ◌>>◌, refused_if, refused_unles
 use Rattle.nr_rev.specs.declared.lock.Lock.{Lock}
 use Rattle.nr_rev.specs.declared.lock.LockOutcome.{LockOutcome}
 
--- the lock of a new socket: open, free, no references, nobody waits
+-- the lock of a new socket: open, free, without references and waiters
 abbrev pub open_lock : Lock
 open_lock = record { closed = false; locked = twice false; references = 0; waiters = twice 0 }
 
@@ -29,24 +29,24 @@ lock_number lock =
 abbrev pub answered : Answer → Lock → LockOutcome
 answered answer lock = record { answer = answer; owed = twice 0; lock = lock }
 
--- a field of 20 bits raised by one: reason 6 where it is full
+-- a field of 20 bits plus one; reason 6 if it is full
 abbrev pub raised_field : ℕ → Result ℕ Refusal
 raised_field n = do
   refused_unless (nat_lt n (2 ^ 20 - 1)) Refusal.FieldOverflow
   Ok (n + 1)
 
--- the answer where a reference was given up
+-- the answer of a dropped reference
 abbrev pub last_of : Lock → Answer
 last_of lock = if lock.closed && (lock.references == 0) then Answer.Last else Answer.NotLast
 
--- fdMutex.incref: one reference more, or No on a closed lock
+-- fdMutex.incref: takes a reference; answers No on a closed lock
 abbrev pub incref : Lock → Result LockOutcome Refusal
 incref lock =
     if lock.closed then Ok (answered Answer.No lock) else (do
       references ← raised_field lock.references
       Ok (answered Answer.Yes (record lock { references = references })))
 
--- one release is owed to each waiter of either side
+-- fdMutex.increfAndClose: owes one release to each waiter of either side
 abbrev pub incref_close : Lock → Result LockOutcome Refusal
 incref_close lock =
     if lock.closed then Ok (answered Answer.No lock) else (do
@@ -57,14 +57,14 @@ incref_close lock =
         lock = record lock { closed = true; references = references; waiters = twice 0 };
       }))
 
--- fdMutex.decref: one reference less: reason 7 where there is none
+-- fdMutex.decref: drops a reference; reason 7 if there is none
 abbrev pub decref : Lock → Result LockOutcome Refusal
 decref lock = do
   refused_if (lock.references == 0) Refusal.InconsistentLock
   let left : Lock = record lock { references = lock.references - 1 }
   Ok (answered (last_of left) left)
 
--- fdMutex.rwlock: takes the side where it is free, else joins its waiters; No on a closed lock
+-- fdMutex.rwlock: takes the side if it is free, or else joins its waiters; No on a closed lock
 abbrev pub rw_lock : Side → Lock → Result LockOutcome Refusal
 rw_lock side lock =
     if lock.closed then Ok (answered Answer.No lock)
@@ -76,7 +76,7 @@ rw_lock side lock =
       Ok (answered Answer.Yes
           (record lock { locked = with_side side true lock.locked; references = references }))))
 
--- one release of the side is owed where it had a waiter
+-- fdMutex.rwunlock: owes one release of the side if it had a waiter
 abbrev pub rw_unlock : Side → Lock → Result LockOutcome Refusal
 rw_unlock side lock = do
   refused_if (not (of_side side lock.locked) || (lock.references == 0)) Refusal.InconsistentLock

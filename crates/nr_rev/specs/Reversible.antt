@@ -1,10 +1,10 @@
--- What is said of a single operation that can be undone.
+-- Statements about a single operation that can be undone.
 use Rattle.std.specs.Prelude.{◌≡◌, ◌⊎◌, Option, Some, None}
 use Rattle.nr_rev.specs.declared.refusal.Refusal.{Refusal}
 use Rattle.nr_rev.specs.Refusing.{out_of_memory}
 
--- the refusal is the reason of the state; or there is none, and it is out of memory, at an
--- operation that takes some there
+-- true if the refusal is the state's reason; or if there is no reason, memory ran out, and the
+-- operation takes memory there
 abbrev pub Refuses : {State Op : Type 0} → (State → Op → Option Refusal) → (State → Op → Type 0)
     → State → Op → Refusal → Type 0
 Refuses reason takes_memory old op refusal = (reason old op ≡ Some refusal)

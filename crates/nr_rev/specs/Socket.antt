@@ -6,16 +6,16 @@ use Rattle.nr_rev.specs.declared.lock.Lock.{Lock}
 use Rattle.nr_rev.specs.Lock.{open_lock}
 use Rattle.nr_rev.specs.Semaphore.{Semaphore, new_semaphore}
 
--- the bytes that a buffer holds, the oldest first, and how many it has room for
+-- the bytes in a buffer, the oldest first, and the buffer's capacity
 pub record Buffer : Type 0 where
   pub bytes : List ℕ
   pub capacity : ℕ
 
--- how many bytes more a buffer takes
+-- the number of bytes that a buffer can still take
 abbrev pub room_of : Buffer → ℕ
 room_of buffer = buffer.capacity - length buffer.bytes
 
--- how many bytes more an output takes: none once the write side is shut
+-- the number of bytes that an output can still take: none once the write side is shut
 abbrev pub output_room : Bool → Buffer → ℕ
 output_room shut output = if shut then 0 else room_of output
 
@@ -24,12 +24,12 @@ output_room shut output = if shut then 0 else room_of output
 pub record Socket : Type 0 where
   pub lock : Lock
   pub semaphores : Sides Semaphore
-  -- the input is read, the output written
+  -- the input for reading, the output for writing
   pub buffers : Sides Buffer
   pub peer_closed : Bool
   pub shut : Bool
 
--- a socket as it is opened, with room for this many bytes to read and to write
+-- a newly opened socket, with these capacities for reading and writing
 abbrev pub new_socket : ℕ → ℕ → Socket
 new_socket read_capacity write_capacity =
     record {

@@ -1,4 +1,4 @@
--- The thirty-one steps. Each row tests its reasons in order, and then says the answer and the next
+-- The thirty-one steps. Each tests its reasons in order, and then gives the answer and the next
 -- world.
 use Rattle.std.specs.Prelude.{ℕ, ◌+◌, ◌-◌, ◌*◌, Bool, true, false, ◌&&◌, ◌||◌, not, ◌==◌, nat_lt, nat_le, min, ℤ, int_lt, int_le, if◌then◌else◌, List, [], ◌∷◌, ◌++◌, length, take, drop, remove, slice_get, slice_set, slice_index_or, Option, Some, None, Result, Ok, Err}
 use Rattle.nr_rev.specs.declared.sides.Side.{Side}
@@ -26,13 +26,13 @@ use Rattle.nr_rev.specs.Socket.{Socket, new_socket, room_of, output_room}
 use Rattle.nr_rev.specs.declared.descriptor.DescriptorRow.{DescriptorRow}
 use Rattle.nr_rev.specs.World.{World, is_free_number, least_entry, is_waited, with_status, with_socket, with_row, with_descriptor}
 
--- ---- what a step comes to, and the time that it carries
+-- ---- the outcome of a step, and the time in a step
 
--- the answer and the next world, or the reason why it doesn't apply
+-- the answer and the next world, or the reason why the step doesn't apply
 abbrev pub Outcome : Type 0
 Outcome = Result (Answer × World) Refusal
 
--- ---- what steps look up, and the reasons where it isn't there
+-- ---- lookups in a step, and the reasons if they fail
 
 -- reason 1: no such goroutine, or gone
 abbrev pub alive : Option Status → Result Status Refusal
@@ -40,36 +40,36 @@ alive None = Err NoSuchGoroutine
 alive (Some Gone) = Err NoSuchGoroutine
 alive (Some status) = Ok status
 
--- the status of goroutine g: reason 1 where there is no such goroutine, or it is gone
+-- the status of goroutine g; reason 1 if it doesn't exist or has ended
 abbrev pub status_of : ℕ → World → Result Status Refusal
 status_of g w = alive (slice_get w.goroutines g)
 
--- whether a goroutine is idle
+-- true if a goroutine is idle
 abbrev pub is_idle : Status → Bool
 is_idle Idle = true
 is_idle _ = false
 
--- reasons 1 and 2
+-- the goroutine is idle; reasons 1 and 2
 abbrev pub idle : ℕ → World → Result (Unit {0}) Refusal
 idle g w = do
   status ← status_of g w
   refused_unless (is_idle status) NotThere
 
--- reason 4: not opened
+-- socket s; reason 4 if it was not opened
 abbrev pub socket_of : ℕ → World → Result Socket Refusal
 socket_of s w = found_or (slice_get w.sockets s) NoSuchSocket
 
--- reason 5, where d was never opened
+-- the row of descriptor d; reason 5 if d was never opened
 abbrev pub row_of : ℕ → World → Result DescriptorRow Refusal
 row_of d w = found_or (slice_get w.descriptors d) NoSuchDescriptor
 
--- reason 5, where d isn't open
+-- the row of descriptor d; reason 5 if d isn't open
 abbrev pub open_row_of : ℕ → World → Result DescriptorRow Refusal
 open_row_of d w = do
   refused_if (is_free_number d w.free) NoSuchDescriptor
   row_of d w
 
--- reason 19: a size is from 1 to the recording's buffer limit
+-- a size is from 1 to the recording's buffer limit; reason 19
 abbrev pub sized : ℕ → World → Result (Unit {0}) Refusal
 sized n w = refused_unless (nat_lt 0 n && nat_le n w.limits.buffer) SizeOutOfRange
 
@@ -89,12 +89,12 @@ exit g w = do
 
 -- ---- locking
 
--- a goroutine that owes these releases, or nothing
+-- the status of a goroutine that owes these releases, or none
 abbrev pub owing : ℕ → Sides ℕ → Status
 owing s owed = if owed.read + owed.write == 0 then Idle else Owing s owed.read owed.write
 
--- after an operation on socket s's lock: its answer, the lock as it was left, and goroutine g's new
--- status
+-- the result of an operation on socket s's lock: its answer, and the world with the new lock and
+-- goroutine g's new status
 abbrev pub lock_left : ℕ → Status → ℕ → Socket → LockOutcome → World → Answer × World
 lock_left g status s socket left w =
     (left.answer, with_status g status (with_socket s (record socket { lock = left.lock }) w))
@@ -123,14 +123,14 @@ decref g s w = do
   left ← Lock.decref socket.lock
   Ok (lock_left g Idle s socket left w)
 
--- whether a goroutine may try the lock of a side of s: it is idle, or has the semaphore that it
--- waited for
+-- true if a goroutine may try the lock of a side of s: it is idle, or has acquired the semaphore
+-- that it waited for
 abbrev pub may_lock : ℕ → Side → Status → Bool
 may_lock s side Idle = true
 may_lock s side (Relock s' side') = (s == s') && same_side side side'
 may_lock s side _ = false
 
--- the status after a try of the lock: acquiring the semaphore where the answer is Wait, else idle
+-- the status after trying the lock: acquiring the semaphore if the answer is Wait, or else idle
 abbrev pub locker : ℕ → Side → Answer → Status
 locker s side Answer.Wait = Acquiring s side
 locker s side _ = Idle
@@ -159,12 +159,12 @@ abbrev pub with_semaphore : ℕ → Side → Socket → Semaphore → World → 
 with_semaphore s side socket semaphore w =
     with_socket s (record socket { semaphores = with_side side semaphore socket.semaphores }) w
 
--- reason 2, unless acquiring
+-- the semaphore that a goroutine is acquiring; reason 2 in other states
 abbrev pub acquiring_of : Status → Result (ℕ × Side) Refusal
 acquiring_of (Acquiring s side) = Ok (s, side)
 acquiring_of _ = Err NotThere
 
--- acquire: the semaphore is had, or the goroutine is queued
+-- acquire: the goroutine gets the semaphore, or is queued
 abbrev pub acquire : ℕ → World → Outcome
 acquire g w = do
   status ← status_of g w
@@ -175,17 +175,17 @@ acquire g w = do
   Ok (if is_free semaphore then (Yes, with_status g (Relock s side) next)
       else (Wait, with_status g (Queued s side) next))
 
--- reason 2, unless owing
+-- the releases that a goroutine owes; reason 2 in other states
 abbrev pub owing_of : Status → Result (ℕ × Sides ℕ) Refusal
 owing_of (Owing s reads writes) = Ok (s, record { read = reads; write = writes })
 owing_of _ = Err NotThere
 
--- the front of a queue that leaves it must try again
+-- a goroutine that leaves the front of a queue will try again
 abbrev pub tries_again : ℕ → Side → Option ℕ → World → World
 tries_again s side None w = w
 tries_again s side (Some g) w = with_status g (Acquiring s side) w
 
--- release: one release, of reading first
+-- release: one release, the read semaphore first
 abbrev pub release : ℕ → World → Outcome
 release g w = do
   status ← status_of g w
@@ -199,7 +199,7 @@ release g w = do
 
 -- ---- transfers
 
--- sockopen: a socket with room to read and to write
+-- sockopen: opens a socket with these capacities for reading and writing
 abbrev pub sockopen : ℕ → ℕ → World → Outcome
 sockopen rc wc w = do
   refused_unless (nat_lt (length w.sockets) w.limits.sockets) TableFull
@@ -215,7 +215,7 @@ with_buffer side bytes socket =
           socket.buffers;
     }
 
--- arrive: bytes come in
+-- arrive: bytes arrive
 abbrev pub arrive : ℕ → List ℕ → World → Outcome
 arrive s bytes w = do
   socket ← socket_of s w
@@ -231,8 +231,8 @@ peerclose s w = do
   refused_if socket.peer_closed PeerClosed
   Ok (Done, with_socket s (record socket { peer_closed = true }) w)
 
--- the answer of a read of k bytes: k where there are any, else end of file from a closed peer, else
--- try again
+-- the answer of a read of k bytes: k if there are any, or else end of file if the peer has closed,
+-- or else try again
 abbrev pub read_answer : ℕ → Bool → Answer
 read_answer k peer_closed = if nat_lt 0 k then Got k else (if peer_closed then Eof else Again)
 
@@ -248,8 +248,8 @@ sysread g s n w = do
     with_socket s (with_buffer Read (drop n input) socket) w,
   )
 
--- the answer of a write that puts k bytes: a broken pipe where the write side is shut, else k where
--- there are any, else try again
+-- the answer of a write that puts k bytes: a broken pipe if the write side is shut, or else k if
+-- there are any, or else try again
 abbrev pub write_answer : ℕ → Bool → Answer
 write_answer k shut = if shut then Pipe else (if nat_lt 0 k then Put k else Again)
 
@@ -265,7 +265,7 @@ syswrite g s bytes w = do
     with_socket s (with_buffer Write (socket.buffers.write.bytes ++ take k bytes) socket) w,
   )
 
--- drain: bytes go out
+-- drain: bytes are sent
 abbrev pub drain : ℕ → ℕ → World → Outcome
 drain s n w = do
   socket ← socket_of s w
@@ -273,7 +273,7 @@ drain s n w = do
   refused_if (nat_lt (length socket.buffers.write.bytes) n) TooFewBytes
   Ok (Done, with_socket s (with_buffer Write (drop n socket.buffers.write.bytes) socket) w)
 
--- closewrite: shutdown of the write side
+-- closewrite: shuts the write side
 abbrev pub closewrite : ℕ → ℕ → World → Outcome
 closewrite g s w = do
   idle g w
@@ -282,11 +282,11 @@ closewrite g s w = do
 
 -- ---- descriptors
 
--- the row of a descriptor that is made now: never opened, no timer armed
+-- the row of a new descriptor: never opened, no timer armed
 abbrev pub new_row : DescriptorRow
 new_row = record { descriptor = never_opened; timers = twice None }
 
--- the front of the free list, else the next new number
+-- the front of the free list, or else the next new number
 abbrev pub taken : List ℕ → World → Result (ℕ × World) Refusal
 taken (d ∷ free) w = Ok (d, record w { free = free })
 taken [] w = do
@@ -323,7 +323,7 @@ after_order (Arm side due function sequence) (timers, number) = do
   Ok (with_side side (Some timer) timers, next)
 after_order (Stop side) (timers, number) = Ok (with_side side None timers, number)
 
--- the same after several orders, in their order
+-- the timers and the next arming number after several orders
 abbrev pub after_orders : List TimerOrder → Sides (Option Timer) × ℕ
     → Result (Sides (Option Timer) × ℕ) Refusal
 after_orders [] before = Ok before
@@ -331,12 +331,12 @@ after_orders (order ∷ orders) before = do
   after ← after_order order before
   after_orders orders after
 
--- the status of a goroutine that is woken: one that was parked goes on to take up the word
+-- the status of a goroutine that is woken: a parked one goes on to consume the word
 abbrev pub after_wake : Status → Status
 after_wake (Parked d side) = Swapping d side
 after_wake status = status
 
--- a goroutine that a word held goes on
+-- wakes goroutines that words held
 abbrev pub after_wakes : List ℕ → World → World
 after_wakes [] w = w
 after_wakes (g ∷ gs) w =
@@ -393,37 +393,37 @@ waitbegin g d side w = do
   refused_if (code == 0 && is_waited d side w.goroutines) DoubleWait
   Ok (Code code, if code == 0 then with_status g (Entering d side) w else w)
 
--- the wait of a goroutine that is about to say that it waits: reason 2 elsewhere
+-- the wait of a goroutine that is about to announce that it waits; reason 2 in other states
 abbrev pub entering_of : Status → Result (ℕ × Side) Refusal
 entering_of (Entering d side) = Ok (d, side)
 entering_of _ = Err NotThere
 
--- the wait of a goroutine that is about to check once more: reason 2 elsewhere
+-- the wait of a goroutine that is about to check once more; reason 2 in other states
 abbrev pub armed_of : Status → Result (ℕ × Side) Refusal
 armed_of (Armed d side) = Ok (d, side)
 armed_of _ = Err NotThere
 
--- the wait of a goroutine that is about to commit and park: reason 2 elsewhere
+-- the wait of a goroutine that is about to commit and park; reason 2 in other states
 abbrev pub parking_of : Status → Result (ℕ × Side) Refusal
 parking_of (Parking d side) = Ok (d, side)
 parking_of _ = Err NotThere
 
--- the wait of a goroutine that is about to take up the word: reason 2 elsewhere
+-- the wait of a goroutine that is about to consume the word; reason 2 in other states
 abbrev pub swapping_of : Status → Result (ℕ × Side) Refusal
 swapping_of (Swapping d side) = Ok (d, side)
 swapping_of _ = Err NotThere
 
--- the wait of a goroutine that is about to check why it was woken: reason 2 elsewhere
+-- the wait of a goroutine that is about to check why it was woken; reason 2 in other states
 abbrev pub checking_of : Status → Result (ℕ × Side) Refusal
 checking_of (Checking d side) = Ok (d, side)
 checking_of _ = Err NotThere
 
--- the world with g's status and the side's word new
+-- the world with a new status of g and a new word of the side
 abbrev pub with_wait : ℕ → Status → ℕ → Side → WaitWord → DescriptorRow → World → World
 with_wait g status d side word row w =
     with_status g status (with_descriptor d row (with_wait_word side word row.descriptor) w)
 
--- blockarm, by the word that it finds: nil becomes wait; ready is taken up, and the wait ends with
+-- blockarm, by the word that it finds: nil becomes wait; ready is consumed, and the wait ends with
 -- code 0
 abbrev pub armed_by : ℕ → ℕ → Side → WaitWord → DescriptorRow → World → Outcome
 armed_by g d side WaitWord.Nil row w =
@@ -449,8 +449,8 @@ blockcheck g w = do
   let code : ℕ = check side row.descriptor
   Ok (Code code, with_status g (if code == 0 then Parking d side else Swapping d side) w)
 
--- parkcommit, by the word that it finds: wait becomes held by g, and g parks; at any other word g
--- goes on to take it up
+-- parkcommit, by the word that it finds: wait becomes held by g, and g parks; after any other word,
+-- g goes on to consume it
 abbrev pub committed_by : ℕ → ℕ → Side → WaitWord → DescriptorRow → World → Answer × World
 committed_by g d side WaitWord.Wait row w = (
   Yes,
@@ -467,13 +467,13 @@ parkcommit g w = do
   row ← row_of d w
   Ok (committed_by g d side (of_side side row.descriptor.words) row w)
 
--- blockswap, by the word that it takes up: ready ends the wait; after any other word g checks why
+-- blockswap, by the word that it consumes: ready ends the wait; after any other word, g checks why
 -- it was woken
 abbrev pub swapped_by : ℕ → ℕ → Side → WaitWord → DescriptorRow → World → Answer × World
 swapped_by g d side WaitWord.Ready row w = (Yes, with_wait g Idle d side WaitWord.Nil row w)
 swapped_by g d side _ row w = (No, with_wait g (Checking d side) d side WaitWord.Nil row w)
 
--- blockswap: netpollblock, the word is taken up
+-- blockswap: netpollblock, which consumes the word
 abbrev pub blockswap : ℕ → World → Outcome
 blockswap g w = do
   status ← status_of g w
@@ -503,13 +503,13 @@ setdeadline g d mode t w = do
 
 -- ---- timers
 
--- tick: the clock goes on
+-- tick: the clock advances
 abbrev pub tick : ℤ → World → Outcome
 tick t w = do
   refused_if (int_lt t w.clock) ClockGoesBack
   Ok (Done, record w { clock = t })
 
--- pop: the first timer that is due goes off
+-- pop: the first due timer goes off
 abbrev pub pop : World → Outcome
 pop w = do
   entry ← found_or (least_entry w) NoTimerDue
@@ -520,15 +520,15 @@ pop w = do
       with_row entry.descriptor (record row { timers = with_side entry.side None row.timers }) w
   Ok (Done, record next { firings = w.firings ++ entry ∷ [] })
 
--- what a firing, already taken off the list, does: a stale one nothing, any other the change of
--- descriptor d
+-- runs a firing that was taken off the list: a stale one does nothing, any other applies the change
+-- of descriptor d
 abbrev pub fired_with : ℕ → DescriptorRow → Option Change → World → Outcome
 fired_with d row None w = Ok (Stale, w)
 fired_with d row (Some change) w = do
   next ← after_change d row change w
   Ok (Done, next)
 
--- fire: a firing is run
+-- fire: runs a firing
 abbrev pub fire : ℕ → World → Outcome
 fire i w = do
   entry ← found_or (slice_get w.firings i) NoSuchFiring

@@ -12,11 +12,11 @@ use Rattle.nr_rev.specs.declared.timer.Entry.{Entry}
 abbrev pub IsTime : ℤ → Type 0
 IsTime t = FitsSigned w64 t
 
--- the order of timers: by when they are due, then by arming number
+-- the order of timers: by due time, then by arming number
 abbrev pub is_before : Timer → Timer → Bool
 is_before a b = int_lt a.due b.due || (int_eq a.due b.due && nat_lt a.number b.number)
 
--- the entry, or the other one where that goes off before it
+-- the entry, or the other one if that goes off before it
 abbrev pub earlier_of : Entry → Option Entry → Entry
 earlier_of e None = e
 earlier_of e (Some other) = if is_before other.timer e.timer then other else e
@@ -26,7 +26,7 @@ abbrev pub least_of : List Entry → Option Entry
 least_of [] = None
 least_of (e ∷ es) = Some (earlier_of e (least_of es))
 
--- the heap's entry of a side of descriptor d, where a timer is armed there
+-- the heap's entry of a side of descriptor d, if a timer is armed there
 abbrev pub entry_of : ℕ → Side → Option Timer → List Entry
 entry_of d side None = []
 entry_of d side (Some timer) = record { descriptor = d; side = side; timer = timer } ∷ []
@@ -35,7 +35,7 @@ entry_of d side (Some timer) = record { descriptor = d; side = side; timer = tim
 abbrev pub entries_at : ℕ → Sides (Option Timer) → List Entry
 entries_at d timers = entry_of d Read timers.read ++ entry_of d Write timers.write
 
--- the entries of the descriptors from number d on, whose timers these are
+-- the entries of the descriptors from number d on, which have these timers
 abbrev pub entries_from : ℕ → List (Sides (Option Timer)) → List Entry
 entries_from d [] = []
 entries_from d (timers ∷ rest) = entries_at d timers ++ entries_from (d + 1) rest

@@ -1,7 +1,7 @@
--- Operations in a row, and the way back over them.
+-- Sequences of operations, and undoing them.
 use Rattle.std.specs.Prelude.{◌≡◌, ◌⊎◌, List, [], ◌∷◌}
 
--- the operations lead, in order, from old to new, and each gave a light delta that leads back over
+-- true if the operations lead, in order, from old to new, and each gave a light delta that undoes
 -- its step
 abbrev pub Applied : {State Op Answer Delta : Type 0} → (State → Op → Answer → State → Type 0)
     → (Delta → State → State → Type 0) → (Op → Answer → Delta → Type 0) → State → List Op
@@ -13,14 +13,14 @@ Applied {State} {Op} {Answer} {Delta} steps back light old (op ∷ ops) deltas n
     × steps old op answer mid × back delta mid old × light op answer delta
     × Applied steps back light mid ops rest new
 
--- undoing the deltas, from the last to the first, leads from new back to old
+-- true if undoing the deltas, from the last to the first, leads from new back to old
 abbrev pub LeadsBack : {State Delta : Type 0} → (Delta → State → State → Type 0) → List Delta
     → State → State → Type 0
 LeadsBack back [] new old = new ≡ old
 LeadsBack {State} back (delta ∷ deltas) new old =
     (mid : State) × LeadsBack back deltas new mid × back delta mid old
 
--- the first operation that doesn't apply after the ones before it is refused so
+-- true if this is the reason why the first operation that doesn't apply is refused
 abbrev pub FirstRefused : {State Op Answer Reason : Type 0} → (State → Op → Answer → State → Type 0)
     → (State → Op → Reason → Type 0) → State → List Op → Reason → Type 0
 FirstRefused steps refuses old [] reason = ⊥

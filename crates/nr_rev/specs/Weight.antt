@@ -1,6 +1,6 @@
--- How many words things weigh: one for a number, which has at most 64 bits, one for a truth value
--- or for which variant it is, one for each eight bytes, begun ones included. Whatever keeps a way
--- back weighs it by these.
+-- The weights of values in words: a number, which has at most 64 bits, weighs one word; a truth
+-- value or a variant weighs one; and eight bytes, or part of them, weigh one. All that is kept for
+-- undoing is weighed by these.
 use Rattle.std.specs.Prelude.{ℕ, ◌+◌, ◌/◌, ℤ, Bool, List, length, Option, Some, None}
 use Rattle.nr_rev.specs.declared.sides.Side.{Side}
 use Rattle.nr_rev.specs.declared.sides.Sides.{Sides}
@@ -15,7 +15,7 @@ use Rattle.nr_rev.specs.declared.timer.Timer.{Timer}
 use Rattle.nr_rev.specs.declared.timer.TimerFunction.{TimerFunction}
 use Rattle.nr_rev.specs.declared.timer.Entry.{Entry}
 
--- which variant it is
+-- the choice of a variant weighs one word
 abbrev pub variant_weight : ℕ
 variant_weight = 1
 
@@ -31,11 +31,11 @@ time_weight t = 1
 abbrev pub bool_weight : Bool → ℕ
 bool_weight b = 1
 
--- bytes weigh a word for each eight, begun ones included
+-- bytes weigh one word for each eight bytes, or part of them
 abbrev pub bytes_weight : List ℕ → ℕ
 bytes_weight bytes = (length bytes + 7) / 8
 
--- what may be there weighs which variant it is, and its value
+-- an optional value weighs the choice of its variant and the value
 abbrev pub option_weight : {A : Type 0} → (A → ℕ) → Option A → ℕ
 option_weight words None = variant_weight
 option_weight words (Some a) = variant_weight + words a
@@ -44,20 +44,20 @@ option_weight words (Some a) = variant_weight + words a
 abbrev pub side_weight : Side → ℕ
 side_weight side = variant_weight
 
--- what there is of both sides weighs as much as the two
+-- a pair for both sides weighs as much as its two values
 abbrev pub sides_weight : {A : Type 0} → (A → ℕ) → Sides A → ℕ
 sides_weight words both = words both.read + words both.write
 
--- a wait word weighs which variant it is, and the goroutine that it holds
+-- a wait word weighs the choice of its variant and the goroutine that it holds
 abbrev pub wait_word_weight : WaitWord → ℕ
 wait_word_weight (word.Held g) = variant_weight + number_weight g
 wait_word_weight _ = variant_weight
 
--- a status that has a number and a side
+-- the weight of a status with a number and a side
 abbrev pub wait_weight : ℕ → Side → ℕ
 wait_weight n side = variant_weight + number_weight n + side_weight side
 
--- a status weighs which variant it is, and the numbers and side that it names
+-- a status weighs the choice of its variant, and the numbers and the side that it names
 abbrev pub status_weight : Status → ℕ
 status_weight status.Idle = variant_weight
 status_weight (status.Acquiring s side) = wait_weight s side

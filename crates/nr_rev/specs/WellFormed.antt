@@ -1,4 +1,4 @@
--- What holds of every world that steps lead to.
+-- The invariant of every world that steps lead to.
 use Rattle.std.specs.Prelude.{◌≡◌, ℕ, ◌+◌, ◌*◌, ◌^◌, ◌<◌, ◌≤◌, Bool, true, false, ◌&&◌, ◌==◌, ◌⊎◌, ◌↔◌, ℤ, pos, ◌≤ℤ◌, List, length, sum_by, count_by, All, slice_get, Option, Some, None, option_map, option_and_then, IsTrue}
 use Rattle.nr_rev.specs.declared.sides.Side.{Side}
 use Rattle.nr_rev.specs.declared.descriptor.WaitWord.{WaitWord}
@@ -17,20 +17,20 @@ use Rattle.nr_rev.specs.Socket.{Socket}
 use Rattle.nr_rev.specs.declared.descriptor.DescriptorRow.{DescriptorRow}
 use Rattle.nr_rev.specs.World.{World, is_free_number, wait_of}
 
--- goroutine g, seen so, shows a
+-- true if the view of goroutine g is a
 abbrev pub HasView : {A : Type 0} → (Status → Option A) → List Status → ℕ → A → Type 0
 HasView view goroutines g a = option_and_then view (slice_get goroutines g) ≡ Some a
 
--- goroutine g is inside a wait of d's side
+-- true if goroutine g is inside a wait of d's side
 abbrev pub IsInside : List Status → ℕ → ℕ → Side → Type 0
 IsInside goroutines g d side = HasView wait_of goroutines g (d, side)
 
--- where a goroutine is parked
+-- the descriptor and side at which a goroutine is parked
 abbrev pub parked_of : Status → Option (ℕ × Side)
 parked_of (Parked d side) = Some (d, side)
 parked_of _ = None
 
--- where a goroutine inside a wait leaves the word at wait
+-- the descriptor and side whose word a goroutine inside a wait leaves at wait
 abbrev pub awaiting_of : Status → Option (ℕ × Side)
 awaiting_of (Armed d side) = Some (d, side)
 awaiting_of (Parking d side) = Some (d, side)
@@ -42,13 +42,13 @@ abbrev pub owed_of : Status → Option (ℕ × ℕ)
 owed_of (Owing s reads writes) = Some (reads, writes)
 owed_of _ = None
 
--- d's word of a side
+-- true if d's word of a side is this one
 abbrev pub HasWaitWord : List DescriptorRow → ℕ → Side → WaitWord → Type 0
 HasWaitWord descriptors d side word =
     option_map (λ (row : DescriptorRow). of_side side row.descriptor.words)
     (slice_get descriptors d) ≡ Some word
 
--- d is among the descriptors made, and isn't free
+-- true if d is among the descriptors that were made, and isn't free
 abbrev pub IsOpen : List DescriptorRow → List ℕ → ℕ → Type 0
 IsOpen descriptors free d = (d < length descriptors) × (is_free_number d free ≡ false)
 
@@ -60,25 +60,25 @@ socket_named (Relock s side) = Some s
 socket_named (Owing s reads writes) = Some s
 socket_named _ = None
 
--- whether g is queued at a semaphore
+-- true if g is queued at a semaphore
 abbrev pub is_queued : ℕ → Side → Option Status → Bool
 is_queued s side (Some (Queued s' side')) = (s == s') && same_side side side'
 is_queued s side _ = false
 
--- a field of 20 bits
+-- true if a number fits a field of 20 bits
 abbrev pub IsField : ℕ → Type 0
 IsField n = n < 2 ^ 20
 
--- whether a word holds a goroutine
+-- true if a word holds a goroutine
 abbrev pub is_held : WaitWord → Bool
 is_held (Held g) = true
 is_held _ = false
 
--- how many words of a descriptor hold a goroutine
+-- the number of words of a descriptor that hold a goroutine
 abbrev pub held_count : DescriptorRow → ℕ
 held_count row = bit (is_held row.descriptor.words.read) + bit (is_held row.descriptor.words.write)
 
--- the timer of a side of d
+-- the armed timer of a side of d fits d
 pub record EntryFits (d : Descriptor) (side : Side) (timer : Timer) : Type 0 where
   pub sequence : timer.sequence ≡ of_side side d.sequences
   pub running : of_side side d.running ≡ true
@@ -86,8 +86,8 @@ pub record EntryFits (d : Descriptor) (side : Side) (timer : Timer) : Type 0 whe
   pub due : timer.due ≡ of_side side d.deadlines
   pub function : timer.function ≡ timer_function side d
 
--- a firing of d that isn't stale: each side that it serves still has the deadline for which its
--- timer was armed
+-- a firing of d isn't stale: each side that it serves still has the deadline for which its timer
+-- was armed
 pub record IsDueFor (d : Descriptor) (firing : Entry) : Type 0 where
   pub positive : (side : Side) → covers_side firing.timer.function side ≡ true
       → IsTrue (is_positive (of_side side d.deadlines))
@@ -96,16 +96,16 @@ pub record IsDueFor (d : Descriptor) (firing : Entry) : Type 0 where
   pub running : of_side firing.side d.running ≡ true
   pub function : firing.timer.function ≡ timer_function firing.side d
 
--- a firing of d is at the side of its function, with a sequence no later than the present one; a
--- current one still has its deadline to come
+-- a firing of d is at the side of its function, with a sequence no later than the current one; if
+-- it is current, its deadline is still in the future
 pub record FiringFits (d : Descriptor) (firing : Entry) : Type 0 where
   pub side : firing.side ≡ side_of_function firing.timer.function
   pub sequence : firing.timer.sequence ≤ of_side firing.side d.sequences
   pub due : IsTime firing.timer.due
   pub current : firing.timer.sequence ≡ of_side firing.side d.sequences → IsDueFor d firing
 
--- a descriptor's row: its armed timers fit its deadlines, no write timer runs under combo, none at
--- all when closing, and its numbers have 64 bits
+-- a descriptor's row: its armed timers fit its deadlines, no write timer runs under combo, no timer
+-- runs when closing, and its numbers have 64 bits
 pub record RowFits (row : DescriptorRow) : Type 0 where
   pub entries : (side : Side) (timer : Timer) → of_side side row.timers ≡ Some timer
       → EntryFits row.descriptor side timer
@@ -120,8 +120,8 @@ pub record LockFits (lock : Lock) : Type 0 where
   pub references : IsField lock.references
   pub waiters : (side : Side) → IsField (of_side side lock.waiters)
 
--- a socket under a buffer limit: its lock fits, its counts have 32 bits, its buffers hold no more
--- than they have room for, from 1 to the limit
+-- a socket under a buffer limit: its lock fits, its counts have 32 bits, and its buffers hold no
+-- more than their capacities, which are from 1 to the limit
 pub record SocketFits (buffer : ℕ) (socket : Socket) : Type 0 where
   pub lock : LockFits socket.lock
   pub counts : (side : Side) → (of_side side socket.semaphores).count < 2 ^ 32
@@ -130,7 +130,7 @@ pub record SocketFits (buffer : ℕ) (socket : Socket) : Type 0 where
   pub capacities : (side : Side) → (0 < (of_side side socket.buffers).capacity)
       × ((of_side side socket.buffers).capacity ≤ buffer)
 
--- where an entry or a firing is: armed at a descriptor's side, or at a place of the firings
+-- the place of an entry or a firing: armed at a descriptor's side, or in the list of firings
 pub data TimerPlace : Type 0 where
   ArmedAt : ℕ → Side → TimerPlace
   FiringAt : ℕ → TimerPlace
@@ -140,19 +140,19 @@ abbrev pub armed_at : ℕ → Side → DescriptorRow → Option Entry
 armed_at d side row = option_map (λ timer. record { descriptor = d; side = side; timer = timer })
     (of_side side row.timers)
 
--- what is there
+-- the entry at a place
 abbrev pub timer_at : List DescriptorRow → List Entry → TimerPlace → Option Entry
 timer_at descriptors firings (ArmedAt d side) =
     option_and_then (armed_at d side) (slice_get descriptors d)
 timer_at descriptors firings (FiringAt i) = slice_get firings i
 
--- it has its descriptor's sequence
+-- true if the entry has its descriptor's sequence
 abbrev pub IsCurrent : List DescriptorRow → Entry → Type 0
 IsCurrent descriptors e = option_map (λ (row : DescriptorRow). of_side e.side
     row.descriptor.sequences) (slice_get descriptors e.descriptor) ≡ Some e.timer.sequence
 
--- goroutines: at most one is inside a wait of a side, only of open descriptors; they name sockets
--- that were opened; what they owe fits a field and is not nothing
+-- goroutines: at most one is inside a wait of a side, and only of open descriptors; they name
+-- opened sockets; the releases that they owe fit a field and are not zero
 pub record GoroutinesFit (goroutines : List Status) (sockets : List Socket)
     (descriptors : List DescriptorRow) (free : List ℕ) : Type 0 where
   pub one_inside : (g h d : ℕ) (side : Side) → IsInside goroutines g d side
@@ -163,20 +163,20 @@ pub record GoroutinesFit (goroutines : List Status) (sockets : List Socket)
   pub owed : (g reads writes : ℕ) → HasView owed_of goroutines g (reads, writes)
       → IsField reads × IsField writes × (0 < reads + writes)
 
--- wait words: they hold just the parked goroutines, wait means that somebody is about to park or to
--- take up the word, and the waiters are counted
+-- wait words: they hold exactly the parked goroutines, wait means that a goroutine is about to park
+-- or to consume the word, and the waiters are counted
 pub record WaitWordsFit (goroutines : List Status) (descriptors : List DescriptorRow) (waiters : ℕ)
     : Type 0 where
-  -- a word holds g exactly where g is parked there
+  -- a word holds g exactly if g is parked there
   pub held : (g d : ℕ) (side : Side) → HasWaitWord descriptors d side (Held g)
       ↔ HasView parked_of goroutines g (d, side)
   pub waited : (d : ℕ) (side : Side) → HasWaitWord descriptors d side WaitWord.Wait
       → (g : ℕ) × HasView awaiting_of goroutines g (d, side)
   pub counted : waiters ≡ sum_by held_count descriptors
 
--- semaphore queues: they hold just the goroutines whose status is queued there
+-- semaphore queues: they hold exactly the goroutines whose status is queued there
 pub record QueuesFit (goroutines : List Status) (sockets : List Socket) : Type 0 where
-  -- each goroutine with that queued status is in it once, and no other
+  -- each goroutine with that queued status is in the queue once, and no other goroutine is
   pub queued : (g s : ℕ) (side : Side) (socket : Socket) → slice_get sockets s ≡ Some socket
       → count_by (λ h. h == g) (of_side side socket.semaphores).queue
       ≡ bit (is_queued s side (slice_get goroutines g))
@@ -199,8 +199,8 @@ pub record TimersFit (descriptors : List DescriptorRow) (firings : List Entry) (
   pub numbered : 0 < next_arming
   pub in_range : next_arming < 2 ^ 64
 
--- free descriptor numbers: they were made, each is there once, is closing, and has nobody parked or
--- waiting on its words
+-- free descriptor numbers: they were made, each is listed once and is closing, and no goroutine is
+-- parked or waiting on its words
 pub record FreeFits (descriptors : List DescriptorRow) (free : List ℕ) : Type 0 where
   pub made : All (λ d. d < length descriptors) free
   pub once : (d : ℕ) → count_by (λ f. f == d) free ≤ 1
@@ -209,15 +209,15 @@ pub record FreeFits (descriptors : List DescriptorRow) (free : List ℕ) : Type 
   pub words : (d : ℕ) (side : Side) (word : WaitWord) → is_free_number d free ≡ true
       → HasWaitWord descriptors d side word → (word ≡ Nil) ⊎ (word ≡ Ready)
 
--- the clock began at 0 and goes on; the time of each firing has come
+-- the clock began at 0 and advances; the time of each firing has come
 pub record ClockFits (clock : ℤ) (firings : List Entry) : Type 0 where
   pub begun : pos 0 ≤ℤ clock
   pub time : IsTime clock
   pub come : (i : ℕ) (firing : Entry) → slice_get firings i ≡ Some firing
       → firing.timer.due ≤ℤ clock
 
--- what every state that steps lead to keeps: the parts fit one another, and no table is past its
--- limit
+-- the invariant of every state that steps lead to: the parts fit one another, and no table exceeds
+-- its limit
 pub record WellFormed (w : World) : Type 0 where
   pub goroutines : GoroutinesFit w.goroutines w.sockets w.descriptors w.free
   pub words : WaitWordsFit w.goroutines w.descriptors w.waiters

@@ -1,4 +1,4 @@
--- Recordings whose worlds are computed, and what is asked of them.
+-- Recordings whose worlds the prover computes, and the values that are compared.
 use Rattle.std.specs.Prelude.{ℕ, ◌+◌, pos, List, [], ◌∷◌, false, true, Result, Ok, Err, Option, Some, None}
 use Rattle.nr_rev.specs.declared.sides.Side.{Side}
 use Rattle.nr_rev.specs.declared.sides.Mode.{Mode}
@@ -31,39 +31,39 @@ recording steps =
       steps = steps;
     }
 
--- the reason of the first step that is refused, with that step's number; the first of the list has
--- number k
+-- the reason for which the first refused step is refused, with that step's number; the first of the
+-- list has number k
 abbrev pub first_refused : ℕ → World → List Step → Option (ℕ × Refusal)
 first_refused k w [] = None
 first_refused k w (step ∷ steps) =
     elim (outcome w step) [ Ok a ↦ first_refused (k + 1) a.1 steps | Err reason ↦ Some (k, reason) ]
 
--- the number of the first step of a recording that is refused, from 1, and why
+-- the number of the first refused step of a recording, from 1, and the reason
 abbrev pub first_refused_of : Recording → Option (ℕ × Refusal)
 first_refused_of r = first_refused 1 (empty_world r.limits) r.steps
 
--- the number of the first of some steps that is refused, and why, where there is room for two
+-- the number of the first refused step of some steps, and the reason, if there is room for two
 -- goroutines, a socket and a descriptor
 abbrev pub reason_of : List Step → Option (ℕ × Refusal)
 reason_of steps =
     first_refused 1
     (empty_world (record { goroutines = 2; sockets = 1; descriptors = 1; buffer = 16 })) steps
 
--- the answers of some steps, up to the first that is refused
+-- the answers of some steps, up to the first refused one
 abbrev pub answers_from : World → List Step → List Answer
 answers_from w [] = []
 answers_from w (step ∷ steps) =
     elim (outcome w step) [ Ok a ↦ a.0 ∷ answers_from a.1 steps | Err reason ↦ [] ]
 
--- the answers of a recording, up to the first step that is refused
+-- the answers of a recording, up to the first refused step
 abbrev pub answers_of : Recording → List Answer
 answers_of r = answers_from (empty_world r.limits) r.steps
 
--- what a cell shows at a position
+-- the value of a cell at a position
 abbrev pub cell_after : Recording → ℕ → Cell → CellValue
 cell_after r n what = cell (world_at r n) what
 
--- two goroutines want the lock of reading, and a third closes
+-- two goroutines ask for the read lock, and a third closes
 abbrev pub two_readers_and_a_close : Recording
 two_readers_and_a_close =
     recording (
@@ -71,11 +71,11 @@ two_readers_and_a_close =
     ∷ RwUnlock 0 0 Side.Read ∷ IncrefClose 2 0 ∷ Decref 2 0 ∷ Exit 2 ∷ []
     )
 
--- a reference is given up that nobody has
+-- a reference is dropped that no goroutine has
 abbrev pub one_reference_given_up_twice : Recording
 one_reference_given_up_twice = recording (SockOpen 1 1 ∷ Incref 0 0 ∷ Decref 0 0 ∷ Decref 0 0 ∷ [])
 
--- a queued goroutine is released, and another has the lock before it tries again
+-- a queued goroutine is woken by a release, and another takes the lock before it tries again
 abbrev pub a_release_without_hand_off : Recording
 a_release_without_hand_off =
     recording (
@@ -104,7 +104,7 @@ an_event_before_the_parking =
     ∷ PollEvent 0 1 Mode.Read false ∷ ParkCommit 0 ∷ BlockSwap 0 ∷ []
     )
 
--- an error is seen for writing, and a reader waits
+-- an error is reported for writing while a reader waits
 abbrev pub an_error_while_reading_waits : Recording
 an_error_while_reading_waits =
     recording (
@@ -112,11 +112,11 @@ an_error_while_reading_waits =
     ∷ PollEvent 0 2 Mode.Read false ∷ []
     )
 
--- bytes are written, and leave
+-- bytes are written, and sent
 abbrev pub a_drained_output : Recording
 a_drained_output = recording (SockOpen 1 2 ∷ SysWrite 0 0 (104 ∷ 105 ∷ []) ∷ Drain 0 2 ∷ [])
 
--- one timer for both deadlines fires, and that of reading is set anew before
+-- one timer for both deadlines fires, after the read deadline was set anew
 abbrev pub a_stale_firing_of_both_deadlines : Recording
 a_stale_firing_of_both_deadlines =
     recording (
@@ -124,13 +124,13 @@ a_stale_firing_of_both_deadlines =
     ∷ SetDeadline 0 0 Mode.Read (pos 50) ∷ Fire 0 ∷ Pop ∷ Fire 0 ∷ []
     )
 
--- now and the time to wait are more than the greatest time
+-- the sum of the clock and the deadline is more than the greatest time
 abbrev pub a_deadline_past_the_greatest_time : Recording
 a_deadline_past_the_greatest_time =
     recording (SockOpen 1 1 ∷ PollOpen 0 0 ∷ Tick (pos 5)
     ∷ SetDeadline 0 0 Mode.Read (pos 9223372036854775807) ∷ [])
 
--- an event of before the closing comes after the opening
+-- an event from before the closing comes after the opening
 abbrev pub a_descriptor_opened_again : Recording
 a_descriptor_opened_again =
     recording (
@@ -138,7 +138,7 @@ a_descriptor_opened_again =
     ∷ PollEvent 0 1 Mode.Read false ∷ []
     )
 
--- a third timer is due, and two firings wait to be run
+-- a third timer is due while two firings wait to be run
 abbrev pub a_firing_too_many : Recording
 a_firing_too_many =
     record {
@@ -150,7 +150,7 @@ a_firing_too_many =
           ∷ [];
     }
 
--- a write side is shut between two writes, and what was written goes out
+-- a write side is shut between two writes, and the written bytes are sent
 abbrev pub a_shut_write_side : Recording
 a_shut_write_side =
     record {
@@ -161,7 +161,7 @@ a_shut_write_side =
           ∷ [];
     }
 
--- a reader has the lock; two more wait, and a writer
+-- a reader has the lock; two more readers wait, and a writer
 abbrev pub a_lock_with_three_waiters : Lock
 a_lock_with_three_waiters =
     record {
@@ -171,7 +171,7 @@ a_lock_with_three_waiters =
       waiters = record { read = 2; write = 1 };
     }
 
--- a reader has the lock, and one more waits
+-- a reader has the lock, and one more reader waits
 abbrev pub a_lock_with_one_waiter : Lock
 a_lock_with_one_waiter =
     record {
@@ -185,8 +185,8 @@ a_lock_with_one_waiter =
 abbrev pub a_lock_full_of_references : Lock
 a_lock_full_of_references = record open_lock { references = 1048575 }
 
--- an operation's answer, the releases owed of reading and of writing, and the number of the lock
--- that it leaves
+-- an operation's answer, the releases owed for reading and for writing, and the number of the lock
+-- after it
 abbrev pub lock_left_by : Result LockOutcome Refusal → Result (Answer × ℕ × ℕ × ℕ) Refusal
 lock_left_by (Ok left) = Ok (left.answer, left.owed.read, left.owed.write, lock_number left.lock)
 lock_left_by (Err reason) = Err reason
@@ -198,12 +198,12 @@ world_with_lock lock =
       sockets = record (new_socket 16 16) { lock = lock } ∷ [];
     }
 
--- a descriptor whose sequence of writing is the last number of 64 bits
+-- a descriptor whose write sequence is the greatest 64-bit number
 abbrev pub a_last_sequence : Descriptor
 a_last_sequence =
     record never_opened { sequences = record { read = 3; write = 18446744073709551615 } }
 
--- that descriptor, while a timer runs for writing
+-- that descriptor, while a write timer runs
 abbrev pub a_last_sequence_timed : Descriptor
 a_last_sequence_timed =
     record a_last_sequence {
@@ -211,11 +211,11 @@ a_last_sequence_timed =
       running = record { read = false; write = true };
     }
 
--- a descriptor whose tag is the last number of 64 bits
+-- a descriptor whose tag is the greatest 64-bit number
 abbrev pub a_last_tag : Descriptor
 a_last_tag = record never_opened { closing = true; fdseq = 18446744073709551615 }
 
--- the next arming number, after a timer for writing is armed where none was
+-- the next arming number, after a write timer is armed in an empty place
 abbrev pub armed_after : ℕ → Result ℕ Refusal
 armed_after number = do
   after ← after_order (Arm Side.Write (pos 50) TimerFunction.Write 0) (twice None, number)

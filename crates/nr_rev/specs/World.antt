@@ -12,10 +12,10 @@ use Rattle.nr_rev.specs.declared.descriptor.Descriptor.{Descriptor}
 use Rattle.nr_rev.specs.Socket.{Socket}
 use Rattle.nr_rev.specs.declared.descriptor.DescriptorRow.{DescriptorRow}
 
--- the machine's state: tables of goroutines, sockets and descriptors, each indexed by number, the
--- timer queue's firings, and counters
+-- the state of the machine: tables of goroutines, sockets and descriptors, each indexed by number,
+-- the firings of the timer queue, and counters
 pub record World : Type 0 where
-  -- how many goroutines, sockets and descriptors there may be, and how many bytes a buffer may have
+  -- the most goroutines, sockets and descriptors, and the most bytes of a buffer
   pub limits : Limits
   -- the status of each goroutine, by its number, from 0
   pub goroutines : List Status
@@ -23,15 +23,15 @@ pub record World : Type 0 where
   pub sockets : List Socket
   -- the descriptors and the timers armed for them, by number, from 0; closed ones stay
   pub descriptors : List DescriptorRow
-  -- timers that went off and were not run yet, by number, from 0: the first that went off first
+  -- timers that went off and haven't been run yet, by number, from 0, the first to go off first
   pub firings : List Entry
-  -- numbers of closed descriptors, the one closed last first: it is opened again first
+  -- the numbers of closed descriptors, the last closed first, which is opened again first
   pub free : List ℕ
-  -- now, in nanoseconds from the beginning of the recording
+  -- the current time, in nanoseconds from the beginning of the recording
   pub clock : ℤ
-  -- how many wait words hold a parked goroutine: `netpollWaiters`
+  -- the number of wait words that hold a parked goroutine: `netpollWaiters`
   pub waiters : ℕ
-  -- the number that the next timer armed gets: the first one got 1
+  -- the number of the next armed timer: the first one had 1
   pub next_arming : ℕ
 
 -- the state before the first step: goroutine 0 idle, nothing opened, the clock at 0, arming numbers
@@ -50,7 +50,7 @@ empty_world limits =
       next_arming = 1;
     }
 
--- whether a descriptor is one of the free ones
+-- true if a descriptor is one of the free ones
 abbrev pub is_free_number : ℕ → List ℕ → Bool
 is_free_number d free = list_any (λ f. d == f) free
 
@@ -58,11 +58,11 @@ is_free_number d free = list_any (λ f. d == f) free
 abbrev pub entries_of : List DescriptorRow → List Entry
 entries_of descriptors = entries_from 0 (map (λ row. row.timers) descriptors)
 
--- the heap entry that goes off first, if any timer is armed
+-- the heap entry that goes off first, if a timer is armed
 abbrev pub least_entry : World → Option Entry
 least_entry w = least_of (entries_of w.descriptors)
 
--- the descriptor and side that a goroutine is inside a wait of
+-- the descriptor and side of the wait that a goroutine is inside
 abbrev pub wait_of : Status → Option (ℕ × Side)
 wait_of (Entering d side) = Some (d, side)
 wait_of (Armed d side) = Some (d, side)
@@ -72,12 +72,12 @@ wait_of (Swapping d side) = Some (d, side)
 wait_of (Checking d side) = Some (d, side)
 wait_of _ = None
 
--- whether a goroutine's place in a wait, if it is in one, is this descriptor and side
+-- true if a goroutine's place in a wait, if any, is this descriptor and side
 abbrev pub is_wait_at : ℕ → Side → Option (ℕ × Side) → Bool
 is_wait_at d side None = false
 is_wait_at d side (Some place) = (d == place.0) && same_side side place.1
 
--- whether a goroutine is inside a wait of the descriptor and side
+-- true if a goroutine is inside a wait of the descriptor and side
 abbrev pub is_waited : ℕ → Side → List Status → Bool
 is_waited d side goroutines = list_any (λ status. is_wait_at d side (wait_of status)) goroutines
 

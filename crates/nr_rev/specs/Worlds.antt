@@ -1,4 +1,4 @@
--- What is said of a world whatever represents it.
+-- Statements about a world that don't depend on its representation.
 use Rattle.std.specs.Prelude.{◌≡◌, ℕ, ◌<◌, Option, Some, None, Ok, Err}
 use Rattle.nr_rev.specs.declared.answer.Answer.{Answer}
 use Rattle.nr_rev.specs.declared.answer.Answer.TheVariants.{Got}
@@ -8,17 +8,17 @@ use Rattle.nr_rev.specs.declared.step.Step.TheVariants.{SysRead, Drain}
 use Rattle.nr_rev.specs.Step.{Outcome, outcome}
 use Rattle.nr_rev.specs.World.{World}
 
--- why a step with this outcome does not apply
+-- the reason why a step with this outcome does not apply
 abbrev pub refusal_of : Outcome → Option Refusal
 refusal_of (Ok left) = None
 refusal_of (Err reason) = Some reason
 
--- how many bytes a read gave, by its answer
+-- the number of bytes that a read got, by its answer
 abbrev pub bytes_got : Answer → ℕ
 bytes_got (Got k) = k
 bytes_got _ = 0
 
--- how many bytes left a buffer at a step with this answer
+-- the number of bytes that left a buffer at a step with this answer
 abbrev pub bytes_left : Step → Answer → ℕ
 bytes_left (SysRead g s n) answer = bytes_got answer
 bytes_left (Drain s n) answer = n

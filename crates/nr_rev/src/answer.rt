@@ -1,43 +1,43 @@
-//! What a step answers.
+//! The answers of steps.
 
-/// The answer of a step that applies. `Step` says at each kind which answers it has.
+/// The answer of a step that applies. `Step` lists the possible answers of each kind.
 #[derive(Clone, Copy, Debug, PartialEq, Eq)]
 pub enum Answer {
-    /// The number of what was made: a goroutine, a socket or a descriptor.
+    /// The number of the goroutine, socket or descriptor that was made.
     Number(u32),
-    /// What a check of a descriptor found, as `netpollcheckerr` of `runtime/netpoll.go` answers it: 0 nothing, 1
-    /// closing, 2 an expired deadline, 3 an error event, for reading alone.
+    /// The result of a check of a descriptor, as `netpollcheckerr` of `runtime/netpoll.go` returns it: 0 no error, 1
+    /// closing, 2 an expired deadline, 3 an error event, for reading only.
     Code(u32),
-    /// So many bytes were read, at least one.
+    /// This many bytes were read, at least one.
     Got(u32),
-    /// So many bytes were written, at least one.
+    /// This many bytes were written, at least one.
     Put(u32),
-    /// It is done, and there is no more to say.
+    /// The step is done and returns nothing.
     Done,
-    /// It was had: the reference, the lock, the semaphore, the parking or the event.
+    /// The goroutine got what it asked for: the reference, the lock, the semaphore, the parking or the event.
     Yes,
-    /// It was not: of a lock, because it is closed.
+    /// The goroutine didn't get it; for a lock, because the lock is closed.
     No,
     /// The goroutine has to wait.
     Wait,
-    /// The lock is closed, and its last reference was given up.
+    /// The lock is closed, and its last reference was dropped.
     Last,
-    /// The lock is open, or has references left.
+    /// The lock is open, or still has references.
     NotLast,
-    /// Nothing is left to read, and the peer closed.
+    /// Nothing is left to read, and the peer has closed.
     Eof,
     /// Nothing can be read or written now.
     Again,
-    /// The event or firing is of a time that is past, and nothing changed.
+    /// The event or firing is out of date, and nothing changed.
     Stale,
-    /// Nothing was written: the write side is shut.
+    /// Nothing was written, because the write side is shut.
     Pipe,
 }
 
 impl Answer {
     ghost use Rattle.std.specs.Prelude.{◌≡◌, ◌≢◌, MatchBool};
 
-    /// Whether it is the same answer as another.
+    /// Returns whether two answers are the same.
     pub fn is(self, other: Answer) -> bool
         ensures { MatchBool result (self ≡ other) (self ≢ other) }
     {

@@ -1,4 +1,4 @@
-//! The aspects of a world, and which kind of step may change which.
+//! The aspects of a world, and which kinds of step may change which aspect.
 
 ghost use Rattle.std.specs.Prelude.{◌≡◌};
 ghost use Rattle.nr_rev.specs.Aspect.{can_change, changed_aspects, aspect_of};
@@ -6,43 +6,43 @@ ghost use Rattle.nr_rev.specs.Aspect.{can_change, changed_aspects, aspect_of};
 use crate::cell::Cell;
 use crate::kind::Kind;
 
-/// An aspect of a world: what all cells of one sort show.
+/// An aspect of a world: the values of all cells of one sort.
 #[derive(Clone, Copy, Debug, PartialEq, Eq)]
 pub enum Aspect {
     /// Now.
     Clock,
-    /// How many words hold a goroutine.
+    /// The number of wait words that hold a goroutine.
     Waiters,
-    /// The timers that are armed.
+    /// The armed timers.
     Timers,
-    /// The timers that went off and were not run yet.
+    /// The timers that went off and haven't been run yet.
     Firings,
-    /// Where each goroutine is.
+    /// The status of each goroutine.
     Goroutines,
     /// The lock words of the sockets.
     Locks,
-    /// Their semaphores.
+    /// The semaphores of the sockets.
     Semaphores,
-    /// Their bytes to be read.
+    /// The bytes of the sockets that can be read.
     Inputs,
-    /// Their bytes that were written and have not left.
+    /// The bytes of the sockets that were written and haven't been sent.
     Outputs,
-    /// Whether their write sides are shut.
+    /// Whether the write side of each socket is shut.
     ShutMarks,
-    /// The words of the descriptors.
+    /// The wait words of the descriptors.
     WaitWords,
-    /// Their deadlines.
+    /// The deadlines of the descriptors.
     Deadlines,
-    /// The sequences of their timers.
+    /// The sequences of the descriptors' timers.
     Sequences,
-    /// The tags by which events know them.
+    /// The tags that tie events to descriptors.
     Tags,
-    /// Their summaries.
+    /// The summaries of the descriptors.
     Summaries,
 }
 
 impl Cell {
-    /// The aspect of a world that it shows.
+    /// Returns the aspect of a world that the cell shows.
     #[inline]
     pub fn aspect(self) -> Aspect
         ensures { result ≡ aspect_of self }
@@ -68,7 +68,7 @@ impl Cell {
 }
 
 impl Kind {
-    // The aspects of a world that a step of this kind may change.
+    // Returns the aspects of a world that a step of this kind may change.
     #[inline]
     fn changed_aspects(self) -> &'static [Aspect]
         ensures { result.now ≡ changed_aspects self }
@@ -141,7 +141,7 @@ impl Kind {
         }
     }
 
-    /// Whether a step of this kind may change the cell. Where it may not, the cell has the same value behind each such
+    /// Returns whether a step of this kind may change the cell. If not, the cell has the same value after each such
     /// step as before it: `aspects::steps_change_their_aspects_alone` of `nr_laws`.
     #[inline]
     pub fn can_change(self, cell: Cell) -> bool

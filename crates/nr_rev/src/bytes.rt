@@ -1,8 +1,8 @@
-//! The bytes that a step carries, or that a buffer holds.
+//! The bytes in a step or in a buffer.
 
 use std::marker::Model;
 
-/// Some bytes, seen in contracts as the list of them. Made of a `Vec` and given back as one without taking memory.
+/// Bytes, which contracts see as a list. They are made from a `Vec`, and turned back into one, without taking memory.
 #[derive(Drop)]
 pub struct Bytes {
     items: Vec<u8>,
@@ -19,35 +19,35 @@ impl Model for Bytes {
 impl Bytes {
     ghost use Rattle.std.specs.Prelude.{◌≡◌, ◌==◌, length};
 
-    /// The bytes of a `Vec`.
+    /// Makes bytes from a `Vec`.
     pub fn new(items: Vec<u8>) -> Self
         ensures { result ≡ items.items }
     {
         Bytes { items }
     }
 
-    /// The bytes as a slice.
+    /// Returns the bytes as a slice.
     pub fn as_slice(&self) -> &[u8]
         ensures { result.now ≡ self.now }
     {
         self.items.as_slice()
     }
 
-    /// How many bytes there are.
+    /// Returns the number of bytes.
     pub fn len(&self) -> usize
         ensures { result ≡ length self.now }
     {
         self.items.len()
     }
 
-    /// Whether there are none.
+    /// Returns whether there are no bytes.
     pub fn is_empty(&self) -> bool
         ensures { result ≡ (length self.now == 0) }
     {
         self.items.is_empty()
     }
 
-    /// The `Vec` that holds the bytes.
+    /// Returns the `Vec` that holds the bytes.
     pub fn into_vec(self) -> Vec<u8>
         ensures { result.items ≡ self }
     {

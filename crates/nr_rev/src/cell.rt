@@ -1,24 +1,24 @@
-//! What can be read of a world.
+//! The cells of a world, which can be read.
 
 ghost use Rattle.std.specs.Prelude.{◌≡◌, ◌≢◌, ◌==◌, MatchBool, Some, find};
 ghost use Rattle.std.specs.Str.{bytes_eq};
 ghost use Rattle.nr_rev.specs.CellName.{cell_index, cell_name, cell_named, cell_number, cell_numbered, cells_at};
 
-/// Something of a world that has a value, or none. The number is that of a goroutine, a socket or a descriptor; where
-/// nothing made so far has it, the value is absent. A descriptor that was closed keeps its values.
+/// A part of a world that has a value, or none. The number is that of a goroutine, a socket or a descriptor. If none
+/// with that number has been made yet, the value is absent. A closed descriptor keeps its values.
 #[derive(Clone, Copy, Debug, PartialEq, Eq)]
 pub enum Cell {
-    /// Now, in nanoseconds.
+    /// The current time, in nanoseconds.
     Clock,
-    /// How many words hold a goroutine: `netpollWaiters` of `runtime/netpoll.go`.
+    /// The number of wait words that hold a goroutine: `netpollWaiters` of `runtime/netpoll.go`.
     Waiters,
-    /// How many timers are armed.
+    /// The number of armed timers.
     Timers,
-    /// How many timers went off and were not run yet.
+    /// The number of timers that went off and haven't been run yet.
     Firings,
-    /// When the next timer is due, in nanoseconds; absent where none is armed.
+    /// The time at which the next timer is due, in nanoseconds; absent if no timer is armed.
     Least,
-    /// Where a goroutine is.
+    /// The status of a goroutine.
     Goroutine(u32),
     /// The lock word of a socket, as the number that `fdMutex.state` of `internal/poll/fd_mutex.go` would hold.
     Lock(u32),
@@ -26,32 +26,32 @@ pub enum Cell {
     ReadSemaphore(u32),
     /// The count of a socket's semaphore for writing.
     WriteSemaphore(u32),
-    /// How many bytes a socket has to be read.
+    /// The number of bytes that can be read from a socket.
     Input(u32),
-    /// How many bytes written to a socket have not left it.
+    /// The number of bytes that were written to a socket and haven't been sent.
     Output(u32),
-    /// The word of a descriptor for reading: `rg` of `pollDesc`.
+    /// The wait word of a descriptor for reading: `rg` of `pollDesc`.
     ReadWord(u32),
-    /// The word for writing: `wg`.
+    /// The wait word of a descriptor for writing: `wg`.
     WriteWord(u32),
-    /// The deadline of a descriptor for reading: `rd` of `pollDesc`, in nanoseconds.
+    /// The read deadline of a descriptor: `rd` of `pollDesc`, in nanoseconds.
     ReadDeadline(u32),
-    /// The deadline for writing: `wd`, in nanoseconds.
+    /// The write deadline of a descriptor: `wd`, in nanoseconds.
     WriteDeadline(u32),
-    /// The sequence of a descriptor's timer for reading: `rseq` of `pollDesc`.
+    /// The sequence of a descriptor's read timer: `rseq` of `pollDesc`.
     ReadSequence(u32),
-    /// The sequence of the timer for writing: `wseq`.
+    /// The sequence of a descriptor's write timer: `wseq`.
     WriteSequence(u32),
-    /// The tag by which an event knows a descriptor of before its closing: `fdseq` of `pollDesc`.
+    /// The tag by which an event from before a descriptor's closing is recognized: `fdseq` of `pollDesc`.
     DescriptorSequence(u32),
-    /// The summary of a descriptor, as `pollInfo`: 1 closing, 2 an error event, 4 the deadline for reading expired, 8 that
-    /// for writing, added up.
+    /// The summary of a descriptor, as in `pollInfo`: the sum of 1 if it is closing, 2 for an error event, 4 if the
+    /// read deadline has expired, and 8 if the write deadline has.
     Info(u32),
-    /// Whether the write side of a socket is shut: 1 if it is, else 0.
+    /// Whether the write side of a socket is shut: 1 if it is, or else 0.
     Shut(u32),
 }
 
-// Those that there is one of.
+// The cells that exist once.
 const CELLS: [Cell; 5] = [
     Cell::Clock,
     Cell::Waiters,
@@ -60,7 +60,7 @@ const CELLS: [Cell; 5] = [
     Cell::Least,
 ];
 
-// Those of a goroutine, a socket or a descriptor, and its number.
+// The cells of the goroutine, the socket and the descriptor with this number.
 fn cells_of(index: u32) -> [Cell; 15]
     ensures { result ≡ cells_at (Some index) }
 {
@@ -99,17 +99,17 @@ fn first_numbered(cells: &[Cell], number: u8) -> Option<Cell>
 }
 
 impl Cell {
-    /// How many cells there are, those of one goroutine, one socket and one descriptor counted.
+    /// The number of cells: those that exist once, and those of one goroutine, one socket and one descriptor.
     pub const COUNT: usize = 20;
 
-    /// Whether it is the same cell as another.
+    /// Returns whether two cells are the same.
     pub fn is(self, other: Cell) -> bool
         ensures { MatchBool result (self ≡ other) (self ≢ other) }
     {
         self == other
     }
 
-    /// How it is spelled, without a number.
+    /// Returns the name of the cell, without a number.
     pub fn name(self) -> &'static str
         ensures { result.now ≡ cell_name self }
     {
@@ -137,7 +137,7 @@ impl Cell {
         }
     }
 
-    /// The number of what it shows, from 1 on, whatever it shows it of.
+    /// Returns the number of the cell's sort, from 1 on. It doesn't depend on the goroutine, socket or descriptor.
     pub fn number(self) -> u8
         ensures { result ≡ cell_number self }
     {
@@ -165,7 +165,7 @@ impl Cell {
         }
     }
 
-    /// The number of its goroutine, socket or descriptor; none where there is one such cell.
+    /// Returns the number of the cell's goroutine, socket or descriptor, or `None` if the cell exists once.
     pub fn index(self) -> Option<u32>
         ensures { result ≡ cell_index self }
     {
@@ -189,7 +189,7 @@ impl Cell {
         }
     }
 
-    /// The cell of this name, with a number where such cells have one.
+    /// Returns the cell with this name, and with this number if such cells have one.
     pub fn named(name: &[u8], index: Option<u32>) -> Option<Cell>
         ensures { result ≡ cell_named name.now index }
     {
@@ -199,8 +199,8 @@ impl Cell {
         }
     }
 
-    /// The cell that shows what has this number, from 1 on: with an index, one of a goroutine, a socket or a descriptor;
-    /// without, one that there is one of.
+    /// Returns the cell of the sort with this number, from 1 on: with an index, that of a goroutine, a socket or a
+    /// descriptor; without an index, a cell that exists once.
     pub fn numbered(number: u8, index: Option<u32>) -> Option<Cell>
         ensures { result ≡ cell_numbered number index }
     {

@@ -6,22 +6,22 @@ use crate::status::Status;
 /// The value of a cell.
 #[derive(Clone, Copy, Debug, PartialEq, Eq)]
 pub enum CellValue {
-    /// There is no such thing.
+    /// The cell's goroutine, socket, descriptor or timer doesn't exist.
     Absent,
     /// A count, a sequence, a summary or a lock word.
     Number(u64),
-    /// A time in nanoseconds: that of a deadline, of a timer or now.
+    /// A time in nanoseconds: that of a deadline or a timer, or the current time.
     Time(i64),
     /// A wait word.
     WaitWord(WaitWord),
-    /// Where a goroutine is.
+    /// The status of a goroutine.
     Status(Status),
 }
 
 impl CellValue {
     ghost use Rattle.std.specs.Prelude.{◌≡◌, ◌≢◌, MatchBool};
 
-    /// Whether it is the same value as another.
+    /// Returns whether two values are the same.
     pub fn is(self, other: CellValue) -> bool
         ensures { MatchBool result (self ≡ other) (self ≢ other) }
     {

@@ -8,23 +8,23 @@ use crate::refusal::Refusal;
 use crate::sides::Sides;
 use crate::timer::Timer;
 
-/// A wait word, `rg` or `wg` of `pollDesc`: what is known of one side of a descriptor, or who waits there.
+/// A wait word, `rg` or `wg` of `pollDesc`: the state of one side of a descriptor, or the goroutine that waits for it.
 #[derive(Clone, Copy, Debug, PartialEq, Eq)]
 pub enum WaitWord {
-    /// Nothing is known, and nobody waits.
+    /// The side isn't known to be ready, and no goroutine waits.
     Nil,
-    /// The side is ready, or was found ready and nobody took it up yet.
+    /// The side is ready, and no goroutine has consumed that yet.
     Ready,
     /// A goroutine is about to park.
     Wait,
-    /// The goroutine of this number is parked.
+    /// The goroutine with this number is parked.
     Held(u32),
 }
 
 impl WaitWord {
     ghost use Rattle.std.specs.Prelude.{◌≡◌, ◌≢◌, MatchBool};
 
-    /// Whether it is the same word as another.
+    /// Returns whether two words are the same.
     pub fn is(self, other: WaitWord) -> bool
         ensures { MatchBool result (self ≡ other) (self ≢ other) }
     {
@@ -37,32 +37,32 @@ impl WaitWord {
 pub struct Descriptor {
     /// The wait words, `rg` and `wg`.
     pub words: Sides<WaitWord>,
-    /// It is being closed, so that nothing waits on it any more.
+    /// Whether the descriptor is being closed, so that no goroutine waits on it any more.
     pub closing: bool,
-    /// The last event reported an error.
+    /// Whether the last event reported an error.
     pub event_error: bool,
-    /// The deadlines, `rd` and `wd`, in nanoseconds: positive to come, negative past, 0 none.
+    /// The deadlines, `rd` and `wd`, in nanoseconds: positive if in the future, negative if past, 0 if none is set.
     pub deadlines: Sides<i64>,
-    /// Whether a timer was armed for a side and not stopped, `rrun` and `wrun`.
+    /// Whether a side's timer was armed and hasn't been stopped, `rrun` and `wrun`.
     pub running: Sides<bool>,
-    /// The sequences by which a stale firing is known, `rseq` and `wseq`.
+    /// The sequences that tell stale firings, `rseq` and `wseq`.
     pub sequences: Sides<u64>,
-    /// The tag by which a stale event is known.
+    /// The tag that tells stale events.
     pub fdseq: u64,
-    /// The number of the socket that it was opened for.
+    /// The number of the socket that the descriptor was opened for.
     pub socket: u32,
 }
 
-/// A descriptor with the timers that are armed for it.
+/// A descriptor with the timers armed for it.
 #[derive(Clone, Copy, Debug, PartialEq, Eq)]
 pub struct DescriptorRow {
     /// The descriptor.
     pub descriptor: Descriptor,
-    /// The timer armed for each side, if one is.
+    /// The timer armed for each side, if there is one.
     pub timers: Sides<Option<Timer>>,
 }
 
-/// A sequence, a tag or an arming number raised by one. `LastNumber` where it is the last one of 64 bits.
+/// Returns a sequence, a tag or an arming number plus one. Fails with `LastNumber` if it is the greatest 64-bit number.
 pub fn raised_sequence(sequence: u64) -> Result<u64, Refusal>
     ensures { result ≡ refusing.raised_sequence sequence }
 {
@@ -72,7 +72,7 @@ pub fn raised_sequence(sequence: u64) -> Result<u64, Refusal>
     Ok(sequence + 1)
 }
 
-/// Both sides' sequences raised by one, reading first. `LastNumber` where one is the last.
+/// Returns both sides' sequences plus one, reading first. Fails with `LastNumber` if one is the greatest 64-bit number.
 pub fn both_raised(sequences: Sides<u64>) -> Result<Sides<u64>, Refusal>
     ensures { result ≡ spec.both_raised sequences }
 {
@@ -81,8 +81,8 @@ pub fn both_raised(sequences: Sides<u64>) -> Result<Sides<u64>, Refusal>
     Ok(Sides { read, write })
 }
 
-/// A deadline counted from now, in nanoseconds, made a time; the greatest time replaces a later one. One that is past, or
-/// none, stays.
+/// Turns a deadline, counted in nanoseconds from now, into a time. A sum beyond the greatest time becomes the greatest
+/// time. A past deadline, and none, stay as they are.
 pub fn deadline_from(clock: i64, time: i64) -> i64
     ensures { result ≡ spec.deadline_from clock time }
 {

@@ -1,27 +1,27 @@
-//! Where a step puts what leads back over it.
+//! The places in which operations store how to undo them.
 
 ghost use Rattle.std.specs.Prelude.{Bool};
 
 use std::mem;
 
-/// Where an operation puts what leads back over it: a place that keeps it, or none, for an operation that nobody undoes. So
-/// a machine's operation is written once, and the compiler makes two of it.
+/// A place for what an operation needs to be undone. It either keeps it, or drops it for an operation that nobody
+/// undoes. So a machine's operation is written once, and compiled to two versions.
 pub trait Keeper<Undo> {
-    /// Whether what is put is kept. Where it isn't, no memory need be taken for it.
+    /// Whether the place keeps what is put into it. If not, no memory need be taken for it.
     const KEEPS: bool;
 
     ghost KEEPS: { Bool };
 
-    /// It holds this undo.
+    /// The place holds this undo.
     ghost holds: { Self → Undo → Type 0 };
 
-    /// Puts an undo, in place of one that was there.
+    /// Puts an undo, in place of any that the place held.
     fn put(&mut self, undo: Undo)
         ensures { holds self.new undo };
 }
 
-/// Keeps nothing. It frees nothing of what it is given either: where nothing is kept no memory is taken for it. So the compiler
-/// need not make what is put.
+/// A place that keeps nothing. It doesn't free what is put into it either, since no memory was taken for that. So the
+/// compiler need not make it.
 #[derive(Clone, Copy, Debug, Default, PartialEq, Eq)]
 pub struct NoWayBack;
 

@@ -1,10 +1,10 @@
-//! Bytes that left a buffer, kept for the way back.
+//! Bytes that left a buffer, kept so that the step can be undone.
 
 use crate::Memory;
 use std::alloc::Global;
 use std::marker::Model;
 
-/// Bytes kept for the way back, seen in contracts as the list of them. They take just the room that they need: the
+/// Bytes that are kept so that a step can be undone; contracts see them as a list. They take no spare room: the
 /// capacity is their number.
 #[derive(Drop)]
 pub struct KeptBytes {
@@ -24,7 +24,7 @@ impl Model for KeptBytes {
 impl KeptBytes {
     ghost use Rattle.std.specs.Prelude.{◌≡◌, ◌<◌, [], length, IfOk, OnErr};
 
-    /// No bytes. It takes no memory.
+    /// Makes an empty list of bytes. It takes no memory.
     #[inline(always)]
     pub fn none(alloc: Global) -> KeptBytes
         ensures { result ≡ [] }
@@ -34,7 +34,7 @@ impl KeptBytes {
         }
     }
 
-    /// A copy of the bytes. Only of some bytes can it be refused memory.
+    /// Copies the bytes. Fails only if there are bytes and memory runs out.
     pub fn copy_of(alloc: Global, bytes: &[u8]) -> Result<KeptBytes, Memory>
         ensures ok { IfOk result (λ kept. kept ≡ bytes.now) }
         ensures err { OnErr result (0 < length bytes.now) }
@@ -46,14 +46,14 @@ impl KeptBytes {
         Ok(KeptBytes { items })
     }
 
-    /// The bytes as a slice.
+    /// Returns the bytes as a slice.
     pub fn as_slice(&self) -> &[u8]
         ensures { result.now ≡ self.now }
     {
         self.items.as_slice()
     }
 
-    /// How many bytes there are.
+    /// Returns the number of bytes.
     pub fn len(&self) -> usize
         ensures { result ≡ length self.now }
     {

@@ -7,7 +7,7 @@ ghost use Rattle.nr_rev.specs.Auxiliary.Kind.{kinds_of_length};
 
 use crate::step::Step;
 
-/// What a step does, without what it does it to.
+/// What a step does, without its arguments.
 #[derive(Clone, Copy, Debug, PartialEq, Eq)]
 pub enum Kind {
     Spawn = 1,
@@ -43,7 +43,7 @@ pub enum Kind {
     CloseWrite,
 }
 
-/// Each kind with its name, in the order of their numbers.
+/// The kinds and their names, in the order of their numbers.
 const KINDS: [(Kind, &str); Kind::COUNT] = [
     (Kind::Spawn, "spawn"),
     (Kind::Exit, "exit"),
@@ -79,17 +79,17 @@ const KINDS: [(Kind, &str); Kind::COUNT] = [
 ];
 
 impl Kind {
-    /// How many kinds there are.
+    /// The number of kinds.
     pub const COUNT: usize = 31;
 
-    /// The name that a recording's line begins with, in lower case.
+    /// Returns the name with which a recording's line begins, in lower case.
     pub fn name(self) -> &'static str
         ensures { result.now ≡ kind_name self }
     {
         KINDS[self.number() as usize - 1].1
     }
 
-    /// The number, from 1 on.
+    /// Returns the number of the kind, from 1 on.
     pub fn number(self) -> u8
         ensures value { result ≡ kind_number self }
         ensures range { (0 < result) × (result ≤ 31) }
@@ -97,7 +97,7 @@ impl Kind {
         self as u8
     }
 
-    /// The kind of this name, if there is one.
+    /// Returns the kind with this name, if there is one.
     pub fn named(name: &[u8]) -> Option<Kind>
         ensures { result ≡ kind_named name.now }
     {
@@ -107,14 +107,14 @@ impl Kind {
             .find(|kind| kind.has_name(name))
     }
 
-    // Whether its name is this.
+    // Returns whether the kind has this name.
     fn has_name(self, name: &[u8]) -> bool
         ensures { result ≡ bytes_eq (kind_name self) name.now }
     {
         self.name().as_bytes() == name
     }
 
-    /// The kind of this number, if there is one.
+    /// Returns the kind with this number, if there is one.
     pub fn numbered(number: u8) -> Option<Kind>
         ensures { result ≡ kind_numbered number }
     {
@@ -125,7 +125,7 @@ impl Kind {
     }
 }
 
-// The kinds whose names have this length.
+// Returns the kinds whose names have this length.
 fn kinds_of_length(length: usize) -> &'static [Kind]
     ensures { result.now ≡ kinds_of_length length }
 {
@@ -158,7 +158,7 @@ fn kinds_of_length(length: usize) -> &'static [Kind]
 }
 
 impl Step {
-    /// Its kind.
+    /// Returns the kind of the step.
     pub fn kind(&self) -> Kind
         ensures { result ≡ kind_of self.now }
     {

@@ -1,4 +1,4 @@
-//! Laws over the definitions: the names and numbers of kinds and cells, what the weights count, and the greatest limits.
+//! Laws about the definitions: the names and numbers of kinds and cells, the weights, and the greatest limits.
 
 ghost use Rattle.std.specs.Prelude.{◌≡◌, ℕ, slice_get, Option, None, Some, ◌+◌, ◌-◌, List, length};
 ghost use Rattle.nr_rev.specs.declared.sides.Sides.{Sides};
@@ -16,8 +16,8 @@ ghost use Rattle.nr_rev.specs.declared.kind.TheConstants.Kind.{COUNT as KIND_COU
 ghost use Rattle.nr_rev.specs.Kind.{kind_name, kind_named, kind_number, kind_numbered, kinds};
 ghost use Rattle.nr_rev.specs.declared.limits.TheConstants.{MOST_GOROUTINES, MOST_SOCKETS, MOST_DESCRIPTORS, MOST_BUFFER};
 
-/// A kind's name is read as that kind, and nothing else is. So is its number, which is its place in the list of all
-/// kinds.
+/// The name of a kind is read as that kind, and no other name is. The same holds for its number, which is its place in
+/// the list of all kinds.
 pub fn kinds_are_read_as_spelled()
     ensures read { (kind : Kind) → kind_named (kind_name kind) ≡ Some kind }
     ensures spelled { (name : List ℕ) (kind : Kind) → kind_named name ≡ Some kind
@@ -29,7 +29,7 @@ pub fn kinds_are_read_as_spelled()
     ensures constant { KIND_COUNT ≡ 31 }
 {}
 
-/// A cell's name and index are read as that cell, and nothing else is; so are its number and index.
+/// The name and the index of a cell are read as that cell, and no others are. The same holds for its number and index.
 pub fn cells_are_read_as_spelled()
     ensures read { (cell : Cell) → cell_named (cell_name cell) (cell_index cell) ≡ Some cell }
     ensures spelled { (name : List ℕ) (index : Option ℕ) (cell : Cell)
@@ -41,8 +41,8 @@ pub fn cells_are_read_as_spelled()
     ensures constant { CELL_COUNT ≡ 20 }
 {}
 
-/// What the weights of a way back count is all that there is: each type that they look into has just the
-/// parts counted, so that nothing can be kept beside them.
+/// The weights of what is kept for undoing count everything: each type that they look into has only the counted parts,
+/// so nothing can be kept beside them.
 pub fn weights_count_every_part()
     ensures sides { (both : Sides ℕ) → both ≡ record { read = both.read; write = both.write } }
     ensures lock { (lock : Lock) → lock ≡ record {
@@ -79,8 +79,7 @@ pub fn weights_count_every_part()
     ensures kept { (bytes : Kept) → bytes ≡ record { items = bytes.items } }
 {}
 
-/// The greatest limits that a recording may set: 4,096 goroutines, 256 sockets, 256 descriptors, buffers of 1,048,576
-/// bytes.
+/// The greatest limits of a recording: 4,096 goroutines, 256 sockets, 256 descriptors, and buffers of 1,048,576 bytes.
 pub fn the_numbers()
     ensures goroutines { MOST_GOROUTINES ≡ 4096 }
     ensures sockets { MOST_SOCKETS ≡ 256 }

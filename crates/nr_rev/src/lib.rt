@@ -1,10 +1,10 @@
-//! The vocabulary of a recorded schedule, the model machine's definitions, and what a machine owes whose steps can be
-//! undone.
+//! The vocabulary of a recorded run, the definitions of the model machine, and the contract of a machine whose steps
+//! can be undone.
 //!
-//! The machine is that of Go's network poller: socket locks after `internal/poll/fd_mutex.go`, descriptors, waits and
-//! deadlines after `runtime/netpoll.go`. Semaphores, sockets, timers and the order of reasons are rules of its own. The
-//! definitions are in `specs/`: `Step` has the thirty-one steps, `World` the state, `WellFormed` what holds of every world
-//! that steps lead to, `Cell` what can be read, and `Run` a recording's positions.
+//! The machine models Go's network poller: socket locks after `internal/poll/fd_mutex.go`; descriptors, waits and
+//! deadlines after `runtime/netpoll.go`. Semaphores, sockets, timers and the order of reasons follow rules of its own.
+//! The definitions are in `specs/`: `Step` has the thirty-one steps, `World` the state, `WellFormed` the invariant of
+//! every world that steps lead to, `Cell` the readable values, and `Run` the positions of a recording.
 #![tactic(auto)]
 
 mod answer;

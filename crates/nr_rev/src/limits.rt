@@ -15,16 +15,16 @@ pub const MOST_DESCRIPTORS: u32 = 256;
 /// The greatest capacity of a buffer, in bytes.
 pub const MOST_BUFFER: u32 = 1_048_576;
 
-/// How many goroutines, sockets and descriptors a recording may make, and how many bytes a buffer may hold.
+/// The limits of a recording: the numbers of goroutines, sockets and descriptors, and the size of a buffer in bytes.
 #[derive(Clone, Copy, Debug, PartialEq, Eq)]
 pub struct Limits {
-    /// The goroutines that may be made, the first and those that are gone included; 1 to 4,096.
+    /// The most goroutines that may be made, including the first one and those that have ended; 1 to 4,096.
     pub goroutines: u32,
-    /// The sockets that may be opened; 1 to 256.
+    /// The most sockets that may be opened; 1 to 256.
     pub sockets: u32,
-    /// The descriptors that may be open at once; 1 to 256. Twice as many firings may wait.
+    /// The most descriptors that may be open at once; 1 to 256. Twice as many firings may wait.
     pub descriptors: u32,
-    /// The greatest capacity of a socket's input or output, and the most that one read may ask for, in bytes; 1 to
+    /// The greatest capacity of a socket's input or output, and the greatest size of one read, in bytes; 1 to
     /// 1,048,576.
     pub buffer: u32,
 }
@@ -35,7 +35,7 @@ impl Limits {
     ghost use Rattle.nr_rev.specs.Limits.{AreInRange};
     ghost use Rattle.nr_rev.specs.Auxiliary.Limits.{are_in_range};
 
-    /// Whether each limit is in its range.
+    /// Returns whether each limit is in its range.
     pub fn are_in_range(&self) -> bool
         ensures value { result ≡ are_in_range self.now }
         ensures facts { OnTrue result (AreInRange self.now) }
@@ -47,7 +47,7 @@ impl Limits {
             && is_limit(MOST_BUFFER, self.buffer)
     }
 
-    /// Whether they are the same limits as others.
+    /// Returns whether two sets of limits are the same.
     pub fn is(self, other: Limits) -> bool
         ensures { MatchBool result (self ≡ other) (self ≢ other) }
     {
@@ -55,7 +55,7 @@ impl Limits {
     }
 }
 
-/// Whether a limit is from 1 to the most that there may be.
+/// Returns whether a limit is from 1 to `most`.
 pub fn is_limit(most: u32, number: u32) -> bool
     ensures { result ≡ is_limit most number }
 {

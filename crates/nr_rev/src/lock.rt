@@ -3,27 +3,27 @@
 use crate::answer::Answer;
 use crate::sides::Sides;
 
-/// The lock of a socket: what the fields of `fdMutex.state` say. References and waiters have 20 bits there, so they are
-/// below 1,048,576 in a well-formed world.
+/// The lock of a socket: the fields of `fdMutex.state`. References and waiters have 20 bits there, so each is below
+/// 1,048,576 in a well-formed world.
 #[derive(Clone, Copy, Debug, PartialEq, Eq)]
 pub struct Lock {
-    /// The socket was closed.
+    /// Whether the socket was closed.
     pub closed: bool,
-    /// Whether a goroutine has the lock of a side.
+    /// Whether a goroutine holds the lock of a side.
     pub locked: Sides<bool>,
-    /// How many references there are, a held lock counting as one.
+    /// The number of references, counting each held lock as one.
     pub references: u32,
-    /// How many goroutines wait for the lock of a side.
+    /// The number of goroutines that wait for the lock of a side.
     pub waiters: Sides<u32>,
 }
 
-/// What an operation on a lock leaves.
+/// The result of an operation on a lock.
 #[derive(Clone, Copy, Debug, PartialEq, Eq)]
 pub struct LockOutcome {
-    /// The answer.
+    /// The answer of the operation.
     pub answer: Answer,
-    /// How many releases of each side's semaphore the goroutine now owes: one for each waiter to be woken.
+    /// The releases of each side's semaphore that the goroutine now owes: one for each waiter to wake.
     pub owed: Sides<u32>,
-    /// The lock afterwards.
+    /// The lock after the operation.
     pub lock: Lock,
 }

@@ -1,10 +1,10 @@
-//! Memory that was refused.
+//! The error for memory that ran out.
 
 use std::alloc::{AllocError, AllocFailed};
 
-/// Memory was refused: what a call answers that can run out of memory and fails with nothing else. The field is private, so a
-/// `Memory` is made of the library's own refusal. That refusal is a type that any body can name: no contract keeps a body from
-/// making one, and a rule of the repository (`python3 scripts/pages.py refused`) finds each place of the program that does.
+/// Memory ran out: the error of a call that can fail for no other reason. The field is private, so a `Memory` is made
+/// from the library's own error. Any function can name that type, and no contract prevents a function from making one;
+/// a rule of the repository (`python3 scripts/pages.py refused`) finds each place of the program that does.
 #[derive(Clone, Copy, Debug, PartialEq, Eq)]
 pub struct Memory(AllocError);
 
@@ -14,7 +14,7 @@ impl From<AllocError> for Memory {
     }
 }
 
-/// The value that was not stored is dropped.
+/// Drops the value that was not stored.
 impl<T: Drop> From<AllocFailed<T>> for Memory {
     fn from(refused: AllocFailed<T>) -> Memory {
         Memory(refused.into())

@@ -1,9 +1,9 @@
-//! The goroutines that wait at a semaphore.
+//! The goroutines that wait for a semaphore.
 
 use std::marker::Model;
 
-/// The numbers of the goroutines queued at a semaphore, front first, seen in contracts as the list of them. Made of a
-/// `Vec` and given back as one without taking memory.
+/// The numbers of the goroutines queued at a semaphore, front first; contracts see them as a list. They are made from a
+/// `Vec`, and turned back into one, without taking memory.
 #[derive(Drop)]
 pub struct Queue {
     items: Vec<u32>,
@@ -20,21 +20,21 @@ impl Model for Queue {
 impl Queue {
     ghost use Rattle.std.specs.Prelude.{◌≡◌};
 
-    /// The queue of a `Vec`.
+    /// Makes a queue from a `Vec`.
     pub fn new(items: Vec<u32>) -> Self
         ensures { result ≡ items.items }
     {
         Queue { items }
     }
 
-    /// The goroutines as a slice, front first.
+    /// Returns the goroutines as a slice, front first.
     pub fn as_slice(&self) -> &[u32]
         ensures { result.now ≡ self.now }
     {
         self.items.as_slice()
     }
 
-    /// The `Vec` that holds the goroutines.
+    /// Returns the `Vec` that holds the goroutines.
     pub fn into_vec(self) -> Vec<u32>
         ensures { result.items ≡ self }
     {

@@ -1,65 +1,65 @@
-//! Why a step is refused.
+//! The reasons for which a step is refused.
 
 ghost use Rattle.std.specs.Prelude.{◌≡◌};
 ghost use Rattle.nr_rev.specs.Refusing.{out_of_memory, refusal_number};
 
 use crate::Memory;
 
-/// Why a step does not apply. The number is what netrev prints. Of several reasons, that which the definition of the
-/// step tests first is the one reported. Those that go with a panic or a throw of Go are from `internal/poll/fd_mutex.go` and
-/// `runtime/netpoll.go`; the others are rules of this machine.
+/// The reason why a step does not apply. netrev prints its number. If several reasons hold, the step reports the one
+/// that its definition tests first. Reasons that mention a panic or a throw of Go are from `internal/poll/fd_mutex.go`
+/// and `runtime/netpoll.go`; the others are rules of this machine.
 #[derive(Clone, Copy, Debug, PartialEq, Eq)]
 pub enum Refusal {
-    /// Memory was refused. No state of the machine has this reason.
+    /// Memory ran out. No state of the machine has this reason.
     Memory(Memory),
-    /// No goroutine with this number was made, or it is gone.
+    /// No goroutine with this number was made, or it has ended.
     NoSuchGoroutine,
-    /// The goroutine is not where the step begins: not idle, or not at this place of a wait.
+    /// The goroutine is not in the state in which the step begins: not idle, or not at this place of a wait.
     NotThere,
-    /// As many goroutines, sockets or descriptors are there as the limits allow.
+    /// There are as many goroutines, sockets or descriptors as the limits allow.
     TableFull,
     /// No socket with this number was opened.
     NoSuchSocket,
     /// The descriptor is not open, or, for an event, never was.
     NoSuchDescriptor,
-    /// The references, the waiters or the count of a semaphore are at their greatest; Go panics with
-    /// "too many concurrent operations on a single file or socket".
+    /// The number of references or waiters, or the count of a semaphore, is at its maximum; Go panics with "too many
+    /// concurrent operations on a single file or socket".
     FieldOverflow,
-    /// The lock has no such reference, or is not locked; Go panics with "inconsistent poll.fdMutex".
+    /// The lock has no such reference or is not locked; Go panics with "inconsistent poll.fdMutex".
     InconsistentLock,
     /// Another goroutine is inside a wait of this descriptor and side; Go throws "runtime: double wait".
     DoubleWait,
     /// The descriptor is closed and was not evicted; Go throws "runtime: close polldesc w/o unblock".
     CloseWithoutUnblock,
-    /// The descriptor is evicted and was so before; Go throws "runtime: unblock on closing polldesc".
+    /// The descriptor was evicted before; Go throws "runtime: unblock on closing polldesc".
     AlreadyClosing,
-    /// A goroutine is inside a wait of the descriptor that is closed or reset.
+    /// A goroutine is inside a wait of the descriptor that the step closes or resets.
     WaiterInside,
     /// The time is before now.
     ClockGoesBack,
     /// No timer is armed, or the first one is not due yet.
     NoTimerDue,
-    /// Twice as many firings wait as there may be descriptors.
+    /// Twice as many firings are waiting as there may be descriptors.
     FiringsFull,
-    /// No firing is at this place.
+    /// The list of firings has none at this place.
     NoSuchFiring,
     /// The bytes that arrive do not all fit.
     NoRoom,
-    /// Fewer bytes wait than are to leave.
+    /// Fewer bytes are waiting than the step sends.
     TooFewBytes,
-    /// A sequence, a tag or the arming number is at its last value.
+    /// A sequence, a tag or the arming number is at its maximum.
     LastNumber,
-    /// A capacity or a count is 0 or above the buffer limit, or there are no bytes.
+    /// A capacity or a count is 0 or above the buffer limit, or the step carries no bytes.
     SizeOutOfRange,
     /// The peer has closed.
     PeerClosed,
-    /// A current firing finds no deadline or no running timer; Go throws "runtime: inconsistent read deadline". Met in
-    /// no well-formed world.
+    /// A current firing finds no deadline or no running timer; Go throws "runtime: inconsistent read deadline". This
+    /// occurs in no well-formed world.
     CorruptedDescriptor,
 }
 
 impl Refusal {
-    /// The number that it is printed as.
+    /// Returns the number that netrev prints for the reason.
     pub fn number(self) -> u8
         ensures { result ≡ refusal_number self }
     {
@@ -90,7 +90,7 @@ impl Refusal {
     }
 }
 
-/// Memory that was refused is the reason `Memory`.
+/// Running out of memory is the reason `Memory`.
 impl From<Memory> for Refusal {
     ghost from_gives = { λ _ reason. reason ≡ out_of_memory };
 

@@ -1,4 +1,4 @@
-//! What a machine owes whose operations can be undone.
+//! The contract of a machine whose operations can be undone.
 
 ghost use Rattle.std.specs.Prelude.{◌≡◌, ◌≤◌, ℕ, Option, Some, IfOk, IfErr, OnErr};
 ghost use Rattle.nr_rev.specs.Reversible.{Refuses};
@@ -8,49 +8,49 @@ ghost use Rattle.nr_rev.specs.Refusing.{out_of_memory};
 
 use crate::refusal::Refusal;
 
-/// A machine whose operations can be undone, whole. After GDB's reverse execution, in which a record of what each
-/// instruction changed leads back over it: here the record is the delta.
+/// A machine whose operations can be undone, each as a whole. This follows GDB's reverse execution, in which a record
+/// of the changes of each instruction leads back over it; here the record is the delta.
 pub trait Reversible {
-    /// What is applied.
+    /// An operation.
     type Op;
 
-    /// What an operation that applies answers.
+    /// The answer of an operation that applies.
     type Answer;
 
-    /// What leads back over an operation.
+    /// The record with which an operation is undone.
     type Delta;
 
-    /// How many words a delta may hold beside the bytes that left a buffer: one for each started 64 bits of
-    /// a number, one for a truth value or a choice, one for each started eight bytes.
+    /// The most words that a delta may hold besides the bytes that left a buffer. A number counts one word for each 64
+    /// bits or part of them, a truth value or a choice one word, and bytes one word for each eight or part of them.
     const WORDS: u32;
 
     ghost WORDS: { ℕ };
 
-    /// Holds of the states in which an operation may be applied.
+    /// True of the states in which an operation may be applied.
     ghost is_well_formed: { Self → Type 0 };
 
-    /// The operation may give this answer and lead from the old state to the new one.
+    /// True if the operation may give this answer and lead from the old state to the new one.
     ghost steps: { Self → Self.Op → Self.Answer → Self → Type 0 };
 
-    /// Why the operation does not apply in the state, out of memory aside.
+    /// The reason why the operation does not apply in the state, other than running out of memory.
     ghost reason: { Self → Self.Op → Option Refusal };
 
-    /// Holds of the operations that take memory in the state, and so may be refused it.
+    /// True of the operations that take memory in the state, and so may run out of it.
     ghost takes_memory: { Self → Self.Op → Type 0 };
 
-    /// The delta leads back from the new state to the old one.
+    /// True if the delta leads back from the new state to the old one.
     ghost back: { Self.Delta → Self → Self → Type 0 };
 
-    /// How many words the delta holds.
+    /// The number of words in the delta.
     ghost weight: { Self.Delta → ℕ };
 
-    /// How many words the operation's delta may hold beside the bytes that left a buffer.
+    /// The most words that the operation's delta may hold besides the bytes that left a buffer.
     ghost allowance: { Self.Op → ℕ };
 
-    /// How many bytes the operation that gave this answer took out of a buffer.
+    /// The number of bytes that an operation with this answer took out of a buffer.
     ghost bytes_out: { Self.Op → Self.Answer → ℕ };
 
-    /// Applies the operation, or changes nothing and says why it does not apply.
+    /// Applies the operation and returns its answer and its delta. Otherwise changes nothing and returns the reason.
     fn apply(&mut self, op: &Self::Op) -> Result<(Self::Answer, Self::Delta), Refusal>
         requires { is_well_formed self.old }
         ensures step { IfOk result (λ r. steps self.old op.now r.0 self.new) }
@@ -60,27 +60,27 @@ pub trait Reversible {
         ensures refusal { IfErr result (Refuses reason takes_memory self.old op.now) }
         ensures unchanged { OnErr result (self.new ≡ self.old) };
 
-    /// Leads back over the step that gave the delta: leaves the one state that the delta leads back to.
+    /// Undoes the step that gave the delta, and leaves the one state to which the delta leads back.
     fn undo(&mut self, delta: Self::Delta)
         requires { (old : Self) × back delta self.old old }
         ensures { back delta self.old self.new };
 
-    /// A delta leads back to one state at most.
+    /// A delta leads back to at most one state.
     ghost back_is_unique: { (delta : Self.Delta) (new a b : Self) → back delta new a
         → back delta new b → a ≡ b };
 
-    /// Where there is a reason, no step is possible.
+    /// If there is a reason, no step is possible.
     ghost refused_has_no_step: { (old : Self) (op : Self.Op) (e : Refusal) (answer : Self.Answer)
         (new : Self) → reason old op ≡ Some e → steps old op answer new → ⊥ };
 
-    /// No state has the reason that memory is refused.
+    /// No state has running out of memory as its reason.
     ghost memory_is_no_reason: { (old : Self) (op : Self.Op) → is_well_formed old
         → reason old op ≡ Some out_of_memory → ⊥ };
 
-    /// From a state, an operation gives one answer and leads to one state.
+    /// In a given state, an operation has only one answer and leads to only one state.
     ghost steps_unique: { (old : Self) (op : Self.Op) (a b : Self.Answer) (new other : Self)
         → steps old op a new → steps old op b other → (a ≡ b) × (new ≡ other) };
 
-    /// No operation is allowed more than all are.
+    /// The allowance of each operation is within the greatest one.
     ghost allowance_is_within: { (op : Self.Op) → allowance op ≤ WORDS };
 }

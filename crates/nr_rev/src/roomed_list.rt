@@ -1,4 +1,4 @@
-//! A list in room that was made at once, so that it grows without taking memory.
+//! A list with a fixed capacity, which grows without taking memory.
 
 ghost use Rattle.std.specs.Prelude.{◌≡◌, ◌+◌, ◌-◌, ◌<◌, ◌≤◌, ◌∷◌, ◌++◌, [], length, take, drop, insert, remove, slice_get, slice_set, Some, IfOk, IfSome};
 
@@ -6,8 +6,8 @@ use crate::Memory;
 use std::alloc::Global;
 use std::marker::Model;
 
-/// At most `room` items, seen in contracts as the list of them with its room. The constructor takes all the memory that
-/// it ever has: no other method takes any, so that undoing a step can't run out of memory.
+/// A list of at most `room` items; contracts see the items and the room. The constructor takes all its memory. No other
+/// method takes any, so undoing a step can't run out of memory.
 #[derive(Drop)]
 pub struct RoomedList<T> {
     items: Vec<T>,
@@ -26,7 +26,7 @@ impl<T> Model for RoomedList<T> {
 }
 
 impl<T: Drop> RoomedList<T> {
-    /// An empty list with room for so many items. An error is that there is no memory for them.
+    /// Makes an empty list with room for `room` items. Fails if there is no memory for them.
     pub fn with_room(alloc: Global, room: usize) -> Result<RoomedList<T>, Memory>
         ensures { IfOk result (λ t. t ≡ record { items = []; room = room }) }
     {
@@ -34,7 +34,7 @@ impl<T: Drop> RoomedList<T> {
         Ok(RoomedList { items, room })
     }
 
-    /// How many items there are.
+    /// Returns the number of items.
     pub fn len(&self) -> usize
         ensures len { result ≡ length self.now.items }
         ensures within { result ≤ self.now.room }
@@ -42,7 +42,7 @@ impl<T: Drop> RoomedList<T> {
         self.items.len()
     }
 
-    /// The items.
+    /// Returns the items.
     pub fn as_slice(&self) -> &[T]
         ensures items { result.now ≡ self.now.items }
         ensures within { length result.now ≤ self.now.room }
@@ -50,7 +50,7 @@ impl<T: Drop> RoomedList<T> {
         self.items.as_slice()
     }
 
-    /// Puts an item at the end.
+    /// Appends an item.
     pub fn push(&mut self, item: T)
         requires { length self.old.items < self.old.room }
         ensures { self.new ≡ record self.old { items = self.old.items ++ item ∷ [] } }
@@ -58,7 +58,7 @@ impl<T: Drop> RoomedList<T> {
         self.items.push_reserved(item);
     }
 
-    /// Puts an item at a place.
+    /// Inserts an item at a place.
     pub fn insert(&mut self, place: usize, item: T)
         requires room { length self.old.items < self.old.room }
         requires place { place ≤ length self.old.items }
@@ -69,7 +69,7 @@ impl<T: Drop> RoomedList<T> {
         };
     }
 
-    /// Takes the item at a place out.
+    /// Removes and returns the item at a place.
     pub fn remove(&mut self, place: usize) -> T
         requires { place < length self.old.items }
         ensures item { slice_get self.old.items place ≡ Some result }
@@ -79,7 +79,7 @@ impl<T: Drop> RoomedList<T> {
         self.items.remove(place)
     }
 
-    /// Takes the first item out, if there is one.
+    /// Removes and returns the first item, if there is one.
     pub fn take_first(&mut self) -> Option<T>
         ensures item { result ≡ slice_get self.old.items 0 }
         ensures rest { self.new ≡ record self.old { items = drop 1 self.old.items } }
@@ -91,7 +91,7 @@ impl<T: Drop> RoomedList<T> {
         Some(self.items.remove(0))
     }
 
-    /// Takes the last item away, if there is one.
+    /// Removes the last item, if there is one.
     pub fn drop_last(&mut self)
         ensures { self.new ≡ record self.old {
           items = take (length self.old.items - 1) self.old.items;
@@ -102,7 +102,7 @@ impl<T: Drop> RoomedList<T> {
 }
 
 impl<T: Copy + Drop> RoomedList<T> {
-    /// Keeps so many items at the front, or all where there are fewer.
+    /// Keeps the first `count` items, or all if there are fewer.
     pub fn truncate(&mut self, count: usize)
         ensures rest { self.new ≡ record self.old { items = take count self.old.items } }
         ensures within { length self.old.items ≤ self.old.room }
@@ -110,7 +110,7 @@ impl<T: Copy + Drop> RoomedList<T> {
         self.items.truncate(count);
     }
 
-    /// Takes so many items away from the front, or all where there are fewer.
+    /// Removes the first `count` items, or all if there are fewer.
     pub fn drop_front(&mut self, count: usize)
         ensures rest { self.new ≡ record self.old { items = drop count self.old.items } }
         ensures within { length self.old.items ≤ self.old.room }
@@ -121,7 +121,7 @@ impl<T: Copy + Drop> RoomedList<T> {
         self.items.truncate(left);
     }
 
-    /// Puts items at the front.
+    /// Inserts items at the front.
     pub fn extend_front(&mut self, items: &[T])
         requires { length items.now + length self.old.items ≤ self.old.room }
         ensures { self.new ≡ record self.old { items = items.now ++ self.old.items } }
@@ -132,7 +132,7 @@ impl<T: Copy + Drop> RoomedList<T> {
         self.items.rotate_right(items.len());
     }
 
-    /// An equal one, in room of its own. An error is that there is no memory for it.
+    /// Returns an equal list with memory of its own. Fails if there is no memory for it.
     pub fn try_copy(&self, alloc: Global) -> Result<RoomedList<T>, Memory>
         ensures { IfOk result (λ t. t ≡ self.now) }
     {
@@ -141,7 +141,7 @@ impl<T: Copy + Drop> RoomedList<T> {
         Ok(copy)
     }
 
-    /// Takes the items of another list for its own, which has no more room than it. It takes no memory.
+    /// Becomes equal to another list, which has no more room than this one. It takes no memory.
     pub fn copy_from(&mut self, other: &RoomedList<T>)
         requires { other.now.room ≤ self.old.room }
         ensures { self.new ≡ record self.old { items = other.now.items } }
@@ -152,15 +152,14 @@ impl<T: Copy + Drop> RoomedList<T> {
 }
 
 impl<T: Copy> RoomedList<T> {
-    /// The item at a place.
+    /// Returns the item at a place, if there is one.
     pub fn get(&self, place: usize) -> Option<T>
         ensures { result ≡ slice_get self.now.items place }
     {
         self.items.get(place).copied()
     }
 
-    /// Puts the item in the place of the one there, which it returns. Where there is no such
-    /// place it gives back the item itself.
+    /// Replaces the item at a place and returns the old one. If there is no item at this place, returns the new one.
     #[tactic(auto, using(crate::proofs::ListUpdateLemmas::set_read_back, crate::proofs::ListUpdateLemmas::read_is_there))]
     pub fn replace(&mut self, place: usize, item: T) -> T
         ensures items { self.new ≡ record self.old { items = slice_set self.old.items place item } }
@@ -175,7 +174,7 @@ impl<T: Copy> RoomedList<T> {
         old
     }
 
-    /// Puts items at the end.
+    /// Appends items.
     pub fn extend(&mut self, items: &[T])
         requires { length self.old.items + length items.now ≤ self.old.room }
         ensures { self.new ≡ record self.old { items = self.old.items ++ items.now } }

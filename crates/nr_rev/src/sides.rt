@@ -1,4 +1,4 @@
-//! The two directions of a socket or descriptor, and what there is of each.
+//! The two directions of a socket or descriptor, and pairs with one value for each.
 
 /// A direction of a socket or descriptor.
 #[derive(Clone, Copy, Debug, PartialEq, Eq)]
@@ -13,7 +13,7 @@ impl Side {
     ghost use Rattle.std.specs.Prelude.{◌≡◌};
     ghost use Rattle.nr_rev.specs.Sides.{same_side};
 
-    /// Whether it is the same side as another.
+    /// Returns whether two sides are the same.
     #[inline(always)]
     pub fn is(self, other: Side) -> bool
         ensures { result ≡ same_side self other }
@@ -28,9 +28,9 @@ impl Side {
 /// The sides that a deadline or an event is for.
 #[derive(Clone, Copy, Debug, PartialEq, Eq)]
 pub enum Mode {
-    /// Reading alone.
+    /// Reading only.
     Read,
-    /// Writing alone.
+    /// Writing only.
     Write,
     /// Reading and writing.
     Both,
@@ -40,7 +40,7 @@ impl Mode {
     ghost use Rattle.std.specs.Prelude.{◌≡◌};
     ghost use Rattle.nr_rev.specs.Sides.{names_side};
 
-    /// Whether it names a side.
+    /// Returns whether the mode names a side.
     pub fn names(self, side: Side) -> bool
         ensures { result ≡ names_side self side }
     {
@@ -52,12 +52,12 @@ impl Mode {
     }
 }
 
-/// What a thing with a reading and a writing side has twice: one for each side.
+/// A pair of values, one for reading and one for writing.
 #[derive(Clone, Copy, Debug, PartialEq, Eq)]
 pub struct Sides<T> {
-    /// What there is for reading.
+    /// The value for reading.
     pub read: T,
-    /// What there is for writing.
+    /// The value for writing.
     pub write: T,
 }
 
@@ -65,7 +65,7 @@ impl<T: Copy> Sides<T> {
     ghost use Rattle.std.specs.Prelude.{◌≡◌};
     ghost use Rattle.nr_rev.specs.Sides.{of_side, twice, with_side};
 
-    /// The same on both sides.
+    /// Makes a pair of the same value for both sides.
     pub fn twice(both: T) -> Self
         ensures { result ≡ twice both }
     {
@@ -75,7 +75,7 @@ impl<T: Copy> Sides<T> {
         }
     }
 
-    /// What there is at a side.
+    /// Returns the value for a side.
     pub fn of(self, side: Side) -> T
         ensures { result ≡ of_side side self }
     {
@@ -85,7 +85,7 @@ impl<T: Copy> Sides<T> {
         }
     }
 
-    /// The two, with a new one at a side; the other side stays.
+    /// Returns the pair with a new value for one side; the other stays.
     pub fn with(self, side: Side, new: T) -> Self
         ensures { result ≡ with_side side new self }
     {

@@ -1,66 +1,66 @@
-//! Where goroutines are, between two steps.
+//! The states of goroutines between two steps.
 
 use crate::answer::Answer;
 use crate::sides::{Side, Sides};
 
-/// Where a goroutine is. From `Entering` to `Checking` it is inside a wait of a descriptor and side, that is, in
-/// `runtime_pollWait` of `runtime/netpoll.go`.
+/// The status of a goroutine. From `Entering` to `Checking`, the goroutine is inside a wait of a descriptor and side,
+/// that is, in `runtime_pollWait` of `runtime/netpoll.go`.
 #[derive(Clone, Copy, Debug, PartialEq, Eq)]
 pub enum Status {
-    /// At no call that lasts.
+    /// The goroutine is in no call that takes several steps.
     Idle,
-    /// It is to acquire the semaphore, since another has the lock.
+    /// Another goroutine has the lock, so this one will acquire the semaphore.
     Acquiring {
         socket: u32,
         side: Side,
     },
-    /// It waits in the queue of the semaphore.
+    /// The goroutine waits in the queue of the semaphore.
     Queued {
         socket: u32,
         side: Side,
     },
-    /// It has acquired the semaphore, and is to try the lock again.
+    /// The goroutine has acquired the semaphore, and will try the lock again.
     Relock {
         socket: u32,
         side: Side,
     },
-    /// It is to release the semaphores so many times, first that of reading.
+    /// The goroutine will release the semaphores this many times, the read semaphore first.
     Owing {
         socket: u32,
         reads: u32,
         writes: u32,
     },
-    /// It is to say that it waits: `netpollblock` begins.
+    /// The goroutine will announce that it waits: `netpollblock` begins.
     Entering {
         descriptor: u32,
         side: Side,
     },
-    /// The word says wait; it is to check once more.
+    /// The wait word is set to wait; the goroutine will check once more.
     Armed {
         descriptor: u32,
         side: Side,
     },
-    /// It is to park: `netpollblockcommit`.
+    /// The goroutine will park: `netpollblockcommit`.
     Parking {
         descriptor: u32,
         side: Side,
     },
-    /// It is parked, and the word holds it.
+    /// The goroutine is parked, and the wait word holds it.
     Parked {
         descriptor: u32,
         side: Side,
     },
-    /// It goes on, and is to take up the word.
+    /// The goroutine continues, and will consume the wait word.
     Swapping {
         descriptor: u32,
         side: Side,
     },
-    /// It found nothing ready, and is to check why it was woken.
+    /// The goroutine found nothing ready, and will check why it was woken.
     Checking {
         descriptor: u32,
         side: Side,
     },
-    /// It has ended. Its number is not used again.
+    /// The goroutine has ended. Its number is not reused.
     Gone,
 }
 
@@ -69,14 +69,14 @@ impl Status {
     ghost use Rattle.nr_rev.specs.Step as step;
     ghost use Rattle.nr_rev.specs.World.{is_wait_at, wait_of};
 
-    /// Whether it is the same status as another.
+    /// Returns whether two statuses are the same.
     pub fn is(self, other: Status) -> bool
         ensures { MatchBool result (self ≡ other) (self ≢ other) }
     {
         self == other
     }
 
-    /// The descriptor and side of the wait that it is inside of, if it is inside one.
+    /// Returns the descriptor and side of the wait that the goroutine is inside, if any.
     #[inline(always)]
     pub fn wait(self) -> Option<(u32, Side)>
         ensures { result ≡ wait_of self }
@@ -92,7 +92,7 @@ impl Status {
         }
     }
 
-    /// Whether it is inside a wait of the descriptor and side.
+    /// Returns whether the goroutine is inside a wait of the descriptor and side.
     #[inline(always)]
     pub fn is_inside(self, descriptor: u32, side: Side) -> bool
         ensures { result ≡ is_wait_at descriptor side (wait_of self) }
@@ -103,7 +103,8 @@ impl Status {
         }
     }
 
-    /// Whether it may try the lock of a socket's side: it is idle, or has the semaphore that it waited for there.
+    /// Returns whether the goroutine may try the lock of a socket's side: it is idle, or has acquired the semaphore
+    /// there.
     #[inline(always)]
     pub fn may_lock(self, socket: u32, side: Side) -> bool
         ensures { result ≡ step.may_lock socket side self }
@@ -118,7 +119,7 @@ impl Status {
         }
     }
 
-    /// That of one that owes these releases of a socket's semaphores, or nothing.
+    /// Returns the status of a goroutine that owes these releases of a socket's semaphores, or none.
     #[inline(always)]
     pub fn owing(socket: u32, owed: Sides<u32>) -> Status
         ensures { result ≡ step.owing socket owed }
@@ -133,7 +134,7 @@ impl Status {
         }
     }
 
-    /// That of one whose `rwlock` was answered so: it is to acquire the semaphore, or is idle.
+    /// Returns the status of a goroutine after an `rwlock` with this answer: it will acquire the semaphore, or is idle.
     #[inline(always)]
     pub fn after_lock(socket: u32, side: Side, answer: Answer) -> Status
         ensures { result ≡ step.locker socket side answer }

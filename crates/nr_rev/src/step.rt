@@ -3,114 +3,115 @@
 use crate::bytes::Bytes;
 use crate::sides::{Mode, Side};
 
-/// One recorded step. Each kind is what one goroutine, the system or the clock does at once, so that steps of several
-/// goroutines can be in any order. Goroutines, sockets and descriptors are named by number, from 0, in the order in
-/// which they were made; a free descriptor's number is used again.
+/// A recorded step. Each kind is an atomic action of a goroutine, of the system or of the clock, so the steps of
+/// several goroutines can be interleaved in any order. Goroutines, sockets and descriptors are numbered from 0, in the
+/// order in which they were made; the number of a closed descriptor is reused.
 #[derive(Drop)]
 pub enum Step {
-    /// A `go` statement: the next goroutine, idle. Answers its number.
+    /// A `go` statement: makes the next goroutine, idle. Answers its number.
     Spawn,
     /// The goroutine ends. Answers `Done`.
     Exit {
         goroutine: u32,
     },
-    /// A socket is opened, with room for so many bytes to read and to write. Answers its number.
+    /// Opens a socket with input and output buffers of these capacities. Answers its number.
     SockOpen {
         read_capacity: u32,
         write_capacity: u32,
     },
-    /// Bytes come in from the peer. Answers `Done`.
+    /// Bytes arrive from the peer. Answers `Done`.
     Arrive {
         socket: u32,
         bytes: Bytes,
     },
-    /// The peer closes: what is there can still be read. Answers `Done`.
+    /// The peer closes; the bytes that have arrived can still be read. Answers `Done`.
     PeerClose {
         socket: u32,
     },
-    /// The system call of `FD.Read` (`internal/poll/fd_unix.go`): takes at most `count` bytes of the input. Answers `Got`;
-    /// with nothing to take `Eof` where the peer closed, else `Again`.
+    /// The system call of `FD.Read` (`internal/poll/fd_unix.go`): takes at most `count` bytes of the input. Answers
+    /// `Got`; if the input is empty, `Eof` if the peer has closed, or else `Again`.
     SysRead {
         goroutine: u32,
         socket: u32,
         count: u32,
     },
-    /// The system call of `FD.Write`: puts as many of the bytes into the output as there is room for. Answers `Put`, or
-    /// `Again` where there is none. Where the write side is shut it puts nothing and answers `Pipe`, as `write` fails with
-    /// `EPIPE`.
+    /// The system call of `FD.Write`: puts as many of the bytes into the output as it has room for. Answers `Put`, or
+    /// `Again` if there is no room. If the write side is shut, it puts nothing and answers `Pipe`, as `write` fails
+    /// with `EPIPE`.
     SysWrite {
         goroutine: u32,
         socket: u32,
         bytes: Bytes,
     },
-    /// Bytes of the output go out to the peer. Answers `Done`.
+    /// Bytes of the output are sent to the peer. Answers `Done`.
     Drain {
         socket: u32,
         count: u32,
     },
-    /// `fdMutex.incref` (`internal/poll/fd_mutex.go`): takes a reference. Answers `Yes`, or `No` where it is closed.
+    /// `fdMutex.incref` (`internal/poll/fd_mutex.go`): takes a reference. Answers `Yes`, or `No` if the lock is closed.
     Incref {
         goroutine: u32,
         socket: u32,
     },
-    /// `fdMutex.increfAndClose`: closes, takes a reference, and owes a release to each waiter. Answers `Yes`, or `No` where
-    /// it is closed.
+    /// `fdMutex.increfAndClose`: closes the lock, takes a reference, and owes a release to each waiter. Answers `Yes`,
+    /// or `No` if the lock is closed already.
     IncrefClose {
         goroutine: u32,
         socket: u32,
     },
-    /// `fdMutex.decref`: gives a reference up. Answers `Last` or `NotLast`.
+    /// `fdMutex.decref`: drops a reference. Answers `Last` or `NotLast`.
     Decref {
         goroutine: u32,
         socket: u32,
     },
-    /// `fdMutex.rwlock`, from its top: takes the lock of a side and a reference. Answers `Yes`, `No` where it is closed, or
-    /// `Wait` where another has it; then the goroutine is to acquire the semaphore.
+    /// `fdMutex.rwlock`, from its top: takes the lock of a side and a reference. Answers `Yes`; `No` if the lock is
+    /// closed; or `Wait` if another goroutine has it, after which this one acquires the semaphore.
     RwLock {
         goroutine: u32,
         socket: u32,
         side: Side,
     },
-    /// `fdMutex.rwunlock`: gives the lock and its reference up, and owes a release to a waiter. Answers `Last` or
+    /// `fdMutex.rwunlock`: drops the lock and its reference, and owes a release to a waiter. Answers `Last` or
     /// `NotLast`.
     RwUnlock {
         goroutine: u32,
         socket: u32,
         side: Side,
     },
-    /// `runtime_Semacquire`: lowers the count, or queues the goroutine. Answers `Yes` or `Wait`.
+    /// `runtime_Semacquire`: decrements the count, or queues the goroutine. Answers `Yes` or `Wait`.
     Acquire {
         goroutine: u32,
     },
-    /// `runtime_Semrelease`: raises the count, and lets the front of the queue try again. Answers `Done`.
+    /// `runtime_Semrelease`: increments the count, and lets the goroutine at the front of the queue try again. Answers
+    /// `Done`.
     Release {
         goroutine: u32,
     },
-    /// `runtime_pollOpen` (`runtime/netpoll.go`): a descriptor for a socket. Answers its number.
+    /// `runtime_pollOpen` (`runtime/netpoll.go`): opens a descriptor for a socket. Answers its number.
     PollOpen {
         goroutine: u32,
         socket: u32,
     },
-    /// `runtime_pollClose`: the descriptor is free again. Answers `Done`.
+    /// `runtime_pollClose`: frees the descriptor. Answers `Done`.
     PollClose {
         goroutine: u32,
         descriptor: u32,
     },
-    /// `runtime_pollReset`: the word is nil again, where nothing forbids a wait. Answers the `Code` of the check.
+    /// `runtime_pollReset`: resets the word to nil, unless the check forbids a wait. Answers the `Code` of the check.
     PollReset {
         goroutine: u32,
         descriptor: u32,
         side: Side,
     },
-    /// `runtime_pollWait`, from its top: a goroutine goes into a wait, where nothing forbids it. Answers the `Code` of
-    /// the check.
+    /// `runtime_pollWait`, from its top: the goroutine enters a wait, unless the check forbids it. Answers the `Code`
+    /// of the check.
     WaitBegin {
         goroutine: u32,
         descriptor: u32,
         side: Side,
     },
-    /// `netpollblock`, first loop: a ready word is taken up and ends the wait, a nil one becomes wait. Answers `Code(0)` or
-    /// `Wait`.
+    /// `netpollblock`, first loop: consumes a ready word, which ends the wait, or sets a nil word to wait. Answers
+    /// `Code(0)` or `Wait`.
     BlockArm {
         goroutine: u32,
     },
@@ -118,12 +119,12 @@ pub enum Step {
     BlockCheck {
         goroutine: u32,
     },
-    /// `netpollblockcommit`: the goroutine parks, if the word still is wait. Answers `Yes` or `No`.
+    /// `netpollblockcommit`: the goroutine parks if the word still is wait. Answers `Yes` or `No`.
     ParkCommit {
         goroutine: u32,
     },
-    /// `netpollblock`, after the parking: the word becomes nil. Answers `Yes` where it was ready, which ends the wait, else
-    /// `No`.
+    /// `netpollblock`, after the parking: the word becomes nil. Answers `Yes` if it was ready, which ends the wait, or
+    /// else `No`.
     BlockSwap {
         goroutine: u32,
     },
@@ -131,40 +132,40 @@ pub enum Step {
     WaitCheck {
         goroutine: u32,
     },
-    /// `runtime_pollSetDeadline`: a positive time, in nanoseconds, is counted from now; 0 is none, a negative one past.
-    /// Answers `Done`.
+    /// `runtime_pollSetDeadline`: sets a deadline in nanoseconds. A positive one is counted from now, 0 means none, and
+    /// a negative one has passed. Answers `Done`.
     SetDeadline {
         goroutine: u32,
         descriptor: u32,
         mode: Mode,
         time: i64,
     },
-    /// `runtime_pollUnblock`: the descriptor is closing, and whoever waits there is woken. Answers `Done`.
+    /// `runtime_pollUnblock`: the descriptor is closing, and the goroutines that wait on it are woken. Answers `Done`.
     Evict {
         goroutine: u32,
         descriptor: u32,
     },
-    /// `netpollready` for the descriptor and the tag that the system has with it, with the error that the event reports.
-    /// Answers `Done`, or `Stale` for an old tag or a free descriptor.
+    /// `netpollready` for a descriptor and the tag that the system holds for it, with the error flag of the event.
+    /// Answers `Done`, or `Stale` if the tag is old or the descriptor is free.
     PollEvent {
         descriptor: u32,
         tag: u64,
         mode: Mode,
         error: bool,
     },
-    /// It is now this time, in nanoseconds. Answers `Done`.
+    /// The clock advances to this time, in nanoseconds. Answers `Done`.
     Tick {
         time: i64,
     },
-    /// The timer that is due first goes off: it leaves the armed ones, and its firing waits. Answers `Done`.
+    /// The next due timer goes off: it is no longer armed, and its firing waits. Answers `Done`.
     Pop,
-    /// `netpollReadDeadline` or the like: the firing at this place, from 0, is run. Answers `Done`, or `Stale` where its
-    /// sequence is old.
+    /// `netpollReadDeadline` or one of its kind: runs the firing at this place, from 0. Answers `Done`, or `Stale` if
+    /// its sequence is old.
     Fire {
         place: u32,
     },
-    /// `shutdown(SHUT_WR)`, as `TCPConn.CloseWrite` calls it (`FD.Shutdown` of `internal/poll/fd_unix.go`): the write side is
-    /// shut. What was written can still go out. A second time changes nothing. Answers `Done`.
+    /// `shutdown(SHUT_WR)`, as `TCPConn.CloseWrite` calls it (`FD.Shutdown` of `internal/poll/fd_unix.go`): shuts the
+    /// write side. Bytes written before can still be sent. A second call changes nothing. Answers `Done`.
     CloseWrite {
         goroutine: u32,
         socket: u32,

@@ -2,14 +2,14 @@
 
 use crate::sides::Side;
 
-/// What a timer runs when it fires, after `runtime/netpoll.go`.
+/// The function that a timer runs when it fires, after `runtime/netpoll.go`.
 #[derive(Clone, Copy, Debug, PartialEq, Eq)]
 pub enum TimerFunction {
-    /// The deadline for reading expires: `netpollReadDeadline`.
+    /// The read deadline expires: `netpollReadDeadline`.
     Read,
-    /// The deadline for writing expires: `netpollWriteDeadline`.
+    /// The write deadline expires: `netpollWriteDeadline`.
     Write,
-    /// Both do, being the same: `netpollDeadline`.
+    /// Both deadlines, which are the same, expire: `netpollDeadline`.
     Both,
 }
 
@@ -17,7 +17,7 @@ impl TimerFunction {
     ghost use Rattle.std.specs.Prelude.{◌≡◌};
     ghost use Rattle.nr_rev.specs.Sides.{covers_side, side_of_function};
 
-    /// Whether it makes a side's deadline expire.
+    /// Returns whether the function makes a side's deadline expire.
     pub fn covers(self, side: Side) -> bool
         ensures { result ≡ covers_side self side }
     {
@@ -28,7 +28,7 @@ impl TimerFunction {
         }
     }
 
-    /// The side whose sequence and running mark go with it.
+    /// Returns the side whose sequence and running flag the function uses.
     pub fn side(self) -> Side
         ensures { result ≡ side_of_function self }
     {
@@ -39,16 +39,18 @@ impl TimerFunction {
     }
 }
 
-/// An armed timer. Timers go off in the order of when they are due, and of those due at once in that of their arming.
+/// An armed timer. Timers go off in the order of their due times, and at the same time in the order in which they were
+/// armed.
 #[derive(Clone, Copy, Debug, PartialEq, Eq)]
 pub struct Timer {
-    /// When it is due, in nanoseconds.
+    /// The time at which the timer is due, in nanoseconds.
     pub due: i64,
-    /// Its arming number: how many timers were armed before it, and 1.
+    /// The timer's arming number: the number of timers armed before it, plus one.
     pub number: u64,
-    /// What it runs.
+    /// The function that the timer runs.
     pub function: TimerFunction,
-    /// The sequence that its side had when it was armed. Where the side has another one, the firing is stale.
+    /// The sequence that the timer's side had when the timer was armed. If the side has another one now, the firing is
+    /// stale.
     pub sequence: u64,
 }
 
@@ -56,7 +58,7 @@ impl Timer {
     ghost use Rattle.std.specs.Prelude.{◌≡◌};
     ghost use Rattle.nr_rev.specs.Timer.{is_before};
 
-    /// Whether it goes off before another one: by when they are due, and of those due at once by arming number.
+    /// Returns whether this timer goes off before another: by due time, and at the same time by arming number.
     pub fn is_before(&self, other: &Timer) -> bool
         ensures { result ≡ is_before self.now other.now }
     {
@@ -64,30 +66,30 @@ impl Timer {
     }
 }
 
-/// A timer with the descriptor and the side that it is armed for: one that is armed, or one that went off and waits to
-/// be run.
+/// A timer with the descriptor and the side that it is armed for. The timer is armed, or has gone off and waits to be
+/// run.
 #[derive(Clone, Copy, Debug, PartialEq, Eq)]
 pub struct Entry {
     /// The number of the descriptor.
     pub descriptor: u32,
-    /// The side; reading, where it is for both.
+    /// The side; reading if the timer is for both.
     pub side: Side,
     /// The timer.
     pub timer: Timer,
 }
 
-/// What a descriptor's operation asks of its timers: to arm the one of a side, in place of one that is armed, or to stop
-/// it, if there is one.
+/// An order that a descriptor's operation gives to its timers: to arm the timer of a side, replacing an armed one, or
+/// to stop it, if it is armed.
 #[derive(Clone, Copy, Debug, PartialEq, Eq)]
 pub enum TimerOrder {
-    /// Arm it, due at this time in nanoseconds.
+    /// Arm the timer, due at this time in nanoseconds.
     Arm {
         side: Side,
         due: i64,
         function: TimerFunction,
         sequence: u64,
     },
-    /// Stop it.
+    /// Stop the timer.
     Stop {
         side: Side,
     },

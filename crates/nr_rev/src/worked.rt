@@ -1,5 +1,5 @@
-//! Worked facts: what the definitions say of recordings and lock words that were worked out by hand.
-//! The bodies are empty; the prover computes each clause.
+//! Worked examples: values of the definitions for recordings and lock words that were worked out by hand. The bodies
+//! are empty; the prover computes each clause.
 
 ghost use Rattle.std.specs.Prelude.{◌≡◌, true, false, pos, negsuc, ◌∷◌, [], Some, None, Ok, Err};
 ghost use Rattle.nr_rev.specs.Lock.{lock_number, incref, incref_close, rw_unlock};
@@ -21,8 +21,8 @@ ghost use Rattle.nr_rev.specs.declared.cell_value.CellValue.{CellValue};
 ghost use Rattle.nr_rev.specs.declared.kind.Kind.{Kind};
 ghost use Rattle.nr_rev.specs.declared.step.Step.{Step};
 
-/// The operations of `internal/poll/fd_mutex.go` on single lock words. `increfAndClose` wakes every waiter, of both
-/// sides; `rwunlock` one of its side; `incref` of a full word, where Go panics, is refused and changes nothing.
+/// The operations of `internal/poll/fd_mutex.go` on single lock words. `increfAndClose` wakes every waiter of both
+/// sides, and `rwunlock` one of its side. `incref` of a full word, for which Go panics, is refused and changes nothing.
 pub fn lock_words_hold()
     ensures three_waiters { lock_number a_lock_with_three_waiters ≡ 8796109799434 }
     ensures three_waiters_closed { lock_left_by (incref_close a_lock_with_three_waiters)
@@ -39,7 +39,7 @@ pub fn lock_words_hold()
         ≡ world_with_lock a_lock_full_of_references }
 {}
 
-/// Two readers of one socket and a close: the lock word and the goroutines on the way.
+/// Two readers of one socket and a close: the lock word and the goroutines at each position.
 pub fn lock_recording_holds()
     ensures lock_at_start { cell_after two_readers_and_a_close 0 (Cell.Lock 0) ≡ CellValue.Absent }
     ensures lock_at_four { cell_after two_readers_and_a_close 4 (Cell.Lock 0) ≡ CellValue.Number 8 }
@@ -76,7 +76,7 @@ pub fn queue_recording_holds()
     ensures all_apply { first_refused_of a_release_without_hand_off ≡ None }
 {}
 
-/// A read that waits for its bytes, from the lock over the park of `runtime/netpoll.go` to the bytes.
+/// A read that waits for its bytes: it takes the lock, parks as in `runtime/netpoll.go`, and gets the bytes.
 pub fn read_recording_holds()
     ensures lock_at_three { cell_after a_read_through_the_poller 3 (Cell.Lock 0) ≡ CellValue.Number 10 }
     ensures word_at_one { cell_after a_read_through_the_poller 1 (Cell.ReadWord 0) ≡ CellValue.Absent }
@@ -102,7 +102,7 @@ pub fn read_recording_holds()
     ensures all_apply { first_refused_of a_read_through_the_poller ≡ None }
 {}
 
-/// An event between the last check and the parking: the commit finds the word ready, so nobody parks.
+/// An event between the last check and the parking: the commit finds the word ready, so the goroutine doesn't park.
 pub fn early_event_recording_holds()
     ensures word_at_four { cell_after an_event_before_the_parking 4 (Cell.ReadWord 0)
         ≡ CellValue.WaitWord WaitWord.Nil }
@@ -123,8 +123,8 @@ pub fn early_event_recording_holds()
     ensures all_apply { first_refused_of an_event_before_the_parking ≡ None }
 {}
 
-/// An error event refuses a wait for reading alone, an event with an old tag does nothing, and bytes that are
-/// drained leave the output.
+/// An error event forbids a wait for reading only, an event with an old tag does nothing, and drained bytes leave the
+/// output.
 pub fn event_and_output_recordings_hold()
     ensures summary { cell_after an_error_while_reading_waits 4 (Cell.Info 0) ≡ CellValue.Number 2 }
     ensures written { cell_after an_error_while_reading_waits 4 (Cell.WriteWord 0)
@@ -141,7 +141,7 @@ pub fn event_and_output_recordings_hold()
     ensures output_gone { bytes_of (world_at a_drained_output 3) 0 Side.Write ≡ Some [] }
 {}
 
-/// A write side is shut: a write after it is answered a broken pipe and puts nothing, what was written before goes out,
+/// A write side is shut: a later write is answered with a broken pipe and puts nothing, earlier bytes are still sent,
 /// and a second shutdown changes nothing.
 pub fn shut_write_side_recording_holds()
     ensures shut_at_start { cell_after a_shut_write_side 0 (Cell.Shut 0) ≡ CellValue.Absent }
@@ -157,7 +157,7 @@ pub fn shut_write_side_recording_holds()
     ensures all_apply { first_refused_of a_shut_write_side ≡ None }
 {}
 
-/// Deadlines that share a timer and then part: a firing that is no longer current expires nothing.
+/// Deadlines that share a timer and then differ: a firing that is no longer current expires nothing.
 pub fn deadline_recording_holds()
     ensures firings_at_six { cell_after a_stale_firing_of_both_deadlines 6 Cell.Firings
         ≡ CellValue.Number 1 }
@@ -188,8 +188,8 @@ pub fn deadline_recording_holds()
     ensures all_apply { first_refused_of a_stale_firing_of_both_deadlines ≡ None }
 {}
 
-/// The greatest time replaces a later one, a descriptor opened again has new numbers, so that an event of before
-/// is stale, and a timer does not fire where the firings that wait are twice the limit of descriptors.
+/// The greatest time replaces a later deadline. A descriptor that is opened again has new numbers, so an event from
+/// before is stale. A timer doesn't go off while twice as many firings wait as the limit of descriptors.
 pub fn deadline_limits_hold()
     ensures greatest_time { cell_after a_deadline_past_the_greatest_time 4 (Cell.ReadDeadline 0)
         ≡ CellValue.Time (pos 9223372036854775807) }
@@ -205,9 +205,9 @@ pub fn deadline_limits_hold()
     ensures too_many { first_refused_of a_firing_too_many ≡ Some (11, Refusal.FiringsFull) }
 {}
 
-/// Reasons, each with the number of the step that meets it, from 1. Of those that are not here, `FieldOverflow`
-/// and `FiringsFull` are met above, `Memory` is no reason of the machine, and `CorruptedDescriptor` is met in no
-/// well-formed world.
+/// The reasons, each with the number of the step that it refuses, from 1. Of the reasons that are missing here,
+/// `FieldOverflow` and `FiringsFull` occur in the examples above, `Memory` is not a reason of the machine, and
+/// `CorruptedDescriptor` occurs in no well-formed world.
 pub fn reasons_are_met()
     ensures no_such_goroutine { reason_of (Step.Exit 1 ∷ []) ≡ Some (1, Refusal.NoSuchGoroutine) }
     ensures not_there { reason_of (Step.SockOpen 1 1 ∷ Step.BlockArm 0 ∷ [])
@@ -245,8 +245,8 @@ pub fn reasons_are_met()
         ≡ Some (3, Refusal.PeerClosed) }
 {}
 
-/// What no recording reaches: the last number of 64 bits isn't raised. A descriptor's sequence or tag refuses what would
-/// raise it, and the last arming number is never given.
+/// A state that no recording reaches: the greatest 64-bit number isn't incremented. A step that would increment such a
+/// sequence or tag of a descriptor is refused, and the greatest arming number is never assigned.
 pub fn last_numbers_are_not_raised()
     ensures opened { opened_for 0 a_last_sequence ≡ Err Refusal.LastNumber }
     ensures evicted { change_by_evict a_last_sequence ≡ Err Refusal.LastNumber }
@@ -259,8 +259,8 @@ pub fn last_numbers_are_not_raised()
         (Step.SetDeadline 0 0 Mode.Read (pos 1)) ≡ Err Refusal.LastNumber }
 {}
 
-/// What kinds of steps can change: an rwlock a lock word and where a goroutine is, a tick the clock and no lock word, and
-/// an event a word and no deadline.
+/// The cells that kinds of steps can change: an rwlock can change a lock word and a goroutine's status; a tick the
+/// clock and no lock word; an event a wait word and no deadline.
 pub fn kinds_change_what_they_touch()
     ensures lock_by_rwlock { can_change Kind.RwLock (Cell.Lock 0) ≡ true }
     ensures goroutine_by_rwlock { can_change Kind.RwLock (Cell.Goroutine 0) ≡ true }

@@ -1,4 +1,5 @@
--- Beside `Descriptor`: what contracts and proofs cite, and no law of THEOREM.md rests on.
+-- Definitions that contracts and proofs cite beside `Descriptor`. No law of THEOREM.md rests on
+-- them.
 use Rattle.std.specs.Prelude.{Result, Ok}
 use Rattle.nr_rev.specs.declared.sides.Side.TheVariants.{Read, Write}
 use Rattle.nr_rev.specs.declared.refusal.Refusal.{Refusal}

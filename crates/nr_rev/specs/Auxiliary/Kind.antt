@@ -1,4 +1,4 @@
--- Beside `Kind`: what contracts and proofs cite, and no law of THEOREM.md rests on.
+-- Definitions that contracts and proofs cite beside `Kind`. No law of THEOREM.md rests on them.
 use Rattle.std.specs.Prelude.{ℕ, ◌==◌, List, filter, length}
 use Rattle.nr_rev.specs.declared.kind.Kind.{Kind}
 use Rattle.nr_rev.specs.Kind.{kind_name, kinds}

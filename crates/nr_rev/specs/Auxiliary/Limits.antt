@@ -1,10 +1,10 @@
--- Beside `Limits`: what contracts and proofs cite, and no law of THEOREM.md rests on.
+-- Definitions that contracts and proofs cite beside `Limits`. No law of THEOREM.md rests on them.
 use Rattle.std.specs.Prelude.{Bool, ◌&&◌}
 use Rattle.nr_rev.specs.declared.limits.TheConstants.{MOST_GOROUTINES, MOST_SOCKETS, MOST_DESCRIPTORS, MOST_BUFFER}
 use Rattle.nr_rev.specs.declared.limits.Limits.{Limits}
 use Rattle.nr_rev.specs.Limits.{is_limit}
 
--- each limit is in its range
+-- true if each limit is in its range
 abbrev pub are_in_range : Limits → Bool
 are_in_range l =
     is_limit MOST_GOROUTINES l.goroutines && is_limit MOST_SOCKETS l.sockets

@@ -1,4 +1,4 @@
--- Beside `Run`: what contracts and proofs cite, and no law of THEOREM.md rests on.
+-- Definitions that contracts and proofs cite beside `Run`. No law of THEOREM.md rests on them.
 use Rattle.std.specs.Prelude.{◌≡◌, ℕ, slice_get, Some, Err, IsOk}
 use Rattle.nr_rev.specs.declared.refusal.Refusal.{Refusal}
 use Rattle.nr_rev.specs.declared.step.Step.{Step}
@@ -7,25 +7,25 @@ use Rattle.nr_rev.specs.Step.{outcome}
 use Rattle.nr_rev.specs.Worlds.{LosesBytes}
 use Rattle.nr_rev.specs.Run.{Recording, world_at}
 
--- a well-formed state that means the world at position n
+-- true if the state is well formed and represents the world at position n
 pub record IsWorldAt {State : Type 0} (is_well_formed : State → Type 0) (world : State → World)
     (r : Recording) (n : ℕ) (state : State) : Type 0 where
   pub well_formed : is_well_formed state
   pub there : world state ≡ world_at r n
 
--- the step after position n applies there
+-- true if the step after position n applies there
 pub record AppliesAt (r : Recording) (n : ℕ) : Type 0 where
   pub step : Step
   pub next : slice_get r.steps n ≡ Some step
   pub applies : IsOk (outcome (world_at r n) step)
 
--- bytes leave a buffer at the step after position n, which takes memory to keep them
+-- true if bytes leave a buffer at the step after position n, so that keeping them takes memory
 pub record LosesBytesAt (r : Recording) (n : ℕ) : Type 0 where
   pub step : Step
   pub next : slice_get r.steps n ≡ Some step
   pub loses : LosesBytes (world_at r n) step
 
--- the step after position n does not apply there
+-- true if the step after position n does not apply there, for this reason
 abbrev pub IsRefusedFor : Recording → ℕ → Refusal → Type 0
 IsRefusedFor r n reason =
     (step : Step) × (slice_get r.steps n ≡ Some step) × (outcome (world_at r n) step ≡ Err reason)
