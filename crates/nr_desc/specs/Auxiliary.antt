@@ -1,4 +1,5 @@
--- Auxiliary definitions. Each file goes on with that of its name, which has what the laws rest on.
+-- Auxiliary definitions. Each file continues the one of its name, which contains the definitions
+-- that the laws rest on.
 pub mod Change
 pub mod Code
 pub mod Desc

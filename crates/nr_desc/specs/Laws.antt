@@ -1,4 +1,4 @@
--- What a descriptor owes, as a machine whose operations can be undone.
+-- The laws that `Reversible` requires of a descriptor.
 use Rattle.std.proofs.Common.{◌≡◌, ℕ, ◌+◌, ◌-◌, ◌^◌, ◌≤◌, ◌==◌, Bool, true, false, not, ◌&&◌, ◌||◌, nat_lt, ℤ, Result, Ok, Err, Some, None, sym, ap, ◌∙◌, lit≤}
 use Rattle.std.specs.Prelude.{if◌then◌else◌}
 use Rattle.std.specs.Ordering.{int_eq}
@@ -25,12 +25,12 @@ use Rattle.nr_desc.specs.Desc.{DescFits}
 use Rattle.nr_desc.specs.Op.{Outcome, armed_by, close, closed_by_words, left, opened, outcome, reset}
 use Rattle.nr_desc.specs.Auxiliary.Op.{StepTo, desc_reason, refusal_of, woken_by}
 
--- a delta leads back to one descriptor
+-- a delta leads back to exactly one descriptor
 pub DescBack-unique : (delta : DescDelta) (new a b : Descriptor) → DescBack delta new a
     → DescBack delta new b → a ≡ b
 DescBack-unique delta new a b p q = p ∙ sym q
 
--- an operation that has a reason does not apply
+-- an operation with a reason for refusal doesn't apply
 pub refused_has_no_step : (old : Descriptor) (op : DescOp) (e : Refusal) (answer : DescAnswer)
     (new : Descriptor) → desc_reason old op ≡ Some e → StepTo old op answer new → ⊥
 refused_has_no_step old op e answer new reason is =
@@ -39,7 +39,7 @@ refused_has_no_step old op e answer new reason is =
 abbrev descriptor_in : Answer × Change → Descriptor
 descriptor_in outcome = outcome.1.descriptor
 
--- an operation has one outcome
+-- an operation has exactly one outcome
 pub steps_unique : (old : Descriptor) (op : DescOp) (a b : DescAnswer) (new other : Descriptor)
     → StepTo old op a new → StepTo old op b other → (a ≡ b) × (new ≡ other)
 steps_unique old op a b new other p q =
@@ -51,11 +51,11 @@ steps_unique old op a b new other p q =
     let woken : a.woken ≡ b.woken = p.woken ∙ ap (woken_by op old) same ∙ sym q.woken in
     (λ i. record { answer = answers i; orders = orders i; woken = woken i }, same)
 
--- each operation has the whole allowance
+-- each operation may use the whole allowance
 pub weight_is_within : (op : DescOp) → MOST_WORDS ≤ MOST_WORDS
 weight_is_within op = lit≤ tt
 
--- it isn't refused for being out of memory
+-- the result isn't refused for lack of memory
 abbrev NoMemory : {A : Type 0} → Result A Refusal → Type 0
 NoMemory (Ok a) = Unit {0}
 NoMemory (Err e) = e ≡ out_of_memory → ⊥
@@ -169,7 +169,7 @@ never_memory : (o : Outcome) → NoMemory o → refusal_of o ≡ Some out_of_mem
 never_memory (Ok made) h is = cc
 never_memory (Err e) h is = h cc
 
--- being out of memory is no reason
+-- lack of memory is never an operation's reason
 pub memory_is_no_reason : (old : Descriptor) (op : DescOp) → DescFits old
     → desc_reason old op ≡ Some out_of_memory → ⊥
 memory_is_no_reason old op fits is = never_memory (outcome old op) (outcome_no old op) is

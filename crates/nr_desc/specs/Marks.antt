@@ -1,22 +1,23 @@
--- The marks of a descriptor, and the byte that holds them.
+-- The marks of a descriptor, and the byte that encodes them.
 use Rattle.std.specs.Prelude.{◌≡◌, ℕ, ◌+◌, ◌*◌, ◌/◌, ◌%◌, ◌<◌, ◌==◌, Bool}
 use Rattle.std.proofs.Common.{arith}
 use Rattle.nr_rev.specs.declared.sides.Sides.{Sides}
 use Rattle.nr_rev.specs.Lock.{bit}
 use Rattle.nr_rev.proofs.BitLemmas.{bit_of}
 
--- what is marked of a descriptor
+-- the marks of a descriptor
 pub record DescMarks : Type 0 where
   pub closing : Bool
   pub event_error : Bool
   pub running : Sides Bool
 
--- bit 0 closing, 1 event error, 2 the read timer runs, 3 the write timer runs
+-- the byte of the marks: bit 0 is closing, 1 an event error, 2 a running read timer, 3 a running
+-- write timer
 abbrev pub marks_number : DescMarks → ℕ
 marks_number marks = bit marks.closing + 2 * bit marks.event_error + 4 * bit marks.running.read
     + 8 * bit marks.running.write
 
--- the marks that a byte means
+-- the marks that a byte encodes
 abbrev pub marks_of : ℕ → DescMarks
 marks_of n =
     record {
@@ -25,7 +26,7 @@ marks_of n =
       running = record { read = n / 4 % 2 == 1; write = n / 8 % 2 == 1 };
     }
 
--- a byte below 16 is the number of the marks that it means
+-- a byte below 16 is the number of the marks that it encodes
 pub marks_number-marks_of : (n : ℕ) → n < 16 → marks_number (marks_of n) ≡ n
 marks_number-marks_of n small =
     omega (arith, bit_of n, bit_of (n / 2), bit_of (n / 4), bit_of (n / 8))

@@ -1,4 +1,4 @@
--- What an operation on a descriptor comes to.
+-- The outcome of an operation on a descriptor.
 use Rattle.std.specs.Prelude.{ℕ, ◌&&◌, ◌||◌, ◌==◌, if◌then◌else◌, Option, Some, None, Result, Ok, Err}
 use Rattle.nr_rev.specs.declared.answer.Answer.{Answer}
 use Rattle.nr_rev.specs.declared.answer.Answer.TheVariants.{Code, Done, Stale, Yes, No}
@@ -17,70 +17,71 @@ use Rattle.nr_desc.specs.declared.op.DescAnswer.{DescAnswer}
 use Rattle.nr_desc.specs.declared.op.DescOp.{DescOp}
 use Rattle.nr_desc.specs.declared.op.DescOp.TheVariants as op
 
--- the answer and what is left, or the first reason that holds
+-- the answer and the change, or the first reason that applies
 abbrev pub Outcome : Type 0
 Outcome = Result (Answer × Change) Refusal
 
--- opening for a socket, as an operation
+-- the outcome of opening for a socket
 abbrev pub opened : ℕ → Descriptor → Outcome
 opened socket d = do
   left ← opened_for socket d
   Ok (Done, quiet left)
 
--- closed, where nobody waits by the words alone
+-- the descriptor closed, if its words show no waiter
 abbrev pub closed_by_words : Descriptor → Result Descriptor Refusal
 closed_by_words d = do
   refused_unless d.closing CloseWithoutUnblock
   refused_if (is_awaited d.words.read || is_awaited d.words.write) WaiterInside
   closed d
 
--- closing, as an operation
+-- the outcome of closing
 abbrev pub close : Descriptor → Outcome
 close d = do
   left ← closed_by_words d
   Ok (Done, quiet left)
 
--- making a side ready for the next wait: the check's code is the answer, and the word is nil where
--- it is 0
+-- the outcome of a reset, which prepares a side for the next wait: the answer is the check's code,
+-- and the word becomes nil if the code is 0
 abbrev pub reset : Side → Descriptor → Outcome
 reset side d = do
   refused_if ((check side d == 0) && is_awaited (of_side side d.words)) WaiterInside
   Ok (Code (check side d), quiet (if check side d == 0 then with_wait_word side Nil d else d))
 
--- arming a side, by its word: it waits, or was ready already
+-- the outcome of arming a side with this word: it waits, or was already ready
 abbrev pub armed_by : Side → WaitWord → Descriptor → Outcome
 armed_by side Nil d = Ok (Answer.Wait, quiet (with_wait_word side Wait d))
 armed_by side Ready d = Ok (Code 0, quiet (with_wait_word side Nil d))
 armed_by side _ d = Err DoubleWait
 
--- committing goroutine g to its wait: the side's word holds g if it still waits
+-- the result of committing goroutine g to its wait: the side's word holds g if it still waits
 abbrev pub committed_by : Side → ℕ → WaitWord → Descriptor → Answer × Change
 committed_by side g Wait d = (Yes, quiet (with_wait_word side (Held g) d))
 committed_by side g _ d = (No, quiet d)
 
--- the end of a wait: whether the side's word was ready. It is nil then
+-- the result of ending a wait: the answer is whether the side's word was ready, and the word
+-- becomes nil
 abbrev pub swapped_by : Side → WaitWord → Descriptor → Answer × Change
 swapped_by side Ready d = (Yes, quiet (with_wait_word side Nil d))
 swapped_by side _ d = (No, quiet (with_wait_word side Nil d))
 
--- a change that answers nothing but that it is done
+-- the outcome of a change whose only answer is `Done`
 abbrev pub done : Result Change Refusal → Outcome
 done changed = do
   change ← changed
   Ok (Done, change)
 
--- what a firing comes to: a stale one changes nothing
+-- the result of a firing; a stale one changes nothing
 abbrev pub fired : Option Change → Descriptor → Answer × Change
 fired None d = (Stale, quiet d)
 fired (Some change) d = (Done, change)
 
--- what a firing comes to that may be refused
+-- the outcome of a firing that may be refused
 abbrev pub fire_by : Result (Option Change) Refusal → Descriptor → Outcome
 fire_by firing d = do
   change ← firing
   Ok (fired change d)
 
--- the answer of each operation, and what it leaves
+-- the outcome of each operation
 abbrev pub outcome : Descriptor → DescOp → Outcome
 outcome d (op.Open socket) = opened socket d
 outcome d op.Close = close d
@@ -95,7 +96,7 @@ outcome d (op.Fire function sequence) = fire_by (change_by_firing function seque
 outcome d (op.Event tag mode error) =
     Ok (if tag == d.fdseq then (Done, change_by_event mode error d) else (Stale, quiet d))
 
--- what an answer and a descriptor come to
+-- the result with this answer and this descriptor
 abbrev pub left : DescAnswer → Descriptor → Answer × Change
 left answer d =
     (answer.answer, record { descriptor = d; orders = answer.orders; woken = listed answer.woken })

@@ -1,5 +1,5 @@
-//! What an operation leaves: a descriptor, orders to its timers, and who is woken. At most one order and one goroutine a
-//! side, reading first.
+//! The changes that operations make: a descriptor, the orders to its timers, and the goroutines that are woken. There
+//! is at most one order and one goroutine per side, reading first.
 
 ghost use Rattle.std.specs.Prelude.{◌≡◌, IsTrue, None};
 ghost use Rattle.nr_rev.specs.Descriptor as spec;
@@ -9,7 +9,7 @@ ghost use Rattle.nr_desc.specs.Auxiliary.Change.{both_let_go, change_view, let_g
 use crate::desc::Desc;
 use nr_rev::{Mode, Side, Sides, TimerOrder};
 
-/// What an operation leaves.
+/// The change that an operation makes.
 #[derive(Clone, Copy)]
 pub(crate) struct DescChange {
     pub(crate) desc: Desc,
@@ -24,7 +24,7 @@ pub(crate) struct Followed {
     pub(crate) order: Option<TimerOrder>,
 }
 
-/// A descriptor with no order and nobody woken.
+/// Returns the change to this descriptor without orders and without waking a goroutine.
 #[inline(always)]
 pub(crate) fn quiet(desc: Desc) -> DescChange
     ensures viewed { change_view result ≡ spec.quiet desc }
@@ -45,7 +45,7 @@ pub(crate) fn quiet(desc: Desc) -> DescChange
 }
 
 impl DescChange {
-    /// A side unblocked. Reading comes before writing, and those woken are in that order.
+    /// Unblocks a side. The woken goroutines are in the order of the sides, reading first.
     #[inline(always)]
     pub(crate) fn unblock(self, side: Side, ioready: bool) -> DescChange
         requires none { sides.of_side side self.woken ≡ None }
@@ -66,8 +66,8 @@ impl DescChange {
     }
 }
 
-/// An event of the poller (Go's `netpollready`): the event error is the event's, and the sides that it names
-/// are ready.
+/// Applies an event of the poller (Go's `netpollready`): the descriptor gets the event's error, and the named sides
+/// become ready.
 pub(crate) fn change_by_event(mode: Mode, error: bool, desc: Desc) -> DescChange
     ensures viewed { change_view result ≡ spec.change_by_event mode error desc }
     ensures woken { result.woken ≡ both_let_go desc.words result.desc.words }

@@ -1,4 +1,4 @@
-//! Wait words as numbers: 0 nil, 1 ready, 2 wait, and 3 more than its number for a goroutine.
+//! Wait words as numbers: 0 nil, 1 ready, 2 wait, and for a goroutine its number plus 3.
 
 ghost use Rattle.std.specs.Prelude.{◌≡◌, ◌+◌, ◌<◌, ◌^◌, option_to_list};
 ghost use Rattle.nr_rev.specs.Descriptor as spec;
@@ -10,7 +10,7 @@ ghost use Rattle.nr_desc.specs.Auxiliary.Code.{code_of};
 use nr_rev::WaitWord;
 use std::marker::Model;
 
-/// A wait word as a number, seen in contracts as the word.
+/// A wait word as a number. Contracts see it as the word.
 #[derive(Clone, Copy, Debug, PartialEq, Eq)]
 pub(crate) struct WordCode(u32);
 
@@ -29,7 +29,7 @@ impl Model for WordCode {
 }
 
 impl WordCode {
-    /// The code of nil.
+    /// Returns the code of nil.
     #[inline(always)]
     pub(crate) fn nil() -> WordCode
         ensures { result ≡ Nil }
@@ -37,7 +37,7 @@ impl WordCode {
         WordCode(0)
     }
 
-    /// The code of ready.
+    /// Returns the code of ready.
     #[inline(always)]
     pub(crate) fn ready() -> WordCode
         ensures { result ≡ Ready }
@@ -45,7 +45,7 @@ impl WordCode {
         WordCode(1)
     }
 
-    /// The code of wait.
+    /// Returns the code of wait.
     #[inline(always)]
     pub(crate) fn wait() -> WordCode
         ensures { result ≡ Wait }
@@ -53,7 +53,7 @@ impl WordCode {
         WordCode(2)
     }
 
-    /// The code of a goroutine.
+    /// Returns the code of a goroutine.
     #[inline(always)]
     pub(crate) fn held(goroutine: u32) -> WordCode
         requires { goroutine + 3 < 2 ^ 32 }
@@ -62,7 +62,7 @@ impl WordCode {
         WordCode(goroutine + 3)
     }
 
-    /// The word.
+    /// Returns the word.
     #[inline(always)]
     pub(crate) fn word(self) -> WaitWord
         ensures { result ≡ self }
@@ -75,7 +75,7 @@ impl WordCode {
         }
     }
 
-    /// The number.
+    /// Returns the number.
     #[inline(always)]
     pub(crate) fn number(self) -> u32
         ensures { result ≡ code_of self }
@@ -83,7 +83,7 @@ impl WordCode {
         self.0
     }
 
-    /// Whether somebody waits, or is about to park.
+    /// Returns whether a goroutine waits or is about to park.
     #[inline(always)]
     pub(crate) fn is_awaited(self) -> bool
         ensures { result ≡ is_awaited self }
@@ -91,7 +91,7 @@ impl WordCode {
         self.0 > 1
     }
 
-    /// The word unblocked, and the goroutine that it held (Go's `netpollunblock`).
+    /// Unblocks the word (Go's `netpollunblock`), and returns it with the goroutine that it held.
     #[inline(always)]
     pub(crate) fn unblocked(self, ioready: bool) -> Unblocked
         ensures viewed { unblocked_view result ≡ spec.unblock self ioready }

@@ -14,7 +14,7 @@ use nr_rev::{
     Mode, Refusal, Side, Sides, TimerFunction, TimerOrder, deadline_from, raised_sequence,
 };
 
-/// The descriptor with a deadline at the sides that a mode names.
+/// Returns the descriptor with a deadline for the sides that a mode names.
 #[inline(always)]
 fn with_deadlines(mode: Mode, deadline: i64, desc: Desc) -> Desc
     ensures { result ≡ spec.with_deadlines mode deadline desc }
@@ -35,7 +35,7 @@ fn with_deadlines(mode: Mode, deadline: i64, desc: Desc) -> Desc
     }
 }
 
-/// The descriptor with a deadline, counted from now, at the sides that a mode names.
+/// Returns the descriptor with a deadline, counted from now, for the sides that a mode names.
 #[inline(always)]
 fn with_deadlines_from(clock: i64, mode: Mode, time: i64, desc: Desc) -> Desc
     ensures { result ≡ spec.with_deadlines mode (spec.deadline_from clock time) desc }
@@ -43,7 +43,7 @@ fn with_deadlines_from(clock: i64, mode: Mode, time: i64, desc: Desc) -> Desc
     with_deadlines(mode, deadline_from(clock, time), desc)
 }
 
-/// Whether a side's deadline needs a timer of its own: one for writing isn't armed under combo.
+/// Returns whether a side's deadline needs a timer of its own. The write deadline needs none under combo.
 #[inline(always)]
 fn wants_timer(side: Side, desc: Desc) -> bool
     ensures { result ≡ spec.wants_timer side desc }
@@ -54,7 +54,7 @@ fn wants_timer(side: Side, desc: Desc) -> bool
     }
 }
 
-/// What a side's timer runs: under combo the one for reading serves both.
+/// Returns the function of a side's timer. Under combo the read timer serves both sides.
 #[inline(always)]
 fn timer_function(side: Side, desc: Desc) -> TimerFunction
     ensures { result ≡ spec.timer_function side desc }
@@ -66,7 +66,7 @@ fn timer_function(side: Side, desc: Desc) -> TimerFunction
     }
 }
 
-/// The descriptor with a side's timer armed at its deadline, or stopped.
+/// Returns the descriptor with the order to arm a side's timer at its deadline, or to stop it.
 #[inline(always)]
 fn timer_reset(side: Side, desc: Desc) -> Followed
     ensures { followed_view result ≡ spec.timer_reset side desc }
@@ -88,7 +88,7 @@ fn timer_reset(side: Side, desc: Desc) -> Followed
     }
 }
 
-/// Whether two times are the same.
+/// Returns whether two times are equal.
 #[inline(always)]
 fn is_same_time(time: i64, other: i64) -> bool
     ensures { result ≡ int_eq time other }
@@ -96,7 +96,7 @@ fn is_same_time(time: i64, other: i64) -> bool
     time == other
 }
 
-/// Whether two marks are the same.
+/// Returns whether two marks are equal.
 #[inline(always)]
 fn is_same_mark(mark: bool, other: bool) -> bool
     ensures { result ≡ spec.same_bool mark other }
@@ -104,7 +104,7 @@ fn is_same_mark(mark: bool, other: bool) -> bool
     mark == other
 }
 
-/// Whether a side's deadline and combo are as they were.
+/// Returns whether a side's deadline and combo are unchanged.
 #[inline(always)]
 fn is_unmoved(side: Side, old: Desc, desc: Desc) -> bool
     ensures { result
@@ -115,7 +115,7 @@ fn is_unmoved(side: Side, old: Desc, desc: Desc) -> bool
         && is_same_mark(old.is_combo(), desc.is_combo())
 }
 
-/// A side's timer after the deadlines of `old` became those of the descriptor.
+/// Returns the descriptor with the order for a side's timer after the deadlines changed from those of `old`.
 #[inline(always)]
 fn timer_follows(side: Side, old: Desc, desc: Desc) -> Result<Followed, Refusal>
     ensures viewed { Gives followed_view result (spec.timer_follows side old desc) }
@@ -142,7 +142,7 @@ fn timer_follows(side: Side, old: Desc, desc: Desc) -> Result<Followed, Refusal>
 }
 
 impl DescChange {
-    /// The sides whose deadline is past unblocked, reading first.
+    /// Unblocks the sides whose deadline has passed, reading first.
     #[inline(always)]
     fn unblock_expired(self) -> DescChange
         requires { self.woken ≡ sides.twice None }
@@ -160,7 +160,7 @@ impl DescChange {
     }
 }
 
-/// Both timers after the deadlines of `old` became those of the descriptor, reading first.
+/// Returns the orders for both timers after the deadlines changed from those of `old`, reading first.
 #[inline(always)]
 fn both_follow(old: Desc, desc: Desc) -> Result<DescChange, Refusal>
     ensures viewed { Gives change_view result (auxiliary.both_follow old desc) }
@@ -182,8 +182,8 @@ fn both_follow(old: Desc, desc: Desc) -> Result<DescChange, Refusal>
     })
 }
 
-/// A deadline set (Go's `poll_runtime_pollSetDeadline`): the timers follow, reading first, and the sides
-/// whose deadline is past are unblocked.
+/// Sets a deadline (Go's `poll_runtime_pollSetDeadline`): the timers follow, reading first, and the sides whose
+/// deadline has passed are unblocked.
 pub(crate) fn change_by_deadline(
     clock: i64,
     mode: Mode,

@@ -1,4 +1,4 @@
-//! A descriptor, what it returns, and its fields changed.
+//! A descriptor, the calls that read it, and changes of its fields.
 
 ghost use Rattle.std.specs.Prelude.{◌≡◌, ◌==◌, ◌<◌, ◌^◌, pos};
 ghost use Rattle.nr_rev.specs.Descriptor as spec;
@@ -12,7 +12,7 @@ use crate::marks::Marks;
 use nr_rev::{Descriptor, Side, Sides, WaitWord};
 use std::marker::Model;
 
-/// A poll descriptor, seen in contracts as the record of its fields.
+/// A poll descriptor. Contracts see it as the record of its fields.
 #[derive(Clone, Copy, Debug, PartialEq, Eq)]
 pub struct Desc {
     pub(crate) words: Sides<WordCode>,
@@ -50,7 +50,7 @@ impl Model for Desc {
 }
 
 impl Desc {
-    /// A descriptor that was never opened: all its numbers are 0.
+    /// Returns a descriptor that was never opened, with 0 for all numbers.
     #[inline(always)]
     pub fn never_opened() -> Desc
         ensures descriptor { result ≡ spec.never_opened }
@@ -69,7 +69,7 @@ impl Desc {
         }
     }
 
-    /// The record of the fields.
+    /// Returns the record of the fields.
     #[inline(always)]
     pub fn descriptor(&self) -> Descriptor
         ensures { result ≡ self.now }
@@ -92,7 +92,7 @@ impl Desc {
         }
     }
 
-    /// A side's word.
+    /// Returns a side's word.
     #[inline(always)]
     pub fn word(&self, side: Side) -> WaitWord
         ensures { result ≡ sides.of_side side self.now.words }
@@ -100,7 +100,7 @@ impl Desc {
         self.words.of(side).word()
     }
 
-    /// A side's word as it is kept: 0 nil, 1 ready, 2 wait, and 3 more than its number for a goroutine.
+    /// Returns the code of a side's word: 0 nil, 1 ready, 2 wait, and for a goroutine its number plus 3.
     #[inline(always)]
     pub fn code(&self, side: Side) -> u32
         ensures { result ≡ code_of (sides.of_side side self.now.words) }
@@ -108,7 +108,8 @@ impl Desc {
         self.words.of(side).number()
     }
 
-    /// The marks as they are kept: 1 closing, 2 an event error, 4 and 8 the timers of reading and writing run.
+    /// Returns the byte of the marks: the sum of 1 for closing, 2 for an event error, and 4 and 8 for running read and
+    /// write timers.
     #[inline(always)]
     pub fn marks(&self) -> u8
         ensures { result ≡ marks_number_of self.now }
@@ -116,7 +117,7 @@ impl Desc {
         self.marks.number()
     }
 
-    /// Whether it is closing.
+    /// Returns whether the descriptor is closing.
     #[inline(always)]
     pub fn closing(&self) -> bool
         ensures { result ≡ self.now.closing }
@@ -124,7 +125,7 @@ impl Desc {
         self.marks.closing()
     }
 
-    /// Whether the last event had an error.
+    /// Returns whether the last event had an error.
     #[inline(always)]
     pub fn event_error(&self) -> bool
         ensures { result ≡ self.now.event_error }
@@ -132,7 +133,7 @@ impl Desc {
         self.marks.event_error()
     }
 
-    /// A side's deadline.
+    /// Returns a side's deadline.
     #[inline(always)]
     pub fn deadline(&self, side: Side) -> i64
         ensures { result ≡ sides.of_side side self.now.deadlines }
@@ -140,7 +141,7 @@ impl Desc {
         self.deadlines.of(side)
     }
 
-    /// Whether a side's timer was armed and not stopped.
+    /// Returns whether a side's timer was armed and not stopped.
     #[inline(always)]
     pub fn is_running(&self, side: Side) -> bool
         ensures { result ≡ sides.of_side side self.now.running }
@@ -148,7 +149,7 @@ impl Desc {
         self.marks.is_running(side)
     }
 
-    /// A side's sequence.
+    /// Returns a side's sequence.
     #[inline(always)]
     pub fn sequence(&self, side: Side) -> u64
         ensures { result ≡ sides.of_side side self.now.sequences }
@@ -156,7 +157,7 @@ impl Desc {
         self.sequences.of(side)
     }
 
-    /// The tag by which a stale event is known.
+    /// Returns the tag, which identifies stale events.
     #[inline(always)]
     pub fn fdseq(&self) -> u64
         ensures { result ≡ self.now.fdseq }
@@ -164,7 +165,7 @@ impl Desc {
         self.fdseq
     }
 
-    /// The number of the socket that it was opened for.
+    /// Returns the number of the socket for which the descriptor was opened.
     #[inline(always)]
     pub fn socket(&self) -> u32
         ensures { result ≡ self.now.socket }
@@ -172,7 +173,8 @@ impl Desc {
         self.socket
     }
 
-    /// The summary: 1 closing, 2 an event error, 4 and 8 the deadlines of reading and writing past.
+    /// Returns the summary: the sum of 1 for closing, 2 for an event error, and 4 and 8 if the read and the write
+    /// deadline have passed.
     #[inline(always)]
     pub fn summary(&self) -> u64
         ensures { result ≡ spec.summary self.now }
@@ -183,7 +185,8 @@ impl Desc {
             + 8 * u64::from(self.is_expired(Side::Write))
     }
 
-    /// What hinders a wait: 1 closing, 2 the deadline is past, 3 an event error, for reading; else 0.
+    /// Returns why a side can't wait: 1 if the descriptor is closing, 2 if the deadline has passed, 3 for an event
+    /// error when reading, and otherwise 0.
     #[inline(always)]
     pub fn check(&self, side: Side) -> u32
         ensures { result ≡ spec.check side self.now }
@@ -199,7 +202,7 @@ impl Desc {
         }
     }
 
-    /// Whether a side's deadline is past.
+    /// Returns whether a side's deadline has passed.
     #[inline(always)]
     pub(crate) fn is_expired(&self, side: Side) -> bool
         ensures { result ≡ spec.is_expired side self.now }
@@ -207,7 +210,7 @@ impl Desc {
         self.deadlines.of(side) < 0
     }
 
-    /// Whether one deadline is for both sides, and to come.
+    /// Returns whether both sides have one deadline, which is still to come.
     #[inline(always)]
     pub(crate) fn is_combo(&self) -> bool
         ensures { result ≡ spec.is_combo self.now }
@@ -215,7 +218,7 @@ impl Desc {
         self.deadlines.read > 0 && self.deadlines.read == self.deadlines.write
     }
 
-    /// With another word at a side.
+    /// Returns the descriptor with another word at a side.
     #[inline(always)]
     pub(crate) fn with_wait_word(self, side: Side, word: WordCode) -> Desc
         ensures { result ≡ spec.with_wait_word side word self }
@@ -226,7 +229,7 @@ impl Desc {
         }
     }
 
-    /// With a side's timer running or not.
+    /// Returns the descriptor with a side's timer marked as running or not.
     #[inline(always)]
     pub(crate) fn with_running(self, side: Side, running: bool) -> Desc
         ensures { result ≡ record self { running = sides.with_side side running self.running } }

@@ -1,4 +1,4 @@
-//! Firings run.
+//! Running firings.
 
 ghost use Rattle.std.specs.Prelude.{◌≡◌, IfOk, IfSome, None, negsuc, option_map};
 ghost use Rattle.nr_rev.specs.Descriptor as spec;
@@ -11,7 +11,7 @@ use crate::change::{DescChange, quiet};
 use crate::desc::Desc;
 use nr_rev::{Refusal, Side, TimerFunction};
 
-/// The descriptor with a side's deadline past.
+/// Returns the descriptor with a side's deadline marked as passed.
 #[inline(always)]
 fn with_past(side: Side, desc: Desc) -> Desc
     ensures { result ≡ record desc {
@@ -25,7 +25,7 @@ fn with_past(side: Side, desc: Desc) -> Desc
 }
 
 impl DescChange {
-    /// The sides that a function covers expired, reading first.
+    /// Expires the sides that a function covers, reading first.
     #[inline(always)]
     fn expire(self, function: TimerFunction) -> DescChange
         requires { self.woken ≡ sides.twice None }
@@ -47,7 +47,7 @@ impl DescChange {
     }
 }
 
-/// Whether a side that a function covers waits for its timer.
+/// Returns whether a side that a function covers waits for its timer.
 #[inline(always)]
 fn is_timed(function: TimerFunction, desc: Desc) -> bool
     ensures { result ≡ spec.is_timed function desc }
@@ -60,7 +60,7 @@ fn is_timed(function: TimerFunction, desc: Desc) -> bool
     }
 }
 
-/// A firing run (Go's `netpolldeadlineimpl`), or `None` where its sequence is no longer the descriptor's.
+/// Runs a firing (Go's `netpolldeadlineimpl`), or returns `None` if its sequence is no longer the descriptor's.
 pub(crate) fn change_by_firing(
     function: TimerFunction,
     sequence: u64,

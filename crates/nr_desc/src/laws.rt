@@ -1,4 +1,4 @@
-//! Laws over who is woken, the numbers that a descriptor is kept in, and the way back.
+//! Laws about woken goroutines, the numbers that store a descriptor, and the undo.
 
 ghost use Rattle.std.specs.Prelude.{◌≡◌, ◌<◌, ℕ, Some};
 ghost use Rattle.nr_rev.specs.Sides.{of_side};
@@ -14,14 +14,15 @@ ghost use Rattle.nr_desc.specs.declared.op.DescOp.{DescOp};
 ghost use Rattle.nr_desc.specs.declared.reversible.DescDelta.{DescDelta};
 ghost use Rattle.nr_desc.specs.declared.reversible.TheConstants.{MOST_WORDS};
 
-/// Whoever is woken of a side was held by that side's word.
+/// A goroutine that is woken at a side was held by that side's word.
 pub fn the_woken_were_held()
     ensures { (old new : Descriptor) (op : DescOp) (answer : DescAnswer) (side : Side) (g : ℕ)
         → StepTo old op answer new → of_side side answer.woken ≡ Some g
         → of_side side old.words ≡ Held g }
 {}
 
-/// Each number is the code of one word, and each word has one code. Bytes below 16 and marks are as much one to one.
+/// Each number is the code of exactly one word, and each word has exactly one code. Likewise for bytes below 16 and
+/// marks.
 pub fn numbers_are_words_and_marks()
     ensures code { (n : ℕ) → code_of (wait_word_of n) ≡ n }
     ensures word { (word : WaitWord) → wait_word_of (code_of word) ≡ word }
@@ -30,7 +31,7 @@ pub fn numbers_are_words_and_marks()
     ensures small { (marks : DescMarks) → marks_number marks < 16 }
 {}
 
-/// A delta is the descriptor before and nothing beside it, nine words.
+/// A delta consists of the previous descriptor and nothing else: nine words.
 pub fn delta_is_its_descriptor()
     ensures descriptor { (delta : DescDelta) → delta ≡ record { before = delta.before } }
     ensures words { MOST_WORDS ≡ 9 }

@@ -1,11 +1,11 @@
-//! What is asked of a descriptor, and what it answers.
+//! The operations on a descriptor, and their answers.
 
 ghost use Rattle.std.specs.Prelude.{◌≡◌, ◌++◌, ◌<◌, option_to_list};
 
 use nr_rev::{Answer, MOST_GOROUTINES, Mode, Side, Sides, TimerFunction, TimerOrder};
 use std::marker::Model;
 
-/// The number of a goroutine, below the most that there may be. Seen in contracts as the number.
+/// The number of a goroutine, below the maximum. Contracts see it as the number.
 #[derive(Clone, Copy, Debug, PartialEq, Eq)]
 pub struct Goroutine(u32);
 
@@ -23,7 +23,7 @@ impl Model for Goroutine {
 }
 
 impl Goroutine {
-    /// The goroutine of a number.
+    /// Returns the goroutine with this number.
     #[inline(always)]
     pub fn of_number(number: u32) -> Goroutine
         requires { number < MOST_GOROUTINES }
@@ -32,7 +32,7 @@ impl Goroutine {
         Goroutine(number)
     }
 
-    /// Its number.
+    /// Returns the goroutine's number.
     #[inline(always)]
     pub fn number(self) -> u32
         ensures number { result ≡ self }
@@ -42,59 +42,62 @@ impl Goroutine {
     }
 }
 
-/// What is asked of a descriptor.
+/// An operation on a descriptor.
 #[derive(Clone, Copy, Debug, PartialEq, Eq)]
 pub enum DescOp {
-    /// Opens it for a socket (Go's `poll_runtime_pollOpen`). Answers `Done`.
+    /// Opens the descriptor for a socket (Go's `poll_runtime_pollOpen`). Answers `Done`.
     Open {
         /// The number of the socket.
         socket: u32,
     },
-    /// Closes it (Go's `poll_runtime_pollClose`): its tag becomes another. Answers `Done`.
+    /// Closes the descriptor (Go's `poll_runtime_pollClose`) and changes its tag. Answers `Done`.
     Close,
-    /// Makes a side's word nil, if nothing hinders a wait (Go's `poll_runtime_pollReset`). Answers `Code`.
+    /// Makes a side's word nil, if nothing prevents a wait (Go's `poll_runtime_pollReset`). Answers `Code`.
     Reset(Side),
-    /// Looks what hinders a wait (Go's `netpollcheckerr`). Answers `Code`.
+    /// Checks whether anything prevents a wait (Go's `netpollcheckerr`). Answers `Code`.
     Check(Side),
-    /// Makes a side's word wait, or takes it up where it is ready (the first half of Go's `netpollblock`). Answers `Wait`,
-    /// or `Code(0)` where it was ready.
+    /// Makes a side's word wait, or takes its readiness if it is ready (the first half of Go's `netpollblock`). Answers
+    /// `Wait`, or `Code(0)` if it was ready.
     Arm(Side),
-    /// Makes a side's word that waits hold the goroutine (Go's `netpollblockcommit`). Answers `Yes`, or `No` where the word
+    /// Makes a side's waiting word hold the goroutine (Go's `netpollblockcommit`). Answers `Yes`, or `No` if the word
     /// doesn't wait.
     Commit(Side, Goroutine),
-    /// Takes a side's word up (the second half of Go's `netpollblock`). Answers `Yes` where it was ready, else `No`.
+    /// Resets a side's word (the second half of Go's `netpollblock`). Answers `Yes` if it was ready, and otherwise
+    /// `No`.
     Swap(Side),
-    /// Sets a deadline (Go's `poll_runtime_pollSetDeadline`). Answers `Done`, with orders to the timers and those woken.
+    /// Sets a deadline (Go's `poll_runtime_pollSetDeadline`). Answers `Done`, with the orders to the timers and the
+    /// woken goroutines.
     SetDeadline {
-        /// The time now, in nanoseconds.
+        /// The current time in nanoseconds.
         clock: i64,
-        /// The sides that it is for.
+        /// The sides of the deadline.
         mode: Mode,
-        /// The deadline: positive from now on, negative past, 0 none.
+        /// The deadline: positive if it is to come, counted from now; negative if it has passed; 0 for none.
         time: i64,
     },
-    /// Makes it closing (Go's `poll_runtime_pollUnblock`). Answers `Done`, with orders to the timers and those woken.
+    /// Marks the descriptor as closing (Go's `poll_runtime_pollUnblock`). Answers `Done`, with the orders to the timers
+    /// and the woken goroutines.
     Evict,
-    /// Runs a firing (Go's `netpolldeadlineimpl`). Answers `Done` with those woken, or `Stale`.
+    /// Runs a firing (Go's `netpolldeadlineimpl`). Answers `Done` with the woken goroutines, or `Stale`.
     Fire {
-        /// What the timer runs.
+        /// The timer's function.
         function: TimerFunction,
-        /// The sequence that it was armed with.
+        /// The sequence with which the timer was armed.
         sequence: u64,
     },
-    /// Takes an event of the poller in (Go's `netpollready`). Answers `Done` with those woken, or `Stale` where the tag is
-    /// another.
+    /// Applies an event of the poller (Go's `netpollready`). Answers `Done` with the woken goroutines, or `Stale` if
+    /// the tag is another.
     Event {
-        /// The tag.
+        /// The event's tag.
         tag: u64,
         /// The sides that are ready.
         mode: Mode,
-        /// Whether it has an error.
+        /// True if the event has an error.
         error: bool,
     },
 }
 
-/// At most one order to the timer of each side, seen in contracts as the list of them, reading first.
+/// At most one order to the timer of each side. Contracts see the list of orders, reading first.
 #[derive(Drop, Debug)]
 pub struct Orders {
     sides: Sides<Option<TimerOrder>>,
@@ -110,7 +113,7 @@ impl Model for Orders {
 }
 
 impl Orders {
-    /// The orders of both sides.
+    /// Makes the orders of both sides.
     #[inline(always)]
     pub(crate) fn new(sides: Sides<Option<TimerOrder>>) -> Orders
         ensures { result ≡ option_to_list sides.read ++ option_to_list sides.write }
@@ -118,7 +121,7 @@ impl Orders {
         Orders { sides }
     }
 
-    /// The order to each side's timer, if there is one. They are carried out reading first.
+    /// Returns the order to each side's timer, if there is one. They are carried out reading first.
     #[inline(always)]
     pub fn sides(&self) -> Sides<Option<TimerOrder>>
         ensures { self.now ≡ option_to_list result.read ++ option_to_list result.write }
@@ -127,14 +130,14 @@ impl Orders {
     }
 }
 
-/// What a descriptor answers.
+/// The answer of a descriptor.
 #[derive(Drop, Debug)]
 pub struct DescAnswer {
     /// The answer.
     pub answer: Answer,
-    /// What is asked of its timers.
+    /// The orders to its timers.
     pub orders: Orders,
-    /// The goroutine that is woken of each side, if one is: the one that the side's word held. They are woken reading
+    /// The goroutine that is woken at each side, if any: the one that the side's word held. They are woken reading
     /// first.
     pub woken: Sides<Option<u32>>,
 }

@@ -1,4 +1,4 @@
-//! Opening and closing, and numbers raised by one.
+//! Opening and closing, and increasing numbers by one.
 
 ghost use Rattle.std.specs.Prelude.{◌≡◌, IfOk, option_to_list};
 ghost use Rattle.nr_rev.specs.Descriptor as spec;
@@ -11,7 +11,7 @@ use crate::code::WordCode;
 use crate::desc::Desc;
 use nr_rev::{Refusal, Side, Sides, TimerOrder, both_raised, raised_sequence};
 
-/// An order to stop a side's timer, if it runs.
+/// Returns an order to stop a side's timer, if it runs.
 #[inline(always)]
 fn stop_if(running: bool, side: Side) -> Option<TimerOrder>
     ensures { option_to_list result ≡ spec.stop_if running side }
@@ -24,7 +24,7 @@ fn stop_if(running: bool, side: Side) -> Option<TimerOrder>
 }
 
 impl Desc {
-    /// Opened for a socket (Go's `poll_runtime_pollOpen`).
+    /// Returns the descriptor opened for a socket (Go's `poll_runtime_pollOpen`).
     #[inline(always)]
     pub(crate) fn opened_for(self, socket: u32) -> Result<Desc, Refusal>
         ensures { Gives viewed_as_it_is result (spec.opened_for socket self) }
@@ -43,7 +43,7 @@ impl Desc {
         })
     }
 
-    /// Closed (Go's `poll_runtime_pollClose`), by its marks and words alone.
+    /// Returns the descriptor closed (Go's `poll_runtime_pollClose`), using only its marks and words.
     #[inline(always)]
     pub(crate) fn closed(self) -> Result<Desc, Refusal>
         ensures { Gives viewed_as_it_is result (closed_by_words self) }
@@ -60,7 +60,7 @@ impl Desc {
     }
 }
 
-/// A descriptor evicted (Go's `poll_runtime_pollUnblock`): it is closing, its timers are stopped, and both sides are
+/// Evicts a descriptor (Go's `poll_runtime_pollUnblock`): it is closing, its timers are stopped, and both sides are
 /// unblocked.
 pub(crate) fn change_by_evict(desc: Desc) -> Result<DescChange, Refusal>
     ensures viewed { Gives change_view result (spec.change_by_evict desc) }

@@ -1,4 +1,4 @@
-//! Operations applied and undone.
+//! Applying and undoing operations.
 
 ghost use Rattle.std.specs.Prelude.{◌≡◌, None};
 ghost use Rattle.nr_desc.specs.Auxiliary.Change.{made_view};
@@ -16,10 +16,10 @@ use crate::opening::change_by_evict;
 use crate::waiting::Answered;
 use nr_rev::{Answer, Mode, Refusal, Reversible, Side, TimerFunction};
 
-/// The most words that a delta holds.
+/// The maximum number of words in a delta.
 pub(crate) const MOST_WORDS: u32 = 9;
 
-/// What leads back over an operation: the descriptor before, in nine numbers.
+/// The data that undoes an operation: the previous descriptor, in nine numbers.
 #[derive(Clone, Copy, Debug, PartialEq, Eq)]
 pub struct DescDelta {
     before: Desc,
@@ -33,14 +33,14 @@ impl Default for DescDelta {
     }
 }
 
-/// An answer, and what the operation leaves.
+/// An answer, and the change that the operation makes.
 #[derive(Clone, Copy)]
 pub(crate) struct Made {
     pub(crate) answer: Answer,
     pub(crate) change: DescChange,
 }
 
-/// An answer with which nothing is ordered and nobody woken.
+/// Returns an answer without orders and without waking a goroutine.
 #[inline(always)]
 fn made_quiet(answer: Answer, desc: Desc) -> Made
     ensures viewed { made_view result ≡ (answer, spec.quiet desc) }
@@ -53,9 +53,9 @@ fn made_quiet(answer: Answer, desc: Desc) -> Made
     }
 }
 
-// Each operation is a method of its own, since a function clears all its locals when it is entered.
+// Each operation is a method of its own, because a function clears all its locals on entry.
 impl Desc {
-    /// What an operation comes to.
+    /// Returns the outcome of an operation.
     #[inline(always)]
     fn made(self, op: DescOp) -> Result<Made, Refusal>
         ensures { ComesTo op self result }
@@ -180,7 +180,7 @@ impl Desc {
     }
 }
 
-/// Each operation writes a few numbers, and the way back is the numbers before.
+/// Each operation writes a few numbers, and their previous values undo it.
 impl Reversible for Desc {
     ghost use Rattle.nr_desc.specs.declared.reversible.TheConstants.{MOST_WORDS};
     ghost use Rattle.nr_desc.specs.Delta.{DescBack, delta_weight};

@@ -1,4 +1,4 @@
-//! Waits: what becomes of a side's word on the way.
+//! Waits: the operations on a side's word.
 
 ghost use Rattle.std.specs.Prelude.{◌≡◌, ◌+◌, ◌<◌, ◌^◌};
 ghost use Rattle.nr_rev.specs.Sides as sides;
@@ -10,7 +10,7 @@ use crate::code::WordCode;
 use crate::desc::Desc;
 use nr_rev::{Answer, Refusal, Side, WaitWord};
 
-/// What an operation on a word leaves: the answer, and the descriptor.
+/// The result of an operation on a word: the answer and the descriptor.
 #[derive(Clone, Copy)]
 pub(crate) struct Answered {
     pub(crate) answer: Answer,
@@ -18,7 +18,7 @@ pub(crate) struct Answered {
 }
 
 impl Desc {
-    /// A side's word nil, if nothing hinders a wait (Go's `poll_runtime_pollReset`).
+    /// Makes a side's word nil, if nothing prevents a wait (Go's `poll_runtime_pollReset`).
     #[inline(always)]
     pub(crate) fn reset(self, side: Side) -> Result<Answered, Refusal>
         ensures { Gives answered_view result (spec.reset side self) }
@@ -39,7 +39,7 @@ impl Desc {
         })
     }
 
-    /// A side's word made wait, or taken up where it is ready (the first half of Go's `netpollblock`).
+    /// Makes a side's word wait, or takes its readiness if it is ready (the first half of Go's `netpollblock`).
     #[inline(always)]
     pub(crate) fn arm(self, side: Side) -> Result<Answered, Refusal>
         ensures { Gives answered_view result (spec.armed_by side (sides.of_side side self.words) self) }
@@ -57,7 +57,7 @@ impl Desc {
         }
     }
 
-    /// A side's word that waits made to hold the goroutine (Go's `netpollblockcommit`).
+    /// Makes a side's waiting word hold the goroutine (Go's `netpollblockcommit`).
     #[inline(always)]
     pub(crate) fn commit(self, side: Side, goroutine: u32) -> Answered
         requires { goroutine + 3 < 2 ^ 32 }
@@ -76,7 +76,7 @@ impl Desc {
         }
     }
 
-    /// A side's word taken up (the second half of Go's `netpollblock`).
+    /// Resets a side's word (the second half of Go's `netpollblock`).
     #[inline(always)]
     pub(crate) fn swap(self, side: Side) -> Answered
         ensures { answered_view result ≡ spec.swapped_by side (sides.of_side side self.words) self }

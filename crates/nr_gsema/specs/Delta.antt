@@ -1,4 +1,4 @@
--- The way back over an operation: what undoing it leaves, where it leads back, and what it weighs.
+-- The undo of an operation: its result, when it leads back, and its number of words.
 use Rattle.std.specs.Prelude.{◌≡◌, ℕ, ◌+◌, ◌-◌, ◌^◌, ◌<◌, false, length, take, slice_get, Option, Some, None, option_map}
 use Rattle.nr_rev.specs.declared.sides.Side.{Side}
 use Rattle.nr_rev.specs.declared.sides.Sides.{Sides}
@@ -17,20 +17,20 @@ use Rattle.nr_gsema.specs.Step.{side_owed}
 use Rattle.nr_gsema.specs.Table.{GoroutineTable}
 use Rattle.nr_gsema.specs.Auxiliary.Table.{with_status, on_semaphore}
 
--- who left the queue is queued again
+-- the table with the goroutine that left the queue queued again
 abbrev pub queued_again : ℕ → Side → Option ℕ → GoroutineTable → GoroutineTable
 queued_again s side None t = t
 queued_again s side (Some g) t = with_status g (Queued s side) t
 
--- a release of a side of socket s, undone
+-- the table with a release at a side of socket s undone
 abbrev pub released_back : ℕ → Side → Option ℕ → GoroutineTable → GoroutineTable
 released_back s side front t = queued_again s side front (on_semaphore s side (unreleased front) t)
 
--- releases of both sides
+-- the releases of both sides
 abbrev pub owed : ℕ → ℕ → Sides ℕ
 owed reads writes = record { read = reads; write = writes }
 
--- what undoing leaves of a table
+-- the table after an undo
 abbrev pub undone : GUndo → GoroutineTable → GoroutineTable
 undone undo.Spawned t = record t { goroutines = take (length t.goroutines - 1) t.goroutines }
 undone (undo.Moved g status) t = with_status g status t
@@ -41,21 +41,21 @@ undone (undo.Queued g s side) t =
 undone (undo.Released g s reads writes front) t =
     with_status g (Owing s reads writes) (released_back s (side_owed (owed reads writes)) front t)
 
--- g's status is that of none that is queued
+-- goroutine g exists and isn't queued
 abbrev pub IsOutside : ℕ → GoroutineTable → Type 0
 IsOutside g t = option_map is_waiting (slice_get t.goroutines g) ≡ Some false
 
--- socket s is below the limit, and its semaphore of a side has this
+-- socket s is below the limit, and its semaphore of a side has this property
 abbrev pub HasSemaphore : ℕ → Side → (Semaphore → Type 0) → GoroutineTable → Type 0
 HasSemaphore s side P t =
     (both : Sides Semaphore) × (slice_get t.semaphores s ≡ Some both) × P (of_side side both)
 
--- who left the queue is in none
+-- the goroutine that left the queue isn't queued
 abbrev pub CanRequeue : Option ℕ → GoroutineTable → Type 0
 CanRequeue None t = Unit {0}
 CanRequeue (Some g) t = IsOutside g t
 
--- what it takes away is there, and what it puts back has a place
+-- what the undo removes exists, and there is room for what it restores
 abbrev pub CanUndo : GUndo → GoroutineTable → Type 0
 CanUndo undo.Spawned t = slice_get t.goroutines (length t.goroutines - 1) ≡ Some Idle
 CanUndo (undo.Moved g status) t = (is_waiting status ≡ false) × IsOutside g t
@@ -68,15 +68,15 @@ CanUndo (undo.Released g s reads writes front) t =
     IsOutside g (released_back s (side_owed (owed reads writes)) front t) × CanRequeue front t
     × HasSemaphore s (side_owed (owed reads writes)) (λ semaphore. 0 < semaphore.count) t
 
--- undoing leads from the new table back to the old one
+-- the undo leads from the new table back to the old one
 abbrev pub Reverses : GUndo → GoroutineTable → GoroutineTable → Type 0
 Reverses undo new old = CanUndo undo new × (old ≡ undone undo new)
 
--- a delta leads from the new table back to the old one
+-- the delta leads from the new table back to the old one
 abbrev pub LeadsBack : GDelta → GoroutineTable → GoroutineTable → Type 0
 LeadsBack delta new old = Reverses delta.undo new old
 
--- how many words an undo holds
+-- the number of words in an undo
 abbrev pub undo_weight : GUndo → ℕ
 undo_weight undo.Spawned = variant_weight
 undo_weight (undo.Moved g status) = variant_weight + number_weight g + status_weight status
@@ -88,11 +88,11 @@ undo_weight (undo.Released g s reads writes front) =
     variant_weight + number_weight g + number_weight s + number_weight reads + number_weight writes
     + option_weight number_weight front
 
--- how many words a delta holds
+-- the number of words in a delta
 abbrev pub delta_weight : GDelta → ℕ
 delta_weight delta = undo_weight delta.undo
 
--- how many words an operation's delta may hold
+-- the maximum number of words in an operation's delta
 abbrev pub weight_allowed : GOperation → ℕ
 weight_allowed operation.Spawn = 1
 weight_allowed (operation.Exit g) = 3

@@ -1,4 +1,5 @@
--- How the nodes of goroutines and semaphores show the table: each queue is a list linked both ways.
+-- How the nodes of goroutines and semaphores represent the table: each queue is a doubly linked
+-- list.
 use Rattle.std.specs.Prelude.{◌≡◌, ℕ, zero, suc, ◌<◌, ◌≤◌, ◌==◌, Bool, true, false, List, [], ◌∷◌, length, map, count_by, slice_get, Option, Some, None, vec_len, vec_capacity}
 use Rattle.nr_rev.specs.declared.sides.Side.{Side}
 use Rattle.nr_rev.specs.declared.sides.Sides.{Sides}
@@ -18,18 +19,18 @@ use Rattle.nr_gsema.specs.Waits.{AreCounts}
 abbrev pub statuses : List GoroutineNode → List Status
 statuses nodes = map (λ (node : GoroutineNode). node.status) nodes
 
--- who is behind a goroutine, if it has a node
+-- the goroutine after another in its queue, if that one has a node
 abbrev pub next_in : Option GoroutineNode → Option ℕ
 next_in None = None
 next_in (Some node) = node.next
 
--- at most n goroutines, from the first on, each followed by its next
+-- at most n goroutines, starting with the first, each followed by its next
 unfoldable pub chain : ℕ → List GoroutineNode → Option ℕ → List ℕ
 chain zero nodes first = []
 chain (suc n) nodes None = []
 chain (suc n) nodes (Some g) = g ∷ chain n nodes (next_in (slice_get nodes g))
 
--- the queue that a head begins
+-- the queue that starts at a head
 abbrev pub queue_from : List GoroutineNode → SemaphoreHead → List ℕ
 queue_from nodes head = chain (length nodes) nodes head.front
 
@@ -51,12 +52,12 @@ table_from t =
       limit = t.limit;
     }
 
--- a goroutine at its index in a queue
+-- the node of a goroutine with this status and these neighbours
 abbrev pub node_with : Status → Option ℕ → Option ℕ → GoroutineNode
 node_with status next previous = record { status = status; next = next; previous = previous }
 
--- those of a queue from an index on: each node has the status, the one before it and the one
--- behind it, none at the end
+-- the part of a queue from an index on is linked: each node has the status, and its neighbours
+-- before and after, with none at the end
 abbrev pub IsLinked : List GoroutineNode → Status → Option ℕ → List ℕ → Option ℕ → Option ℕ → Type 0
 IsLinked nodes status previous [] first last = (first ≡ None) × (last ≡ previous)
 IsLinked nodes status previous (g ∷ queue) first last =
@@ -64,7 +65,7 @@ IsLinked nodes status previous (g ∷ queue) first last =
     × ((next : Option ℕ) × (slice_get nodes g ≡ Some (node_with status next previous))
     × IsLinked nodes status (Some g) queue next last)
 
--- the status of one that is queued, wherever
+-- true if the status is that of a queued goroutine
 abbrev pub is_waiting : Status → Bool
 is_waiting (Queued s side) = true
 is_waiting _ = false
@@ -72,24 +73,24 @@ is_waiting _ = false
 -- the nodes are linked so that these are the queues
 pub record AreQueues (nodes : List GoroutineNode) (semaphores : List (Sides SemaphoreHead))
     (queues : ℕ → Side → List ℕ) : Type 0 where
-  -- each from its front to its back
+  -- each queue is linked from its front to its back
   pub linked : (s : ℕ) (side : Side) (both : Sides SemaphoreHead)
       → slice_get semaphores s ≡ Some both
       → IsLinked nodes (Queued s side) None (queues s side) (of_side side both).front
       (of_side side both).back
-  -- each goroutine with that queued status is there once, and no other
+  -- each queue contains exactly the goroutines with that queued status, each once
   pub queued : (s : ℕ) (side : Side) → s < length semaphores → (g : ℕ)
       → count_by (λ h. h == g) (queues s side)
       ≡ bit (is_queued s side (slice_get (statuses nodes) g))
-  -- outside every queue there are no neighbours
+  -- goroutines outside every queue have no neighbours
   pub alone : (g : ℕ) (node : GoroutineNode) → slice_get nodes g ≡ Some node
       → is_waiting node.status ≡ false
       → (node.next ≡ None) × (node.previous ≡ None)
-  -- they queue at semaphores that there are
+  -- goroutines are queued only at semaphores that exist
   pub named : (g s : ℕ) (side : Side) → slice_get (statuses nodes) g ≡ Some (Queued s side)
       → s < length semaphores
 
--- the front of the queue of a side, none where there is no such socket
+-- the front of the queue of a side, or none if there is no such socket
 abbrev pub front_in : Side → Option (Sides SemaphoreHead) → Option ℕ
 front_in side None = None
 front_in side (Some both) = (of_side side both).front
@@ -99,8 +100,8 @@ abbrev pub queues_from : List GoroutineNode → List (Sides SemaphoreHead) → �
 queues_from nodes semaphores s side =
     chain (length nodes) nodes (front_in side (slice_get semaphores s))
 
--- the queues are linked, those who wait are counted, and there is room for all goroutines that
--- there may be
+-- the queues are linked, the goroutines inside waits are counted, and there is room for all
+-- goroutines up to the limit
 pub record IsTable (t : Inside) : Type 0 where
   pub queues : AreQueues t.nodes.items t.semaphores.items
       (queues_from t.nodes.items t.semaphores.items)

@@ -1,5 +1,4 @@
--- What a machine owes whose operations can be undone, of a table: the laws that `Reversible` asks
--- of it.
+-- The laws that `Reversible` requires of a table.
 use Rattle.std.proofs.Common.{◌≡◌, ◌+◌, ◌-◌, ◌^◌, ◌≤◌, Some, None, Ok, Err, Result, refl, sym, ap, ◌∙◌, lit≤, true≢false}
 use Rattle.nr_rev.specs.declared.answer.Answer.{Answer}
 use Rattle.nr_rev.specs.declared.refusal.Refusal.{Refusal}
@@ -24,20 +23,20 @@ use Rattle.nr_gsema.specs.Delta.{LeadsBack, weight_allowed}
 use Rattle.nr_gsema.specs.Step.{Outcome, StepTo, is_movable, names_within, outcome, refusal_of, same_status, side_owed, table_reason}
 use Rattle.nr_gsema.specs.Table.{GoroutineTable}
 
--- an operation that has a reason does not apply
+-- an operation with a reason for refusal doesn't apply
 pub refused_has_no_step : (old : GoroutineTable) (op : GOperation) (e : Refusal) (answer : Answer)
     (new : GoroutineTable)
     → table_reason old op ≡ Some e → StepTo old op answer new → ⊥
 refused_has_no_step old op e answer new reason is =
     absurd (let none : Some e ≡ None = sym reason ∙ ap refusal_of is in cc)
 
--- an operation has one outcome
+-- an operation has exactly one outcome
 pub steps_unique : (old : GoroutineTable) (op : GOperation) (a b : Answer)
     (new other : GoroutineTable)
     → StepTo old op a new → StepTo old op b other → (a ≡ b) × (new ≡ other)
 steps_unique old op a b new other p q = same_parts a b new other (sym p ∙ q)
 
--- a delta leads back to one table
+-- a delta leads back to exactly one table
 pub LeadsBack-unique : (delta : GDelta) (new a b : GoroutineTable) → LeadsBack delta new a
     → LeadsBack delta new b → a ≡ b
 LeadsBack-unique delta new a b p q = p.1 ∙ sym q.1
@@ -57,7 +56,7 @@ status_is_short (Swapping d side) = lit≤ tt
 status_is_short (Checking d side) = lit≤ tt
 status_is_short Gone = lit≤ tt
 
--- no operation is allowed more than all are
+-- no operation may use more words than the maximum of all
 pub weight_is_within : (op : GOperation) → weight_allowed op ≤ MOST_WORDS
 weight_is_within operation.Spawn = lit≤ tt
 weight_is_within (operation.Exit g) = lit≤ tt
@@ -65,7 +64,7 @@ weight_is_within (operation.Move g from to) = status_is_short from
 weight_is_within (operation.Acquire g) = lit≤ tt
 weight_is_within (operation.Release g) = lit≤ tt
 
--- what a release and each operation come to, if they are refused, isn't being out of memory
+-- if a release or an operation is refused, lack of memory isn't the reason
 ends_released : (semaphore : Semaphore) → Ends (λ _. Unit {0}) (released semaphore)
 ends_released semaphore =
     Ends-then (Ends-refused_unless (nat_lt semaphore.count (2 ^ 32 - 1)) Refusal.FieldOverflow refl)
@@ -98,12 +97,12 @@ ends_outcome t (operation.Release g) =
     Ends-bind (ends_released (of_side (side_owed debt.1) both)) λ left _.
     Ends-ok tt
 
--- what an outcome is refused for
+-- the refusal of an outcome
 refused_for : (o : Outcome) (e : Refusal) → refusal_of o ≡ Some e → ◌≡◌ {A = Outcome} o (Err e)
 refused_for (Ok left) e is = cc
 refused_for (Err reason) e is = cc
 
--- being out of memory is no reason
+-- lack of memory is never an operation's reason
 pub memory_is_no_reason : (t : GoroutineTable) (op : GOperation) → IsQueuedUp t
     → table_reason t op ≡ Some out_of_memory → ⊥
 memory_is_no_reason t op h is =

@@ -1,4 +1,5 @@
--- What operations do: each tests its reasons in order, and then says the answer and the next table.
+-- The operations: each tests its reasons for refusal in order, and then gives the answer and the
+-- next table.
 use Rattle.std.specs.Prelude.{◌≡◌, ℕ, ◌-◌, Bool, true, false, ◌&&◌, ◌==◌, nat_lt, if◌then◌else◌, [], ◌∷◌, ◌++◌, length, slice_get, Option, Some, None, Result, Ok, Err}
 use Rattle.nr_rev.specs.declared.sides.Side.{Side}
 use Rattle.nr_rev.specs.declared.sides.Side.TheVariants.{Read, Write}
@@ -19,36 +20,36 @@ use Rattle.nr_gsema.specs.declared.operation.GOperation.TheVariants as operation
 use Rattle.nr_gsema.specs.Table.{GoroutineTable}
 use Rattle.nr_gsema.specs.Auxiliary.Table.{with_status, with_semaphore}
 
--- the answer and the next table, or the reason why it doesn't apply
+-- the answer and the next table, or the reason of a refusal
 abbrev pub Outcome : Type 0
 Outcome = Result (Answer × GoroutineTable) Refusal
 
--- reason 1: no such goroutine, or gone
+-- reason 1: the goroutine doesn't exist or has ended
 abbrev pub status_of : ℕ → GoroutineTable → Result Status Refusal
 status_of g t = alive (slice_get t.goroutines g)
 
--- reason 4: not below the limit
+-- reason 4: the socket isn't below the limit
 abbrev pub semaphores_of : ℕ → GoroutineTable → Result (Sides Semaphore) Refusal
 semaphores_of s t = found_or (slice_get t.semaphores s) NoSuchSocket
 
--- spawn: one goroutine more
+-- spawn: a new goroutine
 abbrev pub spawn : GoroutineTable → Outcome
 spawn t = do
   refused_unless (nat_lt (length t.goroutines) t.limit) TableFull
   Ok (Number (length t.goroutines), record t { goroutines = t.goroutines ++ Idle ∷ [] })
 
--- exit: an idle one ends
+-- exit: an idle goroutine ends
 abbrev pub exit : ℕ → GoroutineTable → Outcome
 exit g t = do
   status ← status_of g t
   refused_unless (is_idle status) NotThere
   Ok (Done, with_status g Gone t)
 
--- whether two statuses of one kind name the same side of the same number
+-- true if two places have the same number and side
 abbrev pub same_place : ℕ → Side → ℕ → Side → Bool
 same_place n side m other = (n == m) && same_side side other
 
--- whether two statuses are the same
+-- true if two statuses are equal
 abbrev pub same_status : Status → Status → Bool
 same_status Idle Idle = true
 same_status (Acquiring s side) (Acquiring k other) = same_place s side k other
@@ -64,13 +65,13 @@ same_status (Checking d side) (Checking e other) = same_place d side e other
 same_status Gone Gone = true
 same_status _ _ = false
 
--- a goroutine may be moved from and to a status but that of one that is queued or gone
+-- true if a goroutine may be moved from and to this status: it is neither queued nor ended
 abbrev pub is_movable : Status → Bool
 is_movable (Queued s side) = false
 is_movable Gone = false
 is_movable _ = true
 
--- the socket that a status names, if it names one, is below the limit
+-- the socket that a status names, if any, is below the limit
 abbrev pub names_within : ℕ → Option ℕ → Bool
 names_within sockets None = true
 names_within sockets (Some s) = nat_lt s sockets
@@ -83,7 +84,7 @@ move g from to t = do
   refused_unless (names_within (length t.semaphores) (socket_named to)) NoSuchSocket
   Ok (Done, with_status g to t)
 
--- acquire: the semaphore is had, or the goroutine is queued
+-- acquire: the goroutine gets the semaphore or is queued
 abbrev pub acquire : ℕ → GoroutineTable → Outcome
 acquire g t = do
   status ← status_of g t
@@ -94,12 +95,12 @@ acquire g t = do
   Ok (if is_free semaphore then (Yes, with_status g (Relock s side) next)
       else (Wait, with_status g (Queued s side) next))
 
--- the front of a queue that leaves it must try again
+-- the goroutine at the front of a queue leaves it and must acquire again
 abbrev pub tries_again : ℕ → Side → Option ℕ → GoroutineTable → GoroutineTable
 tries_again s side None t = t
 tries_again s side (Some g) t = with_status g (Acquiring s side) t
 
--- the side of which one that owes these makes a release: reading first
+-- the side of the next release of a goroutine that owes these: reading first
 abbrev pub side_owed : Sides ℕ → Side
 side_owed owed = if nat_lt 0 owed.read then Read else Write
 
@@ -116,7 +117,7 @@ release g t = do
       tries_again s side (front_of semaphore) (with_semaphore s side semaphores left t)
   Ok (Done, with_status g (owing s (with_side side (of_side side owed - 1) owed)) next)
 
--- the answer of an operation and the table after it, or the first reason that holds
+-- the answer of an operation and the next table, or the first reason that applies
 abbrev pub outcome : GoroutineTable → GOperation → Outcome
 outcome t operation.Spawn = spawn t
 outcome t (operation.Exit g) = exit g t
@@ -124,7 +125,7 @@ outcome t (operation.Move g from to) = move g from to t
 outcome t (operation.Acquire g) = acquire g t
 outcome t (operation.Release g) = release g t
 
--- an operation that applies, by its answer and the next table
+-- the operation applies, with this answer and this next table
 abbrev pub StepTo : GoroutineTable → GOperation → Answer → GoroutineTable → Type 0
 StepTo t op answer next = outcome t op ≡ Ok (answer, next)
 
@@ -133,6 +134,6 @@ abbrev pub refusal_of : Outcome → Option Refusal
 refusal_of (Ok left) = None
 refusal_of (Err reason) = Some reason
 
--- why an operation does not apply
+-- why an operation is refused
 abbrev pub table_reason : GoroutineTable → GOperation → Option Refusal
 table_reason t op = refusal_of (outcome t op)

@@ -1,4 +1,4 @@
--- What a table means: where its goroutines are, and its sockets' semaphores.
+-- The model of a table: its goroutines' statuses, and its sockets' semaphores.
 use Rattle.std.specs.Prelude.{ℕ, List}
 use Rattle.nr_rev.specs.declared.sides.Sides.{Sides}
 use Rattle.nr_rev.specs.declared.status.Status.{Status}
@@ -6,9 +6,9 @@ use Rattle.nr_rev.specs.Semaphore.{Semaphore}
 
 -- goroutines and semaphores
 pub record GoroutineTable : Type 0 where
-  -- the status of each goroutine made, by its number
+  -- the status of each goroutine, by number
   pub goroutines : List Status
-  -- those of each socket that there may be, by its number
+  -- the semaphores of each socket below the limit, by number
   pub semaphores : List (Sides Semaphore)
-  -- how many goroutines there may be
+  -- the maximum number of goroutines
   pub limit : ℕ

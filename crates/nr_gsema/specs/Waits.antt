@@ -1,4 +1,4 @@
--- How many goroutines are inside a wait of each side of a descriptor.
+-- The number of goroutines inside a wait at each side of a descriptor.
 use Rattle.std.specs.Prelude.{◌≡◌, ℕ, ◌+◌, ◌-◌, ◌^◌, ◌<◌, List, count_by, slice_get, slice_set, Option, Some, None, option_map}
 use Rattle.nr_rev.specs.declared.sides.Side.{Side}
 use Rattle.nr_rev.specs.declared.sides.Sides.{Sides}
@@ -6,45 +6,45 @@ use Rattle.nr_rev.specs.declared.status.Status.{Status}
 use Rattle.nr_rev.specs.Sides.{of_side, with_side}
 use Rattle.nr_rev.specs.World.{is_wait_at, wait_of}
 
--- how many of these goroutines are inside a wait of a descriptor's side
+-- the number of these goroutines that are inside a wait at a descriptor's side
 abbrev pub waiting_at : ℕ → Side → List Status → ℕ
 waiting_at d side goroutines = count_by (λ status. is_wait_at d side (wait_of status)) goroutines
 
--- the count at a side of descriptor d, none where it is not below the limit
+-- the count at a side of descriptor d, or none if d isn't below the limit
 abbrev pub waiting_of : ℕ → Side → List (Sides ℕ) → Option ℕ
 waiting_of d side counts = option_map (of_side side) (slice_get counts d)
 
--- a change of the count at a side of descriptor d, where it is found
+-- the counts with the one at a side of descriptor d changed, if it was found
 abbrev pub on_count : ℕ → Side → (ℕ → ℕ) → Option (Sides ℕ) → List (Sides ℕ) → List (Sides ℕ)
 on_count d side change None counts = counts
 on_count d side change (Some both) counts =
     slice_set counts d (with_side side (change (of_side side both)) both)
 
--- a change of the count of a wait, if there is one
+-- the counts with the one of a wait changed, if there is a wait
 abbrev pub on_wait : (ℕ → ℕ) → Option (ℕ × Side) → List (Sides ℕ) → List (Sides ℕ)
 on_wait change None counts = counts
 on_wait change (Some place) counts =
     on_count place.0 place.1 change (slice_get counts place.0) counts
 
--- one fewer is inside a wait
+-- the counts after a goroutine left the wait, if any
 abbrev pub left : Option (ℕ × Side) → List (Sides ℕ) → List (Sides ℕ)
 left place counts = on_wait (λ n. n - 1) place counts
 
--- one more is inside it
+-- the counts after a goroutine joined the wait, if any
 abbrev pub joined : Option (ℕ × Side) → List (Sides ℕ) → List (Sides ℕ)
 joined place counts = on_wait (λ n. n + 1) place counts
 
--- a goroutine gets a status for another
+-- the counts after a goroutine's status changed
 abbrev pub moved_between : Status → Status → List (Sides ℕ) → List (Sides ℕ)
 moved_between before after counts = joined (wait_of after) (left (wait_of before) counts)
 
--- one more can be counted in a wait, if there is one
+-- the count of the wait, if any, can grow by one
 abbrev pub CanJoin : Option (ℕ × Side) → List (Sides ℕ) → Type 0
 CanJoin None counts = Unit {0}
 CanJoin (Some place) counts =
     (both : Sides ℕ) → slice_get counts place.0 ≡ Some both → of_side place.1 both + 1 < 2 ^ 32
 
--- each count is that of these goroutines
+-- the counts are those of these goroutines
 abbrev pub AreCounts : List (Sides ℕ) → List Status → Type 0
 AreCounts counts goroutines =
     (d : ℕ) (side : Side) (both : Sides ℕ) → slice_get counts d ≡ Some both

@@ -4,7 +4,7 @@ use Rattle.nr_rev.specs.declared.status.Status.{Status}
 use Rattle.nr_rev.specs.Semaphore.{new_semaphore}
 use Rattle.nr_gsema.specs.Table.{GoroutineTable}
 
--- one goroutine, and one socket, whose semaphore of reading has this count
+-- one goroutine, and one socket whose read semaphore has this count
 abbrev pub one_at : ℕ → Status → GoroutineTable
 one_at count status =
     record {

@@ -1,4 +1,4 @@
-//! Operations applied and undone.
+//! Applying and undoing operations.
 
 ghost use Rattle.nr_gsema.specs.Applying.{IsQueuedUp};
 ghost use Rattle.nr_gsema.specs.Auxiliary.Applying.{Applies};
@@ -8,11 +8,12 @@ use crate::operation::GOperation;
 use crate::table::GTable;
 use nr_rev::{Answer, Refusal, Reversible, Side, Sides, Status};
 
-/// The most words that a delta holds.
+/// The maximum number of words in a delta.
 pub(crate) const MOST_WORDS: u32 = 7;
 
 impl GTable {
-    /// Applies the operation, or changes nothing and says why it does not apply.
+    /// Applies the operation, and returns its answer and undo. If the operation is refused, changes nothing and returns
+    /// the reason.
     #[inline(always)]
     fn run(&mut self, op: &GOperation) -> Result<(Answer, GUndo), Refusal>
         ensures { Applies op.now self.old result self.new }
@@ -30,8 +31,9 @@ impl GTable {
         }
     }
 
-    /// Does nothing: each queue holds just those with that queued status, each once. It is a method and no law, because that
-    /// is of the type's invariant, which its view doesn't say; reading a field is what brings the invariant into a proof.
+    /// Does nothing. Its contract says that each queue contains exactly the goroutines with that queued status, each
+    /// once. This is a method, not a law, because it follows from the type's invariant, which the view doesn't show;
+    /// reading a field brings the invariant into a proof.
     #[inline(always)]
     pub fn queues_hold_the_queued(&self)
         ensures { IsQueuedUp self.now }
@@ -40,7 +42,7 @@ impl GTable {
     }
 }
 
-/// An operation changes at most three nodes and one semaphore, and so does its undo. No operation takes memory.
+/// An operation changes at most three nodes and one semaphore, and so does its undo. No operation allocates memory.
 impl Reversible for GTable {
     ghost use Rattle.nr_gsema.specs.declared.apply.TheConstants.{MOST_WORDS};
     ghost use Rattle.nr_gsema.specs.Applying.{IsQueuedUp};

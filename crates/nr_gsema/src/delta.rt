@@ -1,41 +1,41 @@
-//! The way back over an operation.
+//! The undo of an operation.
 
 ghost use Rattle.std.specs.Prelude.{◌≡◌};
 ghost use Rattle.nr_gsema.specs.declared.delta.GUndo.TheVariants.{Spawned};
 
 use nr_rev::{Side, Status};
 
-/// What leads back over an operation: what it changed, as it was, and nothing else.
+/// The data that undoes an operation, and nothing else.
 #[derive(Clone, Copy, Debug)]
 pub struct GDelta {
-    /// What is put back.
+    /// The undo of the operation.
     pub undo: GUndo,
 }
 
-/// What an operation changed, as it was.
+/// What an operation changed, with the old values.
 #[derive(Clone, Copy, Debug)]
 pub enum GUndo {
-    /// The last goroutine is new.
+    /// The last goroutine was added.
     Spawned,
-    /// The goroutine had this status.
+    /// The goroutine had this status before.
     Moved {
         goroutine: u32,
         status: Status,
     },
-    /// The goroutine lowered the count of a semaphore of this socket.
+    /// The goroutine decreased the count of a semaphore of this socket.
     Acquired {
         goroutine: u32,
         socket: u32,
         side: Side,
     },
-    /// The goroutine went to the back of the queue of a semaphore of this socket.
+    /// The goroutine joined the back of the queue of a semaphore of this socket.
     Queued {
         goroutine: u32,
         socket: u32,
         side: Side,
     },
-    /// The goroutine owed this many releases of reading and of writing, and made one of them, of reading if it owed any.
-    /// `front` left the queue, if anybody was queued.
+    /// The goroutine owed this many releases for reading and for writing, and made one of them, for reading if it owed
+    /// any of these. `front` left the queue, if a goroutine was queued.
     Released {
         goroutine: u32,
         socket: u32,
@@ -45,7 +45,7 @@ pub enum GUndo {
     },
 }
 
-/// One of no meaning, for what a bounded list of deltas keeps in places that are free.
+/// The default delta has no meaning; it fills the free places of a bounded list.
 impl Default for GDelta {
     fn default() -> Self
         ensures { result.undo ≡ Spawned }

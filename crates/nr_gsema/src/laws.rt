@@ -1,4 +1,4 @@
-//! Laws over the definitions: which statuses are the same, what a delta is, and the numbers.
+//! Laws about the definitions: the equality of statuses, the contents of a delta, and the numbers.
 
 ghost use Rattle.std.specs.Prelude.{◌≡◌, ◌↔◌, ℕ, true, Some, Ok, Err};
 ghost use Rattle.nr_rev.specs.declared.answer.Answer.TheVariants.{Done};
@@ -13,24 +13,26 @@ ghost use Rattle.nr_gsema.specs.Delta.{undo_weight};
 ghost use Rattle.nr_gsema.specs.Step.{outcome, same_status};
 ghost use Rattle.nr_gsema.specs.Worked.{one_at};
 
-/// Just equal statuses are the same, by which a goroutine is moved from one.
+/// `same_status`, by which a goroutine is moved from a status, holds if and only if two statuses are equal.
 pub fn just_equals_are_the_same()
     ensures { (a b : Status) → (same_status a b ≡ true) ↔ (a ≡ b) }
 {}
 
-/// A delta is the record of its undo and has nothing beside it.
+/// A delta consists of its undo and nothing else.
 pub fn delta_is_its_undo()
     ensures { (delta : GDelta) → delta ≡ record { undo = delta.undo } }
 {}
 
-/// A delta holds at most seven words, and that of a release after which one left the queue holds as many.
+/// A delta has at most seven words, and the delta of a release after which a goroutine left the queue has exactly
+/// seven.
 pub fn the_numbers()
     ensures words { MOST_WORDS ≡ 7 }
     ensures reached { (g s reads writes front : ℕ)
         → undo_weight (Released g s reads writes (Some front)) ≡ 7 }
 {}
 
-/// The count of a semaphore is at most 4,294,967,295: a release there is refused, and one below it is made.
+/// The count of a semaphore is at most 4,294,967,295: a release at this count is refused, and one at a count below it
+/// applies.
 pub fn the_greatest_count()
     ensures refused { outcome (one_at 4294967295 (Owing 0 1 0)) (Release 0) ≡ Err FieldOverflow }
     ensures made { outcome (one_at 4294967294 (Owing 0 1 0)) (Release 0)

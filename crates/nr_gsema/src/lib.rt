@@ -1,4 +1,4 @@
-//! Goroutines and the semaphores that they queue at, each queue linked through the goroutines' own nodes.
+//! Goroutines, and the semaphores at which they queue. Each queue is linked through the goroutines' own nodes.
 #![tactic(auto)]
 
 mod apply;

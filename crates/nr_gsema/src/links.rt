@@ -1,11 +1,11 @@
-//! The links between the nodes of those who queue.
+//! The links between the nodes of queued goroutines.
 
 ghost use Rattle.std.specs.Prelude.{◌≡◌, ◌<◌, length, slice_set, Some, None, IfSome};
 ghost use Rattle.nr_gsema.specs.Relinking.{with_next, with_previous};
 
 use crate::node::GoroutineNode;
 
-/// Gives a goroutine, if one is named, another one behind it.
+/// Sets the goroutine after another one, if that one is given.
 #[inline(always)]
 pub(crate) fn set_next(nodes: &mut [GoroutineNode], goroutine: Option<u32>, next: Option<u32>)
     requires { IfSome goroutine (λ g. g < length nodes.old) }
@@ -17,7 +17,7 @@ pub(crate) fn set_next(nodes: &mut [GoroutineNode], goroutine: Option<u32>, next
     }
 }
 
-/// Gives a goroutine, if one is named, another one before it.
+/// Sets the goroutine before another one, if that one is given.
 #[inline(always)]
 pub(crate) fn set_previous(
     nodes: &mut [GoroutineNode],

@@ -1,22 +1,22 @@
-//! What is kept of a goroutine, and of a semaphore.
+//! The nodes of goroutines and of semaphores.
 
 ghost use Rattle.std.specs.Prelude.{◌≡◌, None};
 ghost use Rattle.nr_gsema.specs.Links.{node_with};
 
 use nr_rev::Status;
 
-/// A goroutine: its status, and its neighbours in the queue that it is in.
+/// A goroutine's status, and its neighbours in its queue.
 #[derive(Clone, Copy)]
 pub(crate) struct GoroutineNode {
     pub(crate) status: Status,
-    /// Who is behind it; none at the back of its queue, and outside every queue.
+    /// The goroutine after it; none at the back of its queue and outside every queue.
     pub(crate) next: Option<u32>,
-    /// Who is before it; none at the front of its queue, and outside every queue.
+    /// The goroutine before it; none at the front of its queue and outside every queue.
     pub(crate) previous: Option<u32>,
 }
 
 impl GoroutineNode {
-    /// One that is in no queue.
+    /// Returns the node of a goroutine that is in no queue.
     #[inline(always)]
     pub(crate) fn alone(status: Status) -> GoroutineNode
         ensures { result ≡ node_with status None None }
@@ -29,7 +29,7 @@ impl GoroutineNode {
     }
 }
 
-/// A semaphore: its count, and the two ends of its queue, none where nobody queues.
+/// A semaphore's count and the two ends of its queue, which are none if the queue is empty.
 #[derive(Clone, Copy)]
 pub(crate) struct SemaphoreHead {
     pub(crate) count: u32,

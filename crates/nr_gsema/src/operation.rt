@@ -1,35 +1,36 @@
-//! What can be done to goroutines and semaphores.
+//! The operations on goroutines and semaphores.
 
 use nr_rev::Status;
 
-/// What a goroutine does, as far as its status and the semaphores go: those parts of the machine's steps that concern
-/// them. The reasons are tested in the order in which they are named; a reason leaves all as it was. All but `Spawn` are
-/// refused first with `NoSuchGoroutine` where the goroutine was not made or is gone.
+/// A goroutine's operation on its status and the semaphores: the part of the machine's steps that concerns these. The
+/// errors are tested in the order in which they are listed, and an error leaves everything unchanged. All operations
+/// except `Spawn` first fail with `NoSuchGoroutine` if the goroutine doesn't exist or has ended.
 #[derive(Clone, Copy, Debug)]
 pub enum GOperation {
-    /// Makes another goroutine, idle. Answers its number. `TableFull` where there are as many as there may be.
+    /// Makes an idle goroutine. Answers its number. Fails with `TableFull` if the limit is reached.
     Spawn,
-    /// An idle goroutine ends. Answers `Done`. `NotThere` where it isn't idle.
+    /// Ends an idle goroutine. Answers `Done`. Fails with `NotThere` if it isn't idle.
     Exit {
         goroutine: u32,
     },
-    /// A goroutine gets the status `to` for `from`. Answers `Done`. `NotThere` where its status is another, or one of the
-    /// two is that of a queued goroutine or of one that is gone; `NoSuchSocket` where `to` names a socket not below the
-    /// limit.
+    /// Changes a goroutine's status from `from` to `to`. Answers `Done`. Fails with `NotThere` if its status isn't
+    /// `from`, or if one of the two is queued or ended; fails with `NoSuchSocket` if `to` names a socket that isn't
+    /// below the limit.
     Move {
         goroutine: u32,
         from: Status,
         to: Status,
     },
-    /// A goroutine that is acquiring a semaphore lowers the count and takes the lock again (`Relock`), which answers `Yes`.
-    /// Where the count is 0, it goes to the back of the queue, which answers `Wait`. `NotThere` where it isn't acquiring;
-    /// `NoSuchSocket` where its socket is not below the limit.
+    /// A goroutine that is acquiring a semaphore decreases the count and takes the lock again (`Relock`), with the
+    /// answer `Yes`. If the count is 0, it joins the back of the queue, with the answer `Wait`. Fails with `NotThere`
+    /// if it isn't acquiring, and with `NoSuchSocket` if its socket isn't below the limit.
     Acquire {
         goroutine: u32,
     },
-    /// A goroutine that owes releases makes one of them, of reading first. The count rises by one, and whoever is at the
-    /// front of the queue leaves it and has to acquire again. Answers `Done`. `NotThere` where it owes none; `NoSuchSocket`
-    /// where its socket is not below the limit; `FieldOverflow` where the count is 4,294,967,295.
+    /// A goroutine that owes releases makes one of them, first for reading. The count grows by one, and the goroutine
+    /// at the front of the queue, if any, leaves it and must acquire again. Answers `Done`. Fails with `NotThere` if it
+    /// owes none, with `NoSuchSocket` if its socket isn't below the limit, and with `FieldOverflow` if the count is
+    /// 4,294,967,295.
     Release {
         goroutine: u32,
     },

@@ -1,4 +1,4 @@
-//! The operations one by one.
+//! The single operations.
 
 ghost use Rattle.std.specs.Prelude.{◌≡◌, ◌+◌, ◌^◌, ◌<◌, ◌&&◌, slice_get, true};
 ghost use Rattle.std.specs.Bool.{OnTrue};
@@ -15,7 +15,7 @@ use crate::delta::GUndo;
 use crate::table::GTable;
 use nr_rev::{Answer, Refusal, Side, Sides, Status};
 
-/// One that was made and is not gone.
+/// Returns the status of a goroutine that exists and hasn't ended.
 #[inline(always)]
 fn alive(status: Option<Status>) -> Result<Status, Refusal>
     ensures { result ≡ step.alive status }
@@ -26,7 +26,7 @@ fn alive(status: Option<Status>) -> Result<Status, Refusal>
     }
 }
 
-/// The socket and side of one that acquires.
+/// Returns the socket and side whose semaphore a goroutine with this status acquires.
 #[inline(always)]
 fn acquiring_of(status: Status) -> Result<(u32, Side), Refusal>
     ensures { result ≡ step.acquiring_of status }
@@ -37,7 +37,7 @@ fn acquiring_of(status: Status) -> Result<(u32, Side), Refusal>
     }
 }
 
-/// The socket and the releases that one owes.
+/// Returns the socket and the releases that a goroutine with this status owes.
 #[inline(always)]
 fn owing_of(status: Status) -> Result<(u32, Sides<u32>), Refusal>
     ensures { result ≡ step.owing_of status }
@@ -58,7 +58,7 @@ fn owing_of(status: Status) -> Result<(u32, Sides<u32>), Refusal>
     }
 }
 
-/// The status of one that owes these releases, or nothing.
+/// Returns the status of a goroutine that owes these releases; it is idle if there are none.
 #[inline(always)]
 fn owing(socket: u32, owed: Sides<u32>) -> Status
     ensures { result ≡ step.owing socket owed }
@@ -73,7 +73,7 @@ fn owing(socket: u32, owed: Sides<u32>) -> Status
     }
 }
 
-/// Whether it is idle.
+/// Returns whether the status is idle.
 #[inline(always)]
 fn is_idle(status: Status) -> bool
     ensures { result ≡ step.is_idle status }
@@ -81,7 +81,7 @@ fn is_idle(status: Status) -> bool
     matches!(status, Status::Idle)
 }
 
-/// Whether two are the same.
+/// Returns whether two statuses are equal.
 #[inline(always)]
 fn same_status(status: Status, other: Status) -> bool
     ensures value { result ≡ same_status status other }
@@ -90,7 +90,7 @@ fn same_status(status: Status, other: Status) -> bool
     status.is(other)
 }
 
-/// Whether one with this status may be moved so.
+/// Returns whether a goroutine with this status may be moved from `from` to `to`.
 #[inline(always)]
 fn may_move(status: Status, from: Status, to: Status) -> bool
     ensures value { result ≡ (same_status status from && (is_movable from && is_movable to)) }
@@ -100,7 +100,7 @@ fn may_move(status: Status, from: Status, to: Status) -> bool
     same_status(status, from) && (is_movable(from) && is_movable(to))
 }
 
-/// Whether one may be moved from and to it.
+/// Returns whether a goroutine may be moved from and to this status.
 #[inline(always)]
 fn is_movable(status: Status) -> bool
     ensures { result ≡ is_movable status }
@@ -108,7 +108,7 @@ fn is_movable(status: Status) -> bool
     !matches!(status, Status::Queued { .. } | Status::Gone)
 }
 
-/// The socket that a status names.
+/// Returns the socket that a status names, if any.
 #[inline(always)]
 fn socket_named(status: Status) -> Option<u32>
     ensures { result ≡ socket_named status }
@@ -122,7 +122,7 @@ fn socket_named(status: Status) -> Option<u32>
     }
 }
 
-/// Whether the socket, if one is named, is below the limit.
+/// Returns whether the socket, if one is given, is below the limit.
 #[inline(always)]
 fn names_within(sockets: usize, socket: Option<u32>) -> bool
     ensures { result ≡ names_within sockets socket }
@@ -133,7 +133,7 @@ fn names_within(sockets: usize, socket: Option<u32>) -> bool
     }
 }
 
-/// The side of which a release is made.
+/// Returns the side of the next release.
 #[inline(always)]
 pub(crate) fn side_owed(owed: Sides<u32>) -> Side
     ensures { result ≡ side_owed owed }
@@ -146,7 +146,7 @@ pub(crate) fn side_owed(owed: Sides<u32>) -> Side
 }
 
 impl GTable {
-    /// Another goroutine, idle.
+    /// Makes an idle goroutine.
     #[inline(always)]
     pub(crate) fn spawn(&mut self) -> Result<(Answer, GUndo), Refusal>
         ensures { Applies operation.Spawn self.old result self.new }
@@ -159,7 +159,7 @@ impl GTable {
         Ok((Answer::Number(made), GUndo::Spawned))
     }
 
-    /// An idle goroutine ends.
+    /// Ends an idle goroutine.
     #[inline(always)]
     pub(crate) fn exit(&mut self, goroutine: u32) -> Result<(Answer, GUndo), Refusal>
         ensures { Applies (operation.Exit goroutine) self.old result self.new }
@@ -172,7 +172,7 @@ impl GTable {
         Ok((Answer::Done, GUndo::Moved { goroutine, status }))
     }
 
-    /// A goroutine gets another status.
+    /// Changes a goroutine's status.
     #[inline(always)]
     pub(crate) fn move_to(
         &mut self,
@@ -193,7 +193,7 @@ impl GTable {
         Ok((Answer::Done, GUndo::Moved { goroutine, status }))
     }
 
-    /// A goroutine lowers a count, or queues.
+    /// Decreases a semaphore's count for the goroutine, or queues it.
     pub(crate) fn acquire(&mut self, goroutine: u32) -> Result<(Answer, GUndo), Refusal>
         ensures { Applies (operation.Acquire goroutine) self.old result self.new }
     {
@@ -221,7 +221,7 @@ impl GTable {
         Ok((Answer::Yes, undo))
     }
 
-    /// A goroutine makes a release that it owes.
+    /// Makes one of the releases that the goroutine owes.
     pub(crate) fn release(&mut self, goroutine: u32) -> Result<(Answer, GUndo), Refusal>
         ensures { Applies (operation.Release goroutine) self.old result self.new }
     {
@@ -248,7 +248,7 @@ impl GTable {
         Ok((Answer::Done, undo))
     }
 
-    /// A semaphore with this count is released once. Returns the goroutine that leaves the queue.
+    /// Releases a semaphore with this count once. Returns the goroutine that leaves the queue, if any.
     #[inline(always)]
     fn release_semaphore(&mut self, socket: u32, side: Side, count: u32) -> Option<u32>
         requires { HasSemaphore socket side (λ semaphore. (semaphore.count ≡ count) × (semaphore.count + 1 < 2 ^ 32)) self.old }

@@ -1,4 +1,4 @@
-//! Queues that get longer and shorter, and the counts of semaphores.
+//! Joining and leaving queues, and the counts of semaphores.
 
 ghost use Rattle.std.specs.Prelude.{◌≡◌, ◌+◌, ◌-◌, ◌^◌, ◌<◌, ◌∷◌, ◌++◌, [], length, slice_get, take, Some, false};
 ghost use Rattle.nr_rev.specs.declared.status.Status.TheVariants.{Idle, Acquiring, Queued};
@@ -14,7 +14,7 @@ use crate::node::{GoroutineNode, SemaphoreHead};
 use crate::table::GTable;
 use nr_rev::{Side, Status};
 
-/// The end of a queue that a goroutine joins.
+/// Returns the other end of a queue that a goroutine joins: the goroutine itself if the queue was empty.
 #[inline(always)]
 fn or_else(end: Option<u32>, goroutine: u32) -> Option<u32>
     ensures { result ≡ or_else end goroutine }
@@ -25,7 +25,7 @@ fn or_else(end: Option<u32>, goroutine: u32) -> Option<u32>
     }
 }
 
-/// The one end of a queue after the other one left it, who was beside this neighbour.
+/// Returns one end of a queue after the goroutine at the other end, with this neighbour, left it.
 #[inline(always)]
 fn end_left(neighbour: Option<u32>, end: Option<u32>) -> Option<u32>
     ensures { result ≡ end_left neighbour end }
@@ -37,7 +37,7 @@ fn end_left(neighbour: Option<u32>, end: Option<u32>) -> Option<u32>
 }
 
 impl GTable {
-    /// The status of a goroutine becomes another; neither is that of one that is queued.
+    /// Sets the status of a goroutine. Neither the old nor the new status is queued.
     #[inline(always)]
     pub(crate) fn set_status(&mut self, goroutine: u32, status: Status)
         requires old { IsOutside goroutine self.old }
@@ -49,7 +49,7 @@ impl GTable {
         self.waits.change(node.status, status);
     }
 
-    /// The count of a semaphore becomes another.
+    /// Sets the count of a semaphore.
     #[inline(always)]
     pub(crate) fn set_count(&mut self, socket: u32, side: Side, count: u32)
         requires { socket < length self.old.semaphores }
@@ -63,7 +63,7 @@ impl GTable {
         self.semaphores[socket as usize] = semaphores.with(side, head);
     }
 
-    /// One that is in no queue goes to the back of one.
+    /// Puts a goroutine that is in no queue at the back of one.
     #[inline(always)]
     pub(crate) fn join_back(&mut self, goroutine: u32, socket: u32, side: Side)
         requires outside { IsOutside goroutine self.old }
@@ -88,7 +88,7 @@ impl GTable {
         self.semaphores[socket as usize] = semaphores.with(side, head);
     }
 
-    /// The last of a queue leaves it, and is to acquire.
+    /// Removes the last goroutine of a queue, which must acquire.
     #[inline(always)]
     pub(crate) fn leave_back(&mut self, goroutine: u32, socket: u32, side: Side)
         requires { HasSemaphore socket side (λ semaphore. slice_get semaphore.queue (length semaphore.queue - 1) ≡ Some goroutine) self.old }
@@ -109,7 +109,7 @@ impl GTable {
         self.semaphores[socket as usize] = semaphores.with(side, head);
     }
 
-    /// The front of a queue leaves it, and is to acquire; the count is raised.
+    /// Removes the front of a queue, which must acquire, and sets the increased count.
     #[inline(always)]
     pub(crate) fn leave_front(&mut self, goroutine: u32, socket: u32, side: Side)
         requires { HasSemaphore socket side (λ semaphore. (slice_get semaphore.queue 0 ≡ Some goroutine) × (semaphore.count + 1 < 2 ^ 32)) self.old }
@@ -129,7 +129,7 @@ impl GTable {
         self.semaphores[socket as usize] = semaphores.with(side, head);
     }
 
-    /// One that is in no queue goes to the front of one; the count is lowered.
+    /// Puts a goroutine that is in no queue at the front of one, and sets the decreased count.
     #[inline(always)]
     pub(crate) fn join_front(&mut self, goroutine: u32, socket: u32, side: Side)
         requires outside { IsOutside goroutine self.old }
@@ -154,7 +154,7 @@ impl GTable {
         self.semaphores[socket as usize] = semaphores.with(side, head);
     }
 
-    /// One goroutine more, idle.
+    /// Adds an idle goroutine.
     #[inline(always)]
     pub(crate) fn push(&mut self)
         requires { length self.old.goroutines < self.old.limit }
@@ -163,7 +163,7 @@ impl GTable {
         self.nodes.push_reserved(GoroutineNode::alone(Status::Idle));
     }
 
-    /// The last goroutine goes, which is idle.
+    /// Removes the last goroutine, which is idle.
     #[inline(always)]
     pub(crate) fn pop(&mut self)
         requires { slice_get self.old.goroutines (length self.old.goroutines - 1) ≡ Some Idle }

@@ -1,4 +1,4 @@
-//! What is read of a table.
+//! The calls that read a table.
 
 ghost use Rattle.std.specs.Prelude.{◌≡◌, ◌≤◌, length, slice_get};
 ghost use Rattle.nr_rev.specs.World.{is_waited};
@@ -8,17 +8,17 @@ use crate::table::GTable;
 use nr_rev::{Side, Status};
 
 impl GTable {
-    /// How many goroutines were made.
+    /// Returns the number of goroutines that were made.
     #[inline(always)]
     pub fn made(&self) -> u32
         ensures { result ≡ length self.now.goroutines }
     {
-        // read so that the proof has the invariant, by which the number fits
+        // this read gives the proof the invariant, which bounds the number
         let _limit = self.limit;
         self.nodes.len() as u32
     }
 
-    /// Where a goroutine is; `None` where none with this number was made.
+    /// Returns a goroutine's status, or `None` if no goroutine with this number was made.
     #[inline(always)]
     pub fn status(&self, goroutine: u32) -> Option<Status>
         ensures { result ≡ slice_get self.now.goroutines goroutine }
@@ -29,7 +29,7 @@ impl GTable {
         Some(self.nodes[goroutine as usize].status)
     }
 
-    /// Whether a goroutine is inside a wait of the descriptor and side.
+    /// Returns whether a goroutine is inside a wait at the descriptor's side.
     #[inline(always)]
     pub fn is_waited(&self, descriptor: u32, side: Side) -> bool
         ensures { result ≡ is_waited descriptor side self.now.goroutines }
@@ -40,7 +40,7 @@ impl GTable {
         }
     }
 
-    /// Whether a goroutine is inside a wait of the descriptor and side, of which no count is kept.
+    /// Returns whether a goroutine is inside a wait at the descriptor's side, for a descriptor without counts.
     fn is_waited_by_any(&self, descriptor: u32, side: Side) -> bool
         ensures { result ≡ is_waited descriptor side self.now.goroutines }
     {
@@ -50,7 +50,7 @@ impl GTable {
             .any(|node| node.status.is_inside(descriptor, side))
     }
 
-    /// The count of a semaphore; `None` where the socket is not below the limit.
+    /// Returns the count of a semaphore, or `None` if the socket isn't below the limit.
     #[inline(always)]
     pub fn count(&self, socket: u32, side: Side) -> Option<u32>
         ensures { result ≡ count_at socket side self.now }
@@ -61,7 +61,7 @@ impl GTable {
         Some(self.semaphores[socket as usize].of(side).count)
     }
 
-    /// The goroutine at the front of a queue; `None` where nobody queues.
+    /// Returns the goroutine at the front of a queue, or `None` if the queue is empty.
     #[inline(always)]
     pub fn front_of(&self, socket: u32, side: Side) -> Option<u32>
         ensures { result ≡ slice_get (queue_at socket side self.now) 0 }
@@ -72,7 +72,7 @@ impl GTable {
         self.semaphores[socket as usize].of(side).front
     }
 
-    /// The goroutine at the back of a queue; `None` where nobody queues.
+    /// Returns the goroutine at the back of a queue, or `None` if the queue is empty.
     #[inline(always)]
     pub fn back_of(&self, socket: u32, side: Side) -> Option<u32>
         ensures { result ≡ back_of (queue_at socket side self.now) }
@@ -83,7 +83,7 @@ impl GTable {
         self.semaphores[socket as usize].of(side).back
     }
 
-    /// The goroutine behind one in the queue that it is in; `None` for the last one, and outside every queue.
+    /// Returns the goroutine after this one in its queue, or `None` if it is the last one or isn't queued.
     #[inline(always)]
     pub fn next_of(&self, goroutine: u32) -> Option<u32>
         ensures { result ≡ next_in_queue goroutine self.now }
@@ -94,7 +94,7 @@ impl GTable {
         self.nodes[goroutine as usize].next
     }
 
-    /// The goroutine before one in the queue that it is in; `None` for the first one, and outside every queue.
+    /// Returns the goroutine before this one in its queue, or `None` if it is the first one or isn't queued.
     #[inline(always)]
     pub fn previous_of(&self, goroutine: u32) -> Option<u32>
         ensures { result ≡ previous_of goroutine self.now }
@@ -107,18 +107,18 @@ impl GTable {
 }
 
 impl GTable {
-    /// How many goroutines there may be.
+    /// Returns the maximum number of goroutines.
     #[inline(always)]
     pub(crate) fn limit(&self) -> u32
         ensures limit { result ≡ self.now.limit }
         ensures within { length self.now.goroutines ≤ result }
     {
-        // read so that the proof has the invariant, by which there are as many nodes at most
+        // this read gives the proof the invariant, which bounds the number of nodes
         let _ = &self.nodes;
         self.limit
     }
 
-    /// How many sockets there may be.
+    /// Returns the number of sockets.
     #[inline(always)]
     pub(crate) fn sockets(&self) -> usize
         ensures { result ≡ length self.now.semaphores }

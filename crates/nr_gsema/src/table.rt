@@ -11,10 +11,10 @@ use nr_rev::{Memory, Sides};
 use std::alloc::Global;
 use std::marker::Model;
 
-/// The goroutines made so far and the semaphores of all sockets below the limit, in room that was made at once. Contracts
-/// see the statuses, and for each semaphore its count and the list of those who queue. Who is beside whom is kept in
-/// the goroutines' nodes, so that joining a queue and leaving it at either end touch two nodes, however long it is. Those
-/// inside a wait are counted, so that asking for one of them touches no node.
+/// The goroutines made so far and the semaphores of all sockets below the limit, in memory that is allocated once.
+/// Contracts see the statuses, and for each semaphore its count and the list of queued goroutines. Neighbours in a
+/// queue are stored in the goroutines' nodes, so joining or leaving a queue at either end changes two nodes, whatever
+/// its length. Goroutines inside a wait are counted, so asking whether there is one reads no node.
 #[derive(Drop)]
 pub struct GTable {
     pub(crate) alloc: Global,
@@ -37,8 +37,9 @@ impl Model for GTable {
 }
 
 impl GTable {
-    /// No goroutine, with room for so many, and the semaphores of so many sockets, whose counts are 0 and whose queues are
-    /// empty. An error is that there is no memory for them. `is_waited` looks through all goroutines of such a table.
+    /// Makes a table without goroutines, with room for so many, and with the semaphores of so many sockets, whose
+    /// counts are 0 and whose queues are empty. `is_waited` searches all goroutines of such a table. Fails with
+    /// `Memory` if memory runs out.
     pub fn with_limits(alloc: Global, goroutines: u32, sockets: u32) -> Result<GTable, Memory>
         ensures well_formed { IfOk result (λ t. IsQueuedUp t) }
         ensures empty { IfOk result (λ t. t ≡ record {
@@ -50,9 +51,9 @@ impl GTable {
         GTable::with_descriptors(alloc, goroutines, sockets, 0)
     }
 
-    /// The table of `with_limits` in which those inside a wait are counted, for each side of so many descriptors: what is
-    /// asked of a side of these looks at no goroutine. That shows in time alone: no clause says it. An error is that there is
-    /// no memory for that.
+    /// Makes the table of `with_limits` that also counts the goroutines inside a wait, for each side of so many
+    /// descriptors. For these, `is_waited` reads no goroutine. This only saves time; no contract mentions it. Fails
+    /// with `Memory` if memory runs out.
     pub fn with_descriptors(
         alloc: Global,
         goroutines: u32,
@@ -85,7 +86,7 @@ impl GTable {
         Ok(table)
     }
 
-    /// An equal one, links included, in room of its own. An error is that there is no memory for it.
+    /// Returns an equal table, including links, in memory of its own. Fails with `Memory` if memory runs out.
     pub fn try_copy(&self) -> Result<GTable, Memory>
         ensures well_formed { IfOk result (λ t. IsQueuedUp t) }
         ensures equal { IfOk result (λ t. t ≡ self.now) }
@@ -102,7 +103,7 @@ impl GTable {
         })
     }
 
-    /// Becomes an equal one of another with the same limits, links included, in the room that it has. It takes no memory.
+    /// Makes this table equal to another with the same limits, including links. Allocates no memory.
     pub fn copy_from(&mut self, other: &GTable)
         requires limit { self.old.limit ≡ other.now.limit }
         requires semaphores { length self.old.semaphores ≡ length other.now.semaphores }

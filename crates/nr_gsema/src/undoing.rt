@@ -1,4 +1,4 @@
-//! The undoing of an acquire and of a release.
+//! Undoing an acquire and a release.
 
 ghost use Rattle.std.specs.Prelude.{◌≡◌, ◌<◌};
 ghost use Rattle.nr_gsema.specs.Delta.{CanRequeue, CanUndo, HasSemaphore, released_back, undone};
@@ -9,7 +9,7 @@ use crate::table::GTable;
 use nr_rev::{Side, Sides, Status};
 
 impl GTable {
-    /// The count is raised again, and the goroutine is to acquire.
+    /// Increases the count again, and sets the goroutine to acquire.
     #[inline(always)]
     pub(crate) fn unacquire(&mut self, goroutine: u32, socket: u32, side: Side)
         requires { CanUndo (undo.Acquired goroutine socket side) self.old }
@@ -22,7 +22,8 @@ impl GTable {
         self.set_status(goroutine, Status::Acquiring { socket, side });
     }
 
-    /// Who left the queue is its front again, the count is lowered, and the goroutine owes these releases.
+    /// Puts the goroutine that left the queue back at its front, decreases the count, and sets the goroutine to owe
+    /// these releases.
     #[inline(always)]
     pub(crate) fn unrelease(
         &mut self,
@@ -46,7 +47,7 @@ impl GTable {
         );
     }
 
-    /// A release of a semaphore, undone.
+    /// Undoes a release of a semaphore.
     #[inline(always)]
     fn unrelease_semaphore(&mut self, socket: u32, side: Side, front: Option<u32>)
         requires front { CanRequeue front self.old }

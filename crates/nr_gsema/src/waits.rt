@@ -1,4 +1,4 @@
-//! How many goroutines are inside a wait of each side of a descriptor.
+//! The number of goroutines inside a wait at each side of a descriptor.
 
 ghost use Rattle.std.specs.Prelude.{◌≡◌, IfOk, length, replicate, take};
 ghost use Rattle.nr_rev.specs.Sides.{twice};
@@ -9,7 +9,8 @@ use nr_rev::{Memory, Side, Sides, Status};
 use std::alloc::Global;
 use std::marker::Model;
 
-/// How many goroutines are inside a wait of each side of a descriptor below a limit, in room that was made at once.
+/// The number of goroutines inside a wait at each side of each descriptor below a limit, in memory that is allocated
+/// once.
 #[derive(Drop)]
 pub(crate) struct WaitCounts {
     counts: Vec<Sides<u32>>,
@@ -25,7 +26,7 @@ impl Model for WaitCounts {
 }
 
 impl WaitCounts {
-    /// Nobody waits, at so many descriptors.
+    /// Makes the counts of so many descriptors, all 0. Fails with `Memory` if memory runs out.
     pub(crate) fn with_room(alloc: Global, descriptors: u32) -> Result<WaitCounts, Memory>
         ensures { IfOk result (λ waits. waits ≡ replicate descriptors (twice 0)) }
     {
@@ -34,7 +35,7 @@ impl WaitCounts {
         })
     }
 
-    /// An equal one, in room of its own.
+    /// Returns equal counts, in memory of their own. Fails with `Memory` if memory runs out.
     pub(crate) fn try_copy(&self, alloc: Global) -> Result<WaitCounts, Memory>
         ensures { IfOk result (λ waits. waits ≡ self.now) }
     {
@@ -43,7 +44,7 @@ impl WaitCounts {
         })
     }
 
-    /// Takes the counts of another for its own, of the descriptors that both count. It takes no memory.
+    /// Takes over the counts of another table, for the descriptors that both count. Allocates no memory.
     pub(crate) fn copy_from(&mut self, other: &WaitCounts)
         ensures { self.new ≡ take (length self.old) other.now }
     {
@@ -52,7 +53,8 @@ impl WaitCounts {
         self.counts.copy_from_slice(&other.counts[..count]);
     }
 
-    /// How many are inside a wait of the descriptor and side; `None` where the descriptor is not below the limit.
+    /// Returns the number of goroutines inside a wait at the descriptor's side, or `None` if the descriptor isn't below
+    /// the limit.
     #[inline(always)]
     pub(crate) fn count(&self, descriptor: u32, side: Side) -> Option<u32>
         ensures { result ≡ waiting_of descriptor side self.now }
@@ -63,7 +65,7 @@ impl WaitCounts {
         Some(self.counts[descriptor as usize].of(side))
     }
 
-    /// A goroutine with this status gets one outside every wait.
+    /// Updates the counts when a goroutine with this status gets one outside every wait.
     #[inline(always)]
     pub(crate) fn leave(&mut self, status: Status)
         ensures { self.new ≡ left (wait_of status) self.old }
@@ -78,7 +80,7 @@ impl WaitCounts {
         }
     }
 
-    /// A goroutine outside every wait gets this status.
+    /// Updates the counts when a goroutine outside every wait gets this status.
     #[inline(always)]
     fn join(&mut self, status: Status)
         requires { CanJoin (wait_of status) self.old }
@@ -94,7 +96,7 @@ impl WaitCounts {
         }
     }
 
-    /// A goroutine gets a status for another.
+    /// Updates the counts when a goroutine's status changes.
     #[inline(always)]
     pub(crate) fn change(&mut self, before: Status, after: Status)
         requires { CanJoin (wait_of after) (left (wait_of before) self.old) }

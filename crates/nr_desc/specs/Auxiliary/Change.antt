@@ -1,4 +1,5 @@
--- Beside `Change`: what contracts and proofs cite, and no law of THEOREM.md rests on.
+-- Definitions besides `Change`: contracts and proofs cite them, but no law of THEOREM.md rests on
+-- them.
 use Rattle.std.specs.Prelude.{ℕ, List, [], Option, Some, None, option_to_list}
 use Rattle.nr_rev.specs.declared.descriptor.Descriptor.{Descriptor}
 use Rattle.nr_rev.specs.declared.descriptor.WaitWord.{WaitWord}
@@ -13,18 +14,18 @@ use Rattle.nr_desc.specs.declared.waiting.Answered.{Answered}
 use Rattle.nr_desc.specs.declared.reversible.Made.{Made}
 use Rattle.nr_desc.specs.Change.{listed}
 
--- the goroutine that a word held and holds no longer
+-- the goroutine that a word held before and doesn't hold after
 abbrev pub let_go : WaitWord → WaitWord → Option ℕ
 let_go (Held g) (Held h) = None
 let_go (Held g) after = Some g
 let_go before after = None
 
--- those whom the words of either side held and hold no longer
+-- the goroutines that the words of both sides held before and don't hold after
 abbrev pub both_let_go : Sides WaitWord → Sides WaitWord → Sides (Option ℕ)
 both_let_go before after =
     record { read = let_go before.read after.read; write = let_go before.write after.write }
 
--- the change that a packed one means
+-- the change that a packed one encodes
 abbrev pub change_view : DescChange → Change
 change_view c =
     record {
@@ -33,15 +34,15 @@ change_view c =
       woken = listed c.woken;
     }
 
--- the change that a packed one with one order at most means, which wakes none
+-- the change that a packed one with at most one order encodes; it wakes no goroutine
 abbrev pub followed_view : Followed → Change
 followed_view f = record { descriptor = f.desc; orders = option_to_list f.order; woken = [] }
 
--- the new word and who is woken
+-- the new word, and the goroutines that are woken
 abbrev pub unblocked_view : Unblocked → WaitWord × List ℕ
 unblocked_view u = (u.word, option_to_list u.woken)
 
--- the answer, and a change of the descriptor alone
+-- the answer, and a change of the descriptor only
 abbrev pub answered_view : Answered → Answer × Change
 answered_view a = (a.answer, quiet a.desc)
 

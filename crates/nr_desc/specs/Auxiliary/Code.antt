@@ -1,11 +1,12 @@
--- Beside `Code`: what contracts and proofs cite, and no law of THEOREM.md rests on.
+-- Definitions besides `Code`: contracts and proofs cite them, but no law of THEOREM.md rests on
+-- them.
 use Rattle.std.specs.Prelude.{◌≡◌, ℕ, ◌+◌, ◌-◌, ◌==◌, if◌then◌else◌}
 use Rattle.std.proofs.Common.{arith}
 use Rattle.std.proofs.lemmas.Bool.Decides.{nat_tests}
 use Rattle.nr_rev.specs.declared.descriptor.WaitWord.{WaitWord}
 use Rattle.nr_rev.specs.declared.descriptor.WaitWord.TheVariants.{Nil, Ready, Wait, Held}
 
--- 0 nil, 1 ready, 2 wait, and 3 more than its number for a goroutine
+-- the code of a word: 0 nil, 1 ready, 2 wait, and for a goroutine its number plus 3
 abbrev pub code_of : WaitWord → ℕ
 code_of Nil = 0
 code_of Ready = 1
@@ -17,6 +18,6 @@ abbrev pub wait_word_of : ℕ → WaitWord
 wait_word_of n =
     if n == 0 then Nil else (if n == 1 then Ready else (if n == 2 then Wait else Held (n - 3)))
 
--- a word's code is the one that it was read from
+-- a number is the code of the word that it encodes
 pub code_of-wait_word_of : (n : ℕ) → code_of (wait_word_of n) ≡ n
 code_of-wait_word_of n = grind (arith, nat_tests)

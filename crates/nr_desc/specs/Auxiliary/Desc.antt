@@ -1,9 +1,10 @@
--- Beside `Desc`: what contracts and proofs cite, and no law of THEOREM.md rests on.
+-- Definitions besides `Desc`: contracts and proofs cite them, but no law of THEOREM.md rests on
+-- them.
 use Rattle.std.specs.Prelude.{ℕ}
 use Rattle.nr_rev.specs.declared.descriptor.Descriptor.{Descriptor}
 use Rattle.nr_desc.specs.Marks.{marks_number}
 
--- the byte that holds its marks
+-- the byte with the descriptor's marks
 abbrev pub marks_number_of : Descriptor → ℕ
 marks_number_of d =
     marks_number (record { closing = d.closing; event_error = d.event_error; running = d.running })

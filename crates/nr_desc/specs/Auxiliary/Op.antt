@@ -1,4 +1,4 @@
--- Beside `Op`: what contracts and proofs cite, and no law of THEOREM.md rests on.
+-- Definitions besides `Op`: contracts and proofs cite them, but no law of THEOREM.md rests on them.
 use Rattle.std.specs.Prelude.{◌≡◌, ℕ, Option, Some, None, Result, Ok, Err, IfOk}
 use Rattle.nr_rev.specs.declared.descriptor.Descriptor.{Descriptor}
 use Rattle.nr_rev.specs.declared.refusal.Refusal.{Refusal}
@@ -12,7 +12,8 @@ use Rattle.nr_desc.specs.declared.op.DescOp.TheVariants as op
 use Rattle.nr_desc.specs.declared.reversible.Made.{Made}
 use Rattle.nr_desc.specs.Op.{Outcome, left, outcome}
 
--- who is woken of each side: whom its word held before, where the operation unblocks words
+-- the goroutine that is woken at each side: the one that its word held before, if the operation
+-- unblocks words
 abbrev pub woken_by : DescOp → Descriptor → Descriptor → Sides (Option ℕ)
 woken_by (op.SetDeadline clock mode t) old new = both_let_go old.words new.words
 woken_by op.Evict old new = both_let_go old.words new.words
@@ -20,23 +21,24 @@ woken_by (op.Fire function sequence) old new = both_let_go old.words new.words
 woken_by (op.Event tag mode error) old new = both_let_go old.words new.words
 woken_by _ old new = twice None
 
--- what is made is the operation's outcome, and wakes whom that wakes; or its reason is given
+-- the result is the operation's outcome and wakes the same goroutines; or it is the reason of its
+-- refusal
 abbrev pub ComesTo : DescOp → Descriptor → Result Made Refusal → Type 0
 ComesTo op old result =
     Gives made_view result (outcome old op)
     × IfOk result (λ made. made.change.woken ≡ woken_by op old made.change.desc)
 
--- an operation that applies, by its answer and the descriptor afterwards
+-- the operation applies, with this answer and this resulting descriptor
 pub record StepTo (old : Descriptor) (op : DescOp) (answer : DescAnswer) (new : Descriptor) : Type 0
   where
     pub defined : outcome old op ≡ Ok (left answer new)
     pub woken : answer.woken ≡ woken_by op old new
 
--- the reason, where it does not apply
+-- the reason of a refusal
 abbrev pub refusal_of : Outcome → Option Refusal
 refusal_of (Ok left) = None
 refusal_of (Err reason) = Some reason
 
--- why an operation does not apply
+-- why an operation is refused
 abbrev pub desc_reason : Descriptor → DescOp → Option Refusal
 desc_reason d op = refusal_of (outcome d op)

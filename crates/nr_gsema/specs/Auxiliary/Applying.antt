@@ -1,4 +1,5 @@
--- Beside `Applying`: what contracts and proofs cite, and no law of THEOREM.md rests on.
+-- Definitions besides `Applying`: contracts and proofs cite them, but no law of THEOREM.md rests on
+-- them.
 use Rattle.std.specs.Prelude.{◌≡◌, ◌≤◌, Result, Ok, Err}
 use Rattle.nr_rev.specs.declared.answer.Answer.{Answer}
 use Rattle.nr_rev.specs.declared.refusal.Refusal.{Refusal}
@@ -8,14 +9,15 @@ use Rattle.nr_gsema.specs.Delta.{Reverses, undo_weight, weight_allowed}
 use Rattle.nr_gsema.specs.Step.{outcome}
 use Rattle.nr_gsema.specs.Table.{GoroutineTable}
 
--- it applies so, undoing leads back, and what is kept for that is little
+-- the operation applies with this answer, its undo leads back, and the undo has no more words than
+-- allowed
 pub record AppliesBy (op : GOperation) (old : GoroutineTable) (answer : Answer) (undo : GUndo)
     (new : GoroutineTable) : Type 0 where
   pub step : outcome old op ≡ Ok (answer, new)
   pub back : Reverses undo new old
   pub light : undo_weight undo ≤ weight_allowed op
 
--- so it applies, or it is refused and leaves all as it was
+-- the operation applies, or it is refused and changes nothing
 abbrev pub Applies : GOperation → GoroutineTable → Result (Answer × GUndo) Refusal
     → GoroutineTable → Type 0
 Applies op old (Ok (answer, undo)) new = AppliesBy op old answer undo new

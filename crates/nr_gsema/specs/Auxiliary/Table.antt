@@ -1,4 +1,5 @@
--- Beside `Table`: what contracts and proofs cite, and no law of THEOREM.md rests on.
+-- Definitions besides `Table`: contracts and proofs cite them, but no law of THEOREM.md rests on
+-- them.
 use Rattle.std.specs.Prelude.{ℕ, List, [], ◌∷◌, ◌-◌, length, slice_get, slice_set, Option, Some, None, option_map, if◌then◌else◌, ◌==◌}
 use Rattle.nr_rev.specs.declared.sides.Side.{Side}
 use Rattle.nr_rev.specs.declared.sides.Sides.{Sides}
@@ -8,23 +9,24 @@ use Rattle.nr_rev.specs.Semaphore.{Semaphore}
 use Rattle.nr_rev.specs.Sides.{of_side, with_side}
 use Rattle.nr_gsema.specs.Table.{GoroutineTable}
 
--- goroutine g with another status
+-- the table with another status of goroutine g
 abbrev pub with_status : ℕ → Status → GoroutineTable → GoroutineTable
 with_status g status t = record t { goroutines = slice_set t.goroutines g status }
 
--- socket s, whose semaphores are these, with another one at a side
+-- the table with another semaphore at a side of socket s, whose semaphores are these
 abbrev pub with_semaphore : ℕ → Side → Sides Semaphore → Semaphore → GoroutineTable → GoroutineTable
 with_semaphore s side semaphores semaphore t =
     record t { semaphores = slice_set t.semaphores s (with_side side semaphore semaphores) }
 
--- a change of the semaphore of a side of socket s, where it is found
+-- the table with the semaphore of a side of socket s changed, if the socket was found
 abbrev pub on_found : ℕ → Side → (Semaphore → Semaphore) → Option (Sides Semaphore)
     → GoroutineTable → GoroutineTable
 on_found s side change None t = t
 on_found s side change (Some semaphores) t =
     with_semaphore s side semaphores (change (of_side side semaphores)) t
 
--- a change of it, nothing where there is no such socket
+-- the table with the semaphore of a side of socket s changed, or the same table if there is no such
+-- socket
 abbrev pub on_semaphore : ℕ → Side → (Semaphore → Semaphore) → GoroutineTable → GoroutineTable
 on_semaphore s side change t = on_found s side change (slice_get t.semaphores s) t
 
@@ -37,30 +39,30 @@ queue_found side (Some semaphores) = (of_side side semaphores).queue
 abbrev pub queue_at : ℕ → Side → GoroutineTable → List ℕ
 queue_at s side t = queue_found side (slice_get t.semaphores s)
 
--- who is at the back of a queue
+-- the goroutine at the back of a queue
 abbrev pub back_of : List ℕ → Option ℕ
 back_of queue = slice_get queue (length queue - 1)
 
--- who is behind g in a queue
+-- the goroutine after g in a queue
 abbrev pub behind : ℕ → List ℕ → Option ℕ
 behind g [] = None
 behind g (h ∷ queue) = if h == g then slice_get queue 0 else behind g queue
 
--- who is before g in a queue; `first` is before the first of these
+-- the goroutine before g in a queue; `first` is before the queue's first goroutine
 abbrev pub before : ℕ → Option ℕ → List ℕ → Option ℕ
 before g first [] = None
 before g first (h ∷ queue) = if h == g then first else before g (Some h) queue
 
--- what is found in the queue of a goroutine with this status; nobody, where it isn't queued
+-- what is found in the queue of a goroutine with this status; none if it isn't queued
 abbrev pub in_queue : (List ℕ → Option ℕ) → Option Status → GoroutineTable → Option ℕ
 in_queue found (Some (Queued s side)) t = found (queue_at s side t)
 in_queue found _ t = None
 
--- who is behind a goroutine in the queue that it is in
+-- the goroutine after g in g's queue
 abbrev pub next_in_queue : ℕ → GoroutineTable → Option ℕ
 next_in_queue g t = in_queue (behind g) (slice_get t.goroutines g) t
 
--- who is before it there
+-- the goroutine before g in g's queue
 abbrev pub previous_of : ℕ → GoroutineTable → Option ℕ
 previous_of g t = in_queue (before g None) (slice_get t.goroutines g) t
 
