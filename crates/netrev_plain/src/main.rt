@@ -1,7 +1,7 @@
-//! netrev's programs over lists: the oracle with whose output `make agree` compares netrev's, byte for byte.
+//! netrev's programs over lists: the oracle. `make agree` compares its output with netrev's, byte for byte.
 //!
-//! `netrev_plain run FILE`, `netrev_plain check FILE` and `netrev_plain upgrade FILE` do as netrev's do: by the same code, over the
-//! world of `nr_plain`.
+//! `netrev_plain run FILE`, `netrev_plain check FILE` and `netrev_plain upgrade FILE` do the same as netrev's, with the
+//! same code, over the world of `nr_plain`.
 #![tactic(auto)]
 
 use nr_plain::PlainWorld;
@@ -11,11 +11,11 @@ use std::process::ExitCode;
 use std::thread::Threads;
 use std::{env, fs, io};
 
-/// How the program is called.
+/// The usage text.
 const USAGE: &str =
     "usage: netrev_plain run FILE\n       netrev_plain check FILE\n       netrev_plain upgrade FILE\n";
 
-// Plays one of the programs over the text of its file, on the process's streams.
+// Runs one of the programs on the text of its file, with the process's streams.
 fn play<H: Threads + Sync>(
     rt: &HostRuntime,
     handles: &H,
@@ -33,7 +33,7 @@ fn play<H: Threads + Sync>(
     }
 }
 
-// Plays the program that the arguments ask for. What reads the arguments or the file may fail.
+// Runs the program that the arguments select. Fails if the arguments or the file can't be read.
 fn play_asked<H: Threads + Sync>(rt: &HostRuntime, handles: &H) -> io::Result<ExitStatus> {
     let words: Vec<String> = env::args(rt)?.collect(rt.alloc())?;
     let [_, program, file] = words.as_slice() else {

@@ -1,4 +1,4 @@
--- The cells that a step may change, and those that it changed.
+-- The cells that a step may change, and the cells that it changed.
 use Rattle.std.specs.Prelude.{ℕ, not, List, [], ◌∷◌, ◌++◌, map, filter, None}
 use Rattle.std.specs.BTreeSet.{insert_key}
 use Rattle.std.specs.Option.{option_map_or}
@@ -14,17 +14,17 @@ use Rattle.nr_rev.specs.Kind.{kind_of}
 use Rattle.nr_rev.specs.World.{World}
 use Rattle.nr_changes.specs.Touched.{Touched, touched}
 
--- the number of a cell's goroutine, socket or descriptor, else 0
+-- the number of a cell's goroutine, socket or descriptor, or 0 if it has none
 abbrev pub number_or_0 : Cell → ℕ
 number_or_0 c = option_map_or (λ i. i) (cell_index c) 0
 
--- the order in which cells are listed: by what they show, and then by number
+-- the order of cells in lists: by sort, and then by number
 abbrev pub listing_order : Cell → Cell → Ordering
 listing_order =
     then_cmp (λ a b. nat_cmp (cell_number a) (cell_number b))
     (λ a b. nat_cmp (number_or_0 a) (number_or_0 b))
 
--- the numbers, from the least on, each once
+-- the numbers in ascending order, each once
 abbrev pub in_order : List ℕ → List ℕ
 in_order [] = []
 in_order (n ∷ ns) = insert_key nat_cmp (in_order ns) n
@@ -33,7 +33,8 @@ in_order (n ∷ ns) = insert_key nat_cmp (in_order ns) n
 abbrev pub goroutine_cells : List ℕ → List Cell
 goroutine_cells gs = map Cell.Goroutine gs
 
--- the cells of a socket but whether its write side is shut, which is listed last of all
+-- the cells of a socket, except the one that shows whether its write side is shut, which comes last
+-- in a list
 abbrev pub socket_cells : ℕ → List Cell
 socket_cells s =
     Cell.Lock s ∷
@@ -43,7 +44,7 @@ socket_cells s =
     Cell.Output s ∷
     []
 
--- the cell of whether a socket's write side is shut
+-- the cell that shows whether a socket's write side is shut
 abbrev pub shut_cells : ℕ → List Cell
 shut_cells s = Cell.Shut s ∷ []
 
@@ -60,7 +61,7 @@ descriptor_cells d =
     Cell.Info d ∷
     []
 
--- the cells without a number and those of what is touched, in the order in which cells are listed
+-- the cells without a number and the cells of touched things, in the order of lists
 abbrev pub cells_of : Touched → List Cell
 cells_of t =
     cells_at None
@@ -69,7 +70,7 @@ cells_of t =
     ++ (option_map_or descriptor_cells t.descriptor []
     ++ option_map_or shut_cells t.socket [])))
 
--- those of them that a step of the kind may change
+-- the cells of these things that a step of the kind may change
 abbrev pub cells_for : Kind → Touched → List Cell
 cells_for kind t = filter (can_change kind) (cells_of t)
 
@@ -77,7 +78,7 @@ cells_for kind t = filter (can_change kind) (cells_of t)
 abbrev pub touched_cells : World → Step → List Cell
 touched_cells w step = cells_for (kind_of step) (touched w step)
 
--- the cells that show another value behind the step, of those that it may change
+-- the cells among those that a step may change whose value differs after it
 abbrev pub changed_cells : World → Step → World → List Cell
 changed_cells w step next =
     filter (λ c. not (same_value (cell next c) (cell w c))) (touched_cells w step)

@@ -1,4 +1,4 @@
--- What a step changed: the cells that show another value in the next world.
+-- The changes of a step: the cells whose value differs in the next world.
 use Rattle.std.specs.Prelude.{ℕ, max, not, List, [], ◌∷◌, ◌++◌, length, map, filter, flat_map, None}
 use Rattle.std.specs.List.{range_with_len}
 use Rattle.nr_rev.specs.declared.cell.Cell.{Cell}
@@ -7,16 +7,16 @@ use Rattle.nr_rev.specs.CellName.{cells_at}
 use Rattle.nr_rev.specs.World.{World}
 use Rattle.nr_changes.specs.declared.changing.CellWithValue.{CellWithValue}
 
--- the cells of these sorts that have a number below n: sort after sort, each from number 0 on
+-- the cells of these sorts with a number below n: sort after sort, each from number 0 on
 abbrev pub numbered_cells : ℕ → List (ℕ → Cell) → List Cell
 numbered_cells n sorts = flat_map (λ sort. map sort (range_with_len 0 n)) sorts
 
--- how many of something are there, in the one world or in the other
+-- the greater number of these things in the two worlds
 abbrev pub most_of : {X : Type 0} → (World → List X) → World → World → ℕ
 most_of things w next = max (length (things w)) (length (things next))
 
--- All cells of what is there in the one world or in the other, in the order of COMMANDS.md: by
--- what they show, and then by number.
+-- All cells of the things that exist in either world, in the order of COMMANDS.md: by sort, and
+-- then by number.
 abbrev pub all_cells : World → World → List Cell
 all_cells w next =
     let goroutines = most_of (λ (w : World). w.goroutines) w next in
@@ -31,15 +31,15 @@ all_cells w next =
     ∷ Cell.WriteSequence ∷ Cell.DescriptorSequence ∷ Cell.Info ∷ [])
     ++ numbered_cells sockets (Cell.Shut ∷ []))))
 
--- the cells that show another value in the next world than in the one before it
+-- the cells whose value in the next world differs from that in the world before
 abbrev pub differing_cells : World → World → List Cell
 differing_cells w next =
     filter (λ c. not (same_value (cell next c) (cell w c))) (all_cells w next)
 
--- a cell with what it shows in a world
+-- a cell with its value in a world
 abbrev pub with_value : World → Cell → CellWithValue
 with_value w c = record { cell = c; value = cell w c }
 
--- the cells that differ, each with what it shows in the next world
+-- the cells that differ, each with its value in the next world
 abbrev pub changes_between : World → World → List CellWithValue
 changes_between w next = map (with_value next) (differing_cells w next)

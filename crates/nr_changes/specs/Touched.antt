@@ -18,16 +18,16 @@ use Rattle.nr_rev.specs.Socket.{Socket}
 use Rattle.nr_rev.specs.WellFormed.{socket_named}
 use Rattle.nr_rev.specs.World.{World, wait_of}
 
--- what a step touches: nothing else of a number shows another value behind the step
+-- what a step touches: no other numbered thing has a cell whose value differs after the step
 pub record Touched : Type 0 where
-  -- the goroutine whose step it is, those that it wakes, or the one that it makes
+  -- the goroutine of the step, those that it wakes, or the one that it makes
   pub goroutines : List ℕ
-  -- the socket that it is a step on, or makes
+  -- the socket on which it is a step, or that it makes
   pub socket : Option ℕ
-  -- the descriptor that it is a step on, or opens
+  -- the descriptor on which it is a step, or that it opens
   pub descriptor : Option ℕ
 
--- goroutines alone
+-- only goroutines
 abbrev pub goroutines_alone : List ℕ → Touched
 goroutines_alone gs = record { goroutines = gs; socket = None; descriptor = None }
 
@@ -39,16 +39,16 @@ socket_and s gs = record (goroutines_alone gs) { socket = s }
 abbrev pub descriptor_and : Option ℕ → List ℕ → Touched
 descriptor_and d gs = record (goroutines_alone gs) { descriptor = d }
 
--- the socket at whose semaphore goroutine g is
+-- the socket whose semaphore goroutine g uses
 abbrev pub socket_at : ℕ → World → Option ℕ
 socket_at g w = option_and_then socket_named (slice_get w.goroutines g)
 
--- the descriptor of whose wait goroutine g is inside
+-- the descriptor at which goroutine g is inside a wait
 abbrev pub descriptor_at : ℕ → World → Option ℕ
 descriptor_at g w =
     option_map (λ place. place.0) (option_and_then wait_of (slice_get w.goroutines g))
 
--- the front of the queue that the next release of this goroutine is for
+-- the front of the queue to which this goroutine's next release goes
 abbrev pub front_for : Status → World → Option ℕ
 front_for (Owing s reads writes) w =
     let side : Side = if nat_lt 0 reads then Read else Write in
@@ -56,7 +56,7 @@ front_for (Owing s reads writes) w =
     (slice_get w.sockets s)
 front_for _ w = None
 
--- the goroutine that a release of goroutine g lets try again
+-- the goroutine that tries again after a release by goroutine g
 abbrev pub released_by : ℕ → World → List ℕ
 released_by g w =
     option_to_list (option_and_then (λ status. front_for status w) (slice_get w.goroutines g))
@@ -75,11 +75,11 @@ abbrev pub held_at : ℕ → World → List ℕ
 held_at d w =
     option_map_or (λ (row : DescriptorRow). held_of row.descriptor) (slice_get w.descriptors d) []
 
--- the number that the next descriptor opened gets
+-- the number of the next descriptor to be opened
 abbrev pub next_descriptor : World → ℕ
 next_descriptor w = option_map_or (λ d. d) (slice_get w.free 0) (length w.descriptors)
 
--- what a firing touches: the descriptor of its timer, and the goroutines held there
+-- what a firing touches: the descriptor of its timer, and the goroutines that its words hold
 abbrev pub touched_by_firing : Option Entry → World → Touched
 touched_by_firing None w = goroutines_alone []
 touched_by_firing (Some entry) w =

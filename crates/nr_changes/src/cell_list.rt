@@ -1,12 +1,12 @@
-//! A list of cells that takes no memory.
+//! A list of cells that allocates no memory.
 
 use nr_rev::Cell;
 use std::marker::Model;
 
-/// How many cells a step may change at most.
+/// The maximum number of cells that a step may change.
 pub const MOST_CELLS: usize = 22;
 
-/// At most 22 cells, which lie in the value itself.
+/// At most 22 cells, stored in the value itself.
 #[derive(Drop)]
 pub struct CellList {
     cells: [Cell; MOST_CELLS],
@@ -27,7 +27,7 @@ impl Model for CellList {
 impl CellList {
     ghost use Rattle.std.specs.Prelude.{◌≡◌, ◌<◌, ◌∷◌, ◌++◌, [], length};
 
-    /// None listed.
+    /// Returns an empty list.
     pub(crate) fn new() -> CellList
         ensures { result ≡ [] }
     {
@@ -37,14 +37,14 @@ impl CellList {
         }
     }
 
-    /// The cells as a slice.
+    /// Returns the cells as a slice.
     pub fn as_slice(&self) -> &[Cell]
         ensures { result.now ≡ self.now }
     {
         &self.cells[..self.len]
     }
 
-    /// One cell more, behind the others.
+    /// Appends a cell.
     pub(crate) fn push(&mut self, cell: Cell)
         requires { length self.old < 22 }
         ensures { self.new ≡ self.old ++ cell ∷ [] }

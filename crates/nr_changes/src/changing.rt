@@ -1,4 +1,4 @@
-//! What a step changed, with the values behind it.
+//! The changes of a step, with the new values.
 
 ghost use Rattle.std.specs.Prelude.{◌≡◌, ◌≤◌, [], Ok, Err, IfOk, IfErr, OnOk, OnErr, filter, length, map, not};
 ghost use Rattle.nr_rev.specs.Cell.{cell, same_value};
@@ -19,7 +19,7 @@ pub struct CellWithValue {
     pub value: CellValue,
 }
 
-/// What fills the room of a list: a cell that shows nothing.
+/// The value of unused places of a list: a cell without a value.
 impl Default for CellWithValue {
     fn default() -> CellWithValue {
         CellWithValue {
@@ -29,10 +29,10 @@ impl Default for CellWithValue {
     }
 }
 
-/// Cells with values, as many as a step changes at most.
+/// Cells with values, at most as many as a step changes.
 pub type Changes = ArrayVec<CellWithValue, MOST_CELLS>;
 
-// The cells, with the values that they have in the world, in the place of what the list has.
+// Replaces the list's contents with the cells and their values in the world.
 fn list_values<W: TouchesCells>(world: &W, cells: &[Cell], values: &mut Changes)
     requires world { W.is_well_formed world.now }
     requires few { length cells.now ≤ 22 }
@@ -47,7 +47,7 @@ fn list_values<W: TouchesCells>(world: &W, cells: &[Cell], values: &mut Changes)
     }
 }
 
-// Keeps those of the cells that have another value now, with that value.
+// Keeps the cells whose value is different now, with the new value.
 fn keep_changed<W: TouchesCells>(world: &W, changes: &mut Changes)
     requires world { W.is_well_formed world.now }
     ensures { changes.new.items ≡ map (λ old. with_value (W.world world.now) old.cell)
@@ -69,9 +69,9 @@ fn keep_changed<W: TouchesCells>(world: &W, changes: &mut Changes)
     );
 }
 
-/// Applies the step, keeps no way back, and puts the cells that it changed in the place of what the list has, in the order in
-/// which cells are listed, each once and with its value behind the step. Where the step doesn't apply, the world stays, and the
-/// list is empty. It takes no memory.
+/// Applies the step without an undo, and returns its answer. Replaces the list's contents with the cells that the step
+/// changed, in the order of lists, each once and with its new value. If the step is refused, the world stays as it was,
+/// and the list is empty. Allocates no memory.
 pub fn advance<W: TouchesCells>(
     world: &mut W,
     step: &Step,

@@ -1,4 +1,4 @@
-//! Laws of what steps touch: public functions with an empty body, whose contract is the law.
+//! Laws about what steps touch: public functions with an empty body, whose contract is the law.
 
 ghost use Rattle.std.specs.Prelude.{◌≡◌, ◌≢◌, ◌↔◌, ◌≤◌, ℕ, Ok, Contains, length};
 ghost use Rattle.std.specs.List.Sorted.{IsStrictlySortedBy};
@@ -12,26 +12,26 @@ ghost use Rattle.nr_changes.specs.Touched.{touched};
 ghost use Rattle.nr_changes.specs.Changed.{changed_cells, listing_order, touched_cells};
 ghost use Rattle.nr_changes.specs.Changes.{differing_cells};
 
-/// A step changes no cell but those that it touches, in any world.
+/// A step changes only cells that it touches, in any world.
 pub fn steps_change_what_they_touch_alone()
     ensures { (w : World) (step : Step) (answer : Answer) (next : World) (c : Cell)
         → outcome w step ≡ Ok (answer, next) → ¬ Contains (touched_cells w step) c
         → cell next c ≡ cell w c }
 {}
 
-/// Just those cells differ that show another value in the next world: none is left out, and none is made up.
+/// `differing_cells` lists exactly the cells whose value differs in the next world.
 pub fn just_what_shows_another_value_differs()
     ensures { (w next : World) (c : Cell)
         → Contains (differing_cells w next) c ↔ (cell next c ≢ cell w c) }
 {}
 
-/// Behind a step just those cells differ that are found among what it touches.
+/// After a step, the cells that differ are exactly the changed ones among those that it may change.
 pub fn what_differs_was_touched()
     ensures { (w : World) (step : Step) (answer : Answer) (next : World)
         → outcome w step ≡ Ok (answer, next) → changed_cells w step next ≡ differing_cells w next }
 {}
 
-/// Cells are listed in one order, by what they show and then by number, each once.
+/// Cells are listed in one order, by sort and then by number, each once.
 pub fn cells_are_listed_in_order()
     ensures touched { (w : World) (step : Step)
         → IsStrictlySortedBy listing_order (touched_cells w step) }
@@ -39,7 +39,7 @@ pub fn cells_are_listed_in_order()
         → IsStrictlySortedBy listing_order (differing_cells w next) }
 {}
 
-/// A step touches three goroutines at most.
+/// A step touches at most three goroutines.
 pub fn few_are_touched()
     ensures { (w : World) (step : Step) → length (touched w step).goroutines ≤ 3 }
 {}

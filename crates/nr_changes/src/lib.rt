@@ -1,5 +1,5 @@
-//! Which cells a step of a recording may change, by number. The definitions are in `specs/`: `Touched` has what a step
-//! touches, `Changed` the cells that it may change and those that it changed.
+//! Which cells a step of a recording may change, by number. The definitions are in `specs/`: `Touched` defines what a
+//! step touches, `Changed` the cells that it may change and those that it changed.
 #![tactic(auto)]
 
 mod cell_list;

@@ -1,4 +1,4 @@
-//! Numbers and cells, listed in their order.
+//! Sorted lists of numbers and cells.
 
 ghost use Rattle.std.specs.Prelude.{◌≡◌, ◌+◌, ◌<◌, ◌≤◌, ◌++◌, [], drop, filter, length, slice_index, take};
 ghost use Rattle.std.specs.BTreeSet.{insert_key};
@@ -11,10 +11,10 @@ use crate::cell_list::CellList;
 use arrayvec::ArrayVec;
 use nr_rev::{Cell, Kind};
 
-/// How many goroutines a step touches at most.
+/// The maximum number of goroutines that a step touches.
 pub const MOST_TOUCHED: usize = 3;
 
-// The place of the first number that isn't below this one, else the end.
+// Returns the place of the first number that isn't below this one, or the end if there is none.
 fn place_of(numbers: &[u32], number: u32) -> usize
     ensures within { result ≤ length numbers.now }
     ensures next { result < length numbers.now → number ≤ slice_index numbers.now result }
@@ -29,7 +29,7 @@ fn place_of(numbers: &[u32], number: u32) -> usize
     numbers.len()
 }
 
-// Puts a number into its place among those in order, unless it is there.
+// Inserts a number into a sorted list, unless it is already there.
 fn insert_number(numbers: &mut ArrayVec<u32, MOST_TOUCHED>, number: u32)
     requires { length numbers.old.items < MOST_TOUCHED }
     ensures items { numbers.new.items ≡ insert_key nat_cmp numbers.old.items number }
@@ -41,7 +41,7 @@ fn insert_number(numbers: &mut ArrayVec<u32, MOST_TOUCHED>, number: u32)
     }
 }
 
-/// The numbers from the least on, each once.
+/// Returns the numbers in ascending order, each once.
 pub(crate) fn in_order(numbers: &[u32]) -> ArrayVec<u32, MOST_TOUCHED>
     requires { length numbers.now ≤ MOST_TOUCHED }
     ensures items { result.items ≡ in_order numbers.now }
@@ -56,7 +56,7 @@ pub(crate) fn in_order(numbers: &[u32]) -> ArrayVec<u32, MOST_TOUCHED>
     listed
 }
 
-/// Lists those of these cells that a step of the kind may change.
+/// Appends those of these cells that a step of the kind may change.
 pub(crate) fn list(cells: &mut CellList, kind: Kind, more: &[Cell])
     requires { length cells.old + length more.now ≤ 22 }
     ensures items { cells.new ≡ cells.old ++ filter (can_change kind) more.now }
@@ -69,7 +69,7 @@ pub(crate) fn list(cells: &mut CellList, kind: Kind, more: &[Cell])
     }
 }
 
-/// Lists those cells of these goroutines that a step of the kind may change.
+/// Appends the cells of these goroutines that a step of the kind may change.
 pub(crate) fn list_goroutines(cells: &mut CellList, kind: Kind, goroutines: &[u32])
     requires { length cells.old + length goroutines.now ≤ 22 }
     ensures items { cells.new
@@ -81,7 +81,7 @@ pub(crate) fn list_goroutines(cells: &mut CellList, kind: Kind, goroutines: &[u3
     }
 }
 
-/// Lists those cells of a socket that a step of the kind may change, but whether it is shut.
+/// Appends the cells of a socket that a step of the kind may change, except the one that shows whether it is shut.
 pub(crate) fn list_socket(cells: &mut CellList, kind: Kind, socket: Option<u32>)
     requires { length cells.old + 5 ≤ 22 }
     ensures items { cells.new
@@ -100,7 +100,7 @@ pub(crate) fn list_socket(cells: &mut CellList, kind: Kind, socket: Option<u32>)
     }
 }
 
-/// Lists those cells of a descriptor that a step of the kind may change.
+/// Appends the cells of a descriptor that a step of the kind may change.
 pub(crate) fn list_descriptor(cells: &mut CellList, kind: Kind, descriptor: Option<u32>)
     requires { length cells.old + 8 ≤ 22 }
     ensures items { cells.new
@@ -122,7 +122,7 @@ pub(crate) fn list_descriptor(cells: &mut CellList, kind: Kind, descriptor: Opti
     }
 }
 
-/// Lists whether a socket is shut, where a step of the kind may change that.
+/// Appends the cell that shows whether a socket is shut, if a step of the kind may change it.
 pub(crate) fn list_shut(cells: &mut CellList, kind: Kind, socket: Option<u32>)
     requires { length cells.old + 1 ≤ 22 }
     ensures items { cells.new

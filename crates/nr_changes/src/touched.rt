@@ -32,7 +32,7 @@ impl Touched {
     ghost use Rattle.std.specs.Prelude.{◌≡◌};
     ghost use Rattle.nr_changes.specs.Changed.{cells_for};
 
-    /// These goroutines, in any order, and the socket or the descriptor, if there is one.
+    /// Returns these goroutines, in any order, and the socket or the descriptor, if there is one.
     pub fn new(
         goroutines: ArrayVec<u32, MOST_TOUCHED>,
         socket: Option<u32>,
@@ -51,16 +51,16 @@ impl Touched {
         }
     }
 
-    /// The descriptor, if there is one.
+    /// Returns the descriptor, if there is one.
     pub fn descriptor(&self) -> Option<u32>
         ensures { result ≡ self.now.descriptor }
     {
         self.descriptor
     }
 
-    /// The cells that a step of this kind may change where it touches this: in the order in which cells are listed, each once.
-    /// For a step of a world they are `touched_cells`: each other cell has the same value behind the step as before it
-    /// (`laws::steps_change_what_they_touch_alone`).
+    /// Returns the cells that a step of this kind may change if it touches these things, in the order of lists, each
+    /// once. For a step of a world these are `touched_cells`; every other cell has the same value after the step as
+    /// before it (`laws::steps_change_what_they_touch_alone`).
     pub fn cells(&self, kind: Kind) -> CellList
         ensures { result ≡ cells_for kind self.now }
     {

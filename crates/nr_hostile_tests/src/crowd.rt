@@ -13,7 +13,7 @@ use std::num::NonZeroU32;
 use std::test::*;
 use std::thread::{Threads, for_each_mut};
 
-/// A front with its journal, and what it was answered last.
+/// A front with its journal and its last answer.
 #[derive(Drop)]
 struct User<'a, 'f, R: Threads + Sync> {
     journal: &'a Journal,
@@ -47,7 +47,7 @@ impl<'a, 'f, R: Threads + Sync> User<'a, 'f, R> {
         self.answer = Answered::of(reply);
     }
 
-    /// What it was answered, and how many words its pass has seen.
+    /// Ends the front, and returns its last answer and the number of words that its pass has seen.
     fn end(self) -> (Answered, usize) {
         let User {
             journal: _,
@@ -58,12 +58,12 @@ impl<'a, 'f, R: Threads + Sync> User<'a, 'f, R> {
     }
 }
 
-/// Each steps, in a thread of its own where there is one.
+/// Runs a step of each user, in a thread of its own if possible.
 fn step_each<R: Threads + Send + Sync>(rt: &R, users: &mut [User<'_, '_, R>]) {
     for_each_mut(rt, users, 8, &|_, user: &mut User<'_, '_, R>| user.step());
 }
 
-/// Eight users of a journal.
+/// Makes eight users of a journal.
 fn eight<'a, 'f, R: Threads + Sync>(
     rt: &R,
     alloc: Global,
@@ -83,7 +83,7 @@ fn eight<'a, 'f, R: Threads + Sync>(
     Some(users)
 }
 
-/// What each was answered, with how many words it has seen.
+/// Ends all users, and returns each one's answer and number of words.
 fn end_all<R: Threads + Sync>(
     alloc: Global,
     users: Vec<User<'_, '_, R>>,
@@ -95,7 +95,7 @@ fn end_all<R: Threads + Sync>(
     Some(answers)
 }
 
-/// The words of a journal, for who comes late.
+/// Returns the words of a journal, as a front that joins late sees them.
 fn all_words(journal: &Journal, seat: Seat) -> Option<Vec<u64>>
     requires { seat.table ≡ journal.now }
 {
@@ -103,7 +103,7 @@ fn all_words(journal: &Journal, seat: Seat) -> Option<Vec<u64>>
     journal.finish(&mut late).ok()
 }
 
-/// What eight fronts were answered that each step once over a journal of seven words, with how many words each has seen;
+/// Runs one step of each of eight fronts over a journal of seven words. Returns each one's answer and number of words,
 /// and the words.
 fn crowd_over<R: Threads + Send + Sync>(
     rt: &R,
@@ -118,7 +118,7 @@ fn crowd_over<R: Threads + Send + Sync>(
     Some((answers?, words?))
 }
 
-/// That, over twelve steps.
+/// Runs `crowd_over` over twelve steps.
 fn crowd<R: Threads + Send + Sync>(
     rt: &R,
     alloc: Global,
@@ -127,7 +127,7 @@ fn crowd<R: Threads + Send + Sync>(
     crowd_over(rt, alloc, &film)
 }
 
-/// How often each place from 1 on was answered.
+/// Returns how often each place from 1 on was answered.
 fn places(answers: &[(Answered, usize)]) -> [u32; 7] {
     let mut places = [0u32; 7];
     for (answer, seen) in answers {
@@ -143,7 +143,7 @@ fn places(answers: &[(Answered, usize)]) -> [u32; 7] {
     places
 }
 
-/// The tags of words that are a step's, rising, each once.
+/// Returns the tags of those words that are a step, in ascending order, each once.
 fn tags(alloc: Global, words: &[u64]) -> Result<Vec<u64>, AllocError> {
     let mut tags = Vec::new(alloc);
     for word in words {

@@ -1,4 +1,4 @@
-//! Tests of fronts and of the line loop by public calls: sessions of lines, streams that fail, memory that is refused,
+//! Tests of fronts and of the line loop by public calls: sessions of lines, streams that fail, memory that runs out,
 //! journals that are full, and fronts in threads of their own.
 #![tactic(auto)]
 

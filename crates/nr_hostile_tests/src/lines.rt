@@ -1,24 +1,24 @@
-//! Lines that a front is sent and then the same one or another, and their replies.
+//! Lines that are sent to a front, and then to the same or another front, and their replies.
 
 use crate::scripts::{Script, Second, Tape, TwoScripts, play, undisturbed};
 use nr_lines::End;
 use std::test::*;
 
-/// What a front is sent, and what comes of it.
+/// The lines that are sent to a front, and the expected result.
 struct Part {
     lines: &'static str,
-    /// Of the copies of the film's world that it asks for those are refused whose bits are set, from the lowest on.
+    /// The copies of the film's world to refuse: one bit for each request, from the lowest on.
     refused: u32,
     replies: &'static str,
     end: End,
 }
 
-/// A front's part, and one behind it.
+/// A front's part, and the part after it.
 struct Session {
-    /// What is to be seen.
+    /// What the session shows.
     topic: &'static str,
     tape: Tape,
-    /// How many words the journal has room for.
+    /// The number of words for which the journal has room.
     words: usize,
     first: Part,
     by: Second,

@@ -1,4 +1,4 @@
-//! Two fronts in threads of their own, which place a hundred commands each.
+//! Two fronts in threads of their own, each of which places a hundred commands.
 
 ghost use Rattle.std.specs.Prelude.{◌≡◌};
 
@@ -24,7 +24,7 @@ fn step_often<R: Threads + Sync>(journal: &Journal, front: &mut Lone<'_, R>)
     }
 }
 
-/// Looks until the commands of both fronts are run.
+/// Queries until the commands of both fronts have run.
 fn wait_for_both<R: Threads + Sync>(journal: &Journal, front: &mut Lone<'_, R>)
     requires { front.old.table ≡ journal.now }
     ensures { front.new.table ≡ journal.now }
@@ -40,7 +40,7 @@ fn wait_for_both<R: Threads + Sync>(journal: &Journal, front: &mut Lone<'_, R>)
     }
 }
 
-/// Places a hundred commands, and looks until as many came of another front.
+/// Places a hundred commands, and queries until another front's hundred have run, too.
 fn step_and_wait<R: Threads + Sync>(journal: &Journal, mut front: Lone<'_, R>) -> Pass
     requires { front.table ≡ journal.now }
     ensures { result.table ≡ journal.now }
@@ -50,7 +50,8 @@ fn step_and_wait<R: Threads + Sync>(journal: &Journal, mut front: Lone<'_, R>) -
     front.end()
 }
 
-/// Two fronts place a hundred commands each, at the same time: how their counts of words compare, and the words.
+/// Lets two fronts place a hundred commands each at the same time. Returns how their numbers of words compare, and the
+/// words.
 fn step_at_once<R: Threads + Send + Sync>(
     rt: &R,
     alloc: Global,
@@ -74,7 +75,7 @@ fn step_at_once<R: Threads + Send + Sync>(
     Some((met, words))
 }
 
-/// That, over three hundred steps.
+/// Runs `step_at_once` over three hundred steps.
 fn two_at_once<R: Threads + Send + Sync>(rt: &R, alloc: Global) -> Option<(Ordering, Vec<u64>)> {
     let film = ticking(alloc, 300)?;
     step_at_once(rt, alloc, &film)

@@ -1,5 +1,5 @@
-//! Scripts for fronts, over streams that go byte by byte, are interrupted at each second call, and end or fail in the
-//! middle.
+//! Scripts for fronts, over streams that move byte by byte, are interrupted at every second call, and end or fail in
+//! the middle.
 
 ghost use Rattle.std.specs.Prelude.{◌≡◌};
 
@@ -14,20 +14,20 @@ use std::sync::Wait;
 use std::test::*;
 use std::thread::Threads;
 
-/// What a front is sent, and how far that goes.
+/// The text that is sent to a front, and the limits of its streams.
 #[derive(Clone, Copy)]
 pub(crate) struct Script {
     pub(crate) text: &'static str,
-    /// So many bytes of it can be read; then reads fail.
+    /// The number of bytes that can be read before reads fail.
     pub(crate) left: usize,
-    /// So many bytes of the replies can be written.
+    /// The number of bytes of the replies that can be written.
     pub(crate) room: usize,
     pub(crate) then: AtBrim,
-    /// Of the copies of the film's world that it asks for those are refused whose bits are set, from the lowest on.
+    /// The copies of the film's world to refuse: one bit for each request, from the lowest on.
     pub(crate) refused: u32,
 }
 
-/// A script of which nothing fails.
+/// Returns a script in which nothing fails.
 pub(crate) fn undisturbed(text: &'static str) -> Script {
     Script {
         text,
@@ -38,7 +38,7 @@ pub(crate) fn undisturbed(text: &'static str) -> Script {
     }
 }
 
-/// How a script ended, and what was answered.
+/// How a script ended, and its replies.
 #[derive(Drop)]
 pub(crate) struct Served {
     pub(crate) end: Result<End, LineEnd>,
@@ -78,7 +78,7 @@ fn serve_script<R: Wait + Threads + Sync>(
     }
 }
 
-/// What is recorded.
+/// The recording of a test.
 #[derive(Clone, Copy)]
 pub(crate) enum Tape {
     /// Nine steps that set the clock to 1, 2 and so on.
@@ -98,14 +98,14 @@ pub(crate) enum Second {
 #[derive(Clone, Copy)]
 pub(crate) struct TwoScripts {
     pub(crate) tape: Tape,
-    /// How many words the journal has room for, from 1 to 16.
+    /// The number of words for which the journal has room, from 1 to 16.
     pub(crate) words: usize,
     pub(crate) first: Script,
     pub(crate) by: Second,
     pub(crate) second: Script,
 }
 
-/// What both scripts are answered.
+/// Serves both scripts, and returns their results.
 fn serve_both<R: Wait + Threads + Sync>(
     rt: &R,
     alloc: Global,
@@ -147,7 +147,7 @@ fn film_of(alloc: Global, tape: Tape) -> Option<Film<Observed>> {
     }
 }
 
-/// What both scripts are answered, and how many words were placed.
+/// Plays both scripts, and returns their results and the number of words that were placed.
 pub(crate) fn play<R: Wait + Threads + Sync>(
     rt: &R,
     alloc: Global,

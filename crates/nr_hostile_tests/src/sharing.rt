@@ -1,4 +1,4 @@
-//! Fronts that share a journal, and a film of theirs.
+//! Fronts that share a journal, and a film for them.
 
 ghost use Rattle.std.specs.Prelude.{◌≡◌, ◌≤◌, [], IfSome};
 
@@ -11,17 +11,17 @@ use nr_snaps::{Film, Snaps};
 use std::alloc::Global;
 use std::thread::Threads;
 
-/// A front that searches alone.
+/// A front with one worker.
 pub(crate) type Lone<'f, R> = Front<'f, Observed, OneWorker<R>>;
 
-/// The film of a goroutine that waits for bytes at a socket, is woken by an event and reads them.
+/// Returns the film of a goroutine that waits for bytes at a socket, is woken by an event and reads them.
 pub(crate) fn woken(alloc: Global) -> Option<Film<Observed>> {
     let text = format!(in alloc; "{HEADER}{WAITS}").ok()?;
     let recording = read(alloc, text.as_bytes()).ok()?;
     Snaps::load(alloc, recording, 64).ok()
 }
 
-/// A front at the film's first position.
+/// Makes a front at the film's first position.
 fn front<'f, R: Threads + Sync>(
     _rt: &R,
     alloc: Global,
@@ -37,7 +37,7 @@ fn front<'f, R: Threads + Sync>(
     }
 }
 
-/// A pass that a seat of the journal gives.
+/// Enters the journal by a seat, and returns the pass.
 pub(crate) fn enter(journal: &Journal, seat: Seat) -> Option<Pass>
     requires { seat.table ≡ journal.now }
     ensures { IfSome result (λ pass. (pass.table ≡ journal.now) × (pass.pass_state.seen ≡ [])) }
@@ -48,7 +48,7 @@ pub(crate) fn enter(journal: &Journal, seat: Seat) -> Option<Pass>
     }
 }
 
-/// A front that a seat of the journal gives, at the film's first position.
+/// Makes a front with a seat of the journal, at the film's first position.
 pub(crate) fn enter_front<'f, R: Threads + Sync>(
     rt: &R,
     alloc: Global,
@@ -63,7 +63,7 @@ pub(crate) fn enter_front<'f, R: Threads + Sync>(
     front(rt, alloc, pass, film)
 }
 
-/// A journal of so many words, two fronts with the tags 0 and 1, and a third pass.
+/// Makes a journal of so many words, two fronts with the tags 0 and 1, and a third pass.
 pub(crate) fn share<'f, R: Threads + Sync>(
     rt: &R,
     alloc: Global,

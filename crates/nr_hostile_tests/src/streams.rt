@@ -1,4 +1,4 @@
-//! Streams that fail or take nothing behind each byte.
+//! Streams that fail or accept nothing after each byte.
 
 use crate::scripts::{Script, Second, Tape, TwoScripts, play, undisturbed};
 use nr_lines::{End, LineEnd};
@@ -9,7 +9,7 @@ use std::sync::Wait;
 use std::test::*;
 use std::thread::Threads;
 
-/// A script, and behind it another at the same front.
+/// Returns a script followed by another at the same front.
 fn one_behind_the_other(first: Script, second: &'static str) -> TwoScripts {
     TwoScripts {
         tape: Tape::Woken,
@@ -20,7 +20,7 @@ fn one_behind_the_other(first: Script, second: &'static str) -> TwoScripts {
     }
 }
 
-/// How many whole lines a text has, and how many bytes are behind them.
+/// Returns the number of whole lines in a text, and the number of bytes after them.
 fn lines_and_rest(text: &[u8]) -> (u64, u64) {
     let mut lines = 0u64;
     let mut rest = 0u64;
@@ -38,7 +38,7 @@ fn lines_and_rest(text: &[u8]) -> (u64, u64) {
 struct Cut {
     lines: &'static str,
     replies: &'static str,
-    /// Whether the last line is a step.
+    /// True if the last line is a step.
     steps_last: bool,
 }
 
@@ -55,7 +55,8 @@ static CUTS: [Cut; 2] = [
     },
 ];
 
-/// The replies are cut behind so many bytes: the line whose reply that hits was run, and the front goes on from there.
+/// Asserts the result if the replies are cut after so many bytes: the line whose reply was cut has run, and the front
+/// continues from there.
 fn assert_cut<R: Wait + Threads + Sync + Abort>(
     rt: &R,
     alloc: Global,
@@ -121,7 +122,7 @@ fn a_read_fails_behind_each_byte(rt: HostRuntime) -> Result<(), Fail> {
         };
         let both = one_behind_the_other(first, "info position");
         let (before, behind, placed) = play(&rt, rt.alloc(), &both).ok_or("not played")?;
-        // a line that isn't whole is no command, though it reads as one
+        // a line that isn't whole is no command, even if it reads like one
         let (replies, there, words) = if left < 8 {
             ("", "at 0 of 12 forward\n", 0)
         } else {

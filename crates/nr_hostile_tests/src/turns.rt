@@ -1,4 +1,4 @@
-//! Two fronts that take turns, and words that are no commands.
+//! Two fronts that take turns, and words that aren't commands.
 
 ghost use Rattle.std.specs.Prelude.{◌≡◌};
 ghost use Rattle.nr_journal.specs.Rule.{tag_of};
@@ -15,7 +15,7 @@ use std::cmp::Ordering;
 use std::test::*;
 use std::thread::Threads;
 
-/// What a front answered.
+/// The answer of a front.
 #[derive(Clone, Copy, Debug, PartialEq, Eq)]
 pub(crate) enum Answered {
     At(usize),
@@ -25,7 +25,7 @@ pub(crate) enum Answered {
     NothingOwed,
     Full,
     Memory,
-    /// None of these.
+    /// Any other answer.
     Otherwise,
 }
 
@@ -51,7 +51,7 @@ impl Answered {
     }
 }
 
-/// Sends a front a line.
+/// Sends a line to a front, and returns its answer.
 pub(crate) fn ask<R: Threads + Sync>(
     front: &mut Lone<'_, R>,
     journal: &Journal,
@@ -71,25 +71,25 @@ pub(crate) fn ask<R: Threads + Sync>(
     }
 }
 
-/// Which front is asked: that with tag 0, or the other one with tag 1.
+/// The front to which a line is sent: the one with tag 0, or the other one with tag 1.
 #[derive(Clone, Copy)]
 enum User {
     One,
     Other,
 }
 
-/// Lines that are sent one after the other, and what comes of them.
+/// Lines that are sent one after the other, and the expected result.
 struct Turns {
-    /// How many words the journal has room for.
+    /// The number of words for which the journal has room.
     room: usize,
-    /// Of the copies of the film's world that are asked for those are refused whose bits are set, from the lowest on.
+    /// The requested copies of the film's world to refuse: one bit for each request, from the lowest on.
     refused: u32,
     lines: &'static [(User, &'static str)],
     answers: &'static [Answered],
     words: &'static [u64],
 }
 
-/// Sends two fronts these lines.
+/// Sends these lines to two fronts, and returns the answers.
 fn ask_all<R: Threads + Sync>(
     alloc: Global,
     journal: &Journal,
@@ -111,14 +111,14 @@ fn ask_all<R: Threads + Sync>(
     Ok(answers)
 }
 
-/// What is known of a journal when two fronts have ended.
+/// The state of a journal after two fronts have ended.
 #[derive(Drop)]
 struct Ended {
-    /// How many words each has seen.
+    /// The number of words that each front has seen.
     seen: (usize, usize),
-    /// How the count of a third pass compares with the first's, and the first's with the second's.
+    /// How the third pass's number of words compares with the first's, and the first's with the second's.
     met: (Ordering, Ordering),
-    /// The words that the third pass finds.
+    /// The words that the third pass sees.
     words: Vec<u64>,
 }
 
@@ -135,7 +135,7 @@ fn end(journal: &Journal, mut one: Pass, mut other: Pass, mut third: Pass) -> Op
     })
 }
 
-/// What two fronts of a film answer, and how it ends.
+/// Lets two fronts of a film take turns, and returns their answers and the final state.
 fn take_turns_over<R: Threads + Sync>(
     rt: &R,
     alloc: Global,
@@ -256,8 +256,8 @@ static TURNS: [Turns; 5] = [
         ],
         words: &[65_794],
     },
-    // The first front's search takes a copy. The other front is refused two for that search, and places nothing then. The
-    // words are a watch and a search by tag 0, and one step by tag 1.
+    // The first front's search takes a copy. For that search, two copies are refused to the other front, which
+    // therefore places nothing. The words are a watch and a search with tag 0, and one step with tag 1.
     Turns {
         room: 8,
         refused: 0b110,
@@ -301,14 +301,14 @@ fn two_fronts_have_the_replies_of_their_order(rt: HostRuntime) -> Result<(), Fai
     Ok(())
 }
 
-/// A word with opcode 3 and the pass's tag.
+/// Returns a word with opcode 3 and the pass's tag.
 fn word_of(pass: &Pass, argument: u32) -> u64
     ensures { HasOpcode result × (tag_of result ≡ pass.now.pass_state.tag) }
 {
     3 + 256 * u64::from(pass.tag()) + 65_536 * u64::from(argument)
 }
 
-/// Offers the word of opcode 3 with argument 5.
+/// Offers the word with opcode 3 and argument 5, which isn't a command, and returns whether it was placed.
 fn offer_no_command(journal: &Journal, pass: &mut Pass) -> bool
     requires { pass.old.table ≡ journal.now }
     ensures { pass.new.table ≡ journal.now }
@@ -317,8 +317,9 @@ fn offer_no_command(journal: &Journal, pass: &mut Pass) -> bool
     matches!(journal.offer(pass, word), Offered::Placed)
 }
 
-/// A word that is no command's by tag 2, a step by the front with tag 0, such a word by tag 0, and a step by the front with
-/// tag 1: whether each such word was placed, and what the steps are answered; and how it ends.
+/// Places a word that isn't a command with tag 2, a step by the front with tag 0, another word that isn't a command
+/// with tag 0, and a step by the front with tag 1. Returns whether each such word was placed, the answers to the steps,
+/// and the final state.
 fn step_behind_over<R: Threads + Sync>(
     rt: &R,
     alloc: Global,
@@ -347,7 +348,7 @@ fn a_word_that_is_no_command_takes_a_place(rt: HostRuntime) -> Result<(), Fail> 
     let (placed, answers, ended) = step_behind_no_commands(&rt, rt.alloc()).ok_or("not played")?;
     assert_eq!(rt; placed, [true, true]);
     assert_eq!(rt; answers, [Answered::At(1), Answered::At(2)]);
-    // the first has seen all but the other's step
+    // the first front has seen everything except the other's step
     assert_eq!(rt; ended.seen, (3, 4));
     assert_eq!(rt; ended.met, (Ordering::Less, Ordering::Less));
     assert_eq!(rt;
