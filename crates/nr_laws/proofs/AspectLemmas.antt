@@ -1,4 +1,4 @@
--- What a change of a world leaves of its cells: those of all aspects but some.
+-- A change of a world leaves the cells of all aspects but some.
 use Rattle.std.proofs.Common.{◌≡◌, ℕ, ◌+◌, Bool, true, false, List, [], ◌∷◌, ◌++◌, map, length, Some, Result, Ok, Err, refl, sym, ap, subst, ◌∙◌, true≢false, zero, suc}
 use Rattle.std.specs.Prelude.{slice_get, slice_set, if◌then◌else◌, ℤ}
 use Rattle.nr_rev.specs.declared.answer.Answer.{Answer}
@@ -24,15 +24,15 @@ use Rattle.nr_rev.specs.World.{World, entries_of, with_status, with_socket, with
 use Rattle.nr_rev.proofs.ListUpdateLemmas.{slice_get-set_unseen}
 use Rattle.nr_rev.proofs.OutcomeLemmas.{Ends}
 
--- this holds of its value, unless it is refused
+-- true if the value has this property, or the step is refused
 pub record ComesTo {A : Type 0} (P : A → Type 0) (m : Result A Refusal) : Type 0 where
   pub value : (a : A) → m ≡ Ok a → P a
 
--- each cell of another aspect shows what it showed
+-- true if each cell of another aspect keeps its value
 pub record Leaves (aspects : List Aspect) (w next : World) : Type 0 where
   pub each : (c : Cell) → is_among aspects (aspect_of c) ≡ false → cell next c ≡ cell w c
 
--- a step changes cells of these aspects alone
+-- true if a step changes cells of these aspects only
 abbrev pub Changes : List Aspect → World → Result (Answer × World) Refusal → Type 0
 Changes aspects w o = ComesTo (λ (left : Answer × World). Leaves aspects w left.1) o
 
@@ -63,7 +63,7 @@ pub ComesTo-either : {A : Type 0} {P : A → Type 0} (c : Bool) {x y : Result A 
 ComesTo-either true a b = a
 ComesTo-either false a b = b
 
--- no aspect is among these and not among them
+-- an aspect can't be among these and not among them
 pub not_both : {A : Type 0} (among : Bool) → among ≡ true → among ≡ false → A
 not_both among is isnt = absurd (true≢false (sym is ∙ isnt))
 
@@ -94,7 +94,7 @@ goroutines_set aspects w goroutines may = record { each = each }
     each (Cell.Goroutine g) e = not_both _ may e
     each c e = refl
 
--- a status that is written over by itself
+-- a status that is overwritten by itself
 pub status_kept : (aspects : List Aspect) (w : World) (g : ℕ) (status : Status) → slice_get w.goroutines g ≡ Some status → Leaves aspects w (with_status g status w)
 status_kept aspects w g status at = record { each = each }
   where
@@ -123,7 +123,7 @@ firings_set aspects w firings may = record { each = each }
     each Cell.Firings e = not_both _ may e
     each c e = refl
 
--- no cell shows the free numbers, nor the next arming number
+-- no cell shows the free numbers or the next arming number
 pub free_set : (aspects : List Aspect) (w : World) (free : List ℕ) → Leaves aspects w (record w { free = free })
 free_set aspects w free = record { each = each }
   where
@@ -140,7 +140,7 @@ next_arming_set aspects w number = record { each = each }
 
 -- ---- sockets
 
--- what a change of a socket leaves of it
+-- the parts of a socket that a change leaves
 pub record SocketLeaves (aspects : List Aspect) (old new : Socket) : Type 0 where
   pub lock : is_among aspects Locks ≡ false → new.lock ≡ old.lock
   pub semaphores : is_among aspects Semaphores ≡ false → new.semaphores ≡ old.semaphores
@@ -163,7 +163,7 @@ socket_set aspects w s old new at kept = record { each = each }
     each (Cell.Shut k) e = of_value (λ x. Number (bit x.shut)) k (ap (λ shut. Number (bit shut)) (kept.shut e))
     each c e = refl
 
--- the aspects that all sockets' cells show
+-- the aspects of all cells of sockets
 pub record AreSockets (aspects : List Aspect) : Type 0 where
   pub locks : is_among aspects Locks ≡ true
   pub semaphores : is_among aspects Semaphores ≡ true
@@ -185,7 +185,7 @@ sockets_set aspects w sockets may = record { each = each }
 
 -- ---- descriptors
 
--- what a change of a descriptor leaves of it
+-- the parts of a descriptor that a change leaves
 pub record DescriptorLeaves (aspects : List Aspect) (old new : Descriptor) : Type 0 where
   pub words : is_among aspects WaitWords ≡ false → new.words ≡ old.words
   pub deadlines : is_among aspects Deadlines ≡ false → new.deadlines ≡ old.deadlines
@@ -221,12 +221,12 @@ row_set aspects w d old new at kept timers = record { each = each }
     each (Cell.Info k) e = of_value (λ x. Number (summary x)) k (ap Number (kept.info e))
     each c e = refl
 
--- a row without timers has no entry in the heap
+-- a row without timers has no heap entry
 no_entries_more : (k : ℕ) (rows : List DescriptorRow) → entries_from k (map (λ row. row.timers) (rows ++ new_row ∷ [])) ≡ entries_from k (map (λ row. row.timers) rows)
 no_entries_more k [] = refl
 no_entries_more k (row ∷ rows) = ap (λ es. entries_at k row.timers ++ es) (no_entries_more (k + 1) rows)
 
--- the aspects that all descriptors' cells show
+-- the aspects of all cells of descriptors
 pub record AreDescriptors (aspects : List Aspect) : Type 0 where
   pub words : is_among aspects WaitWords ≡ true
   pub deadlines : is_among aspects Deadlines ≡ true

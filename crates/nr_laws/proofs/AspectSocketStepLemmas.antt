@@ -1,4 +1,4 @@
--- Steps of goroutines, on locks and semaphores and of sockets change no aspect but those that their kinds may change.
+-- Steps of goroutines, on locks and semaphores and of sockets change only the aspects that their kinds may change.
 use Rattle.std.proofs.Common.{◌≡◌, ℕ, true, List, length, Option, Some, None, Result, Ok, refl}
 use Rattle.std.specs.Prelude.{slice_get, if◌then◌else◌, ◌==◌, nat_lt, nat_le}
 use Rattle.nr_rev.specs.declared.kind.Kind.{Kind}
@@ -50,7 +50,7 @@ stays_idle aspects may op w g s =
     ComesTo-bind (ComesTo-any (op socket.lock)) λ left _.
     ComesTo-ok (Leaves-then (relocked aspects w s socket left.lock may there) (status_kept aspects _ g Idle at))
 
--- one by any goroutine
+-- an operation on a lock by any goroutine
 locks_and_moves : (aspects : List Aspect) (w : World) (g s : ℕ) (socket : Socket) (status : Status) (left : LockOutcome) → is_among aspects Locks ≡ true → is_among aspects Goroutines ≡ true
     → slice_get w.sockets s ≡ Some socket → Leaves aspects w (with_status g status (with_socket s (record socket { lock = left.lock }) w))
 locks_and_moves aspects w g s socket status left may may_move at = Leaves-then (relocked aspects w s socket left.lock may at) (goroutines_set aspects _ _ may_move)

@@ -1,4 +1,4 @@
--- Each step changes no cell that its kind cannot change.
+-- Each step changes only cells that its kind can change.
 use Rattle.std.proofs.Common.{◌≡◌, false, Ok}
 use Rattle.nr_rev.specs.declared.answer.Answer.{Answer}
 use Rattle.nr_rev.specs.declared.cell.Cell.{Cell}

@@ -25,7 +25,7 @@ set_set [] i a b = refl
 set_set (x ∷ xs) zero a b = refl
 set_set (x ∷ xs) (suc i) a b = ap (λ ys. x ∷ ys) (set_set xs i a b)
 
--- the goroutines woken don't touch the rows
+-- waking goroutines doesn't change the rows
 woken_row : (gs : List ℕ) (d : ℕ) (row : DescriptorRow) (w : World) → after_wakes gs (with_row d row w) ≡ with_row d row (after_wakes gs w)
 woken_row [] d row w = refl
 woken_row (g ∷ gs) d row w = woken_row gs d row (after_wakes (g ∷ []) w)
@@ -42,7 +42,7 @@ woken_append : (gs hs : List ℕ) (w : World) → after_wakes (gs ++ hs) w ≡ a
 woken_append [] hs w = refl
 woken_append (g ∷ gs) hs w = woken_append gs hs (after_wakes (g ∷ []) w)
 
--- the world after a change of descriptor d, whose timers are these
+-- the world after a change of descriptor d, which has these timers
 abbrev changed_world : ℕ → Sides (Option Timer) → Change → World → World
 changed_world d timers change w = after_wakes change.woken (with_row d (record { descriptor = change.descriptor; timers = timers }) w)
 
@@ -109,7 +109,7 @@ changed_keeps {T = T} w d row base reads writes ioready h at is_open quiets word
     then_if_keeps (record w { next_arming = left.1 }) d row left.0 (then_if base reads (unblocked ioready Read)) writes Write ioready at is_open
     (then_if_keeps (record w { next_arming = left.1 }) d row left.0 base reads Read ioready at is_open first)
 
--- there is a timer only where it runs
+-- a timer exists only on a side that runs
 pub none_at_rest : (row : DescriptorRow) (side : Side) → RowFits row → of_side side row.descriptor.running ≡ false → of_side side row.timers ≡ None
 none_at_rest row side h rest = go (of_side side row.timers) refl
   where

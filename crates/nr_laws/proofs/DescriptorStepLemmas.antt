@@ -33,7 +33,7 @@ use Rattle.nr_rev.proofs.OutcomeLemmas.{Ends, Keeps, BothRaised, Ends-ok, Ends-m
 use Rattle.nr_laws.proofs.FreeNumberLemmas.{uncounted, free_cases}
 use Rattle.nr_laws.proofs.DescriptorTakenLemmas.{DescriptorTaken, Ends-taken}
 
--- the timers that run are stopped, and there are no others
+-- the running timers are stopped, and there are no others
 Ends-stopped : (r c : Bool) (before : Sides (Option Timer)) (n : ℕ) → (r ≡ false → before.read ≡ None) → (c ≡ false → before.write ≡ None)
     → Ends (λ left. ((side : Side) → of_side side left.0 ≡ None) × (n ≡ left.1)) (after_orders (stop_if r Read ++ stop_if c Write) (before, n))
 Ends-stopped true true before n read write = Ends-ok (each_side _ refl refl, refl)
@@ -41,7 +41,7 @@ Ends-stopped true false before n read write = Ends-ok (each_side _ refl (write r
 Ends-stopped false true before n read write = Ends-ok (each_side _ (read refl) refl, refl)
 Ends-stopped false false before n read write = Ends-ok (each_side _ (read refl) (write refl), refl)
 
--- both timers are gone, and both sequences were raised
+-- both timers are gone, and both sequences were incremented
 timers_stopped : (w : World) (d : ℕ) (old new : DescriptorRow) → WellFormed w → ((side : Side) → of_side side new.timers ≡ None) → BothRaised old.descriptor.sequences new.descriptor.sequences
     → (is_combo new.descriptor ≡ true → new.descriptor.running.write ≡ false) → (new.descriptor.closing ≡ true → new.descriptor.running ≡ twice false) → new.descriptor.fdseq < 2 ^ 64
     → ((side : Side) → IsTime (of_side side new.descriptor.deadlines)) → TimersChanged w.firings d old new w.next_arming w.next_arming
@@ -70,7 +70,7 @@ timers_stopped w d old new h none raised combo closing fdseq times =
       in_range = h.timers.in_range;
     }
 
--- an open descriptor on which nobody waits goes to the free ones
+-- an open descriptor without waiters becomes free
 freed : (w : World) (d : ℕ) (row : DescriptorRow) (fdseq : ℕ) → WellFormed w → slice_get w.descriptors d ≡ Some row → is_free_number d w.free ≡ false → row.descriptor.closing ≡ true
     → ((side : Side) → is_waited d side w.goroutines ≡ false) → fdseq < 2 ^ 64
     → WellFormed (record (with_row d (with_marks row row.descriptor.words row.descriptor.event_error fdseq) w) { free = d ∷ w.free })
@@ -138,7 +138,7 @@ freed w d row fdseq h at is_open closing nobody small =
             omega arith
         go false is a b = let e : bit (d == k) ≡ 0 = ap bit is in omega arith
 
--- a descriptor at rest begins anew
+-- the row of a descriptor that is opened again
 abbrev begun_row : DescriptorRow → ℕ → Sides ℕ → DescriptorRow
 begun_row row s sequences =
     record row {

@@ -1,4 +1,4 @@
--- A descriptor is taken, the front of the free ones or else a new one: the world stays well formed.
+-- A descriptor is taken, from the front of the free ones or else a new one: the world stays well formed.
 use Rattle.std.proofs.Common.{◌≡◌, ℕ, ◌<◌, true, ◌||◌, Option, Some, refl, subst, ◌+◌, false, [], ◌++◌, None, inr, sym, ap, ◌∙◌, arith, true≢false, lit<, ◌≤◌, List, ◌∷◌, ◌⊎◌, inl, length, length-append, All}
 use Rattle.std.specs.Prelude.{slice_get, ◌==◌, nat_lt, count_by, sum_by, option_map}
 use Rattle.nr_rev.specs.declared.sides.Side.{Side}
@@ -24,7 +24,7 @@ use Rattle.nr_laws.proofs.TimersFitMoveLemmas.{TimersFit-moved}
 use Rattle.nr_rev.proofs.OutcomeLemmas.{Ends, Ends-ok, Ends-then, Ends-refused_unless}
 use Rattle.nr_laws.proofs.FreeNumberLemmas.{unfree, free_more}
 
--- the world with a descriptor taken, and its row
+-- the world after a descriptor is taken, and the descriptor's row
 pub record DescriptorTaken (next : World) (d : ℕ) : Type 0 where
   pub fits : WellFormed next
   pub is_open : is_free_number d next.free ≡ false
@@ -81,7 +81,7 @@ popped w d free h is =
     free_d : is_free_number d w.free ≡ true
     free_d = ap (is_free_number d) is ∙ ap (λ b. b || is_free_number d free) (number_same d)
 
--- the pushed row says nothing
+-- the new row has no armed timer, and its words are nil
 new_unarmed : (k : ℕ) (side : Side) → armed_at k side new_row ≡ None
 new_unarmed k = each_side _ refl refl
 

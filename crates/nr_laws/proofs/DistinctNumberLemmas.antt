@@ -1,4 +1,4 @@
--- Numbers that are once each in a list and below n: there are n at most.
+-- A list of distinct numbers below n has at most n of them.
 use Rattle.std.proofs.Common.{◌≡◌, ℕ, ◌+◌, ◌<◌, ◌≤◌, Bool, true, false, ◌||◌, cond, nat_eq, List, [], ◌∷◌, length, All, refl, sym, ap, ◌∙◌, subst, arith}
 use Rattle.std.proofs.lemmas.Bool.{eqb-true, eq-eqb}
 use Rattle.std.proofs.lemmas.List.Sums.{sum_by-cons}
@@ -8,7 +8,7 @@ use Rattle.std.proofs.lemmas.Map.Keys.{IsDistinct-cons}
 use Rattle.std.specs.List.{AllByRecursion, IsDistinct, list_any}
 use Rattle.std.specs.Prelude.{count_by}
 
--- how often a number found_in in a list
+-- how often a number is in a list
 abbrev pub times : ℕ → List ℕ → ℕ
 times k xs = count_by (λ x. nat_eq x k) xs
 
@@ -55,7 +55,7 @@ found_in k (x ∷ xs) h =
       | false ↦ λ e. let rest = found_in k xs (ap (λ t. t || list_any (nat_eq k) xs) (sym e) ∙ h) in let more = fewer k x xs in omega (arith, rest, more)
     ]) refl
 
--- what found_in in a list of numbers below n is below n
+-- a number in a list of numbers below n is below n
 below_each : (xs : List ℕ) (n k : ℕ) → AllByRecursion (λ x. x < n) xs → 0 < times k xs → k < n
 below_each [] n k h some = absurd (omega arith)
 below_each (x ∷ xs) n k h some =
@@ -67,7 +67,7 @@ below_each (x ∷ xs) n k h some =
 pub below_each_time : (xs : List ℕ) (n k : ℕ) → All (λ x. x < n) xs → 0 < times k xs → k < n
 below_each_time xs n k h some = below_each xs n k (recursion_from_All (λ x. x < n) xs h) some
 
--- what a list is not found to have found_in nowhere in it
+-- a number that a test doesn't find in a list is nowhere in it
 pub nowhere_in : (k : ℕ) (xs : List ℕ) → list_any (nat_eq k) xs ≡ false → times k xs ≡ 0
 nowhere_in k [] h = refl
 nowhere_in k (x ∷ xs) h =
@@ -76,11 +76,11 @@ nowhere_in k (x ∷ xs) h =
       | false ↦ λ e z. times-cons k x xs ∙ ap (λ t. cond t 1 0 + times k xs) (swapped k x false e) ∙ (let rest = nowhere_in k xs z in omega (arith, rest))
     ]) refl h
 
--- numbers below n, each once, are at most n
+-- at most n distinct numbers are below n
 pub few_below : (xs : List ℕ) (n : ℕ) → ((k : ℕ) → times k xs ≤ 1) → ((k : ℕ) → 0 < times k xs → k < n) → length xs ≤ n
 few_below xs n once below = length-le_from_distinct_below xs n (distinct xs once) (λ q h. below q (found_in q xs h))
 
--- another number that is below n has room beside those that are, each once
+-- if another number is below n, there is room for it beside the distinct ones
 pub room_for : (xs : List ℕ) (n x : ℕ) → ((k : ℕ) → times k xs ≤ 1) → ((k : ℕ) → 0 < times k xs → k < n) → times x xs ≡ 0 → x < n → length xs < n
 room_for xs n x once below new within =
     let whole : length (x ∷ xs) ≤ n =

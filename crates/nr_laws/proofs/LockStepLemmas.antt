@@ -57,7 +57,7 @@ locker_owes : (s : ℕ) (side : Side) (answer : Answer) (owed : ℕ × ℕ) → 
 locker_owes s side Answer.Wait owed e = cc
 locker_owes s side _ owed e = cc
 
--- what an operation on the lock leaves of it, and the goroutine's status after it
+-- the lock after an operation on it, and the goroutine's status
 pub record Leaves (s : ℕ) (status : Status) (left : LockOutcome) : Type 0 where
   pub lock : LockFits left.lock
   pub owed : (side : Side) → IsField (of_side side left.owed)

@@ -1,4 +1,4 @@
--- What each look-up of a step finds.
+-- The results of each lookup in a step.
 use Rattle.std.proofs.Common.{◌≡◌, ℕ, true, false, ◌&&◌, List, [], ◌∷◌, Option, Some, None, Result, refl, sym, ap, ◌∙◌, zero, suc, true≢false, eq-eqb, ◌<◌, ◌≤◌}
 use Rattle.std.specs.Prelude.{slice_get, nat_lt, nat_le}
 use Rattle.nr_rev.specs.declared.sides.Side.{Side}
@@ -17,7 +17,7 @@ use Rattle.nr_laws.proofs.BoolLemmas.{both_true, neither_of}
 use Rattle.nr_rev.proofs.NumberLemmas.{below_of, most_of}
 use Rattle.nr_rev.proofs.OutcomeLemmas.{Ends, Ends-ok, Ends-refused, Ends-map, Ends-bind, Ends-then, Ends-refused_if, Ends-refused_unless, Ends-found_or}
 
--- a goroutine that isn't gone
+-- a goroutine that hasn't ended
 pub Ends-alive : (o : Option Status) → Ends (λ status. o ≡ Some status) (alive o)
 Ends-alive None = Ends-refused refl
 Ends-alive (Some Gone) = Ends-refused refl
@@ -64,14 +64,14 @@ is_place_here : (d : ℕ) (side : Side) → is_wait_at d side (Some (d, side)) �
 is_place_here d Read = ap (λ b. b && true) (eq-eqb d d refl)
 is_place_here d Write = ap (λ b. b && true) (eq-eqb d d refl)
 
--- nobody is inside where the search for a waiter finds none
+-- if the search for a waiter finds none, no goroutine is inside the wait
 pub nobody_inside : (gs : List Status) (d : ℕ) (side : Side) (g : ℕ) → is_waited d side gs ≡ false → IsInside gs g d side → ⊥
 nobody_inside [] d side g e p = cc
 nobody_inside (status ∷ gs) d side zero e p =
     true≢false (sym (ap (is_wait_at d side) p ∙ is_place_here d side) ∙ (neither_of _ _ e).0)
 nobody_inside (status ∷ gs) d side (suc g) e p = nobody_inside gs d side g (neither_of _ _ e).1 p
 
--- where a goroutine has to be
+-- the state that a step requires of a goroutine
 pub Ends-acquiring_of : (status : Status) → Ends (λ (place : ℕ × Side). status ≡ Acquiring place.0 place.1) (acquiring_of status)
 Ends-acquiring_of (Acquiring s side) = Ends-ok refl
 Ends-acquiring_of _ = Ends-refused refl

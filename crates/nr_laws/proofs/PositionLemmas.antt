@@ -1,4 +1,4 @@
--- Each position of a recording is well formed.
+-- The world at each position of a recording is well formed.
 use Rattle.std.proofs.Common.{suc, arith, ◌≡◌, ℕ, ◌<◌, List, [], ◌∷◌, Ok, Err, refl, take}
 use Rattle.std.specs.Prelude.{All}
 use Rattle.std.proofs.lemmas.List.Elements.{All-take}

@@ -1,4 +1,4 @@
--- What a status, an entry or a firing names is there, in a well-formed world.
+-- In a well-formed world, the descriptor or socket that a status, an entry or a firing names exists.
 use Rattle.std.proofs.Common.{◌≡◌, ℕ, Some, ap, ◌∙◌, get_or}
 use Rattle.std.specs.Prelude.{slice_get}
 use Rattle.nr_rev.specs.declared.sides.Side.{Side}

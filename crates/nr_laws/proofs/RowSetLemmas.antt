@@ -1,4 +1,4 @@
--- A descriptor's row is set, alone or with statuses of goroutines: the world stays well formed.
+-- A descriptor's row changes, alone or with statuses of goroutines: the world stays well formed.
 use Rattle.std.proofs.Common.{◌≡◌, ℕ, ◌+◌, false, List, Some, inl, inr, refl, sym, ap, ◌∙◌, set, length, length-set, arith, true≢false, get_or}
 use Rattle.std.proofs.lemmas.Option.{slice_get_within, get_or_from_slice_get}
 use Rattle.std.proofs.lemmas.List.Sums.{sum_by-set}
@@ -29,7 +29,7 @@ GoroutinesFit-rows gs sockets rows new free same h =
       owed = h.owed;
     }
 
--- an open descriptor's row says nothing of the free ones
+-- the row of an open descriptor doesn't concern the free ones
 pub FreeFits-open : (rows : List DescriptorRow) (free : List ℕ) (d : ℕ) (old new : DescriptorRow) → slice_get rows d ≡ Some old → is_free_number d free ≡ false → FreeFits rows free
     → FreeFits (set rows d new) free
 FreeFits-open rows free d old new at is_open h =
@@ -96,7 +96,7 @@ pub timers_changed_keeps : (w : World) (d m : ℕ) (old new : DescriptorRow) →
 timers_changed_keeps w d m old new h at is_open same change =
     row_keeps w w.goroutines w.waiters d m old new h at is_open refl h.goroutines h.queues (WaitWordsFit-rows w.goroutines w.descriptors w.waiters d old new at same h.words) change
 
--- a goroutine moves, and words of a row say so
+-- a goroutine moves, and the words of a row change with it
 pub words_and_status_keep : (w : World) (g waiters d : ℕ) (old new : Status) (row : DescriptorRow) (words : Sides WaitWord) → WellFormed w → slice_get w.goroutines g ≡ Some old
     → slice_get w.descriptors d ≡ Some row → is_free_number d w.free ≡ false → MayMove w.goroutines w.sockets w.descriptors w.free g new
     → ((s : ℕ) (side : Side) → is_queued s side (Some new) ≡ is_queued s side (Some old)) → WaitWordsFit (set w.goroutines g new) (set w.descriptors d (with_words row words)) waiters

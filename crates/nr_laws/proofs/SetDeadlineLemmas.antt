@@ -1,4 +1,4 @@
--- setdeadline keeps a world well formed: each side's timer follows, and sides that are past are unblocked.
+-- setdeadline keeps a world well formed: each side's timer is adjusted, and sides whose deadline is past are unblocked.
 use Rattle.std.proofs.Common.{lit<, pos, negsuc, ◌≡◌, ◌≢◌, ℕ, ◌+◌, ◌^◌, ◌<◌, ◌≤◌, ℤ, int_eq, Bool, true, false, not, ◌&&◌, List, [], ◌∷◌, ◌++◌, Option, Some, None, Result, Ok, Err, ◌⊎◌, inl, inr, refl, sym, ap, ap₂, subst, ◌∙◌, arith, true≢false}
 use Rattle.std.proofs.lemmas.Option.{same_Some}
 use Rattle.std.specs.Prelude.{slice_get, if◌then◌else◌, ◌≤ℤ◌, ◌-◌, nat_lt}
@@ -40,7 +40,7 @@ wants_alike Write a b e = ap (λ (x : Sides ℤ). is_positive x.write && not (is
 function_alike : (side : Side) (a b : Descriptor) → a.deadlines ≡ b.deadlines → timer_function side a ≡ timer_function side b
 function_alike side a b e = function_like side b a (combo_alike a b e)
 
--- what became of a side's timer doesn't hang on the other side
+-- a side's timer afterwards doesn't depend on the other side
 followed_alike : (side : Side) (old a b : Descriptor) (orders : List TimerOrder) → b.deadlines ≡ a.deadlines → of_side side b.running ≡ of_side side a.running
     → of_side side b.sequences ≡ of_side side a.sequences → UpdatedBy side old a orders → UpdatedBy side old b orders
 followed_alike side old a b orders d r q (TimerUpdate.Kept sequence running same, none) =
@@ -55,7 +55,7 @@ followed_alike side old a b orders d r q (TimerUpdate.Armed begun running wants,
     orders_alike x x' f f' n n' e e' e'' = cc
 followed_alike side old a b orders d r q (TimerUpdate.Stopped raised halted, stop) = (TimerUpdate.Stopped (q ∙ raised) (r ∙ halted), stop)
 
--- what the orders of a side left, where n was the next arming number and m is
+-- the timers after the orders of a side, which take the next arming number from n to m
 pub record OrdersDone (side : Side) (old new : Descriptor) (before after : Sides (Option Timer)) (n m : ℕ) : Type 0 where
   pub update : TimerUpdate side old new
   pub timer : of_side side after ≡ timer_left side old new (of_side side before) n update
@@ -97,14 +97,14 @@ Ends-update side old new before n (TimerUpdate.Stopped raised halted) =
 Ends-updated_by : (side : Side) (old new : Descriptor) (before : Sides (Option Timer)) (n : ℕ) (orders : List TimerOrder) → UpdatedBy side old new orders → OrdersEnd side old new before n orders
 Ends-updated_by side old new before n orders (update, is) = subst (OrdersEnd side old new before n) (sym is) (Ends-update side old new before n update)
 
--- a timer that is left was there before, or is left where there was none
+-- a remaining timer was there before, or would also remain if there had been none
 old_or_new : (side : Side) (old new : Descriptor) (before : Option Timer) (n : ℕ) (update : TimerUpdate side old new) (t : Timer) → timer_left side old new before n update ≡ Some t
     → (before ≡ Some t) ⊎ (timer_left side old new None n update ≡ Some t)
 old_or_new side old new before n (TimerUpdate.Kept sequence running same) t is = inl is
 old_or_new side old new before n (TimerUpdate.Armed begun running wants) t is = inr is
 old_or_new side old new before n (TimerUpdate.Stopped raised halted) t is = inr is
 
--- what goes on otherwise from the same beginning
+-- another continuation of the same beginning
 Ends-after : {A B C : Type 0} {P : B → Type 0} {Q : C → Type 0} (m : Result A Refusal) {f : A → Result B Refusal} {g : A → Result C Refusal} → Ends P (m >>= f)
     → ((a : A) → Ends P (f a) → Ends Q (g a)) → Ends Q (m >>= g)
 Ends-after (Ok a) first next = next a first
@@ -116,7 +116,7 @@ Ends-append : {P Q : Sides (Option Timer) × ℕ → Type 0} (xs ys : List Timer
 Ends-append [] ys before first next = next before (first.value before refl)
 Ends-append (x ∷ xs) ys before first next = Ends-after (after_order x before) first λ a first. Ends-append xs ys a first next
 
--- both sides' timers followed: the row's timers changed
+-- both sides' timers were adjusted: the row's timers changed
 module _ (w : World) (d : ℕ) (row : DescriptorRow) (new : Descriptor) (first last : Sides (Option Timer)) (k m : ℕ) (h : WellFormed w) (at : slice_get w.descriptors d ≡ Some row)
     (read : OrdersDone Read row.descriptor new row.timers first w.next_arming k) (write : OrdersDone Write row.descriptor new first last k m) where
   reads_apart : Read ≢ Write
@@ -145,7 +145,7 @@ module _ (w : World) (d : ℕ) (row : DescriptorRow) (new : Descriptor) (first l
   range_of Read t is = let n = read.number t is in let a = n.0 in let b = n.1 in let u = write.rises in (omega arith, omega arith)
   range_of Write t is = let n = write.number t is in let a = n.0 in let b = n.1 in let u = read.rises in (omega arith, omega arith)
 
-  -- a side whose timer was ordered anew
+  -- a side whose timer was armed anew
   begins : (side : Side) → SequenceFresh side row.descriptor new → ((t : Timer) → of_side side last ≡ Some t → (w.next_arming ≤ t.number) × (t.number < m))
       → SideTimerReplaced side row after w.next_arming m
   begins side begun number =
@@ -211,7 +211,7 @@ module _ (w : World) (d : ℕ) (row : DescriptorRow) (new : Descriptor) (first l
         in_range = write.range (read.range h.timers.in_range);
       }
 
--- the earlier of some time and the last one there is
+-- the earlier of a time and the greatest time
 min_is_time : (n : ℕ) → IsTime (int_min (pos n) (pos (2 ^ 63 - 1)))
 min_is_time n = go (nat_lt (2 ^ 63 - 1) n) refl
   where
@@ -223,7 +223,7 @@ either_time : (b : Bool) (s t : ℤ) → IsTime s → IsTime t → IsTime (if b 
 either_time true s t first second = first
 either_time false s t first second = second
 
--- a deadline is a time, set or not
+-- a deadline, set or not, is a time
 deadline_is_time : (clock t : ℤ) → pos 0 ≤ℤ clock → IsTime t → IsTime (deadline_from clock t)
 deadline_is_time (pos c) (pos k) begun is_time = either_time (is_positive (pos k)) _ (pos k) (min_is_time (c + k)) is_time
 deadline_is_time (pos c) (negsuc k) begun is_time = is_time

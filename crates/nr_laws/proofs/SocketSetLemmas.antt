@@ -1,4 +1,4 @@
--- A socket is set, alone or with a goroutine's status: the world stays well formed.
+-- A socket changes, alone or with a goroutine's status: the world stays well formed.
 use Rattle.std.proofs.Common.{◌≡◌, ℕ, List, Some, ap, ◌∙◌, length, length-set, refl, inl, inr, sym, ◌≢◌, set}
 use Rattle.std.proofs.lemmas.Option.{same_Some}
 use Rattle.std.specs.Prelude.{slice_get, ◌==◌, count_by}
@@ -14,7 +14,7 @@ use Rattle.nr_rev.proofs.ListUpdateLemmas.{slice_get-set_cases, slice_get-set_un
 use Rattle.std.specs.Option.{option_and_then}
 use Rattle.nr_laws.proofs.StatusViewLemmas.{WaitWordsFit-same}
 
--- a socket changes and goroutines with it, and its queues say their statuses
+-- a socket changes together with goroutines, and its queues match their statuses
 socket_keeps : (w : World) (gs : List Status) (s : ℕ) (old new : Socket) → WellFormed w → slice_get w.sockets s ≡ Some old → length gs ≡ length w.goroutines
     → GoroutinesFit gs w.sockets w.descriptors w.free → WaitWordsFit gs w.descriptors w.waiters
     → ((k t : ℕ) (side : Side) → t ≢ s → is_queued t side (slice_get gs k) ≡ is_queued t side (slice_get w.goroutines k))
@@ -51,14 +51,14 @@ socket_keeps w gs s old new h at as_many goroutines words elsewhere counts fits 
       clock = h.clock;
     }
 
--- a socket changes, but for its queues
+-- a socket changes, except for its queues
 pub socket_set_keeps : (w : World) (s : ℕ) (old new : Socket) → WellFormed w → slice_get w.sockets s ≡ Some old
     → ((side : Side) → (of_side side new.semaphores).queue ≡ (of_side side old.semaphores).queue) → SocketFits w.limits.buffer new → WellFormed (with_socket s new w)
 socket_set_keeps w s old new h at same fits =
     socket_keeps w w.goroutines s old new h at refl h.goroutines h.words (λ k t side apart. refl)
     (λ k side. ap (count_by (λ h. h == k)) (same side) ∙ h.queues.queued k s side old at) fits
 
--- a socket's semaphores and a goroutine's status change, and the queues say the new status
+-- a socket's semaphores and a goroutine's status change, and the queues match the new status
 pub queues_set_keeps : (w : World) (g s : ℕ) (old new : Status) (socket socket' : Socket) → WellFormed w → slice_get w.goroutines g ≡ Some old → slice_get w.sockets s ≡ Some socket
     → MayMove w.goroutines w.sockets w.descriptors w.free g new → parked_of new ≡ parked_of old → awaiting_of new ≡ awaiting_of old
     → ((k : ℕ) (side : Side) → k ≢ s → is_queued k side (Some new) ≡ is_queued k side (Some old))

@@ -1,4 +1,4 @@
--- A goroutine's status is set: the world stays well formed.
+-- A goroutine's status changes: the world stays well formed.
 use Rattle.std.proofs.Common.{◌≡◌, ◌≢◌, ℕ, ◌+◌, ◌<◌, List, Option, Some, ◌⊎◌, inl, inr, sym, ap, ◌∙◌, set, length, Bool, true, false, None, refl, subst, length-set, arith}
 use Rattle.std.specs.Prelude.{slice_get, if◌then◌else◌, ◌==◌}
 use Rattle.std.specs.Option.{option_and_then}
@@ -17,7 +17,7 @@ use Rattle.nr_rev.specs.Step.{owing}
 use Rattle.nr_rev.specs.declared.sides.Side.TheVariants.{Read, Write}
 use Rattle.nr_rev.specs.Sides.{of_side}
 
--- what a goroutine shows after g moved: g shows what its new status shows, the others what they showed
+-- the view of a goroutine after g moved: for g, that of its new status; for the others, the old one
 pub view_cases : {A : Type 0} (view : Status → Option A) (gs : List Status) (g : ℕ) (old new : Status) (k : ℕ) (a : A) → slice_get gs g ≡ Some old → HasView view (set gs g new) k a
     → ((k ≡ g) × (view new ≡ Some a)) ⊎ ((k ≢ g) × HasView view gs k a)
 view_cases view gs g old new k a at shows =
@@ -26,7 +26,7 @@ view_cases view gs g old new k a at shows =
       | inr other ↦ inr (other.0, sym (ap (option_and_then view) other.1) ∙ shows)
     ]
 
--- a view that held still holds, unless g was its goroutine
+-- a view that held still holds, unless it is that of g
 pub view_kept : {A : Type 0} (view : Status → Option A) (gs : List Status) (g : ℕ) (old new : Status) (k : ℕ) (a : A) → slice_get gs g ≡ Some old → view old ≢ Some a → HasView view gs k a
     → HasView view (set gs g new) k a
 view_kept view gs g old new k a at other shows =
@@ -35,7 +35,7 @@ view_kept view gs g old new k a at other shows =
       | inr there ↦ ap (option_and_then view) there.1 ∙ shows
     ]
 
--- what g's new status has to be for the facts to last
+-- the conditions on g's new status under which the facts stay
 pub record MayMove (gs : List Status) (sockets : List Socket) (rows : List DescriptorRow) (free : List ℕ) (g : ℕ) (new : Status) : Type 0 where
   pub is_open : (d : ℕ) (side : Side) → wait_of new ≡ Some (d, side) → IsOpen rows free d
   pub alone : (d : ℕ) (side : Side) (k : ℕ) → wait_of new ≡ Some (d, side) → k ≢ g → IsInside gs k d side → ⊥
@@ -86,7 +86,7 @@ may_leave w g new none unnamed owes_none =
       owes = λ reads writes e. absurd (none-some _ (sym owes_none ∙ e));
     }
 
--- one inside a wait may go on inside it
+-- a goroutine inside a wait may go on inside it
 pub may_stay : (w : World) (g : ℕ) (old new : Status) (place : ℕ × Side) → WellFormed w → slice_get w.goroutines g ≡ Some old → wait_of old ≡ Some place → wait_of new ≡ Some place
     → socket_named new ≡ None → owed_of new ≡ None → MayMove w.goroutines w.sockets w.descriptors w.free g new
 may_stay w g old new place h at from to unnamed owes_none =
@@ -100,7 +100,7 @@ may_stay w g old new place h at from to unnamed owes_none =
     inside : HasView wait_of w.goroutines g place
     inside = ap (option_and_then wait_of) at ∙ from
 
--- a goroutine moves to a status that the words and the queues can't tell from its own
+-- a goroutine moves to a status that the words and the queues can't distinguish from its old one
 pub moved : (w : World) (g : ℕ) (old new : Status) → WellFormed w → slice_get w.goroutines g ≡ Some old → MayMove w.goroutines w.sockets w.descriptors w.free g new → parked_of new ≡ parked_of old
     → awaiting_of new ≡ awaiting_of old → ((s : ℕ) (side : Side) → is_queued s side (Some new) ≡ is_queued s side (Some old)) → WellFormed (with_status g new w)
 moved w g old new h at may parked awaits queued =
@@ -110,7 +110,7 @@ moved w g old new h at may parked awaits queued =
     (λ s side k. slice_get-set_unseen (is_queued s side) w.goroutines g old new k at (queued s side))
     (rw length-set h.goroutines_limited)
 
--- neither parked, nor inside a wait, nor queued
+-- true if a goroutine is neither parked, nor inside a wait, nor queued
 abbrev pub is_outside : Status → Bool
 is_outside Idle = true
 is_outside (Acquiring s side) = true
@@ -153,7 +153,7 @@ owing_outside s owed = go (owed.read + owed.write == 0)
     go true = refl
     go false = refl
 
--- a goroutine that was outside comes to owe what the operation left
+-- a goroutine outside of all waits now owes the releases of the operation
 pub comes_to_owe : (w : World) (g s : ℕ) (old : Status) (owed : Sides ℕ) → WellFormed w → slice_get w.goroutines g ≡ Some old → is_outside old ≡ true → s < length w.sockets
     → ((side : Side) → IsField (of_side side owed)) → WellFormed (with_status g (owing s owed) w)
 comes_to_owe w g s old owed h at was_outside within small =

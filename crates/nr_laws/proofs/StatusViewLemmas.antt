@@ -1,4 +1,4 @@
--- Goroutines whose statuses look the same to words and queues: WordsFit and QueuesFit hold on.
+-- If the statuses of goroutines look the same to words and queues, WordsFit and QueuesFit still hold.
 use Rattle.std.proofs.Common.{◌≡◌, ℕ, ◌≤◌, List, length, Option, sym, ap, ◌∙◌}
 use Rattle.std.specs.List.{slice_get}
 use Rattle.std.specs.Option.{option_and_then}
@@ -10,7 +10,7 @@ use Rattle.nr_rev.specs.Lock.{bit}
 use Rattle.nr_rev.specs.World.{World}
 use Rattle.nr_rev.specs.WellFormed.{WellFormed, GoroutinesFit, WaitWordsFit, QueuesFit, parked_of, awaiting_of, is_queued}
 
--- each goroutine shows the same in both lists
+-- each goroutine has the same view in both lists
 abbrev pub SameView : {B : Type 0} → (Option Status → B) → List Status → List Status → Type 0
 SameView f old new = (g : ℕ) → f (slice_get new g) ≡ f (slice_get old g)
 
@@ -27,7 +27,7 @@ pub QueuesFit-same : (old new : List Status) (sockets : List Socket) → ((s : �
 QueuesFit-same old new sockets same h =
     record { queued = λ g s side socket at. h.queued g s side socket at ∙ sym (ap bit (same s side g)) }
 
--- goroutines change in no way that words or queues tell of
+-- goroutines change in no way that words or queues show
 pub unseen_set_keeps : (w : World) (gs : List Status) → WellFormed w → GoroutinesFit gs w.sockets w.descriptors w.free → SameView (option_and_then parked_of) w.goroutines gs
     → SameView (option_and_then awaiting_of) w.goroutines gs → ((s : ℕ) (side : Side) → SameView (is_queued s side) w.goroutines gs) → length gs ≤ w.limits.goroutines
     → WellFormed (record w { goroutines = gs })

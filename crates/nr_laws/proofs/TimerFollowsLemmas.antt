@@ -1,4 +1,4 @@
--- timer_follows: what it does to a side's timer when a deadline is set, and what of the descriptor it leaves as it was.
+-- timer_follows: its effect on a side's timer when a deadline is set, and the parts of the descriptor that stay.
 use Rattle.std.proofs.Common.{◌≡◌, ◌≢◌, ℕ, ℤ, cond, Result, Ok, Err, ◌+◌, ◌^◌, ◌<◌, Bool, true, false, not, ◌&&◌, List, [], ◌⊎◌, inl, inr, refl, sym, ap, subst, ◌∙◌, true≢false, int_eq}
 use Rattle.std.proofs.lemmas.Bool.Decides.{Decides-int_eq}
 use Rattle.std.specs.Prelude.{if◌then◌else◌}
@@ -18,7 +18,7 @@ use Rattle.nr_laws.proofs.BoolLemmas.{both_true, not_true}
 use Rattle.nr_laws.proofs.TimerUpdateLemmas.{TimerUpdate, Kept, Armed, Stopped, SequenceFresh, orders_of}
 use Rattle.nr_rev.proofs.SideLemmas.{each_side, of_side-with_side_same, of_side-with_side_other}
 
--- what became of a side's timer, and the orders for it
+-- a side's timer afterwards, and the orders for it
 abbrev pub UpdatedBy : Side → Descriptor → Descriptor → List TimerOrder → Type 0
 UpdatedBy side old new orders = (update : TimerUpdate side old new) × (orders ≡ orders_of side old new update)
 
@@ -28,13 +28,13 @@ same_bool_true true false e = cc
 same_bool_true false true e = cc
 same_bool_true false false e = refl
 
--- a timer may be reset where it didn't run and is wanted, or where its sequence was raised
+-- a timer may be reset if it didn't run and is needed, or if its sequence was incremented
 abbrev MayReset : Side → Descriptor → Descriptor → Type 0
 MayReset side old d =
     ((of_side side old.running ≡ false) × (of_side side d.sequences ≡ of_side side old.sequences) × (wants_timer side d ≡ true))
     ⊎ (of_side side d.sequences ≡ of_side side old.sequences + 1)
 
--- what is known of the sequence where it is armed
+-- the facts about the sequence if the timer is armed
 begun : (side : Side) (old d : Descriptor) → MayReset side old d → SequenceFresh side old d
 begun side old d (inl (stopped, same, wanted)) = inl (stopped, same)
 begun side old d (inr raised) = inr raised
@@ -54,7 +54,7 @@ reset_followed side old d may = go (wants_timer side d) refl (of_side-with_side_
     go true e runs = (Armed (begun side old d may) (runs ∙ e) ((alike side).0 ∙ e), rw ((alike side).1, e) refl)
     go false e runs = (Stopped (halted side old d may e) (runs ∙ e), rw e refl)
 
--- what a side's timer leaves of the descriptor when it follows its deadline
+-- the parts of the descriptor that stay when a side's timer is adjusted to its deadline
 pub record Frame (side : Side) (d : Descriptor) (change : Change) : Type 0 where
   pub words : change.descriptor.words ≡ d.words
   pub closing : change.descriptor.closing ≡ d.closing
@@ -65,7 +65,7 @@ pub record Frame (side : Side) (d : Descriptor) (change : Change) : Type 0 where
   pub bound : of_side side d.sequences < 2 ^ 64 → of_side side change.descriptor.sequences < 2 ^ 64
   pub woken : change.woken ≡ []
 
--- only the side's running mark and sequence may be others
+-- only the side's running flag and sequence may change
 frame : (side : Side) (d : Descriptor) (running : Sides Bool) (sequences : Sides ℕ) (orders : List TimerOrder) → ((s : Side) → s ≢ side → of_side s running ≡ of_side s d.running)
     → ((s : Side) → s ≢ side → of_side s sequences ≡ of_side s d.sequences) → (of_side side d.sequences < 2 ^ 64 → of_side side sequences < 2 ^ 64)
     → Frame side d (record { descriptor = record d { running = running; sequences = sequences }; orders = orders; woken = [] })
@@ -88,7 +88,7 @@ frame_reset : (side : Side) (d : Descriptor) (sequences : Sides ℕ) → ((s : S
     → (of_side side d.sequences < 2 ^ 64 → of_side side sequences < 2 ^ 64) → Frame side d (timer_reset side (record d { sequences = sequences }))
 frame_reset side d sequences kept bound = frame side d _ sequences _ (λ s apart. of_side-with_side_other s side _ d.running apart) kept bound
 
--- what becomes of a side's timer, and what it leaves
+-- a side's timer afterwards, and the parts that stay
 pub Ends-timer_follows : (side : Side) (old d : Descriptor) → of_side side d.sequences ≡ of_side side old.sequences → of_side side d.running ≡ of_side side old.running
     → Ends (λ change. UpdatedBy side old change.descriptor change.orders × Frame side d change) (timer_follows side old d)
 Ends-timer_follows side old d same_sequence same_running =
@@ -112,7 +112,7 @@ Ends-timer_follows side old d same_sequence same_running =
     at_rest true e stopped = (reset_followed side old d (inl (sym same_running ∙ stopped, same_sequence, e)), frame_reset side d d.sequences (λ s apart. refl) (λ b. b))
     at_rest false e stopped = ((Kept same_sequence same_running (λ runs. absurd (true≢false (sym runs ∙ sym same_running ∙ stopped))), refl), frame_quiet side d)
 
--- a deadline is set by letting both timers follow
+-- setting a deadline adjusts both timers
 following : (clock : ℤ) (mode : Mode) (t : ℤ) (old : Descriptor) → old.closing ≡ false
     → change_by_deadline clock mode t old ≡ (both_follow old (with_deadlines mode (deadline_from clock t) old) >>= λ change. Ok (expired_unblocked change))
 following clock mode t old not_closing =

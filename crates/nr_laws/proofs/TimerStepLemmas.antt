@@ -32,7 +32,7 @@ use Rattle.nr_laws.proofs.DescriptorChangeLemmas.{changed_keeps}
 use Rattle.std.proofs.lemmas.List.Edits.{length-remove}
 use Rattle.nr_rev.proofs.OutcomeLemmas.{Ends, Keeps, KeepsFor, Ends-ok, Ends-bind, Ends-then, Ends-either, Ends-certain, Ends-found_or, Ends-refused_if, Ends-refused_unless}
 
--- what was no later than the clock is no later than a later clock
+-- a time no later than the clock is no later than a later clock
 not_before : (a t c : ℤ) → int_lt t c ≡ false → a ≤ℤ c → a ≤ℤ t
 not_before a t c e h = omega (arith, ints)
 
@@ -70,7 +70,7 @@ least_is_there w e is =
     zero_more : (k : ℕ) → e.descriptor ≡ 0 + k → e.descriptor ≡ k
     zero_more k q = omega arith
 
--- a descriptor of which a side runs isn't free
+-- a descriptor with a running side isn't free
 running_open : (w : World) (d : ℕ) (row : DescriptorRow) (side : Side) → WellFormed w → slice_get w.descriptors d ≡ Some row → of_side side row.descriptor.running ≡ true
     → is_free_number d w.free ≡ false
 running_open w d row side h at runs =
@@ -124,20 +124,20 @@ past_positive : (x : ℤ) → (is_positive x && int_eq x (negsuc 0)) ≡ false
 past_positive (pos n) = and_false (is_positive (pos n))
 past_positive (negsuc n) = refl
 
--- no deadline to come is left to both sides
+-- neither side has a future deadline left
 no_combo : (row : DescriptorRow) (f : TimerFunction) → is_combo (passed row f).descriptor ≡ false
 no_combo row TimerFunction.Read = refl
 no_combo row TimerFunction.Write = past_positive row.descriptor.deadlines.read
 no_combo row TimerFunction.Both = refl
 
--- what is known of the descriptor whose firing is run
+-- the facts about the descriptor whose firing is run
 pub record MayFire (row : DescriptorRow) (f : TimerFunction) : Type 0 where
   pub fits : RowFits row
   pub function : f ≡ timer_function (side_of_function f) row.descriptor
   pub running : of_side (side_of_function f) row.descriptor.running ≡ true
   pub positive : (side : Side) → covers_side f side ≡ true → is_positive (of_side side row.descriptor.deadlines) ≡ true
 
--- the other side's write timer runs not under combo
+-- under combo, the other side's write timer doesn't run
 quiet_write : (row : DescriptorRow) → MayFire row TimerFunction.Both → row.descriptor.running.write ≡ false
 quiet_write row may = may.fits.combo (combo_of_both Read row.descriptor (sym may.function))
 
@@ -147,7 +147,7 @@ combo_off row may = never_true (is_combo row.descriptor) (λ is. true≢false (s
 read_alone : (row : DescriptorRow) → is_combo row.descriptor ≡ false → timer_function Read row.descriptor ≡ TimerFunction.Read
 read_alone row e = ap (λ b. if b then TimerFunction.Both else TimerFunction.Read) e
 
--- a side that runs, and whose timer isn't the one that goes off, is left as it was
+-- a running side whose timer isn't the one that goes off stays as it was
 record Untouched (row : DescriptorRow) (f : TimerFunction) (side : Side) : Type 0 where
   pub deadline : of_side side (past f row.descriptor.deadlines) ≡ of_side side row.descriptor.deadlines
   pub function : timer_function side (passed row f).descriptor ≡ timer_function side row.descriptor
@@ -213,7 +213,7 @@ passed_firing row f e may stale h = record { side = h.side; sequence = h.sequenc
               }
         ]
 
--- a firing leaves
+-- a firing is removed
 removed_keeps : (w : World) (i : ℕ) (e : Entry) → WellFormed w → slice_get w.firings i ≡ Some e → WellFormed (record w { firings = remove w.firings i })
 removed_keeps w i e h at =
     record {
@@ -332,7 +332,7 @@ timed row TimerFunction.Read may = ap₂ (λ x y. x && y) (may.positive Read ref
 timed row TimerFunction.Write may = ap₂ (λ x y. x && y) (may.positive Write refl) may.running
 timed row TimerFunction.Both may = ap₂ (λ x y. x && y) (ap₂ (λ x y. x && y) (may.positive Read refl) may.running) (may.positive Write refl)
 
--- a firing is stale, or its change is made
+-- a firing is stale, or its change is applied
 Ends-fired : (w : World) (i : ℕ) (entry : Entry) (row : DescriptorRow) → WellFormed w → slice_get w.firings i ≡ Some entry → slice_get w.descriptors entry.descriptor ≡ Some row
     → Ends (λ change. Keeps (fired_with entry.descriptor row change (record w { firings = remove w.firings i }))) (change_by_firing entry.timer.function entry.timer.sequence row.descriptor)
 Ends-fired w i entry row h at row_at =

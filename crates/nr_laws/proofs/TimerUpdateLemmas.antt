@@ -16,7 +16,7 @@ use Rattle.nr_rev.specs.declared.timer.TimerOrder.{TimerOrder}
 use Rattle.nr_rev.specs.declared.timer.TimerOrder.TheVariants.{Arm, Stop}
 use Rattle.nr_laws.proofs.BoolLemmas.{both_true, not_true, never_true}
 
--- a side's timer didn't run, or its sequence was raised
+-- a side's timer didn't run, or its sequence was incremented
 abbrev pub SequenceFresh : Side → Descriptor → Descriptor → Type 0
 SequenceFresh side old new = ((of_side side old.running ≡ false) × (of_side side new.sequences ≡ of_side side old.sequences)) ⊎ (of_side side new.sequences ≡ of_side side old.sequences + 1)
 
@@ -33,7 +33,7 @@ orders_of side old new (Kept sequence running same) = []
 orders_of side old new (Armed begun running wants) = Arm side (of_side side new.deadlines) (timer_function side new) (of_side side new.sequences) ∷ []
 orders_of side old new (Stopped raised halted) = Stop side ∷ []
 
--- the timer that it leaves, where n is the next arming number
+-- the timer afterwards, if n is the next arming number
 abbrev pub timer_left : (side : Side) (old new : Descriptor) → Option Timer → ℕ → TimerUpdate side old new → Option Timer
 timer_left side old new before n (Kept sequence running same) = before
 timer_left side old new before n (Armed begun running wants) = Some (record { due = of_side side new.deadlines; number = n; function = timer_function side new; sequence = of_side side new.sequences })
@@ -64,7 +64,7 @@ entry_fits side old new before n timer (Armed begun running wants) h is =
     (record { sequence = refl; running = running; positive = wanted_positive side new wants; due = refl; function = refl })
 entry_fits side old new before n timer (Stopped raised halted) h is = absurd (none-some _ is)
 
--- under combo both deadlines are to come
+-- under combo, both deadlines are in the future
 pub combo_positive : (d : Descriptor) → is_combo d ≡ true → (s : Side) → is_positive (of_side s d.deadlines) ≡ true
 combo_positive d e s = go s
   where
@@ -78,7 +78,7 @@ combo_positive d e s = go s
     go Read = parts.0
     go Write = ap is_positive (sym equal) ∙ parts.0
 
--- under combo both deadlines are one time
+-- under combo, both deadlines are the same time
 combo_same : (d : Descriptor) → is_combo d ≡ true → (a b : Side) → of_side a d.deadlines ≡ of_side b d.deadlines
 combo_same d e = go
   where
@@ -99,7 +99,7 @@ combo_of_both Read d e = go (is_combo d) e
     go false e = cc
 combo_of_both Write d e = cc
 
--- a function covers its own side alone, or is both
+-- a function covers only its own side, or both
 pub covered : (f : TimerFunction) (s side : Side) → side ≡ side_of_function f → covers_side f s ≡ true → (s ≡ side) ⊎ (f ≡ TimerFunction.Both)
 covered TimerFunction.Both s side e c = inr refl
 covered TimerFunction.Read Read side e c = inl (sym e)
@@ -107,13 +107,13 @@ covered TimerFunction.Read Write side e c = cc
 covered TimerFunction.Write Read side e c = cc
 covered TimerFunction.Write Write side e c = inl (sym e)
 
--- a function covers the side that goes with it
+-- a function covers the side that belongs to it
 pub own_side : (f : TimerFunction) (side : Side) → side ≡ side_of_function f → covers_side f side ≡ true
 own_side TimerFunction.Read side e = ap (covers_side TimerFunction.Read) e
 own_side TimerFunction.Write side e = ap (covers_side TimerFunction.Write) e
 own_side TimerFunction.Both side e = refl
 
--- what a side's deadline is, it is of each side that its timer's function covers
+-- a fact about a side's deadline holds for each side that its timer's function covers
 pub due_of_each : (t : ℤ) (f : TimerFunction) (s side : Side) (d : Descriptor) → t ≡ of_side side d.deadlines → side ≡ side_of_function f → covers_side f s ≡ true
     → (f ≡ TimerFunction.Both → is_combo d ≡ true) → t ≡ of_side s d.deadlines
 due_of_each t f s side d is same covers combo =
@@ -162,7 +162,7 @@ firing_fits e old new (Stopped raised halted) h =
     let most = h.sequence in
     record { side = h.side; sequence = omega arith; due = h.due; current = λ now. absurd (omega arith) }
 
--- no firing is current where the timer was armed anew or stopped
+-- no firing is current if the timer was armed anew or stopped
 pub none_current : (e : Entry) (old new : Descriptor) → SequenceFresh e.side old new → FiringFits old e → e.timer.sequence ≢ of_side e.side new.sequences
 none_current e old new begun h now =
     elim begun [
@@ -170,7 +170,7 @@ none_current e old new begun h now =
       | inr raised ↦ let most = h.sequence in omega arith
     ]
 
--- under combo no timer of the write side runs
+-- under combo, no timer of the write side runs
 pub combo_fits : (old new : Descriptor) → TimerUpdate Write old new → (is_combo old ≡ true → old.running.write ≡ false) → is_combo new ≡ true → new.running.write ≡ false
 combo_fits old new (Kept sequence running same) h combo = running ∙ never_true old.running.write (λ e. true≢false (sym e ∙ h (sym (same e).1 ∙ combo)))
 combo_fits old new (Armed begun running wants) h combo =

@@ -1,4 +1,4 @@
--- TimersFit holds on where sequences, deadlines and timers of a descriptor change together.
+-- TimersFit still holds after sequences, deadlines and timers of a descriptor change together.
 use Rattle.std.proofs.Common.{◌≡◌, ◌≢◌, ℕ, ◌^◌, ◌<◌, ◌≤◌, List, Option, Some, None, ◌⊎◌, inl, inr, refl, sym, ap, subst, ◌∙◌, set, arith}
 use Rattle.std.proofs.lemmas.Option.{same_Some}
 use Rattle.std.specs.Prelude.{slice_get, option_map}
@@ -16,7 +16,7 @@ pub record SideTimerKept (side : Side) (old new : DescriptorRow) : Type 0 where
   pub timer : of_side side new.timers ≡ of_side side old.timers
   pub sequence : of_side side new.descriptor.sequences ≡ of_side side old.descriptor.sequences
 
--- a side of which no firing is current any more, and whose timer, if any, has a new number
+-- a side that has no current firing any more, and whose timer, if any, has a new number
 pub record SideTimerReplaced (side : Side) (old new : DescriptorRow) (n m : ℕ) : Type 0 where
   pub stale : (e : Entry) → e.side ≡ side → FiringFits old.descriptor e → e.timer.sequence ≢ of_side side new.descriptor.sequences
   pub number : (timer : Timer) → of_side side new.timers ≡ Some timer → (n ≤ timer.number) × (timer.number < m)
@@ -46,14 +46,14 @@ armed_names rows firings k s e is = go (slice_get rows k) refl is
     go None at is = cc
     go (Some row) at is = let n = named row (of_side s row.timers) refl is in (row, at, n.0, n.1, n.2)
 
--- a timer that is there has a number given out before
+-- an existing timer has a number that was assigned before
 pub old_number : (rows : List DescriptorRow) (firings : List Entry) (n d : ℕ) (row : DescriptorRow) (side : Side) (timer : Timer) → slice_get rows d ≡ Some row → of_side side row.timers ≡ Some timer
     → TimersFit rows firings n → timer.number < n
 old_number rows firings n d row side timer at is h =
     h.armed_before (ArmedAt d side) (record { descriptor = d; side = side; timer = timer })
     (ap (option_and_then (armed_at d side)) at ∙ ap (option_map (λ (t : Timer). record { descriptor = d; side = side; timer = t })) is)
 
--- no timer changes, nor any sequence
+-- neither timers nor sequences change
 pub timers_unchanged : (rows : List DescriptorRow) (firings : List Entry) (n d : ℕ) (old new : DescriptorRow) → slice_get rows d ≡ Some old → new.timers ≡ old.timers
     → new.descriptor.sequences ≡ old.descriptor.sequences → RowFits new → ((i : ℕ) (e : Entry) → slice_get firings i ≡ Some e → e.descriptor ≡ d → FiringFits old.descriptor e
     → FiringFits new.descriptor e) → TimersFit rows firings n → TimersChanged firings d old new n n
@@ -68,7 +68,7 @@ timers_unchanged rows firings n d old new at timers sequences fits firing h =
       in_range = h.in_range;
     }
 
--- what is known of a place after the change
+-- the facts about a place after the change
 pub record PlaceKept (rows after : List DescriptorRow) (firings : List Entry) (k : ℕ) (s : Side) : Type 0 where
   pub is_at : (e : Entry) → timer_at after firings (ArmedAt k s) ≡ Some e → timer_at rows firings (ArmedAt k s) ≡ Some e
   pub current : (e : Entry) → e.descriptor ≡ k → e.side ≡ s → IsCurrent after e → IsCurrent rows e
@@ -141,7 +141,7 @@ module _ (rows : List DescriptorRow) (firings : List Entry) (n m d : ℕ) (old n
   places_agree : (k k' : ℕ) (s s' : Side) → k ≡ k' → s ≡ s' → ArmedAt k s ≡ ArmedAt k' s'
   places_agree k k' s s' e f = cc
 
-  -- no armed entry and no firing are both current
+  -- no armed entry and firing are both current
   none_both : (k : ℕ) (s : Side) (j : ℕ) (e f : Entry) → timer_at after firings (ArmedAt k s) ≡ Some e → slice_get firings j ≡ Some f → e.descriptor ≡ f.descriptor → e.side ≡ f.side
       → IsCurrent after e → IsCurrent after f → ArmedAt k s ≡ FiringAt j
   none_both k s j e f p q same_d same_side e_now f_now =

@@ -1,4 +1,4 @@
--- TimersFit holds on where entries and firings move to other places: one is removed, or goes off.
+-- TimersFit still holds after entries and firings move to other places: one is removed, or goes off.
 use Rattle.std.proofs.Common.{◌≡◌, ◌≢◌, ℕ, zero, suc, Bool, true, false, List, [], ◌∷◌, ◌++◌, Option, Some, None, ◌⊎◌, inl, inr, refl, sym, ap, subst, ◌∙◌, set, length, arith}
 use Rattle.std.proofs.lemmas.Option.{none-some}
 use Rattle.std.specs.Prelude.{slice_get, if◌then◌else◌, option_map, remove}
@@ -20,7 +20,7 @@ use Rattle.nr_laws.proofs.TimerUpdateLemmas.{covered, combo_positive, combo_of_b
 use Rattle.nr_rev.proofs.SideLemmas.{other_side, of_side-with_side_same, of_side-with_side_other}
 use Rattle.nr_rev.specs.WellFormed.{TimerPlace, ArmedAt, FiringAt, timer_at, armed_at, IsCurrent}
 
--- each entry was somewhere before, no two at one place
+-- each entry was at a place before, and no two at the same place
 pub TimersFit-moved : (rows rows' : List DescriptorRow) (firings firings' : List Entry) (n : ℕ) (Was : TimerPlace → TimerPlace → Type 0)
     → ((p : TimerPlace) (e : Entry) → timer_at rows' firings' p ≡ Some e → (q : TimerPlace) × Was p q × (timer_at rows firings q ≡ Some e))
     → ((p p' q q' : TimerPlace) → Was p q → Was p' q' → q ≡ q' → p ≡ p') → ((p : TimerPlace) (e : Entry) → timer_at rows' firings' p ≡ Some e → IsCurrent rows' e → IsCurrent rows e)
@@ -44,7 +44,7 @@ TimersFit-moved rows rows' firings firings' n Was was once current rows_fit firi
       in_range = h.in_range;
     }
 
--- the place in a list of what is at j once the i-th is gone
+-- the place in a list of the item at j, after the i-th is removed
 abbrev pub skip : ℕ → ℕ → ℕ
 skip zero j = suc j
 skip (suc i) zero = zero
@@ -68,7 +68,7 @@ skip_once (suc i) zero (suc k) e = absurd (omega arith)
 skip_once (suc i) (suc j) zero e = absurd (omega arith)
 skip_once (suc i) (suc j) (suc k) e = ap suc (skip_once i j k (omega arith))
 
--- the i-th firing is gone
+-- the i-th firing is removed
 abbrev WasBefore : ℕ → TimerPlace → TimerPlace → Type 0
 WasBefore i (ArmedAt d side) q = q ≡ ArmedAt d side
 WasBefore i (FiringAt j) q = q ≡ FiringAt (skip i j)
@@ -136,7 +136,7 @@ function_side Read d = go (is_combo d)
     go true = refl
     go false = refl
 
--- an entry that leaves the heap is a firing that fits
+-- an entry that leaves the heap becomes a firing that fits
 FiringFits-popped : (row : DescriptorRow) (e : Entry) → RowFits row → of_side e.side row.timers ≡ Some e.timer → FiringFits row.descriptor e
 FiringFits-popped row e h is =
     let fits : EntryFits row.descriptor e.side e.timer = h.entries e.side e.timer is in

@@ -115,7 +115,7 @@ arrive_sound w s bytes h =
     let room : length bytes ≤ room_of socket.buffers.read = most_of _ _ fits in
     Ends-ok (rebuffered w s socket Read (socket.buffers.read.bytes ++ bytes) h at (λ before. rw length-append (omega arith)))
 
--- a mark of a socket is set
+-- a flag of a socket is set
 remarked : (w : World) (s : ℕ) (socket : Socket) (peer_closed shut : Bool) → WellFormed w → slice_get w.sockets s ≡ Some socket
     → WellFormed (with_socket s (record socket { peer_closed = peer_closed; shut = shut }) w)
 remarked w s socket peer_closed shut h at =
@@ -141,7 +141,7 @@ sysread_sound w g s n h =
     Ends-then (Ends-sized n w) λ _.
     Ends-ok (rebuffered w s socket Read (drop n socket.buffers.read.bytes) h at (λ before. rw length-drop (omega arith)))
 
--- the output takes no more than there is room for
+-- the output takes no more than it has room for
 pub output_room_most : (shut : Bool) (output : Buffer) → output_room shut output ≤ room_of output
 output_room_most true output = omega arith
 output_room_most false output = omega arith

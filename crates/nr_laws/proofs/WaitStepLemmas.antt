@@ -102,7 +102,7 @@ pollreset_sound w g d side h =
     Ends-then (Ends-refused_if ((check side row.descriptor == 0) && is_waited d side w.goroutines) _ refl) λ nobody.
     Ends-ok (reset w d side row _ h at is_open nobody)
 
--- with code 0 the goroutine enters
+-- with code 0, the goroutine enters the wait
 enters : (w : World) (g d : ℕ) (side : Side) (zero : Bool) → WellFormed w → slice_get w.goroutines g ≡ Some Idle → IsOpen w.descriptors w.free d → (zero && is_waited d side w.goroutines) ≡ false
     → WellFormed (if zero then with_status g (Entering d side) w else w)
 enters w g d side true h at is_open nobody = entered w g d side h at is_open nobody
@@ -129,7 +129,7 @@ arms w g d side row Ready h at row_at is =
 arms w g d side row WaitWord.Wait h at row_at is = Ends-refused refl
 arms w g d side row (Held k) h at row_at is = Ends-refused refl
 
--- a step of a goroutine that has to be at a place of a wait
+-- a step that requires a goroutine to be at a place of a wait
 at_place : (status : ℕ → Side → Status) (place_of : Status → Result (ℕ × Side) Refusal) (rest : ℕ → Side → DescriptorRow → Outcome) (w : World) (g : ℕ)
     → ((s : Status) → Ends (λ place. s ≡ status place.0 place.1) (place_of s))
     → ((d : ℕ) (side : Side) (row : DescriptorRow) → slice_get w.goroutines g ≡ Some (status d side) → slice_get w.descriptors d ≡ Some row → Keeps (rest d side row))

@@ -1,4 +1,4 @@
--- A descriptor's words, event error or fdseq change: which words are left, and that its timers go unchanged.
+-- A descriptor's words, event error or fdseq change: the words afterwards, and that its timers don't change.
 use Rattle.std.proofs.Common.{◌≡◌, ◌≢◌, ℕ, ◌^◌, ◌<◌, Bool, List, Some, ◌⊎◌, inl, inr, refl, sym, ap, ◌∙◌, set}
 use Rattle.std.proofs.lemmas.Option.{same_Some}
 use Rattle.std.specs.Prelude.{slice_get, option_map}
@@ -17,11 +17,11 @@ use Rattle.nr_rev.proofs.ListUpdateLemmas.{slice_get-set_cases, slice_get-set_he
 abbrev pub with_words : DescriptorRow → Sides WaitWord → DescriptorRow
 with_words row words = record row { descriptor = record row.descriptor { words = words } }
 
--- the row with other words and marks
+-- the row with other words and flags
 abbrev pub with_marks : DescriptorRow → Sides WaitWord → Bool → ℕ → DescriptorRow
 with_marks row words error fdseq = record row { descriptor = record row.descriptor { words = words; event_error = error; fdseq = fdseq } }
 
--- words, event error and fdseq say nothing of timers
+-- words, event error and fdseq don't concern timers
 pub marks_keep_timers : (rows : List DescriptorRow) (firings : List Entry) (n d : ℕ) (row : DescriptorRow) (words : Sides WaitWord) (error : Bool) (fdseq : ℕ) → slice_get rows d ≡ Some row
     → fdseq < 2 ^ 64 → TimersFit rows firings n → TimersChanged firings d row (with_marks row words error fdseq) n n
 marks_keep_timers rows firings n d row words error fdseq at small h =
@@ -58,7 +58,7 @@ pub words_keep_timers : (rows : List DescriptorRow) (firings : List Entry) (n d 
 words_keep_timers rows firings n d row words at h =
     marks_keep_timers rows firings n d row words row.descriptor.event_error row.descriptor.fdseq at (h.entries_fit d row at).fdseq h
 
--- a word of the changed row is a new one, any other an old one
+-- a word of the changed row is a new one, each other word an old one
 word_cases : (rows : List DescriptorRow) (d : ℕ) (row : DescriptorRow) (words : Sides WaitWord) (k : ℕ) (side : Side) (word : WaitWord) → slice_get rows d ≡ Some row
     → HasWaitWord (set rows d (with_words row words)) k side word → ((k ≡ d) × (of_side side words ≡ word)) ⊎ ((k ≢ d) × HasWaitWord rows k side word)
 word_cases rows d row words k side word at has =

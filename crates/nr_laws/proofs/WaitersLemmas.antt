@@ -1,4 +1,4 @@
--- How many goroutines the words of a well-formed world can hold.
+-- The number of goroutines that the words of a well-formed world can hold.
 use Rattle.std.proofs.Common.{◌*◌, ◌≤◌, List, [], ◌∷◌, length, arith}
 use Rattle.std.proofs.lemmas.List.Sums.{sum_by-cons}
 use Rattle.std.specs.Prelude.{Bool, true, false, sum_by}

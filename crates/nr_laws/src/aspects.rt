@@ -1,4 +1,4 @@
-//! Which cells a step leaves alone.
+//! The cells that a step doesn't change.
 
 ghost use Rattle.std.specs.Prelude.{false, ◌≡◌, Ok};
 ghost use Rattle.nr_rev.specs.declared.answer.Answer.{Answer};

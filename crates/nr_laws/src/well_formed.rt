@@ -1,4 +1,4 @@
-//! Well-formed worlds, and what keeps them so.
+//! The invariant of worlds, and the steps that preserve it.
 
 ghost use Rattle.std.specs.Prelude.{All, ◌≡◌, ◌≢◌, ◌⊎◌, ℕ, Ok, Err, slice_get, Some, ◌<◌};
 ghost use Rattle.nr_rev.specs.declared.answer.Answer.{Answer};
@@ -18,12 +18,12 @@ ghost use Rattle.nr_rev.specs.Step.{outcome};
 ghost use Rattle.nr_rev.specs.Auxiliary.Step.{IsTimely};
 ghost use Rattle.nr_rev.specs.WellFormed.{WellFormed, HasWaitWord, IsInside, HasView, socket_named, TimerPlace, timer_at};
 
-/// The world that a recording begins with.
+/// The first world of a recording is well formed.
 pub fn empty_world_fits()
     ensures { (limits : Limits) → 0 < limits.goroutines → WellFormed (empty_world limits) }
 {}
 
-/// A step leaves a well-formed world well formed. Its time has 64 bits, as its type says.
+/// A step leaves a well-formed world well formed. The time in the step has 64 bits, as its type says.
 pub fn steps_keep_well_formedness()
     ensures { (w : World) (step : Step) (answer : Answer) (next : World)
         → IsTimely step → WellFormed w → outcome w step ≡ Ok (answer, next) → WellFormed next }
@@ -34,13 +34,14 @@ pub fn no_step_finds_corruption()
     ensures { (w : World) (step : Step) → WellFormed w → outcome w step ≢ Err CorruptedDescriptor }
 {}
 
-/// Each position of a recording is well formed.
+/// The world at each position of a recording is well formed.
 pub fn positions_are_well_formed()
     ensures { (r : Recording) (n : ℕ) → 0 < r.limits.goroutines → All IsTimely r.steps
         → WellFormed (world_at r n) }
 {}
 
-/// Words at the places where a goroutine takes them up: nil or ready at blockarm, and none that holds a goroutine at blockswap.
+/// The words that a goroutine finds in a wait: nil or ready at blockarm, and no word that holds a goroutine at
+/// blockswap.
 pub fn words_where_taken_up()
     ensures arm { (w : World) (g d : ℕ) (side : Side) (word : WaitWord) → WellFormed w
         → slice_get w.goroutines g ≡ Some (Entering d side)
@@ -50,7 +51,7 @@ pub fn words_where_taken_up()
         → ¬ HasWaitWord w.descriptors d side (Held k) }
 {}
 
-/// What a status, a heap entry or a firing names was made, so no look-up of it is refused.
+/// The descriptor or socket that a status, a heap entry or a firing names exists, so looking it up never fails.
 pub fn what_is_named_is_there()
     ensures place { (w : World) (g d : ℕ) (side : Side) → WellFormed w
         → IsInside w.goroutines g d side

@@ -1,4 +1,4 @@
--- Where marks hit.
+-- The positions at which marks hit.
 use Rattle.std.specs.Prelude.{ℕ, ◌+◌, ◌-◌, ◌==◌, Bool, false, not, List, slice_get, map, filter, Option, Some, None, option_map}
 use Rattle.std.specs.Int.NonZero.{non_zero_u32_get}
 use Rattle.nr_rev.specs.Cell.{cell, same_value}
@@ -15,12 +15,12 @@ use Rattle.nr_marks.specs.declared.mark.Mark.TheVariants as mark
 use Rattle.nr_marks.specs.declared.mark.NextStep.{NextStep}
 use Rattle.nr_marks.specs.Marks.{NumberedMark}
 
--- A break names a step by its kind, or by its number.
+-- True if a break names a step, by its kind or by its number.
 abbrev pub names : Break → NextStep → Bool
 names (break.Kind kind) step = same_kind kind step.kind
 names (break.Step number) step = non_zero_u32_get number == step.number
 
--- A break hits where it names the step that comes next.
+-- True if a break names the next step.
 abbrev pub break_hits : Break → Option NextStep → Bool
 break_hits wanted None = false
 break_hits wanted (Some step) = names wanted step
@@ -31,15 +31,15 @@ watched w (mark.Break wanted) = Absent
 watched w (mark.TemporaryBreak wanted) = Absent
 watched w (mark.Watch c) = cell w c
 
--- A break hits where it names the step that comes next, temporary or not. A watch hits where its
--- cell has another value in this world than in the one before. A cell that isn't there has a value
--- of its own.
+-- True if a mark hits. A break, temporary or not, hits if it names the next step. A watch hits if
+-- its cell has another value in this world than in the one before. An absent cell has a value of
+-- its own.
 abbrev pub hits_by : CellValue → CellValue → Option NextStep → Mark → Bool
 hits_by before now next (mark.Break wanted) = break_hits wanted next
 hits_by before now next (mark.TemporaryBreak wanted) = break_hits wanted next
 hits_by before now next (mark.Watch c) = not (same_value before now)
 
--- a mark hits between two worlds
+-- true if a mark hits between two worlds
 abbrev pub mark_hits : World → World → Option NextStep → Mark → Bool
 mark_hits before after next mark = hits_by (watched before mark) (watched after mark) next mark
 
@@ -48,16 +48,16 @@ abbrev pub hits_between : World → World → Option NextStep → List NumberedM
 hits_between before after next marks =
     map (λ m. m.number) (filter (λ m. mark_hits before after next m.item) marks)
 
--- the step of this number, counted from 1, as breaks see it
+-- the step with this number, counted from 1, as breaks see it
 abbrev pub step_numbered : ℕ → Step → NextStep
 step_numbered n step = record { number = n; kind = kind_of step }
 
--- a step as the one that comes next at a position
+-- a step as the next one at a position
 abbrev pub numbered : ℕ → Option Step → Option NextStep
 numbered p step = option_map (step_numbered (p + 1)) step
 
--- Which marks hit at position p of a recording. Before position 0 nothing has changed, so no watch
--- hits there.
+-- The marks that hit at position p of a recording. Before position 0 nothing has changed, so no
+-- watch hits there.
 abbrev pub hits_at : Recording → List NumberedMark → ℕ → List ℕ
 hits_at r marks p =
     hits_between (world_at r (p - 1)) (world_at r p) (numbered p (slice_get r.steps p)) marks

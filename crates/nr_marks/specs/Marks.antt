@@ -1,4 +1,4 @@
--- The marks, what is answered where one is made or deleted, and what a stop leaves of them.
+-- The marks, the results of making and deleting one, and the marks after a stop.
 use Rattle.std.specs.Prelude.{ℕ, ◌+◌, ◌==◌, ◌&&◌, Bool, true, false, not, List, Result, Ok, Err, if◌then◌else◌}
 use Rattle.std.specs.List.{list_any}
 use Rattle.nr_marks.specs.Numbered.{NumberedItems, is_full, is_present, kept_by}
@@ -8,40 +8,40 @@ use Rattle.nr_marks.specs.declared.marks.MarkFault.{MarkFault}
 use Rattle.nr_marks.specs.declared.marks.MarkFault.TheVariants.{NoSuchMark, MarksFull}
 use Rattle.nr_marks.specs.declared.numbered.Numbered.{Numbered}
 
--- a mark, with its number
+-- a mark and its number
 abbrev pub NumberedMark : Type 0
 NumberedMark = Numbered Mark
 
--- the marks, and how many were ever made
+-- the marks, and the number of those ever made
 abbrev pub MarkList : Type 0
 MarkList = NumberedItems Mark
 
--- What making a mark answers: its number, the next one.
+-- The result of making a mark: its number, the next one.
 abbrev pub next_number : MarkList → Result ℕ MarkFault
 next_number table = if is_full table then Err MarksFull else Ok (table.made + 1)
 
--- What deleting a mark answers.
+-- The result of deleting a mark.
 abbrev pub mark_deletion : ℕ → MarkList → Result (Unit {0}) MarkFault
 mark_deletion number table = if is_present number table then Ok tt else Err NoSuchMark
 
--- The mark is gone after the first stop where it hits.
+-- True if the mark is deleted after the first stop at which it hits.
 abbrev pub is_temporary : Mark → Bool
 is_temporary (TemporaryBreak wanted) = true
 is_temporary _ = false
 
--- The mark is a watchpoint. Worlds decide where it hits; of a breakpoint, the steps alone do.
+-- True for a watchpoint, which hits depending on worlds; a breakpoint depends on steps only.
 abbrev pub is_watch : Mark → Bool
 is_watch (Watch c) = true
 is_watch _ = false
 
--- one of the marks is a watchpoint
+-- true if one of the marks is a watchpoint
 abbrev pub any_watch : List NumberedMark → Bool
 any_watch marks = list_any (λ m. is_watch m.item) marks
 
--- A mark is gone after a stop where the marks with these numbers hit.
+-- True if a mark is deleted at a stop at which the marks with these numbers hit.
 abbrev pub goes : List ℕ → NumberedMark → Bool
 goes hits m = is_temporary m.item && list_any (λ number. number == m.number) hits
 
--- What a stop leaves where the marks with these numbers hit: all but the temporary ones among them.
+-- The marks after a stop at which these marks hit: all but the temporary ones among those.
 abbrev pub after_stop : List ℕ → MarkList → MarkList
 after_stop hits table = kept_by (λ m. not (goes hits m)) table

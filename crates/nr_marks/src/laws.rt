@@ -11,7 +11,7 @@ ghost use Rattle.nr_marks.specs.Hit.{hits_at};
 ghost use Rattle.nr_marks.specs.declared.mark.Mark.TheVariants.{Watch};
 ghost use Rattle.nr_marks.specs.declared.numbered.TheConstants.{MOST_NUMBERED};
 
-/// By `==`, by which watches and breaks hit, just equal values and kinds are the same.
+/// `==`, by which watches and breaks hit, is true of equal values and equal kinds only.
 pub fn just_equals_are_the_same()
     ensures values { (a b : CellValue) → (same_value a b ≡ true) ↔ (a ≡ b) }
     ensures kinds { (a b : Kind) → (same_kind a b ≡ true) ↔ (a ≡ b) }
@@ -23,7 +23,7 @@ pub fn no_watch_hits_at_the_start()
         → hits_at r (record { number = number; item = Watch c } ∷ []) 0 ≡ [] }
 {}
 
-/// There are at most 64 marks at once.
+/// At most 64 marks exist at once.
 pub fn the_numbers()
     ensures numbered { MOST_NUMBERED ≡ 64 }
 {}

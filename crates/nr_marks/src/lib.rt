@@ -1,4 +1,4 @@
-//! Marks: the breakpoints and watchpoints of a debugger, by number, and where they hit.
+//! Marks: the numbered breakpoints and watchpoints of a debugger, and the positions at which they hit.
 #![tactic(auto)]
 
 pub mod laws;

@@ -1,4 +1,4 @@
-//! What marks a position, and whether it hits.
+//! Marks, and whether one hits at a position.
 
 ghost use Rattle.std.specs.Prelude.{◌≡◌, ◌+◌, ◌<◌, ◌^◌};
 ghost use Rattle.std.specs.Option.{option_copied};
@@ -8,28 +8,28 @@ ghost use Rattle.nr_marks.specs.Marks.{is_temporary, is_watch};
 use nr_rev::{Cell, CellValue, Kind, Step, Worlds};
 use std::num::NonZeroU32;
 
-/// What a breakpoint names.
+/// The steps that a breakpoint names.
 #[derive(Clone, Copy, Debug, PartialEq, Eq)]
 pub enum Break {
     /// Each step of this kind.
     Kind(Kind),
-    /// The step of this number, counted from 1.
+    /// The step with this number, counted from 1.
     Step(NonZeroU32),
 }
 
-/// What stops a debugger that continues, after GDB's `break`, `tbreak` and `watch`.
+/// A mark, which stops a debugger that continues, after GDB's `break`, `tbreak` and `watch`.
 #[derive(Clone, Copy, Debug, PartialEq, Eq)]
 pub enum Mark {
     /// A breakpoint: stops before each step that it names.
     Break(Break),
-    /// A temporary breakpoint: stops as one that lasts, and is gone after the first stop where it hits.
+    /// A temporary breakpoint: stops as a breakpoint does, and is deleted after the first stop at which it hits.
     TemporaryBreak(Break),
-    /// A watchpoint: stops after each step that gives the cell another value. A cell that is not there has a value of
-    /// its own, so a step that makes it stops too.
+    /// A watchpoint: stops after each step that changes the value of the cell. An absent cell has a value of its own,
+    /// so a step that makes it present stops too.
     Watch(Cell),
 }
 
-// What an unused place of a list holds.
+// The value of an unused place in a list.
 impl Default for Mark {
     fn default() -> Mark {
         Mark::Watch(Cell::Clock)
@@ -39,14 +39,14 @@ impl Default for Mark {
 /// The step that comes next at a position.
 #[derive(Clone, Copy, Debug, PartialEq, Eq)]
 pub struct NextStep {
-    /// Its number, counted from 1: one more than the position.
+    /// The step's number, counted from 1: one more than the position.
     pub number: usize,
-    /// Its kind.
+    /// The step's kind.
     pub kind: Kind,
 }
 
 impl NextStep {
-    /// The step of this number, counted from 1.
+    /// Makes the next step from its number, counted from 1.
     pub fn of(number: usize, step: &Step) -> NextStep
         ensures { result ≡ step_numbered number step.now }
     {
@@ -56,7 +56,7 @@ impl NextStep {
         }
     }
 
-    /// The step that comes next at a position, if one does.
+    /// Returns the step that comes next at a position, if there is one.
     pub fn at(position: usize, step: Option<&Step>) -> Option<NextStep>
         requires { position + 1 < 2 ^ 64 }
         ensures { result ≡ numbered position (option_copied step.entry) }
@@ -66,7 +66,7 @@ impl NextStep {
 }
 
 impl Break {
-    /// Whether it names the step.
+    /// Returns whether the breakpoint names the step.
     pub fn names(self, step: NextStep) -> bool
         ensures { result ≡ names self step }
     {
@@ -76,7 +76,7 @@ impl Break {
         }
     }
 
-    /// Whether it hits at a position: by the step that comes next there.
+    /// Returns whether the breakpoint hits at a position, given the next step there.
     pub fn hits(self, next: Option<NextStep>) -> bool
         ensures { result ≡ break_hits self next }
     {
@@ -88,7 +88,7 @@ impl Break {
 }
 
 impl Mark {
-    /// The value that it watches in a world: its cell's. A break watches none, as a cell that is not there.
+    /// Returns the value that the mark watches in a world: its cell's. A break watches none, which counts as absent.
     #[inline(always)]
     pub fn watched<W: Worlds>(self, world: &W) -> CellValue
         requires { W.is_well_formed world.now }
@@ -100,8 +100,8 @@ impl Mark {
         }
     }
 
-    /// Whether it hits at a position: by the values that it watches one step before and there, and by the step that
-    /// comes next.
+    /// Returns whether the mark hits at a position, given the values that it watches one step before and there, and the
+    /// next step.
     #[inline(always)]
     pub fn hits(self, before: CellValue, now: CellValue, next: Option<NextStep>) -> bool
         ensures { result ≡ hits_by before now next self }
@@ -112,14 +112,14 @@ impl Mark {
         }
     }
 
-    /// Whether it is gone after the first stop where it hits, as `tbreak` of GDB is.
+    /// Returns whether the mark is deleted after the first stop at which it hits, as one by GDB's `tbreak` is.
     pub fn is_temporary(self) -> bool
         ensures { result ≡ is_temporary self }
     {
         matches!(self, Mark::TemporaryBreak(_))
     }
 
-    /// Whether it is a watchpoint.
+    /// Returns whether the mark is a watchpoint.
     pub fn is_watch(self) -> bool
         ensures { result ≡ is_watch self }
     {

@@ -1,4 +1,4 @@
-//! The marks, by number.
+//! The numbered list of marks.
 
 use crate::mark::{Break, Mark, NextStep};
 use crate::numbered::{MOST_NUMBERED, Numbered, NumberedList};
@@ -9,15 +9,15 @@ use std::marker::Model;
 /// The most marks at once.
 pub const MOST_MARKS: usize = MOST_NUMBERED;
 
-/// A mark, with its number.
+/// A mark and its number.
 pub type NumberedMark = Numbered<Mark>;
 
-/// Why the marks stay as they are.
+/// The reason why a call has left the marks as they were.
 #[derive(Clone, Copy, Debug, PartialEq, Eq)]
 pub enum MarkFault {
-    /// There is no mark of this number.
+    /// No mark has this number.
     NoSuchMark,
-    /// No mark can be made: there are 64, or the numbers up to 4,294,967,295 are used up.
+    /// No mark can be made: there are 64 already, or the numbers up to 4,294,967,295 are used up.
     MarksFull,
 }
 
@@ -57,7 +57,7 @@ impl Marks {
     ghost use Rattle.nr_marks.specs.declared.marks.TheConstants.{MOST_MARKS};
     ghost use Rattle.nr_marks.specs.declared.mark.Mark.TheVariants as mark;
 
-    /// No marks.
+    /// Makes an empty list of marks.
     pub fn new() -> Marks
         ensures { result ≡ empty }
     {
@@ -66,8 +66,8 @@ impl Marks {
         }
     }
 
-    /// Makes a breakpoint and returns its number, the next one. Where there are 64 marks or the numbers are used up, it is
-    /// refused and nothing changes.
+    /// Makes a breakpoint and returns its number, the next one. Fails, without any change, if there are 64 marks
+    /// already or the numbers are used up.
     pub fn add_break(&mut self, wanted: Break) -> Result<u32, MarkFault>
         ensures number { result ≡ next_number self.old }
         ensures marks { self.new ≡ with_item (mark.Break wanted) self.old }
@@ -76,8 +76,8 @@ impl Marks {
         self.add(Mark::Break(wanted))
     }
 
-    /// Makes a temporary breakpoint and returns its number, the next one. Where there are 64 marks or the numbers are used
-    /// up, it is refused and nothing changes.
+    /// Makes a temporary breakpoint and returns its number, the next one. Fails, without any change, if there are 64
+    /// marks already or the numbers are used up.
     pub fn add_tbreak(&mut self, wanted: Break) -> Result<u32, MarkFault>
         ensures number { result ≡ next_number self.old }
         ensures marks { self.new ≡ with_item (mark.TemporaryBreak wanted) self.old }
@@ -86,8 +86,8 @@ impl Marks {
         self.add(Mark::TemporaryBreak(wanted))
     }
 
-    /// Makes a watchpoint and returns its number, the next one. Where there are 64 marks or the numbers are used up, it is
-    /// refused and nothing changes.
+    /// Makes a watchpoint and returns its number, the next one. Fails, without any change, if there are 64 marks
+    /// already or the numbers are used up.
     pub fn add_watch(&mut self, cell: Cell) -> Result<u32, MarkFault>
         ensures number { result ≡ next_number self.old }
         ensures marks { self.new ≡ with_item (mark.Watch cell) self.old }
@@ -96,8 +96,8 @@ impl Marks {
         self.add(Mark::Watch(cell))
     }
 
-    /// Makes a mark and returns its number, the next one. Where there are 64 marks or the numbers are used up, it is refused
-    /// and nothing changes.
+    /// Makes a mark and returns its number, the next one. Fails, without any change, if there are 64 marks already or
+    /// the numbers are used up.
     pub fn add(&mut self, mark: Mark) -> Result<u32, MarkFault>
         ensures number { result ≡ next_number self.old }
         ensures marks { self.new ≡ with_item mark self.old }
@@ -109,8 +109,8 @@ impl Marks {
         }
     }
 
-    /// Deletes the mark of this number. The others keep theirs. Where there is none of this number, it is refused and
-    /// nothing changes.
+    /// Deletes the mark with this number. The others keep their numbers. Fails, without any change, if no mark has this
+    /// number.
     pub fn delete(&mut self, number: u32) -> Result<(), MarkFault>
         ensures answer { result ≡ mark_deletion number self.old }
         ensures marks { self.new ≡ without_item number self.old }
@@ -123,15 +123,15 @@ impl Marks {
         }
     }
 
-    /// After a stop where the marks with these numbers hit: the temporary ones among them are gone, as GDB deletes a
-    /// breakpoint of `tbreak`. The others keep their numbers, and the numbers of those aren't used again.
+    /// Deletes the temporary marks among those that hit at a stop, as GDB deletes a breakpoint of `tbreak`. The others
+    /// keep their numbers, and the numbers of the deleted ones aren't reused.
     pub fn delete_temporary(&mut self, hits: &[u32])
         ensures { self.new ≡ after_stop hits.now self.old }
     {
         self.list.delete_temporary(hits);
     }
 
-    /// The marks, rising by number.
+    /// Returns the marks, in rising order of their numbers.
     pub fn as_slice(&self) -> &[NumberedMark]
         ensures marks { result.now ≡ self.now.present }
         ensures few { length result.now ≤ MOST_MARKS }
@@ -140,7 +140,7 @@ impl Marks {
         self.list.as_slice()
     }
 
-    /// How many marks there are.
+    /// Returns the number of marks.
     pub fn len(&self) -> usize
         ensures count { result ≡ length self.now.present }
         ensures few { result ≤ MOST_MARKS }
@@ -148,16 +148,16 @@ impl Marks {
         self.list.as_slice().len()
     }
 
-    /// Whether one of them is a watchpoint.
+    /// Returns whether one of the marks is a watchpoint.
     pub fn any_watch(&self) -> bool
         ensures { result ≡ any_watch self.now.present }
     {
         self.as_slice().iter().any(|mark| mark.item.is_watch())
     }
 
-    /// The numbers of the marks that hit at a position, rising: those between a world and the one after it, where the
-    /// step that comes next has this number, counted from 1. At position 0 the two worlds are the same one, and at the end
-    /// nothing comes next.
+    /// Returns the numbers of the marks that hit at a position, in rising order, given the world before and the world
+    /// there, and the number of the next step, counted from 1. At position 0 the two worlds are the same, and at the
+    /// end there is no next step.
     pub fn hits<W: Worlds>(
         &self,
         before: &W,
@@ -179,7 +179,7 @@ impl Marks {
         }
     }
 
-    // The numbers of the marks that hit between two worlds, where breaks see this of the step that comes next.
+    // Returns the numbers of the marks that hit between two worlds, with this next step.
     fn hits_before<W: Worlds>(
         &self,
         before: &W,

@@ -1,4 +1,4 @@
-//! Items under numbers.
+//! Numbered items.
 
 ghost use Rattle.std.specs.Prelude.{◌≡◌, ◌≤◌, ◌==◌, false, find, length};
 
@@ -8,16 +8,15 @@ use std::marker::Model;
 /// The most items at once.
 pub const MOST_NUMBERED: usize = 64;
 
-/// An item, with its number.
+/// An item and its number.
 #[derive(Clone, Copy, Debug, Default, PartialEq, Eq)]
 pub struct Numbered<T> {
-    /// From 1, as GDB counts breakpoints.
+    /// The number, from 1, as GDB counts breakpoints.
     pub number: u32,
     pub item: T,
 }
 
-/// Items that are numbered from 1 in the order in which they are made. A number is never used twice. No call takes
-/// memory.
+/// Items that are numbered from 1 in the order in which they are made. Numbers are never reused. No call takes memory.
 #[derive(Debug, Drop)]
 pub struct NumberedList<T> {
     pub(crate) present: ArrayVec<Numbered<T>, MOST_NUMBERED>,
@@ -40,7 +39,7 @@ impl<T: Copy + Default> NumberedList<T> {
     ghost use Rattle.nr_marks.specs.Auxiliary.Numbered.{RisesWithin, next, numbers_of};
     ghost use Rattle.nr_marks.specs.declared.numbered.TheConstants.{MOST_NUMBERED};
 
-    /// No items.
+    /// Makes an empty list.
     pub fn new() -> Self
         ensures { result ≡ empty }
     {
@@ -50,8 +49,8 @@ impl<T: Copy + Default> NumberedList<T> {
         }
     }
 
-    /// Keeps an item under the next number. Where there are 64 or the numbers up to 4,294,967,295 are used up, it
-    /// isn't made.
+    /// Adds an item under the next number. Returns `None`, without any change, if there are 64 items already or the
+    /// numbers up to 4,294,967,295 are used up.
     pub fn make(&mut self, item: T) -> Option<Numbered<T>>
         ensures numbered { result ≡ next item self.old }
         ensures list { self.new ≡ with_item item self.old }
@@ -66,7 +65,7 @@ impl<T: Copy + Default> NumberedList<T> {
         Some(numbered)
     }
 
-    /// Deletes the item of this number, and says whether there was one. The others keep their numbers.
+    /// Deletes the item with this number, and returns whether there was one. The others keep their numbers.
     pub fn delete(&mut self, number: u32) -> bool
         ensures was_present { result ≡ is_present number self.old }
         ensures list { self.new ≡ without_item number self.old }
@@ -79,7 +78,7 @@ impl<T: Copy + Default> NumberedList<T> {
         true
     }
 
-    /// The item of this number, if there is one.
+    /// Returns the item with this number, if there is one.
     pub fn find(&self, number: u32) -> Option<T>
         ensures { result ≡ item_of number self.now }
     {
@@ -87,7 +86,7 @@ impl<T: Copy + Default> NumberedList<T> {
         Some(numbered.item)
     }
 
-    /// The items, rising by number.
+    /// Returns the items, in rising order of their numbers.
     pub fn as_slice(&self) -> &[Numbered<T>]
         ensures items { result.now ≡ self.now.present }
         ensures few { length result.now ≤ MOST_NUMBERED }
@@ -97,7 +96,7 @@ impl<T: Copy + Default> NumberedList<T> {
     }
 }
 
-// The first item of this number.
+// Returns the first item with this number.
 fn first_of_number<T: Copy>(items: &[Numbered<T>], number: u32) -> Option<Numbered<T>>
     ensures { result ≡ find (λ n. n.number == number) items.now }
 {

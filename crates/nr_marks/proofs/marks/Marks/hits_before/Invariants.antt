@@ -2,7 +2,7 @@ use Rattle.std.proofs.Common.{◌≡◌, ◌≤◌, length, take}
 use Rattle.nr_marks.specs.Hit.{hits_between}
 use Rattle.nr_marks.proofs.marks.Marks.hits_before.Given as goal
 
--- of the marks so far, those that hit
+-- the marks that hit, of those so far
 abbrev pub invariant-loop-numbered : goal.invariant-loop-numbered
 invariant-loop-numbered g l =
     record {

@@ -5,7 +5,7 @@ use Rattle.nr_marks.specs.Auxiliary.Numbered.{RisesWithin, numbers_of}
 use Rattle.nr_marks.proofs.NumberedLemmas.{RisesWithin-filter, filter-others}
 use Rattle.nr_marks.proofs.numbered.NumberedList.delete.Goals as goal
 
--- without an item of that number nothing changes
+-- if no item has that number, nothing changes
 pub returns-then-is_none-clause-list : goal.returns-then-is_none-clause-list
 returns-then-is_none-clause-list g c =
     let table = c.args.self.now in
