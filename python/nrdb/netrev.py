@@ -17,6 +17,8 @@ from .shapes import Listed, Strange, entries_in, mark_of, value_of
 AT_ONCE = 16_384  # bytes that are sent before replies are read: they fit into any pipe
 READ = 65_536
 LONGEST = 2 * 1_048_576 + 64  # bytes of the longest reply, a dump of a full buffer
+QUERIES = ("print ", "dump ", "info position")  # lines whose replies change only after other lines
+MOST_KEPT, LONGEST_KEPT = 65_536, 200  # replies that are kept, and the bytes of one
 SILENCE = 1  # seconds after which a caller that waits for the first reply is told so
 
 
@@ -48,6 +50,11 @@ class Reply:
     def lines(self) -> list[str]:
         """All its lines."""
         return [self.first, *self.entries]
+
+
+def is_kept(reply: Reply) -> bool:
+    """Whether the same query would get this reply again: it isn't an error, such as a lack of memory. A long one isn't kept."""
+    return len(reply.first) <= LONGEST_KEPT and not reply.first.startswith("fault")
 
 
 class Lines:
@@ -95,17 +102,19 @@ class Netrev:
         self._interrupts = interrupts
         self._unread = 0
         self._ahead: deque[tuple[str, Reply | Exception]] = deque()  # queries that were sent early, with their results
+        self._kept: dict[
+            str, Reply
+        ] = {}  # replies to queries since the last other line, if no other front can change them
 
     def ask(self, line: str) -> Reply:
-        """The reply to this line."""
+        """The reply to this line: netrev's, or the one it gave to the same query since the last other line."""
         if self._ahead and self._ahead[0][0] == line:
             self._interrupts.check_given_up()
             _, came = self._ahead.popleft()
             if isinstance(came, Exception):
                 raise came
             return came
-        self._begin([line])
-        return self._reply(line)
+        return self._answers([line])[0]
 
     def ask_ahead(self, queries: Sequence[str]) -> None:
         """Sends several queries of one line each at once; they change nothing. `ask` returns their replies as long
@@ -146,12 +155,26 @@ class Netrev:
 
     def _ask_batch(self, batch: list[str]) -> list[str]:
         self._interrupts.check()
-        self._begin(batch)
-        return [self._reply(line).first for line in batch]
+        return [reply.first for reply in self._answers(batch)]
+
+    def _answers(self, batch: list[str]) -> list[Reply]:
+        """The replies to these lines. A query whose reply is kept isn't sent again."""
+        if not self.asks_ahead or not all(line.startswith(QUERIES) for line in batch):
+            self._begin(batch)
+            return [self._reply(line) for line in batch]
+        new = [line for line in dict.fromkeys(batch) if line not in self._kept]
+        self._begin(new)
+        came = {line: self._reply(line) for line in new}
+        replies = [came.get(line) or self._kept[line] for line in batch]
+        if len(self._kept) + len(came) <= MOST_KEPT:
+            self._kept.update((line, reply) for line, reply in came.items() if is_kept(reply))
+        return replies
 
     def _begin(self, lines: list[str]) -> None:
         self._interrupts.check_given_up()
         self._ahead.clear()
+        if not all(line.startswith(QUERIES) for line in lines):
+            self._kept.clear()
         if self._unread:  # the next line would be the reply to another query
             self.drop()
             raise Ended

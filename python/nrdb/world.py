@@ -93,6 +93,7 @@ def opened_after(recording: Recording, blocks: int) -> Opened:
     return opened_after(recording, blocks - 1).after(recording, (blocks - 1) * BLOCK, blocks * BLOCK)
 
 
+@lru_cache(maxsize=4)
 def opened_by(recording: Recording, position: int) -> tuple[dict[int, int], int]:
     """The descriptors that are open after this many steps, each with its socket, and the number that `pollopen` takes next."""
     blocks = position // BLOCK

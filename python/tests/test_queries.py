@@ -36,6 +36,11 @@ class Scripted(Netrev):
         return 5
 
 
+class WithoutMemory(Scripted):
+    def _next(self, asked: str) -> Optional[str]:
+        return "fault 301 memory"
+
+
 class Joined(Scripted):
     asks_ahead = False
 
@@ -106,6 +111,27 @@ class Ahead(unittest.TestCase):
         netrev.ask("stepi 7")
         netrev.ask("print 1")
         self.assertEqual(netrev.sent, [["print 1", "print 2"], ["stepi 7"], ["print 1"]])
+
+    def test_a_query_is_sent_again_only_after_another_line(self) -> None:
+        netrev = Scripted()
+        self.assertEqual(netrev.ask_all(["print 1", "print 2", "print 1"]), ["clock = 1", "clock = 2", "clock = 1"])
+        self.assertEqual(netrev.ask_all(["print 3", "print 2"]), ["clock = 3", "clock = 2"])
+        self.assertEqual(netrev.ask("print 1"), Reply("clock = 1"))
+        netrev.ask("stepi")
+        netrev.ask("print 2")
+        self.assertEqual(netrev.sent, [["print 1", "print 2"], ["print 3"], ["stepi"], ["print 2"]])
+
+    def test_a_fault_is_asked_for_again(self) -> None:
+        netrev = WithoutMemory()
+        netrev.ask("print 1")
+        netrev.ask("print 1")
+        self.assertEqual(netrev.sent, [["print 1"], ["print 1"]])
+
+    def test_each_query_is_sent_in_a_session_that_others_move(self) -> None:
+        netrev = Joined()
+        netrev.ask("print 1")
+        netrev.ask_all(["print 1", "print 1"])
+        self.assertEqual(netrev.sent, [["print 1"], ["print 1", "print 1"]])
 
     def test_its_end_is_told_at_the_line_that_met_it(self) -> None:
         for last, wrong in (("print end", Ended), ("print strange", Strange)):
