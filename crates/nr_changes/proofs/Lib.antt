@@ -4,6 +4,7 @@ pub mod WakeLemmas
 pub mod SocketTouchLemmas
 pub mod DescriptorTouchLemmas
 pub mod CellLemmas
+pub mod FootprintLemmas
 pub mod ChangedLemmas
 pub mod OrderLemmas
 pub mod ListedLemmas
