@@ -1,5 +1,5 @@
-//! Buffers of a socket whose rings have room for four bytes, so that their bytes wrap round the end; and memory refused.
-//! The tests pass, too, where any one allocation is refused: of two tries one has memory.
+//! Buffers of a socket whose rings have room for four bytes, so that their bytes wrap round the end; and failed
+//! allocations. The tests also pass if any one allocation fails, because the second of two tries succeeds.
 
 ghost use Rattle.std.specs.Prelude.{◌≡◌, ◌≤◌, OnOk, [], length};
 ghost use Rattle.nr_rev.specs.Transaction.{LeadsBack};
@@ -48,7 +48,7 @@ fn write(alloc: Global, bytes: &[u8]) -> Result<Step, Memory> {
     })
 }
 
-/// Buffers with room for four bytes, at once or, where memory was refused, the next time.
+/// Makes buffers with room for four bytes. Tries again if memory runs out.
 fn made(alloc: Global) -> Result<Sock, Memory> {
     match Sock::with_limits(alloc, 4) {
         Err(_) => Sock::with_limits(alloc, 4),
@@ -56,7 +56,7 @@ fn made(alloc: Global) -> Result<Sock, Memory> {
     }
 }
 
-/// An equal one, at once or the next time.
+/// Returns a copy. Tries again if memory runs out.
 fn copied(sock: &Sock) -> Result<Sock, Memory> {
     match sock.try_copy() {
         Err(_) => sock.try_copy(),
@@ -64,7 +64,7 @@ fn copied(sock: &Sock) -> Result<Sock, Memory> {
     }
 }
 
-/// Applies all the steps or none, at once or, where memory was refused, the next time.
+/// Applies all the steps or none. Tries again if memory runs out.
 fn play(sock: &mut Sock, steps: &[Step], deltas: &mut ArrayVec<SockDelta, 8>) -> Result<(), Refusal>
     requires few { length steps.now ≤ 8 }
     requires empty { deltas.old.items ≡ [] }
@@ -88,7 +88,7 @@ fn held(sock: &Sock, side: Side) -> Held {
     ]
 }
 
-/// Plays a round, and lets its way back go.
+/// Plays a round and drops its undo.
 fn go(sock: &mut Sock, steps: &[Step]) -> Result<(), Refusal>
     requires { length steps.now ≤ 8 }
 {
@@ -96,7 +96,7 @@ fn go(sock: &mut Sock, steps: &[Step]) -> Result<(), Refusal>
     play(sock, steps, &mut deltas)
 }
 
-/// Plays a round and undoes it: the input before it, after it and then.
+/// Plays a round and undoes it. Returns the input before, in between and afterwards.
 fn round(sock: &mut Sock, steps: &[Step]) -> Result<[Held; 3], Refusal>
     requires { length steps.now ≤ 8 }
 {
@@ -117,7 +117,7 @@ fn rounds(sock: &mut Sock, first: &[Step], second: &[Step]) -> Result<[Held; 3],
     round(sock, second)
 }
 
-/// The input of a copy, where there is memory for one.
+/// Returns the input of a copy, if there is memory for one.
 fn held_by_a_copy(sock: &Sock) -> Option<Held> {
     match copied(sock) {
         Ok(copy) => Some(held(&copy, Side::Read)),
@@ -125,7 +125,7 @@ fn held_by_a_copy(sock: &Sock) -> Option<Held> {
     }
 }
 
-/// Plays two rounds in new buffers and undoes the second, and copies what is left.
+/// Plays two rounds in new buffers, undoes the second, and copies the result.
 fn there_and_back(
     alloc: Global,
     first: &[Step],
@@ -139,7 +139,7 @@ fn there_and_back(
     Ok((played, held_by_a_copy(&sock)))
 }
 
-/// A round that leaves bytes round the end.
+/// Returns a round that leaves bytes which wrap round the end.
 fn first_round(alloc: Global) -> Result<[Step; 4], Memory> {
     Ok([
         OPEN,
@@ -149,7 +149,7 @@ fn first_round(alloc: Global) -> Result<[Step; 4], Memory> {
     ])
 }
 
-/// A round that reads them.
+/// Returns a round that reads them.
 fn second_round(alloc: Global) -> Result<[Step; 2], Memory> {
     Ok([read(3), arrive(alloc, b"xyz")?])
 }
@@ -171,7 +171,7 @@ fn what_wraps_round_the_end_is_read_and_put_back(rt: HostRuntime) -> Result<(), 
     Ok(())
 }
 
-/// What five steps answer in new buffers, and what the output holds then.
+/// Returns the answers of five steps in new buffers, and the bytes in the output afterwards.
 fn answers(
     alloc: Global,
     steps: &[Step; 5],
@@ -188,7 +188,7 @@ fn answers(
     Ok((answers, held(&sock, Side::Write)))
 }
 
-/// A write before the opening, two openings, and two writes.
+/// Returns a write before the opening, two openings, and two writes.
 fn writes(alloc: Global) -> Result<[Step; 5], Memory> {
     Ok([
         write(alloc, b"hello")?,
@@ -238,12 +238,12 @@ fn other_kinds_and_sizes_are_refused(rt: HostRuntime) -> Result<(), Fail> {
     Ok(())
 }
 
-/// A write, and another behind the shutting of the write side, which is shut again.
+/// Returns steps with a write, a shut, a write after it, and another shut.
 fn writes_round_the_shutting(alloc: Global) -> Result<[Step; 5], Memory> {
     Ok([OPEN, write(alloc, b"hi")?, SHUT, write(alloc, b"h")?, SHUT])
 }
 
-/// A write that goes out once the write side is shut, and another.
+/// Returns steps with a write whose bytes are drained after the write side is shut, and another write.
 fn writes_round_the_drain(alloc: Global) -> Result<[Step; 5], Memory> {
     Ok([OPEN, write(alloc, b"hi")?, SHUT, DRAIN, write(alloc, b"h")?])
 }
@@ -290,7 +290,7 @@ fn what_was_written_goes_out_once_the_write_side_is_shut(rt: HostRuntime) -> Res
     Ok(())
 }
 
-/// Shuts the write side and undoes that: whether it was shut before, after and then.
+/// Shuts the write side and undoes it. Returns whether it was shut before, in between and afterwards.
 fn shut(sock: &mut Sock) -> Result<[bool; 3], Refusal> {
     let before = sock.shut();
     let mut deltas = ArrayVec::new();
@@ -300,7 +300,7 @@ fn shut(sock: &mut Sock) -> Result<[bool; 3], Refusal> {
     Ok([before, after, sock.shut()])
 }
 
-/// Plays the steps, and then that.
+/// Plays the steps, and then runs `shut`.
 fn lead_and_shut(sock: &mut Sock, steps: &[Step]) -> Result<[bool; 3], Refusal>
     requires { length steps.now ≤ 8 }
 {
@@ -308,7 +308,7 @@ fn lead_and_shut(sock: &mut Sock, steps: &[Step]) -> Result<[bool; 3], Refusal>
     shut(sock)
 }
 
-/// That, in new buffers.
+/// Runs `lead_and_shut` in new buffers.
 fn shut_and_back(alloc: Global, steps: &[Step]) -> Result<Result<[bool; 3], Refusal>, Memory>
     requires { length steps.now ≤ 8 }
 {

@@ -1,5 +1,6 @@
-//! Descriptors on real numbers. Codes of words are 0 nil, 1 ready, 2 wait, and 3 more than its number for a goroutine.
-//! The byte of marks has 1 for closing, 2 for an event error, 4 and 8 where the timers of reading and writing run.
+//! Descriptors with real numbers. The codes of words are 0 for nil, 1 for ready, 2 for wait, and for a goroutine its
+//! number plus 3. The byte of marks is the sum of 1 for closing, 2 for an event error, and 4 and 8 for running read and
+//! write timers.
 
 ghost use Rattle.std.specs.Prelude.{◌≡◌, IfOk};
 ghost use Rattle.nr_desc.specs.Desc.{DescFits};
@@ -23,7 +24,7 @@ fn numbers(desc: &Desc) -> Numbers {
     )
 }
 
-/// A descriptor opened at which goroutine 5 is parked for reading, with a deadline of both sides at 100.
+/// Returns an open descriptor at which goroutine 5 is parked for reading, with a deadline of 100 for both sides.
 fn parked() -> Result<Desc, Refusal>
     ensures { IfOk result DescFits }
 {
@@ -43,7 +44,7 @@ fn parked() -> Result<Desc, Refusal>
     Ok(desc)
 }
 
-/// What an operation answers, whom it wakes, its orders, and the numbers after it and when it is undone.
+/// The answer of an operation, the goroutines that it wakes, its orders, and the numbers after it and after its undo.
 type Played = (
     Answer,
     Sides<Option<u32>>,
@@ -119,7 +120,7 @@ fn a_firing_with_the_sequence_expires_both_deadlines(rt: HostRuntime) -> Result<
     Ok(())
 }
 
-/// Why an operation is refused at a descriptor, and the numbers then.
+/// Returns why an operation on a descriptor is refused, and the numbers afterwards.
 fn refused(mut desc: Desc, op: DescOp) -> (Option<Refusal>, Numbers)
     requires { DescFits desc }
 {

@@ -1,4 +1,4 @@
-//! Lock words on real numbers: read waiters count from bit 23, write waiters from bit 43.
+//! Lock words with real numbers: read waiters start at bit 23, write waiters at bit 43.
 
 ghost use Rattle.std.specs.Prelude.{◌<◌, ◌≤◌, ◌^◌, length};
 
@@ -7,7 +7,7 @@ use nr_lock::{LockAnswer, LockOp, LockWord};
 use nr_rev::{Answer, Refusal, Reversible, Side, Sides, transact};
 use std::test::Fail;
 
-/// What an operation on the word of a number answers, the word after it, and the word when it is undone.
+/// Returns the answer of an operation on the word with this number, the word after it, and the word after its undo.
 fn there_and_back(number: u64, op: LockOp) -> (Result<LockAnswer, Refusal>, u64, u64)
     requires { number < 2 ^ 63 }
 {
@@ -56,7 +56,8 @@ fn full_references_are_refused(rt: HostRuntime) -> Result<(), Fail> {
     Ok(())
 }
 
-/// Applies all the operations or none to a lock that nobody holds: whether they apply, and the word then.
+/// Applies all the operations or none to a lock that no goroutine holds. Returns whether they apply, and the word
+/// afterwards.
 fn transacted(ops: &[LockOp]) -> (Result<(), Refusal>, u64)
     requires { length ops.now ≤ 8 }
 {

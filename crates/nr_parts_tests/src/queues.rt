@@ -1,5 +1,5 @@
-//! Goroutines in queues on real numbers: the links before an operation, after it and when it is undone. The tests pass,
-//! too, where any one allocation is refused: of two tries one has memory.
+//! Goroutines in queues, with real numbers: the links before an operation, after it and after its undo. The tests also
+//! pass if any one allocation fails, because the second of two tries succeeds.
 
 ghost use Rattle.std.specs.Prelude.{◌≡◌, ◌≤◌, IfOk, length};
 ghost use Rattle.nr_gsema.specs.Applying.{IsQueuedUp};
@@ -10,10 +10,11 @@ use nr_rev::{Memory, Refusal, Reversible, Side, Status, transact};
 use std::alloc::Global;
 use std::test::Fail;
 
-/// Two goroutines, or none for either: front and back of a queue, or who is before and behind a goroutine.
+/// Two goroutines, each of which may be missing: the front and back of a queue, or the ones before and after a
+/// goroutine.
 type Pair = (Option<u32>, Option<u32>);
 
-/// The ends of the queue of reading at socket 0, and the neighbours of the goroutines 1, 2 and 3.
+/// The ends of the read queue at socket 0, and the neighbours of the goroutines 1, 2 and 3.
 type Links = (Pair, [Pair; 3]);
 
 fn neighbours(table: &GTable, goroutine: u32) -> Pair {
@@ -31,13 +32,13 @@ fn links(table: &GTable) -> Links {
     )
 }
 
-/// The links where 1, 2 and 3 are queued in this order.
+/// The links when 1, 2 and 3 are queued in this order.
 const OF_THREE: Links = (
     (Some(1), Some(3)),
     [(None, Some(2)), (Some(1), Some(3)), (Some(2), None)],
 );
 
-/// The links where 1 has left that queue.
+/// The links after 1 has left that queue.
 const OF_TWO: Links = (
     (Some(2), Some(3)),
     [(None, None), (None, Some(3)), (Some(2), None)],
@@ -58,7 +59,7 @@ fn acquire(goroutine: u32) -> GOperation {
     GOperation::Acquire { goroutine }
 }
 
-/// Goroutine 0 owes a release of reading.
+/// Makes goroutine 0 owe a release for reading.
 const OWES: GOperation = GOperation::Move {
     goroutine: 0,
     from: Status::Idle,
@@ -69,7 +70,7 @@ const OWES: GOperation = GOperation::Move {
     },
 };
 
-/// A table for four goroutines and a socket, at once or, where memory was refused, the next time.
+/// Makes a table for four goroutines and a socket. Tries again if memory runs out.
 fn made(alloc: Global) -> Result<GTable, Memory>
     ensures { IfOk result IsQueuedUp }
 {
@@ -89,7 +90,7 @@ fn play(table: &mut GTable, operations: &[GOperation]) -> Result<(), Refusal>
     transact(table, operations, &mut deltas)
 }
 
-/// Four goroutines, of which 1, 2 and 3 are queued, and 0 owes a release.
+/// Makes four goroutines, of which 1, 2 and 3 are queued, and 0 owes a release.
 fn queue_up(table: &mut GTable) -> Result<(), Refusal>
     requires { IsQueuedUp table.old }
     ensures { IsQueuedUp table.new }
@@ -99,14 +100,15 @@ fn queue_up(table: &mut GTable) -> Result<(), Refusal>
     play(table, &[acquire(1), acquire(2), acquire(3)])
 }
 
-/// What is left of a release by goroutine 0, and when it is undone: the count, the links and the status of goroutine 1.
+/// The state after a release by goroutine 0 or after its undo: the count, the links and the status of goroutine 1.
 type Left = (Option<u32>, Links, Option<Status>);
 
 fn left(table: &GTable) -> Left {
     (table.count(0, Side::Read), links(table), table.status(1))
 }
 
-/// Queues them up: the links, and what a release by goroutine 0 leaves, and what undoing it leaves.
+/// Queues the goroutines, makes a release by goroutine 0 and undoes it. Returns the links before, and the state after
+/// the release and after the undo.
 fn released_and_undone(table: &mut GTable) -> Result<(Links, Left, Left), Refusal>
     requires { IsQueuedUp table.old }
 {
@@ -133,7 +135,7 @@ fn a_release_is_undone_with_the_links(rt: HostRuntime) -> Result<(), Fail> {
     Ok(())
 }
 
-/// Whether the operations apply, with the count and the links then.
+/// Whether the operations apply, and the count and the links afterwards.
 type Played = (Result<(), Refusal>, Option<u32>, Links);
 
 fn played(table: &mut GTable, operations: &[GOperation]) -> Played
@@ -145,7 +147,7 @@ fn played(table: &mut GTable, operations: &[GOperation]) -> Played
     (applied, table.count(0, Side::Read), links(table))
 }
 
-/// Queues them up, and plays operations of which the last is refused, and others that apply.
+/// Queues the goroutines, and plays operations of which the last is refused, and others that apply.
 fn refused_and_applied(table: &mut GTable) -> Result<[Played; 2], Refusal>
     requires { IsQueuedUp table.old }
 {
@@ -170,7 +172,7 @@ fn what_is_refused_last_leaves_the_links(rt: HostRuntime) -> Result<(), Fail> {
     Ok(())
 }
 
-/// A copy, at once or, where memory was refused, the next time.
+/// Returns a copy. Tries again if memory runs out.
 fn copied(table: &GTable) -> Result<GTable, Memory> {
     match table.try_copy() {
         Err(_) => table.try_copy(),
@@ -178,7 +180,7 @@ fn copied(table: &GTable) -> Result<GTable, Memory> {
     }
 }
 
-/// Queues them up: the links of a copy.
+/// Queues the goroutines, and returns the links of a copy.
 fn links_of_a_copy(table: &mut GTable) -> Option<Links>
     requires { IsQueuedUp table.old }
 {

@@ -1,5 +1,5 @@
-//! Timers on real numbers: the places of a heap before an operation, after it and when it is undone; refusals; and memory
-//! refused.
+//! Timers with real numbers: the places of a heap before an operation, after it and after its undo; refusals; and
+//! failed allocations.
 
 ghost use Rattle.std.specs.Prelude.{◌≡◌, ◌≤◌, IfOk, length};
 ghost use Rattle.nr_timers.specs.State.{IsTimers};
@@ -35,7 +35,7 @@ fn take(place: u32) -> TimersOp {
     TimersOp::TakeFiring { place }
 }
 
-/// The entry that `arm` makes.
+/// Returns the entry that `arm` makes.
 fn entry(descriptor: u32, due: i64, number: u64) -> Entry {
     Entry {
         descriptor,
@@ -49,7 +49,7 @@ fn entry(descriptor: u32, due: i64, number: u64) -> Entry {
     }
 }
 
-/// Arms the timers for reading of descriptors 0, 1 and so on.
+/// Arms the read timers of descriptors 0, 1 and so on.
 fn armed(alloc: Global, times: &[i64]) -> Result<Timers, Refusal>
     ensures { IfOk result IsTimers }
 {
@@ -62,7 +62,7 @@ fn armed(alloc: Global, times: &[i64]) -> Result<Timers, Refusal>
     Ok(timers)
 }
 
-/// Whether an entry with this time and arming number is at this place, and is found there.
+/// Returns whether an entry with this time and arming number is at this place, and `place_of` finds it there.
 fn has_place(timers: &Timers, place: usize, (due, number): (i64, u64)) -> bool {
     match timers.at_place(place) {
         Some(entry) => {
@@ -74,7 +74,7 @@ fn has_place(timers: &Timers, place: usize, (due, number): (i64, u64)) -> bool {
     }
 }
 
-/// Whether the heap has just these times and arming numbers, by place.
+/// Returns whether the heap contains exactly these times and arming numbers, by place.
 fn has_places(timers: &Timers, places: &[(i64, u64)]) -> bool {
     timers.len() == places.len()
         && places
@@ -83,7 +83,7 @@ fn has_places(timers: &Timers, places: &[(i64, u64)]) -> bool {
             .all(|(place, entry)| has_place(timers, place, *entry))
 }
 
-/// Whether the operation changes the heap so, and is undone whole.
+/// Returns whether the operation changes the heap as expected, and its undo restores everything.
 fn changes(
     alloc: Global,
     times: &[i64],
@@ -121,7 +121,7 @@ fn each_entry_has_its_place_back(rt: HostRuntime) -> Result<(), Fail> {
             (0, 7),
         )?
     );
-    // of two due at once the one armed first goes off
+    // of two entries that are due at the same time, the one armed first goes off
     assert!(rt;
         changes(
             rt.alloc(),
@@ -167,7 +167,7 @@ fn the_last_entry_goes_up_or_just_goes(rt: HostRuntime) -> Result<(), Fail> {
     Ok(())
 }
 
-/// Why the operation doesn't apply, if so.
+/// Returns why the operation is refused, if it is.
 fn refusal_of(timers: &mut Timers, op: &TimersOp) -> Option<Refusal>
     requires { IsTimers timers.old }
     ensures { IsTimers timers.new }
@@ -175,7 +175,7 @@ fn refusal_of(timers: &mut Timers, op: &TimersOp) -> Option<Refusal>
     timers.apply(op).err()
 }
 
-/// Asks for one operation after another: the number of the first that isn't refused as it is said, or isn't taken.
+/// Applies one operation after the other. Returns the index of the first that isn't refused or applied as expected.
 fn first_otherwise(timers: &mut Timers, refusals: &[(TimersOp, Option<Refusal>)]) -> Option<usize>
     requires { IsTimers timers.old }
     ensures { IsTimers timers.new }
@@ -188,10 +188,10 @@ fn first_otherwise(timers: &mut Timers, refusals: &[(TimersOp, Option<Refusal>)]
     None
 }
 
-/// What is seen of timers then.
+/// The result of `first_otherwise`, and what is read from the timers afterwards.
 type Seen = (Option<usize>, Option<Entry>, Option<Entry>, Option<Entry>);
 
-/// That, and both firings and the least entry then.
+/// Applies the operations, and returns this with both firings and the least entry.
 fn asked(timers: &mut Timers, refusals: &[(TimersOp, Option<Refusal>)]) -> Seen
     requires { IsTimers timers.old }
 {
@@ -231,8 +231,8 @@ fn refuses_for_the_first_reason(rt: HostRuntime) -> Result<(), Fail> {
     Ok(())
 }
 
-/// Applies all the operations or none: whether they apply, how many deltas there are, and the least entry then and after
-/// undoing them.
+/// Applies all the operations or none. Returns whether they apply, the number of deltas, and the least entry afterwards
+/// and after undoing them.
 fn transacted(
     timers: &mut Timers,
     ops: &[TimersOp],
@@ -248,7 +248,7 @@ fn transacted(
     (applied, made, least, timers.least())
 }
 
-/// Operations that apply, and others of which the last doesn't.
+/// Applies operations that all apply, and others of which the last is refused.
 fn transactions(
     timers: &mut Timers,
 ) -> [(Result<(), Refusal>, usize, Option<Entry>, Option<Entry>); 2]
@@ -274,7 +274,7 @@ fn transactions_are_undone_whole(rt: HostRuntime) -> Result<(), Fail> {
     Ok(())
 }
 
-/// Whether a copy has the same places, firings and next number.
+/// Returns whether a copy has the same places, firings and next number.
 fn copies(timers: &Timers, places: &[(i64, u64)]) -> Result<bool, Refusal> {
     let copy = timers.try_copy()?;
     Ok(
@@ -285,7 +285,7 @@ fn copies(timers: &Timers, places: &[(i64, u64)]) -> Result<bool, Refusal> {
     )
 }
 
-/// Timers at once or, where memory was refused, the next time.
+/// Makes timers. Tries again if memory runs out.
 fn made(alloc: Global) -> Result<Timers, Memory>
     ensures { IfOk result IsTimers }
 {
@@ -295,7 +295,8 @@ fn made(alloc: Global) -> Result<Timers, Memory>
     }
 }
 
-/// Arms and pops: the first operation that isn't taken, and whether a copy, at once or the next time, has the same.
+/// Arms and pops timers. Returns the first operation that isn't applied, and whether a copy is equal, with a second try
+/// if memory runs out.
 fn asked_and_copied(timers: &mut Timers) -> (Option<usize>, Result<bool, Refusal>)
     requires { IsTimers timers.old }
 {
@@ -314,7 +315,7 @@ fn asked_and_copied(timers: &mut Timers) -> (Option<usize>, Result<bool, Refusal
     (otherwise, copied)
 }
 
-/// Says something of a refusal only with an allocation refused: `rt try --test --fail-alloc N`.
+/// Tests a failed allocation only if one is made to fail: `rt try --test --fail-alloc N`.
 #[test]
 fn goes_on_where_memory_was_refused(rt: HostRuntime) -> Result<(), Fail> {
     let mut timers = made(rt.alloc())?;

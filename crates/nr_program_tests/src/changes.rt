@@ -1,11 +1,11 @@
-//! What steps changed, as the program says it.
+//! The changes of steps, as the program prints them.
 use crate::playing::{Program, changes, record};
 use nr_programs::ExitStatus;
 use nr_replay_tests::{HEADER, WAITS};
 use std::alloc::AllocError;
 use std::test::*;
 
-/// What each step of `WAITS` changed.
+/// The changes of each step of `WAITS`.
 const CHANGED: &str = "1 lock 0 = 0
 1 rsem 0 = 0
 1 wsem 0 = 0
@@ -39,10 +39,10 @@ const CHANGED: &str = "1 lock 0 = 0
 ok 12 steps
 ";
 
-/// A socket is opened, and a goroutine that isn't there reads.
+/// A socket is opened, and a goroutine that doesn't exist reads.
 const REFUSED: &str = "[\"sockopen\",16,16]\n[\"sysread\",3,0,8]\n[\"tick\",5]\n";
 
-/// What is said of it.
+/// The output for that recording.
 const OF_REFUSED: &str = "1 lock 0 = 0
 1 rsem 0 = 0
 1 wsem 0 = 0
@@ -80,7 +80,7 @@ fn what_is_no_recording_has_its_fault_alone(rt: HostRuntime) -> Result<(), Alloc
     Ok(())
 }
 
-// More lines than go out at once.
+// More lines than are written at once.
 #[test]
 fn each_of_many_lines_is_there_once(rt: HostRuntime) -> Result<(), AllocError> {
     let alloc = rt.alloc();

@@ -1,4 +1,4 @@
-//! Plays the programs on recordings: what came of it is a plain value, which tests compare.
+//! Runs of the programs on recordings. The result is a plain value, which tests compare.
 use crate::texts::SCRIPT;
 use nr_machine::World;
 use nr_programs::{
@@ -18,13 +18,13 @@ pub(crate) struct Played {
 }
 
 impl Played {
-    /// Whether it ended with this status, and wrote this text.
+    /// Returns whether the program ended with this status and wrote this text.
     pub(crate) fn is(&self, status: ExitStatus, text: &str) -> bool {
         self.status == status && self.text.as_slice() == text.as_bytes()
     }
 }
 
-/// How a script on streams ended, and what is left of them.
+/// How a script on streams ended, and the rest of the streams.
 #[derive(Drop)]
 pub(crate) struct Ended<I, O> {
     pub(crate) status: ExitStatus,
@@ -34,7 +34,7 @@ pub(crate) struct Ended<I, O> {
     pub(crate) write_failed: bool,
 }
 
-/// Runs a recording on streams.
+/// Runs `run` on a recording and these streams.
 pub(crate) fn run_on<R: Threads + Sync, I: Read, O: Write>(
     rt: &R,
     alloc: Global,
@@ -54,7 +54,7 @@ pub(crate) fn run_on<R: Threads + Sync, I: Read, O: Write>(
     }
 }
 
-/// Runs a script on a header and steps.
+/// Runs a script on the recording of a header and steps.
 pub(crate) fn run<R: Threads + Sync>(
     rt: &R,
     alloc: Global,
@@ -71,7 +71,7 @@ pub(crate) fn run<R: Threads + Sync>(
     })
 }
 
-/// Runs the script that looks at locks, and says what is left of its bytes.
+/// Runs the script that prints locks, and returns the rest of the streams.
 pub(crate) fn run_over<R: Threads + Sync>(
     rt: &R,
     alloc: Global,
@@ -83,7 +83,7 @@ pub(crate) fn run_over<R: Threads + Sync>(
     Ok(run_on(rt, alloc, recording.into_bytes(), reader, Vec::new(alloc)))
 }
 
-/// A program that reads nothing but its recording.
+/// A program that reads only its recording.
 #[derive(Clone, Copy)]
 pub(crate) enum Program {
     Check,
@@ -93,7 +93,7 @@ pub(crate) enum Program {
 }
 
 impl Program {
-    /// Runs it on a recording.
+    /// Runs the program on a recording.
     fn run<W: Write>(self, alloc: Global, recording: &str, output: &mut Sink<W>) -> ExitStatus {
         let bytes = recording.as_bytes();
         match self {
@@ -104,7 +104,7 @@ impl Program {
         }
     }
 
-    /// Runs it on a header and steps.
+    /// Runs the program on the recording of a header and steps.
     fn play(self, alloc: Global, header: &str, steps: &str) -> Result<Played, AllocError> {
         let recording = record(alloc, header, steps)?;
         let mut output = Sink::new(Vec::new(alloc));
@@ -115,7 +115,7 @@ impl Program {
         })
     }
 
-    /// Whether on a writer that fails behind so many bytes it leaves just those.
+    /// Returns whether exactly the first bytes are written if the writer fails after them.
     pub(crate) fn is_cut(self, alloc: Global, recording: &str, room: usize, text: &str) -> bool {
         let mut output = Sink::new(Cup {
             held: Vec::new(alloc),
@@ -130,27 +130,27 @@ impl Program {
     }
 }
 
-/// Checks a header and steps.
+/// Runs `check` on a header and steps.
 pub(crate) fn check(alloc: Global, header: &str, steps: &str) -> Result<Played, AllocError> {
     Program::Check.play(alloc, header, steps)
 }
 
-/// Writes a header and steps with their answers.
+/// Runs `upgrade` on a header and steps.
 pub(crate) fn upgrade(alloc: Global, header: &str, steps: &str) -> Result<Played, AllocError> {
     Program::Upgrade.play(alloc, header, steps)
 }
 
-/// Writes what each step of a header and steps changed.
+/// Runs `changes` on a header and steps.
 pub(crate) fn changes(alloc: Global, header: &str, steps: &str) -> Result<Played, AllocError> {
     Program::Changes.play(alloc, header, steps)
 }
 
-/// Finds what is suspect in a header and steps.
+/// Runs `suspects` on a header and steps.
 pub(crate) fn suspects(alloc: Global, header: &str, steps: &str) -> Result<Played, AllocError> {
     Program::Suspects.play(alloc, header, steps)
 }
 
-/// A header and steps.
+/// Returns the recording of a header and steps.
 pub(crate) fn record(alloc: Global, header: &str, steps: &str) -> Result<String, AllocError> {
     let mut recording = String::from_str(alloc, header)?;
     recording.push_str(steps)?;

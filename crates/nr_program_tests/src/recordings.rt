@@ -1,5 +1,4 @@
-//! Recordings that are checked, and what is said of each. One that is refused is refused by `run` too, which reads none of
-//! its input then.
+//! Recordings and the output of `check` for each. `run` refuses the same recordings, and then reads none of its input.
 use crate::playing::{check, run_over};
 use crate::texts::{EARLY, SCRIPT};
 use nr_programs::ExitStatus;
@@ -12,7 +11,7 @@ const SMALL: &str = "{\"buf\":16,\"desc\":1,\"gor\":2,\"netrev\":1,\"sock\":1}\n
 
 const NARROW: &str = "{\"buf\":1,\"desc\":1,\"gor\":1,\"netrev\":1,\"sock\":1}\n";
 
-/// A recording, and the line and the status that it ends with.
+/// A recording, and the expected last line and status.
 struct Report {
     header: &'static str,
     steps: &'static str,
@@ -20,7 +19,7 @@ struct Report {
     line: &'static str,
 }
 
-/// First each reason that a recording can meet, by its number.
+/// The first recordings are one for each reason that a recording can have, by number.
 static RECORDINGS: [Report; 34] = [
     Report {
         header: SMALL,
@@ -234,7 +233,7 @@ static RECORDINGS: [Report; 34] = [
         status: ExitStatus::Refused,
         line: "step 1: fault 107 reason 19\n",
     },
-    // every line is read before the first step is tried
+    // every line is read before the first step is applied
     Report {
         header: HEADER,
         steps: "[\"blockswap\",0]\n[\"spawn\",1]\n",
@@ -279,13 +278,13 @@ static RECORDINGS: [Report; 34] = [
     },
 ];
 
-/// Whether `check` says so.
+/// Returns whether `check` gives this result.
 fn is_checked(alloc: Global, report: &Report) -> Result<bool, AllocError> {
     let played = check(alloc, report.header, report.steps)?;
     Ok(played.is(report.status, report.line))
 }
 
-/// Whether `run` says so too of one that is refused, and reads nothing.
+/// Returns whether `run` gives this result, too, for a refused recording, and reads nothing.
 fn is_refused<R: Threads + Sync>(
     rt: &R,
     alloc: Global,

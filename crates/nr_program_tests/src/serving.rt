@@ -1,4 +1,4 @@
-//! The program `serve` over callers in memory.
+//! The program `serve` with callers in memory.
 
 ghost use Rattle.std.specs.Prelude.{◌≡◌};
 
@@ -17,31 +17,31 @@ use std::sync::atomic::Ordering::SeqCst;
 use std::test::*;
 use std::thread::Threads;
 
-/// What comes of a caller behind its lines.
+/// What a caller does after its lines.
 #[derive(Clone, Copy)]
 enum Then {
-    /// No more.
+    /// It ends.
     Ends,
     /// Its reads fail.
     Fails,
-    /// Bytes without end.
+    /// It sends bytes without end.
     GoesOn,
-    /// Bytes without end, but `end_replies` fails.
+    /// It sends bytes without end, but `end_replies` fails.
     IsGone,
 }
 
-/// A caller's lines, what it does then, and the replies that are expected.
+/// A caller's lines, what it does after them, and the expected replies.
 struct Part {
     lines: &'static str,
     then: Then,
     replies: &'static str,
 }
 
-/// What was seen of a caller.
+/// What a caller received.
 #[derive(Drop)]
 struct Seen {
     reads: AtomicU32,
-    /// How many bytes of the expected replies came. Others aren't counted, and none behind them.
+    /// The number of bytes that match the expected replies, up to the first difference.
     right: AtomicU32,
     written: AtomicU32,
 }
@@ -55,7 +55,7 @@ impl Seen {
         }
     }
 
-    /// So often it was read, and all these replies came, and no others.
+    /// Asserts that the caller was read so often, and got exactly the expected replies.
     fn assert(&self, rt: &impl Abort, part: &Part, reads: u32) {
         assert_eq!(rt; self.reads.load(SeqCst), reads, "reads of {}", part.lines);
         let replies = u32::try_from(part.replies.len()).unwrap_or(u32::MAX);
@@ -74,7 +74,7 @@ impl Seen {
     }
 }
 
-/// A caller who plays a part.
+/// A caller that plays a part.
 #[derive(Clone, Copy)]
 struct Caller<'a> {
     part: &'a Part,
@@ -129,7 +129,7 @@ struct Callers<'a> {
 }
 
 impl<'a> Callers<'a> {
-    /// The next caller, if one is left.
+    /// Returns the next caller, if one is left.
     fn take(&mut self) -> Option<Caller<'a>>
         ensures { self.new.log ≡ self.old.log }
     {
@@ -169,7 +169,7 @@ impl<'a> Connections for Callers<'a> {
     }
 }
 
-/// As many callers at each front as are said, one front's behind the other's.
+/// The callers of all fronts, one front's after the other's, with so many at each.
 #[derive(Drop)]
 struct Switchboard<'a> {
     each: usize,
@@ -198,7 +198,7 @@ impl<'a> Ports for Switchboard<'a> {
     }
 }
 
-/// Serves a recording of twelve steps to these callers, so many at each front.
+/// Serves a recording of twelve steps to these callers, with so many at each front.
 fn serve<R: Threads + Sync>(
     rt: &R,
     alloc: Global,

@@ -1,4 +1,4 @@
-//! Recordings that are walked: a script for each, and its replies.
+//! Sessions over recordings: a script for each, and its replies.
 use crate::playing::run;
 use crate::texts::{EARLY, REPLIES, SCRIPT, SHUTS, SHUTS_HEADER};
 use nr_programs::ExitStatus;
@@ -7,9 +7,9 @@ use std::alloc::{AllocError, Global};
 use std::test::*;
 use std::thread::Threads;
 
-/// A recording, a script, and what it is answered.
+/// A recording, a script, and the expected replies.
 struct Session {
-    /// What is to be seen.
+    /// What the session shows.
     topic: &'static str,
     header: &'static str,
     steps: &'static str,
@@ -208,7 +208,7 @@ static SESSIONS: [Session; 23] = [
     },
 ];
 
-/// Whether a session is answered so.
+/// Returns whether a session gets its replies.
 fn is_answered<R: Threads + Sync>(
     rt: &R,
     alloc: Global,

@@ -1,4 +1,4 @@
-//! Goroutines that sleep although their side has to be answered, as `suspects` says it.
+//! Goroutines that sleep although they should have been woken, as `suspects` prints them.
 use crate::playing::suspects;
 use nr_programs::ExitStatus;
 use nr_replay_tests::HEADER;
@@ -34,7 +34,7 @@ const ONE_FREE: &str = "[\"syswrite\",0,0,\"61\"]\n";
 
 const ERROR: &str = "[\"pollevent\",0,1,\"w\",1]\n";
 
-/// The descriptor is opened anew, for a socket with room for one byte to write.
+/// The descriptor is opened again, for a socket with room to write one byte.
 const OPENED_ANEW: &str = "[\"evict\",0,0]
 [\"pollclose\",0,0]
 [\"sockopen\",2,1]
@@ -45,7 +45,7 @@ const BYTE_COMES_ANEW: &str = "[\"arrive\",1,\"61\"]\n";
 
 const FULL_ANEW: &str = "[\"syswrite\",0,1,\"61\"]\n";
 
-/// What is said of these steps, in their order.
+/// Steps, and the output for them.
 const ROWS: &[(&[&str], &str)] = &[
     (&[OPENED, READS], "ok 6 steps\n"),
     (

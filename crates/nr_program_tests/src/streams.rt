@@ -1,4 +1,4 @@
-//! Streams that give or take a byte a call, and stop.
+//! Streams that give or take one byte per call, and stop.
 use crate::playing::{Program, record, run_on};
 use crate::texts::{REPLIES, SCRIPT};
 use nr_programs::ExitStatus;
@@ -7,10 +7,10 @@ use std::alloc::{AllocError, Global};
 use std::test::*;
 use std::thread::Threads;
 
-/// More bytes than the script or its replies have.
+/// A number greater than the length of the script or of its replies.
 const ALL: usize = 1_000;
 
-/// How far the script can be read and its replies be written, and what comes of it.
+/// How much of the script can be read and how much of its replies can be written, and the expected result.
 #[derive(Clone, Copy)]
 struct Cut<'a> {
     left: usize,
@@ -21,7 +21,7 @@ struct Cut<'a> {
     write_failed: bool,
 }
 
-/// A read that fails behind so many bytes.
+/// Returns a read that fails after so many bytes.
 fn starved(left: usize, replies: &str) -> Cut<'_> {
     Cut {
         left,
@@ -33,7 +33,7 @@ fn starved(left: usize, replies: &str) -> Cut<'_> {
     }
 }
 
-/// A write that fails behind so many bytes of a text.
+/// Returns a write that fails after so many bytes of a text.
 fn filled(room: usize, text: &str) -> Cut<'_> {
     Cut {
         left: ALL,
@@ -45,7 +45,7 @@ fn filled(room: usize, text: &str) -> Cut<'_> {
     }
 }
 
-/// Whether that comes of the script on a recording.
+/// Returns whether the script on a recording has this result.
 fn is_so<R: Threads + Sync>(
     rt: &R,
     alloc: Global,

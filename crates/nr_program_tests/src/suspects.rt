@@ -1,11 +1,11 @@
-//! What is suspect in a recording, as the program says it.
+//! The suspects of a recording, as the program prints them.
 use crate::playing::{Program, record, suspects};
 use nr_programs::ExitStatus;
 use nr_replay_tests::HEADER;
 use std::alloc::AllocError;
 use std::test::*;
 
-/// A goroutine takes an event and sleeps without a read; another closes the socket, and ends with a reference.
+/// A goroutine takes an event and sleeps without a read; another closes the socket, and ends while holding a reference.
 const SUSPICIOUS: &str = "[\"sockopen\",16,16]
 [\"pollopen\",0,0]
 [\"arrive\",0,\"6869\"]
@@ -22,14 +22,14 @@ const SUSPICIOUS: &str = "[\"sockopen\",16,16]
 [\"exit\",1]
 ";
 
-/// What is found in it.
+/// The suspects of that recording.
 const SUSPECTED: &str = "at 14 lost-wakeup gor 0 desc 0 r event 4 taken 5 by 0
 at 14 asleep gor 0 desc 0 r because bytes
 at 14 held-reference sock 0 gor 1 count 1 since 12 gone
 ok 14 steps
 ";
 
-/// A goroutine tries the socket before it sleeps, and another gives back what it took.
+/// A goroutine tries the socket before it sleeps, and another returns what it took.
 const INNOCENT: &str = "[\"sockopen\",16,16]
 [\"pollopen\",0,0]
 [\"pollevent\",0,1,\"r\",0]

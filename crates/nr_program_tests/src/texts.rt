@@ -1,6 +1,6 @@
-//! Steps as text, and a script.
+//! Texts of steps, and a script.
 
-/// Looks at locks while it goes both ways over `CLOSES`.
+/// Prints locks while moving both ways over `CLOSES`.
 pub(crate) const SCRIPT: &str = "stepi 6
 print lock 0
 print gor 1
@@ -15,7 +15,7 @@ reverse-stepi 9
 print lock 0
 ";
 
-/// What that is answered on them.
+/// The replies to that script.
 pub(crate) const REPLIES: &str = "at 6
 lock 0 = 8388626
 gor 1 = acquiring 0 r
@@ -42,7 +42,7 @@ pub(crate) const EARLY: &str = r#"["sockopen",16,16]
 ["blockswap",0]
 "#;
 
-/// A write side is shut between two writes, and what the first left is drained.
+/// A write side is shut between two writes, and the bytes of the first are drained.
 pub(crate) const SHUTS: &str = "[\"sockopen\",1048576,4,[\"number\",0]]
 [\"syswrite\",0,0,\"6869\",[\"put\",2]]
 [\"closewrite\",0,0,\"done\"]

@@ -7,7 +7,7 @@ use std::alloc::{AllocError, Global};
 use std::test::*;
 use std::thread::Threads;
 
-/// The first ten steps of `WAITS` with the answer of each.
+/// The first ten steps of `WAITS`, each with its answer.
 const TEN_ANSWERED: &str = "{\"buf\":16,\"desc\":2,\"gor\":4,\"netrev\":2,\"sock\":2}
 [\"sockopen\",16,16,[\"number\",0]]
 [\"pollopen\",0,0,[\"number\",0]]
@@ -23,13 +23,13 @@ const TEN_ANSWERED: &str = "{\"buf\":16,\"desc\":2,\"gor\":4,\"netrev\":2,\"sock
 
 const OTHER_ANSWER: &str = "step 11: fault 109 answer\n";
 
-/// All twelve steps, of which the read got so many bytes.
+/// Returns all twelve steps, in which the read got so many bytes.
 fn waits_and_gets(alloc: Global, count: u32) -> Result<String, AllocError> {
     let last = "[\"rwunlock\",0,0,\"r\",\"notlast\"]\n";
     format!(in alloc; "{TEN_ANSWERED}[\"sysread\",0,0,8,[\"got\",{count}]]\n{last}")
 }
 
-/// Whether the upgrade of a header and steps is this text.
+/// Returns whether the upgrade of a header and steps is this text.
 fn is_upgraded(alloc: Global, header: &str, steps: &str, text: &str) -> Result<bool, AllocError> {
     let played = upgrade(alloc, header, steps)?;
     Ok(played.is(ExitStatus::Done, text))
@@ -54,7 +54,7 @@ fn an_upgrade_has_an_answer_that_nothing_was_written(rt: HostRuntime) -> Result<
     Ok(())
 }
 
-/// Whether each program refuses a recording for this.
+/// Returns whether each program refuses a recording with this fault.
 fn all_refuse<R: Threads + Sync>(
     rt: &R,
     alloc: Global,

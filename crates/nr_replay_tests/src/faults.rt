@@ -1,4 +1,4 @@
-//! What faults are printed as: the line, whose text is proved, and the message, which is derived.
+//! The texts of faults: the line, whose text is proved, and the message, which is derived.
 
 use nr_recording::{Fault, MakeFault, ReadFault, WriteFault};
 use nr_rev::Refusal;
@@ -18,7 +18,7 @@ const FAULTS: [Fault; 6] = [
     Fault::TooManySteps,
 ];
 
-/// The reasons of the machine, by their numbers, from 1.
+/// The machine's reasons, by number from 1.
 const REASONS: [Refusal; 21] = [
     Refusal::NoSuchGoroutine,
     Refusal::NotThere,
@@ -43,7 +43,7 @@ const REASONS: [Refusal; 21] = [
     Refusal::CorruptedDescriptor,
 ];
 
-/// Whether a fault's line is its message with a line feed behind it.
+/// Returns whether a fault's line is its message followed by a line feed.
 fn has_one_text<T: Text + Display + Drop>(alloc: Global, fault: &T) -> Option<bool> {
     let mut out = Sink::new(Vec::new(alloc));
     let is_out = out.print(fault).is_ok();

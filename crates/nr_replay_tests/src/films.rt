@@ -12,18 +12,18 @@ pub(crate) const LIMITS: Limits = Limits {
     buffer: 1,
 };
 
-/// A socket with room for a byte a side is opened.
+/// Opens a socket with room for one byte per side.
 pub const OPEN: Step = Step::SockOpen {
     read_capacity: 1,
     write_capacity: 1,
 };
 
-/// These steps as a recording of version 1.
+/// Returns these steps as a recording of version 1.
 pub(crate) fn recording_of(alloc: Global, steps: Vec<Step>) -> Option<Recording> {
     Recording::new(Version::One, LIMITS, steps, Vec::new(alloc)).ok()
 }
 
-/// The film of these steps, with a copy each 64 of them, where they all apply.
+/// Returns the film of these steps, with a copy every 64 steps, if they all apply.
 pub fn film_of<W: Worlds + Drop>(alloc: Global, steps: Vec<Step>) -> Option<Film<W>>
 where
     W::Snapshot: Drop,
@@ -32,7 +32,7 @@ where
     Snaps::load(alloc, recording, 64).ok()
 }
 
-/// Adds so many steps that set the clock to 1, 2 and so on.
+/// Appends so many steps that set the clock to 1, 2 and so on.
 pub fn add_ticks(steps: &mut Vec<Step>, count: u32) -> Result<(), AllocError> {
     for time in 1..=i64::from(count) {
         steps.push(Step::Tick { time })?;
@@ -40,7 +40,7 @@ pub fn add_ticks(steps: &mut Vec<Step>, count: u32) -> Result<(), AllocError> {
     Ok(())
 }
 
-/// A film of so many steps that set the clock to 1, 2 and so on, with a copy each 64 steps.
+/// Returns a film of so many steps that set the clock to 1, 2 and so on, with a copy every 64 steps.
 pub fn ticking<W: Worlds + Drop>(alloc: Global, count: u32) -> Option<Film<W>>
 where
     W::Snapshot: Drop,

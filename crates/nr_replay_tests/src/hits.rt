@@ -1,4 +1,4 @@
-//! Which marks hit between two worlds.
+//! The marks that hit between two worlds.
 
 use crate::films::LIMITS;
 use arrayvec::ArrayVec;
@@ -9,7 +9,8 @@ use std::alloc::Global;
 use std::num::NonZeroU32;
 use std::test::Fail;
 
-/// A watch of the clock, a break at ticks, breaks at steps 2 and 3, and a break at spawns, by their numbers.
+/// Returns marks in the order of their numbers: a watch of the clock, a break at ticks, breaks at steps 2 and 3, and a
+/// break at spawns.
 fn marks() -> Option<Marks> {
     let mut marks = Marks::new();
     marks.add_watch(Cell::Clock).ok()?;
@@ -20,7 +21,7 @@ fn marks() -> Option<Marks> {
     Some(marks)
 }
 
-/// The hits behind a tick with this step to come, and at the end of a recording of no step.
+/// Returns the hits after a tick if this is the next step, and the hits at the end of an empty recording.
 fn hits_of(alloc: Global, next: &Step) -> Option<[ArrayVec<u32, MOST_MARKS>; 2]> {
     let marks = marks()?;
     let Ok(mut after) = World::fresh(alloc, LIMITS) else {

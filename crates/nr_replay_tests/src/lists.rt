@@ -1,4 +1,4 @@
-//! Bytes and queues, made of a `Vec` and given back as one.
+//! Bytes and queues: made from a `Vec`, and turned back into one.
 
 use nr_rev::{Bytes, Queue};
 use std::test::Fail;

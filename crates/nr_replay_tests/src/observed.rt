@@ -1,4 +1,4 @@
-//! A world that counts what is done to it, and whose copies are refused as the test says.
+//! A world that counts its calls, and refuses copies as the test requests.
 
 ghost use Rattle.std.specs.Prelude.{◌≡◌};
 
@@ -11,15 +11,15 @@ use std::marker::Model;
 use std::sync::Arc;
 use std::sync::atomic::{AtomicU32, Ordering};
 
-/// A world over lists that counts the calls that it gets, and whose copies may run out of memory. None of that is part of
-/// what it means.
+/// A world over lists that counts the calls to it, and whose copies may run out of memory. Its model doesn't show these
+/// additions.
 #[derive(Drop)]
 pub struct Observed {
     world: PlainWorld,
-    // calls of `apply` and of `undo` since it was made
+    // the calls of `apply` and of `undo` since the world was made
     applies: u32,
     undos: u32,
-    // how often `was_seen` was asked of it
+    // the calls of `was_seen`
     seen: AtomicU32,
     // which copies are refused; a world shares this with its copies and its snapshots
     refusals: Arc<AtomicU32>,
@@ -33,7 +33,7 @@ impl Model for Observed {
     ghost view = { λ o. o.world };
 }
 
-/// Such a world at rest.
+/// A snapshot of such a world.
 #[derive(Drop)]
 pub struct ObservedSnapshot {
     world: <PlainWorld as Worlds>::Snapshot,
@@ -48,7 +48,7 @@ impl Model for ObservedSnapshot {
     ghost view = { λ s. s.world };
 }
 
-// One more owner of what says which copies are refused.
+// Returns another owner of the refusals.
 fn share(refusals: &Arc<AtomicU32>) -> Result<Arc<AtomicU32>, Memory> {
     match Arc::try_clone(refusals) {
         Ok(shared) => Ok(shared),
@@ -56,7 +56,7 @@ fn share(refusals: &Arc<AtomicU32>) -> Result<Arc<AtomicU32>, Memory> {
     }
 }
 
-// Whether the next copy is refused, by the lowest bit, and the one after it, and so on.
+// Fails with `Memory` if the lowest bit says that this copy is refused. The next bit is for the next copy, and so on.
 fn allow(refusals: &Arc<AtomicU32>) -> Result<(), Memory> {
     let bits = refusals.load(Ordering::SeqCst);
     refusals.store(bits / 2, Ordering::SeqCst);
@@ -79,17 +79,17 @@ impl Observed {
         }
     }
 
-    /// How often it was led forwards and back since it was made or restored.
+    /// Returns how many steps were applied and undone since the world was made or restored.
     pub fn moves(&self) -> (u32, u32) {
         (self.applies, self.undos)
     }
 
-    /// Whether this was asked before of this very world: it wasn't of a copy that was made since, nor of what it was restored to.
+    /// Returns whether this was called on this world before. A copy and a restored world start again.
     pub fn was_seen(&self) -> bool {
         self.seen.fetch_add(1, Ordering::SeqCst) > 0
     }
 
-    /// Of the copies to come, and of the worlds made from a snapshot, those are refused whose bits are set, from the lowest on.
+    /// Sets which of the following copies and restored worlds are refused: one bit for each, from the lowest on.
     pub fn refuse(&self, refusals: u32) {
         self.refusals.store(refusals, Ordering::SeqCst);
     }

@@ -1,4 +1,4 @@
-//! Texts that are read, refused and written.
+//! Texts of recordings: reading, refusing and writing them.
 
 use crate::streams::{AtBrim, Cup, Stutter};
 use crate::texts::{CLOSES, HEADER, TAKES_TURNS, WAITS};
@@ -10,7 +10,7 @@ use std::test::Fail;
 
 const WRITTEN_HEADER: &str = "{\"buf\":16,\"desc\":2,\"gor\":4,\"netrev\":1,\"sock\":2}\n";
 
-/// Each kind of version 1, with the least and the greatest of its arguments.
+/// Each kind of step of version 1, with the least and the greatest arguments.
 const ALL_KINDS: &str = r#"["spawn"]
 ["exit",4294967295]
 ["sockopen",0,4294967295]
@@ -45,7 +45,7 @@ const ALL_KINDS: &str = r#"["spawn"]
 
 const ANSWERED_HEADER: &str = "{\"buf\":1048576,\"desc\":2,\"gor\":4,\"netrev\":2,\"sock\":2}\n";
 
-/// Each answer, with the least and the greatest number, behind steps of several shapes.
+/// Each answer, with the least and the greatest number, after steps of several forms.
 const ALL_ANSWERS: &str = r#"["spawn",["number",0]]
 ["spawn",["number",4294967295]]
 ["waitcheck",0,["code",3]]
@@ -92,7 +92,7 @@ fn reads_and_writes_answers(rt: HostRuntime) -> Result<(), Fail> {
     Ok(())
 }
 
-/// What is written of a text that is read.
+/// Reads a text, and returns what is written for its recording.
 fn rewritten(rt: &HostRuntime, text: &str) -> Result<Vec<u8>, Fail> {
     let recording = read(rt.alloc(), text.as_bytes())?;
     written(rt, &recording)
@@ -109,7 +109,8 @@ fn writes_what_is_read(rt: HostRuntime) -> Result<(), Fail> {
     Ok(())
 }
 
-/// Whether a writer that fails behind so many bytes has just those of the text, and `write` reports the failure.
+/// Returns whether a writer that fails after so many bytes contains exactly those of the text, and `write` reports the
+/// failure.
 fn is_cut(alloc: Global, recording: &Recording, text: &[u8], room: usize) -> bool {
     let mut out = Sink::new(Stutter::new(Cup {
         held: Vec::new(alloc),

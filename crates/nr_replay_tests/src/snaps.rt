@@ -8,7 +8,8 @@ use nr_snaps::{Film, LoadFault, Snaps};
 use std::alloc::Global;
 use std::test::Fail;
 
-/// Why there is no film of 70 steps that set the clock to 1, 2 and so on, and one that sets it back to 69.
+/// Returns why a film of 70 steps that set the clock to 1, 2 and so on, and one that sets it back to 69, can't be
+/// loaded.
 fn fault_of_the_last(alloc: Global) -> Option<LoadFault> {
     let mut steps = Vec::new(alloc);
     add_ticks(&mut steps, 70).ok()?;
@@ -17,7 +18,7 @@ fn fault_of_the_last(alloc: Global) -> Option<LoadFault> {
     Snaps::load::<World>(alloc, recording, 64).err()
 }
 
-/// The clock of the film's copy at a position, or of the nearest one below it.
+/// Returns the clock of the film's copy at a position, or of the nearest one below it.
 fn clock_below(film: &Film<World>, n: usize) -> Option<CellValue> {
     if n > film.len() {
         return None;
@@ -26,7 +27,7 @@ fn clock_below(film: &Film<World>, n: usize) -> Option<CellValue> {
     Some(world.cell(Cell::Clock))
 }
 
-/// The clocks of the copies below five positions, of which two have one of their own.
+/// Returns the clocks of the copies at or below five positions, three of which have a copy of their own.
 fn clocks(film: &Film<World>) -> [Option<CellValue>; 5] {
     [
         clock_below(film, 0),
@@ -65,7 +66,7 @@ fn a_refused_step_is_reported_with_its_reason(rt: HostRuntime) {
     );
 }
 
-/// The fault of a recording of two steps in version 2: a socket is opened, and then this step.
+/// Returns the fault of a version-2 recording of two steps: opening a socket, and then this step.
 fn fault_of_second(alloc: Global, opened: Answer, step: Step, answer: Answer) -> Option<LoadFault> {
     let steps = vec![in alloc; OPEN, step].ok()?;
     let answers = vec![in alloc; opened, answer].ok()?;
@@ -73,7 +74,7 @@ fn fault_of_second(alloc: Global, opened: Answer, step: Step, answer: Answer) ->
     Snaps::load::<World>(alloc, recording, 64).err()
 }
 
-/// The fault of a recording of two steps in version 2: a socket is opened, and then the clock is set to 1.
+/// Returns the fault of a version-2 recording of two steps: opening a socket, and then setting the clock to 1.
 fn fault_of_tick(alloc: Global, opened: Answer, answer: Answer) -> Option<LoadFault> {
     fault_of_second(alloc, opened, Step::Tick { time: 1 }, answer)
 }
@@ -102,14 +103,14 @@ fn another_answer_is_reported_where_its_step_applies(rt: HostRuntime) {
     );
 }
 
-/// What a film is written as with its answers: the version, how many steps, and the last answer and what is behind it.
+/// Returns the film's recording with answers: the version, the number of steps, the last answer and the one after it.
 fn answered(film: &Film<World>) -> Option<(Version, usize, [Option<Answer>; 2])> {
     let recording = film.with_answers().ok()?;
     let answers = [recording.answer(64), recording.answer(65)];
     Some((recording.version(), recording.len(), answers))
 }
 
-/// How many steps it has when it is loaded again.
+/// Returns the number of steps after the film is loaded again.
 fn loaded_again(alloc: Global, film: &Film<World>) -> Option<usize> {
     let recording = film.with_answers().ok()?;
     let again = Snaps::load::<World>(alloc, recording, 64).ok()?;

@@ -1,10 +1,10 @@
-//! Readers and writers that go byte by byte, are interrupted, and stop.
+//! Readers and writers that move byte by byte, are interrupted, and stop.
 ghost use Rattle.std.specs.Prelude.{Some};
 
 use std::io;
 use std::io::{ErrorKind, Read, Write};
 
-/// Gives one byte a call, and fails once `left` bytes are given.
+/// A reader that gives one byte per call, and fails after `left` bytes.
 #[derive(Drop)]
 pub struct Drip<'a> {
     pub bytes: &'a [u8],
@@ -30,14 +30,14 @@ impl Read for Drip<'_> {
     }
 }
 
-/// What a writer does that has no room any more.
+/// What a full writer does.
 #[derive(Clone, Copy, Debug, PartialEq, Eq)]
 pub enum AtBrim {
     Fails,
     TakesNothing,
 }
 
-/// Takes one byte a call, until it holds `room` bytes.
+/// A writer that takes one byte per call, until it holds `room` bytes.
 #[derive(Drop)]
 pub struct Cup {
     pub held: Vec<u8>,
@@ -69,7 +69,7 @@ impl Write for Cup {
     }
 }
 
-/// Is interrupted at each second call.
+/// A stream that is interrupted at every second call.
 #[derive(Drop)]
 pub struct Stutter<S> {
     pub stream: S,
@@ -113,7 +113,7 @@ impl<W: Write> Write for Stutter<W> {
     }
 }
 
-/// Takes all that it is given, and counts the calls.
+/// A writer that takes everything, and counts the calls.
 #[derive(Drop)]
 pub struct Counted {
     pub held: Vec<u8>,

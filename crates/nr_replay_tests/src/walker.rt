@@ -1,4 +1,4 @@
-//! What a walk takes, by what it returns and by what a world counts.
+//! The cost of a walk: what it returns, and what a world counts.
 
 use crate::films::ticking;
 use crate::observed::Observed;
@@ -6,8 +6,8 @@ use nr_rev::{Cell, CellValue, Worlds};
 use nr_walker::{Moved, Walker};
 use std::test::Fail;
 
-/// Goes to a position that the film has: what it took, as it returns it and as the worlds counted it, and how many deltas
-/// are kept.
+/// Moves the walker to a position of the film. Returns the cost that the walk reports, the cost that the worlds
+/// counted, and the number of deltas kept.
 fn go(walker: &mut Walker<Observed>, n: usize) -> Option<(Moved, Moved, usize)> {
     if n > walker.film().len() {
         return None;
@@ -17,7 +17,7 @@ fn go(walker: &mut Walker<Observed>, n: usize) -> Option<(Moved, Moved, usize)> 
     let reported = walker.goto(n).ok()?;
     let is_copy = !walker.world().was_seen();
     let (applies, undos) = walker.world().moves();
-    // a copy begins to count anew
+    // a copy starts its counts at 0
     let since = if is_copy { (0, 0) } else { before };
     let counted = Moved {
         applies: applies.wrapping_sub(since.0) as usize,
@@ -27,7 +27,7 @@ fn go(walker: &mut Walker<Observed>, n: usize) -> Option<(Moved, Moved, usize)> 
     Some((reported, counted, walker.kept()))
 }
 
-/// Where a walk goes, and what it has to take: applies, undos and copies; and how many deltas are kept then.
+/// The position of each walk; its expected cost in applies, undos and copies; and the number of deltas kept afterwards.
 const WALKS: [(usize, usize, usize, usize, usize); 8] = [
     (40, 40, 0, 0, 32),
     (20, 0, 20, 0, 12),
@@ -39,7 +39,7 @@ const WALKS: [(usize, usize, usize, usize, usize); 8] = [
     (191, 63, 0, 1, 32),
 ];
 
-/// Where it first takes something else, reports something else, or doesn't go.
+/// Returns the position of the first walk that has or reports another cost, or doesn't arrive.
 fn first_otherwise(walker: &mut Walker<Observed>) -> Option<usize> {
     for (n, applies, undos, copies, kept) in WALKS {
         let moved = Moved {

@@ -1,4 +1,4 @@
-//! Packed worlds on real numbers, and with memory refused.
+//! Packed worlds with real numbers, and with allocations that fail.
 
 ghost use Rattle.std.specs.Prelude.{◌≡◌, ◌≤◌, IfOk, length};
 ghost use Rattle.nr_rev.specs.Transaction.{LeadsBack};
@@ -36,14 +36,14 @@ const DECREF: Step = Step::Decref {
     socket: 0,
 };
 
-/// A world before its first step, with room for little.
+/// Makes a small world before its first step.
 fn little_world(alloc: Global) -> Result<World, Memory>
     ensures { IfOk result IsWorld }
 {
     World::fresh(alloc, LIMITS)
 }
 
-/// Takes a step, and keeps no way back.
+/// Applies a step without an undo.
 fn advance(world: &mut World, step: &Step) -> Result<Answer, Refusal>
     requires { IsWorld world.old }
     ensures { IsWorld world.new }
@@ -51,7 +51,7 @@ fn advance(world: &mut World, step: &Step) -> Result<Answer, Refusal>
     world.advance(step)
 }
 
-/// Leads the world over the steps, or up to the first that does not apply.
+/// Applies the steps, up to the first that is refused.
 fn lead(world: &mut World, steps: &[Step]) -> Result<(), Refusal>
     requires { IsWorld world.old }
     ensures { IsWorld world.new }
@@ -62,7 +62,8 @@ fn lead(world: &mut World, steps: &[Step]) -> Result<(), Refusal>
     Ok(())
 }
 
-/// Applies all the steps or none: whether they apply, how many deltas there are, and the lock word of socket 0 then.
+/// Applies all the steps or none. Returns whether they apply, the number of deltas, and the lock word of socket 0
+/// afterwards.
 fn transacted(world: &mut World, steps: &[Step]) -> (Result<(), Refusal>, usize, CellValue)
     requires well_formed { IsWorld world.old }
     requires few { length steps.now ≤ 8 }
@@ -73,7 +74,7 @@ fn transacted(world: &mut World, steps: &[Step]) -> (Result<(), Refusal>, usize,
     (applied, deltas.len(), world.cell(Cell::Lock(0)))
 }
 
-/// A list of which the last doesn't apply, an empty one, and one that applies.
+/// Applies three lists of steps: one whose last step is refused, an empty one, and one that applies.
 fn transactions(world: &mut World) -> [(Result<(), Refusal>, usize, CellValue); 3]
     requires { IsWorld world.old }
 {
@@ -98,7 +99,8 @@ fn applies_all_or_none(rt: HostRuntime) -> Result<(), Fail> {
     Ok(())
 }
 
-/// Applies all the steps and undoes them all: how many deltas there were, and the values of a cell in between and then.
+/// Applies all the steps and undoes them all. Returns the number of deltas, and the values of a cell in between and
+/// afterwards.
 fn there_and_back(
     world: &mut World,
     steps: &[Step],
@@ -117,7 +119,7 @@ fn there_and_back(
     Ok((made, there, world.cell(observed)))
 }
 
-/// A reference taken and given up, in all and one by one.
+/// Takes and releases a reference, in one list and one by one.
 fn references(world: &mut World) -> Result<[(usize, CellValue, CellValue); 3], Refusal>
     requires { IsWorld world.old }
 {
@@ -148,7 +150,7 @@ const SHUT: Step = Step::CloseWrite {
     socket: 0,
 };
 
-/// A write side shut once and again.
+/// Shuts a write side once, and again.
 fn shuts(world: &mut World) -> Result<[(usize, CellValue, CellValue); 2], Refusal>
     requires { IsWorld world.old }
 {
@@ -172,7 +174,7 @@ fn undoes_the_shutting_of_a_write_side(rt: HostRuntime) -> Result<(), Fail> {
     Ok(())
 }
 
-/// A socket with room for four bytes a side.
+/// Opens a socket with room for four bytes per side.
 const OPEN_FOR_FOUR: Step = Step::SockOpen {
     read_capacity: 4,
     write_capacity: 4,
@@ -189,13 +191,13 @@ const DRAIN: Step = Step::Drain {
     count: 2,
 };
 
-/// Two bytes that arrive.
+/// Returns the step with which two bytes arrive.
 fn arriving(alloc: Global) -> Result<Step, AllocError> {
     let bytes = Bytes::new(Vec::from_slice(alloc, b"hi")?);
     Ok(Step::Arrive { socket: 0, bytes })
 }
 
-/// Two bytes that are written.
+/// Returns the step that writes two bytes.
 fn writing(alloc: Global) -> Result<Step, AllocError> {
     let bytes = Bytes::new(Vec::from_slice(alloc, b"yo")?);
     Ok(Step::SysWrite {
@@ -205,7 +207,7 @@ fn writing(alloc: Global) -> Result<Step, AllocError> {
     })
 }
 
-/// Bytes come and go.
+/// Returns steps that move bytes in and out.
 fn traffic(alloc: Global) -> Result<[Step; 5], AllocError> {
     Ok([
         OPEN_FOR_FOUR,
@@ -216,7 +218,7 @@ fn traffic(alloc: Global) -> Result<[Step; 5], AllocError> {
     ])
 }
 
-/// Takes a step, and lets its way back go.
+/// Applies a step and drops its undo.
 fn apply(world: &mut World, step: &Step) -> Result<Answer, Refusal>
     requires { IsWorld world.old }
     ensures { IsWorld world.new }
@@ -225,7 +227,7 @@ fn apply(world: &mut World, step: &Step) -> Result<Answer, Refusal>
     Ok(answer)
 }
 
-/// What a copy that keeps no way back answers.
+/// Returns the answer of the step on a copy without an undo.
 fn answer_of_a_copy(world: &World, step: &Step) -> Result<Answer, Refusal>
     requires { IsWorld world.now }
 {
@@ -233,7 +235,7 @@ fn answer_of_a_copy(world: &World, step: &Step) -> Result<Answer, Refusal>
     advance(&mut copy, step)
 }
 
-/// What the step answers, where a copy answers the same.
+/// Returns the answer of the step, if it is the same on a copy.
 fn answer_of(world: &mut World, step: &Step) -> Option<Answer>
     requires { IsWorld world.old }
     ensures { IsWorld world.new }
@@ -247,7 +249,7 @@ fn answer_of(world: &mut World, step: &Step) -> Option<Answer>
     }
 }
 
-/// What a buffer of socket 0 holds, where there is one, and memory to show it.
+/// Returns the bytes in a buffer of socket 0, if the buffer exists and there is memory to return them.
 fn held(world: &World, side: Side) -> Option<Bytes> {
     world.bytes(0, side).ok()?
 }
@@ -262,7 +264,7 @@ fn undo_last(world: &mut World, deltas: &mut ArrayVec<Delta, 8>)
     }
 }
 
-/// Takes three steps and undoes the last ones of them, so many.
+/// Applies three steps, and undoes so many of the last ones.
 fn lead_and_return(world: &mut World, steps: &[Step; 3], count: u32) -> Result<(), Refusal>
     requires { IsWorld world.old }
 {
@@ -274,7 +276,7 @@ fn lead_and_return(world: &mut World, steps: &[Step; 3], count: u32) -> Result<(
     Ok(())
 }
 
-/// Whether the bytes are these.
+/// Returns whether these are the wanted bytes.
 fn is_held(bytes: &Option<Bytes>, wanted: &[u8]) -> bool {
     match bytes {
         Some(bytes) => bytes.as_slice() == wanted,
@@ -282,7 +284,7 @@ fn is_held(bytes: &Option<Bytes>, wanted: &[u8]) -> bool {
     }
 }
 
-/// Whether the input of socket 0 is this then, or there is none.
+/// Returns whether the input of socket 0 is the wanted one afterwards, or doesn't exist if none is wanted.
 fn is_left(
     world: &mut World,
     steps: &[Step; 3],
@@ -299,7 +301,7 @@ fn is_left(
     })
 }
 
-/// That, from the beginning.
+/// Runs `is_left` in a new world.
 fn undone(
     alloc: Global,
     steps: &[Step; 3],
@@ -310,7 +312,8 @@ fn undone(
     is_left(&mut world, steps, count, input)
 }
 
-/// What none, one, two and three undos leave of three steps, by which bytes arrive and one is read.
+/// Returns the results of `undone` for no, one, two and three undos after three steps, with which bytes arrive and one
+/// is read.
 fn all_undone(alloc: Global, steps: &[Step; 3]) -> Result<[bool; 4], Refusal> {
     Ok([
         undone(alloc, steps, 0, Some(b"i".as_slice()))?,
@@ -327,7 +330,7 @@ fn undoes_one_by_one(rt: HostRuntime) -> Result<(), Fail> {
     Ok(())
 }
 
-/// Takes the steps: what the last answers, where copies answer the same as they.
+/// Applies the steps, and returns the answer of the last one, if copies give the same answers.
 fn last_answer_of(world: &mut World, steps: &[Step]) -> Option<Answer>
     requires { IsWorld world.old }
 {
@@ -338,7 +341,7 @@ fn last_answer_of(world: &mut World, steps: &[Step]) -> Option<Answer>
     Some(answer)
 }
 
-/// What the last of some steps answers, and what the buffers of socket 0 hold then.
+/// The answer of the last step, and the bytes in the buffers of socket 0 afterwards.
 #[derive(Drop)]
 struct Buffers {
     answer: Option<Answer>,
@@ -346,7 +349,7 @@ struct Buffers {
     output: Option<Bytes>,
 }
 
-/// Takes the steps from the beginning.
+/// Applies the steps in a new world.
 fn moved(alloc: Global, steps: &[Step]) -> Result<Buffers, Refusal> {
     let mut world = little_world(alloc)?;
     Ok(Buffers {
@@ -356,7 +359,7 @@ fn moved(alloc: Global, steps: &[Step]) -> Result<Buffers, Refusal> {
     })
 }
 
-/// Whether the last of the steps answers so, and leaves these bytes.
+/// Returns whether the last step gives this answer and leaves these bytes.
 fn is_moved(
     alloc: Global,
     steps: Option<&[Step]>,
@@ -372,7 +375,7 @@ fn is_moved(
     )
 }
 
-/// Whether that is so of the first step, the first two and so on.
+/// Returns the results of `is_moved` for the first step, the first two steps and so on.
 fn all_moved(alloc: Global, steps: &[Step]) -> Result<[bool; 5], Refusal> {
     Ok([
         is_moved(alloc, steps.get(..1), Answer::Number(0), b"", b"")?,
@@ -390,7 +393,7 @@ fn moves_bytes(rt: HostRuntime) -> Result<(), Fail> {
     Ok(())
 }
 
-/// Whether there is no socket 1, by its bytes, and whether nobody is queued at socket 0.
+/// Returns whether the bytes of socket 1 don't exist, and whether the queue of socket 0 is empty.
 fn missing_and_empty(world: &World) -> Result<(bool, bool), Refusal> {
     let bytes = world.bytes(1, Side::Read)?;
     let queue = world.queue(0, Side::Read)?;
@@ -398,7 +401,7 @@ fn missing_and_empty(world: &World) -> Result<(bool, bool), Refusal> {
     Ok((bytes.is_none(), is_empty))
 }
 
-/// That, with one socket that was just opened.
+/// Returns this for a world with one socket, which was just opened.
 fn opened(world: &mut World) -> Result<(bool, bool), Refusal>
     requires { IsWorld world.old }
 {
@@ -413,14 +416,14 @@ fn shows_what_is_missing_or_empty(rt: HostRuntime) -> Result<(), Fail> {
     Ok(())
 }
 
-/// How many bytes the buffers of socket 0 hold.
+/// Returns the numbers of bytes in the buffers of socket 0.
 fn lengths(world: &World) -> (CellValue, CellValue)
     requires { IsWorld world.now }
 {
     (world.cell(Cell::Input(0)), world.cell(Cell::Output(0)))
 }
 
-/// What the step answers: at once or, where it ran out of memory, which changed nothing, the next time.
+/// Returns the answer of the step. If it runs out of memory and changes nothing, tries again.
 fn answer_in_two_tries(world: &mut World, step: &Step) -> Result<Answer, Refusal>
     requires { IsWorld world.old }
     ensures { IsWorld world.new }
@@ -432,7 +435,7 @@ fn answer_in_two_tries(world: &mut World, step: &Step) -> Result<Answer, Refusal
     }
 }
 
-/// Takes the steps of the traffic, each in two tries.
+/// Applies the steps of the traffic, each in at most two tries.
 fn take_in_two_tries(rt: &impl Abort, world: &mut World, traffic: &[Step; 5])
     requires { IsWorld world.old }
 {
@@ -448,7 +451,7 @@ fn take_in_two_tries(rt: &impl Abort, world: &mut World, traffic: &[Step; 5])
     }
 }
 
-/// Says something of a refusal only with an allocation refused: `rt try --test --fail-alloc N`.
+/// Tests a failed allocation only if one is made to fail: `rt try --test --fail-alloc N`.
 #[test]
 fn goes_on_where_memory_was_refused(rt: HostRuntime) -> Result<(), Fail> {
     let Ok(steps) = traffic(rt.alloc()) else {

@@ -1,4 +1,4 @@
-//! Lines, words and texts by worked examples.
+//! Worked examples of lines, words and texts.
 
 use nr_command::{Command, Line, Query, Reply};
 use nr_journal::GREATEST_OPCODE;
@@ -58,8 +58,8 @@ fn words_hold_opcode_tag_and_argument(rt: HostRuntime) -> Result<(), Fail> {
 
 #[test]
 fn other_numbers_are_no_words(rt: HostRuntime) -> Result<(), Fail> {
-    // a continue with an argument, opcode 0 and one above the greatest, no steps, 2^32 steps, a break before step 0, a
-    // kind 32, and the clock of something
+    // a `continue` with an argument, opcode 0 and one above the greatest, no steps, 2^32 steps, a break before step 0,
+    // a kind 32, and the clock of a numbered thing
     let others = [
         327_683,
         0,
@@ -117,7 +117,7 @@ fn lines_ask_for_commands(rt: HostRuntime) -> Result<(), Fail> {
     Ok(())
 }
 
-/// How long a reply's text is, and in how many writes it goes out.
+/// Returns the length of a reply's text, and the number of writes that print it.
 fn length_and_writes(rt: &HostRuntime, reply: &Reply) -> Result<(usize, usize), Fail> {
     let mut out = Sink::new(Counted {
         held: Vec::new(rt.alloc()),

@@ -1,4 +1,4 @@
-//! Words placed in one journal, by calls in turn. Threads that place them are in `nr_hostile_tests`.
+//! Words placed in one journal, by calls in turn. `nr_hostile_tests` contains the tests in which threads place them.
 
 ghost use Rattle.std.specs.Prelude.{◌≡◌};
 ghost use Rattle.nr_journal.specs.Rule.{tag_of};
@@ -8,14 +8,14 @@ use nr_journal::{Journal, NoTag, Offered, Pass, Seat};
 use std::cmp::Ordering;
 use std::test::*;
 
-/// A word with opcode 3 and the pass's tag.
+/// Returns a word with opcode 3 and the pass's tag.
 fn word_of(pass: &Pass, argument: u32) -> u64
     ensures { HasOpcode result × (tag_of result ≡ pass.now.pass_state.tag) }
 {
     3 + 256 * u64::from(pass.tag()) + 65_536 * u64::from(argument)
 }
 
-/// Offers a word until it is placed; false where the journal is full.
+/// Offers a word until it is placed. Returns false if the journal is full.
 fn place(journal: &Journal, pass: &mut Pass, argument: u32) -> bool
     requires { pass.old.table ≡ journal.now }
     ensures { pass.new.table ≡ journal.now }
@@ -31,7 +31,7 @@ fn place(journal: &Journal, pass: &mut Pass, argument: u32) -> bool
     false
 }
 
-/// What is seen of a journal of two words by who fills it: the word before, its own first one, whether each of three was
+/// What the pass that fills a journal of two words sees: the word before, its own first word, whether each of three was
 /// placed, how many it has seen, and the next.
 type Filled = (Option<u64>, u64, [bool; 3], usize, Option<u64>);
 
@@ -49,7 +49,8 @@ fn fill(journal: &Journal, one: &mut Pass) -> Filled
     (before, word, placed, one.seen(), journal.next(one))
 }
 
-/// How who comes late meets that one, how that one meets it, and the first word that it sees.
+/// Returns how a pass that joins late compares with the first one, how the first one compares with it, and the first
+/// word that it sees.
 fn come_late(
     journal: &Journal,
     one: &mut Pass,
@@ -63,7 +64,7 @@ fn come_late(
     (less, greater, journal.next(late))
 }
 
-/// All words, and how both meet once one has seen all that the other has.
+/// Returns all words, and how both passes compare once one has seen everything that the other has.
 fn see_all(journal: &Journal, one: &mut Pass, late: &mut Pass) -> Option<(Vec<u64>, Ordering)>
     requires { (one.old.table ≡ journal.now) × (late.old.table ≡ journal.now) }
 {
@@ -79,7 +80,7 @@ fn who_comes_late_sees_all(rt: HostRuntime) -> Result<(), Fail> {
     let (Ok(mut one), Ok(mut late)) = (journal.enter(seat), journal.enter(second)) else {
         panic!(rt; "no tag")
     };
-    // opcode 3 with argument 5, which is no command
+    // opcode 3 with argument 5, which isn't a command
     let filled = (None, 327_683, [true, true, false], 2, None);
     assert_eq!(rt; fill(&journal, &mut one), filled);
     assert_eq!(rt;
@@ -92,7 +93,7 @@ fn who_comes_late_sees_all(rt: HostRuntime) -> Result<(), Fail> {
     Ok(())
 }
 
-/// The tag of a pass and how many words it has seen, and what two offers of a word come to.
+/// Returns the tag of a pass, the number of words that it has seen, and the results of two offers of a word.
 fn enter_and_offer(journal: &Journal, seat: Seat) -> Option<(u8, usize, Offered, Offered)>
     requires { seat.table ≡ journal.now }
 {

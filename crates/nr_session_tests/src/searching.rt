@@ -22,7 +22,7 @@ const POLL: Step = Step::PollOpen {
     socket: 0,
 };
 
-/// A socket and its descriptor are opened.
+/// Returns steps that open a socket and its descriptor.
 fn opening(alloc: Global) -> Result<Vec<Step>, AllocError> {
     let mut steps = Vec::new(alloc);
     steps.push(OPEN)?;
@@ -30,14 +30,14 @@ fn opening(alloc: Global) -> Result<Vec<Step>, AllocError> {
     Ok(steps)
 }
 
-/// 192 steps: from the third on they set the clock to 1, 2 and so on.
+/// Returns a film of 192 steps, which from the third on set the clock to 1, 2 and so on.
 fn ticking(alloc: Global) -> Option<Film<World>> {
     let mut steps = opening(alloc).ok()?;
     add_ticks(&mut steps, 190).ok()?;
     film_of(alloc, steps)
 }
 
-/// By its first mark watches the descriptor's word for reading, and by its second breaks at a step, unless it is 0.
+/// Returns marks: a watch of the descriptor's read word, and a break at a step, unless the step is 0.
 fn marks(step: u32) -> Marks {
     let mut marks = Marks::new();
     let _ = marks.add_watch(Cell::ReadWord(0));
@@ -47,12 +47,12 @@ fn marks(step: u32) -> Marks {
     marks
 }
 
-/// So many workers, from 1 to 16.
+/// Returns so many workers, from 1 to 16.
 fn crew<R: Threads + Sync>(rt: &R, alloc: Global, workers: usize) -> ManyWorkers<&R, Open> {
     ManyWorkers::new(rt, alloc, Open, workers.max(1).min(16))
 }
 
-/// What is found from a position that the film has, where there is memory.
+/// Returns what a search from a position of the film finds, if there is enough memory.
 fn find<F: Finder>(
     finder: &F,
     film: &Film<World>,
@@ -70,14 +70,14 @@ fn find<F: Finder>(
     found.ok()
 }
 
-/// A hit of one mark.
+/// Returns a hit of one mark.
 fn hit(position: usize, mark: u32) -> Found {
     let mut marks = ArrayVec::new();
     marks.push(mark);
     Found::Hit(Hit { position, marks })
 }
 
-/// Holds one worker, until another one has searched a segment.
+/// Holds one worker until another one has searched a segment.
 #[derive(Drop)]
 struct Turnstile {
     held: usize,
@@ -106,7 +106,8 @@ impl Gate for Turnstile {
     }
 }
 
-/// What two workers find, one of whom is held: whether the other searched a segment meanwhile.
+/// Searches with two workers, one of which is held. Returns what is found, and whether the other one searched a segment
+/// meanwhile.
 fn found_while_held<R: Threads + Sync>(
     rt: &R,
     alloc: Global,
@@ -137,7 +138,7 @@ fn two_workers_search_at_once(rt: HostRuntime) -> Result<(), Fail> {
     Ok(())
 }
 
-/// What is found from 192 and 99 backwards, and from 2 and 99 forwards.
+/// Returns what searches find from 192 and 99 backwards, and from 2 and 99 forwards.
 fn four<F: Finder>(finder: &F, film: &Film<World>) -> [Option<Found>; 4] {
     let marks = marks(100);
     [
@@ -148,7 +149,7 @@ fn four<F: Finder>(finder: &F, film: &Film<World>) -> [Option<Found>; 4] {
     ]
 }
 
-/// What these are to be.
+/// Returns the expected results of these searches.
 fn four_hits() -> [Option<Found>; 4] {
     [
         Some(hit(99, 2)),
@@ -158,7 +159,7 @@ fn four_hits() -> [Option<Found>; 4] {
     ]
 }
 
-/// Whether so many workers find these.
+/// Returns whether so many workers find these results.
 fn is_found_by<R: Threads + Sync>(
     rt: &R,
     alloc: Global,
@@ -182,7 +183,7 @@ fn any_number_of_workers_finds_the_same(rt: HostRuntime) -> Result<(), Fail> {
     Ok(())
 }
 
-/// Workers who begin each search with claims that nobody made and a hit that there need not be.
+/// Workers that start each search with claims which no worker made and with a hint of a hit that needn't exist.
 #[derive(Drop)]
 struct Misled<R: Threads + Sync> {
     many: ManyWorkers<R, Open>,
@@ -206,7 +207,7 @@ impl<R: Threads + Sync> Finder for Misled<R> {
     }
 }
 
-/// Whether misled workers find the same, whose claims and hint are preset to these.
+/// Returns whether misled workers, whose claims and hint are preset to these, find the same.
 fn is_found_by_misled<R: Threads + Sync>(
     rt: &R,
     alloc: Global,

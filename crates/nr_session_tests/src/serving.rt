@@ -16,7 +16,7 @@ use std::sync::atomic::Ordering::SeqCst;
 use std::test::*;
 use std::thread::Threads;
 
-/// Gives its line once, and where it waits, only once the other was written to.
+/// A reader that gives its line once. If it waits, it does so only after the other front's reply was written.
 #[derive(Drop)]
 struct Giving<'a> {
     line: &'a [u8],
@@ -53,7 +53,7 @@ impl Read for Giving<'_> {
     }
 }
 
-/// Notes that it was written to.
+/// A writer that notes that it was written to.
 #[derive(Drop)]
 struct Noting<'a>(&'a AtomicBool);
 
@@ -75,7 +75,7 @@ struct Wire<'a> {
     noting: Noting<'a>,
 }
 
-/// One caller, or none any more.
+/// One caller, until it is taken.
 #[derive(Drop)]
 struct Caller<'a> {
     wire: Option<Wire<'a>>,
@@ -155,7 +155,7 @@ impl<'a> Ports for Wires<'a> {
     }
 }
 
-/// A session of two fronts over these wires.
+/// Runs a session of two fronts over these wires.
 fn share_over<R: Threads + Sync>(rt: &R, alloc: Global, wires: Wires<'_>) -> Option<Ended> {
     let film: Film<World> = ticking(alloc, 4)?;
     let mut ports = LoggedPorts::new(wires);
@@ -167,7 +167,7 @@ fn share_over<R: Threads + Sync>(rt: &R, alloc: Global, wires: Wires<'_>) -> Opt
     share(rt, alloc, &film, OneWorker::<&R>::new(), shape, &mut ports).ok()
 }
 
-/// The session in which the first front waits for the second, or the other way round.
+/// Runs the session in which the first front waits for the second, or the other way round.
 fn share_between<R: Threads + Sync>(rt: &R, alloc: Global, first_waits: bool) -> Option<Ended> {
     let (given, answered) = (AtomicBool::new(false), AtomicBool::new(false));
     let (more, reported) = (AtomicBool::new(false), AtomicBool::new(false));
@@ -182,7 +182,7 @@ fn share_between<R: Threads + Sync>(rt: &R, alloc: Global, first_waits: bool) ->
     share_over(rt, alloc, wires)
 }
 
-/// It left these words, and no front failed.
+/// Asserts that the session left these words, and that no front failed.
 fn assert_ended(rt: &impl Abort, ended: &Ended, words: &[u64]) {
     assert!(rt; !ended.failed);
     match &ended.history {
