@@ -1,4 +1,4 @@
--- The answers of a run, step after step, and what is recorded of them.
+-- The answers of a run, step by step, and the recorded answers.
 use Rattle.std.proofs.Common.{◌≡◌, ℕ, ◌+◌, ◌<◌, ◌≤◌, ◌⊎◌, inl, inr, List, [], ◌∷◌, ◌++◌, length, map, take, Option, Some, None, Ok, refl, sym, ap, subst, ◌∙◌, arith}
 use Rattle.std.specs.List.{slice_get}
 use Rattle.std.specs.Prelude.{option_and_then}
@@ -17,18 +17,18 @@ use Rattle.nr_snaps.specs.Auxiliary.Answers.{answered_steps}
 
 -- ---- the answer of a step
 
--- a step that applies answers so
+-- the answer of a step that applies
 pub answer_at-here : (r : Recording) (n : ℕ) (step : Step) (answer : Answer) (next : World) → slice_get r.steps n ≡ Some step → outcome (world_at r n) step ≡ Ok (answer, next) → answer_at r n ≡ Some answer
 answer_at-here r n step answer next read applies = rw (read, applies) refl
 
--- so does one that leads on from a state of the position
+-- the answer of a step that leads on from a state of the position
 pub answer_at-leads : {State : Type 0} (is_well_formed : State → Type 0) (world : State → World) (steps : State → Step → Answer → State → Type 0)
     (steps_are : (old : State) (step : Step) (answer : Answer) (new : State) → steps old step answer new → outcome (world old) step ≡ Ok (answer, world new))
     (r : Recording) (n : ℕ) (old new : State) (step : Step) (answer : Answer) → IsWorldAt is_well_formed world r n old → slice_get r.steps n ≡ Some step → steps old step answer new → answer_at r n ≡ Some answer
 answer_at-leads is_well_formed world steps steps_are r n old new step answer is_at read leads =
     answer_at-here r n step answer (world new) read (subst (λ w. outcome w step ≡ Ok (answer, world new)) is_at.there (steps_are old step answer new leads))
 
--- where a step answers, there is one
+-- a step with an answer is within the recording
 pub answer_within : (r : Recording) (n : ℕ) (answer : Answer) → answer_at r n ≡ Some answer → n < length r.steps
 answer_within r n answer gives =
     let there = some_read (slice_get r.steps n) (λ step. answer_of (outcome (world_at r n) step)) answer gives in
@@ -38,7 +38,7 @@ answer_within r n answer gives =
     some_read (Some x) f y e = (x, refl)
     some_read None f y e = absurd cc
 
--- ---- what is recorded
+-- ---- recorded answers
 
 pub agree-none : (r : Recorded) → AnswersAgreeTo r 0
 agree-none r = λ k given below gives. absurd (omega (arith, below))
@@ -46,7 +46,7 @@ agree-none r = λ k given below gives. absurd (omega (arith, below))
 below-next : (k n : ℕ) → k < n + 1 → (k < n) ⊎ (k ≡ n)
 below-next k n h = grind arith
 
--- one step more agrees
+-- one more step agrees
 pub agree-next : (r : Recorded) (n : ℕ) (given : Answer) → AnswersAgreeTo r n → answer_at (run_of r) n ≡ Some given → Agrees (recorded_at r n) given → AnswersAgreeTo r (n + 1)
 agree-next r n given agree gives here = λ k other below also.
     elim (below-next k n below) [
@@ -60,7 +60,7 @@ agree-next r n given agree gives here = λ k other below also.
 pub steps_of_run : (r : Recorded) → length (run_of r).steps ≡ length r.steps
 steps_of_run r = simp length-map refl
 
--- all steps do
+-- all steps agree
 pub agree-whole : (r : Recorded) (n : ℕ) → AnswersAgreeTo r n → length r.steps ≤ n → AnswersAgree r
 agree-whole r n agree reached = λ k given gives.
     let within = answer_within (run_of r) k given gives in
@@ -83,7 +83,7 @@ take-next : {X : Type 0} (xs : List X) (n : ℕ) (x : X) → slice_get xs n ≡ 
 take-next xs n x read =
     take_more xs n x (slice_get_within xs n x read) ∙ ap (λ y. take n xs ++ y ∷ []) (get_or_from_slice_get xs n x x read)
 
--- one step more, with its answer
+-- one more step, with its answer
 pub answered_steps-next : (r : Recording) (n : ℕ) (step : Step) (answer : Answer) → slice_get r.steps n ≡ Some step → answer_at r n ≡ Some answer
     → answered_steps (empty_world r.limits) (take (n + 1) r.steps) ≡ answered_steps (empty_world r.limits) (take n r.steps) ++ record { step = step; answer = Some answer } ∷ []
 answered_steps-next r n step answer read gives =

@@ -13,7 +13,7 @@ use Rattle.nr_snaps.specs.Film.{Reel, IsFrame}
 
 module _ {State : Type 0} (steps : State → Step → Answer → State → Type 0)
     (unique : (old : State) (op : Step) (a b : Answer) (new other : State) → steps old op a new → steps old op b other → (a ≡ b) × (new ≡ other)) (r : Recording) where
-  -- a step leads on from a state to one other
+  -- a step leads on from a state to only one other
   LeadsOn-unique : (n : ℕ) (old a b : State) → LeadsOn steps r n old a → LeadsOn steps r n old b → a ≡ b
   LeadsOn-unique n old a b p q =
       let both : Some p.step ≡ Some q.step = sym p.next ∙ q.next in
@@ -39,7 +39,7 @@ module _ {State : Type 0} (is_well_formed : State → Type 0) (world : State →
         replays = rw add-one (old, frame.replays, leads);
       }
 
-  -- the step leads on from a state with the position's world, so it applies there, and leads to the next one's
+  -- a step that leads on from a state with the position's world applies there, and leads to the next position's world
   pub LeadsOn-applies : (r : Recording) (n : ℕ) (old new : State) → world old ≡ world_at r n → LeadsOn steps r n old new → AppliesAt r n × (world new ≡ world_at r (n + 1))
   LeadsOn-applies r n old new there leads =
       let made = steps_are old leads.step leads.answer new leads.leads in
@@ -53,7 +53,7 @@ module _ {State : Type 0} (is_well_formed : State → Type 0) (world : State →
         (IsWorldAt-next (λ (s : State). Unit {0}) world r n leads.step leads.answer old new is_at leads.next made tt).there,
       )
 
-  -- steps that were replayed from position 0 apply
+  -- steps replayed from position 0 apply
   pub Replays-good : (r : Recording) (origin : State) (n : ℕ) (state : State) → world origin ≡ world_at r 0 → Replays steps r origin n state → IsGoodTo r n × (world state ≡ world_at r n)
   Replays-good r origin zero state start same =
       (record { each = λ k step below read. absurd (omega arith) }, ap world same ∙ start)

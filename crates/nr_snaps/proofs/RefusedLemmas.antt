@@ -13,7 +13,7 @@ use Rattle.nr_snaps.specs.Fault.{IsStepFault}
 use Rattle.nr_snaps.specs.declared.fault.LoadFault.{LoadFault}
 use Rattle.nr_snaps.specs.declared.fault.LoadFault.TheVariants as fault
 
--- of a beginning, a shorter beginning is one of the whole
+-- a shorter beginning of a beginning is one of the whole
 take_of_take : {X : Type 0} (xs : List X) (n m : ℕ) → n < m → take n (take m xs) ≡ take n xs
 take_of_take xs zero (suc m) less = refl
 take_of_take [] (suc n) (suc m) less = refl
@@ -29,7 +29,7 @@ get_of_take xs n zero less = absurd (omega (arith, less))
 abbrev first : ℕ → Recording → Recording
 first n r = record r { steps = take n r.steps }
 
--- where a step is refused it doesn't apply, nor does it answer
+-- a refused step doesn't apply, and gives no answer
 refused_is_not_ok : (r : Recording) (n : ℕ) (step : Step) (reason : Refusal) → outcome (world_at r n) step ≡ Err reason → ¬ IsOk (outcome (world_at r n) step)
 refused_is_not_ok r n step reason refused ok = let no : false ≡ true = subst IsOk refused ok in absurd (grind (arith, no))
 
@@ -39,11 +39,11 @@ refused_gives_none r n given reason refused gives =
     let both = sym none ∙ gives in
     absurd cc
 
--- where the steps apply, none is refused
+-- if all steps apply, none is refused
 pub good_is_not_refused : (r : Recording) (n : ℕ) (reason : Refusal) → IsRefusedAt r n reason → ¬ IsGood r
 good_is_not_refused r n reason refused good = refused_is_not_ok r n refused.step reason refused.refused (good n refused.step refused.next)
 
--- nor is one that comes before the end of those that apply
+-- no refused step comes before the end of those that apply
 not_before : (r : Recording) (n m : ℕ) (reason : Refusal) → IsRefusedAt r n reason → IsGood (first m r) → ¬ (n < m)
 not_before r n m reason refused good less =
     let next = get_of_take r.steps n m less ∙ refused.next in
@@ -51,7 +51,7 @@ not_before r n m reason refused good less =
     let applies = subst (λ w. IsOk (outcome w refused.step)) there (good n refused.step next) in
     refused_is_not_ok r n refused.step reason refused.refused applies
 
--- an answer that differs is none that agrees
+-- an answer that differs doesn't agree
 not_agreed : (r : Recorded) (n m : ℕ) → AnswersOtherwiseAt r n → AnswersAgreeTo r m → ¬ (n < m)
 not_agreed r n m other agree less =
     other.differs.2 (agree n other.given less other.gives other.differs.0 other.differs.1)
@@ -64,7 +64,7 @@ place (fault.Memory refused) = 0
 place (fault.Refused step reason) = step - 1
 place (fault.OtherAnswer step) = step - 1
 
--- all is right before it, and nothing is beyond it
+-- all steps before it are right, and no longer beginning has only right steps
 record StopsAt (r : Recorded) (n : ℕ) : Type 0 where
   before : IsGood (first n (run_of r))
   agree : AnswersAgreeTo r n
@@ -104,7 +104,7 @@ one_reason r n m reason why same here there =
     let steps = sym here.next ∙ there'.next in
     cc
 
--- a step is refused, or it answers
+-- a step can't be refused and give an answer
 not_both : (r : Recorded) (n m : ℕ) (reason : Refusal) → n ≡ m → IsRefusedAt (run_of r) n reason → ¬ AnswersOtherwiseAt r m
 not_both r n m reason same refused other =
     refused_gives_none (run_of r) n other.given reason refused (subst (λ k. answer_at (run_of r) k ≡ Some other.given) (sym same) other.gives)
@@ -128,7 +128,7 @@ one_fault r (fault.OtherAnswer step) (fault.OtherAnswer other) is also =
     let steps : step ≡ other = omega (arith, same, is.0, also.0) in
     ap (λ n. fault.OtherAnswer n) steps
 
--- where all steps apply and answer as recorded, there is none
+-- if all steps apply and answer as recorded, there is no fault
 pub fault_is_bad : (r : Recorded) (f : LoadFault) → IsStepFault r f → ¬ (IsGood (run_of r) × AnswersAgree r)
 fault_is_bad r (fault.Memory refused) is right = absurd is
 fault_is_bad r (fault.Refused step reason) is right = good_is_not_refused (run_of r) (step - 1) reason is.2 right.0

@@ -1,11 +1,11 @@
--- The answers that the steps of a run give, and those that are recorded of them.
+-- The answers that the steps of a run give, and their recorded answers.
 use Rattle.std.specs.Prelude.{◌≡◌, ◌≢◌, ℕ, ◌<◌, take, slice_get, Option, Some, None, option_and_then, Ok, Err}
 use Rattle.nr_recording.specs.Recording.{Recorded, run_of, recorded_at}
 use Rattle.nr_rev.specs.Run.{IsGood, Recording, world_at}
 use Rattle.nr_rev.specs.Step.{Outcome, outcome}
 use Rattle.nr_rev.specs.declared.answer.Answer.{Answer}
 
--- the answer of a step, where it applies
+-- the answer of a step, if it applies
 abbrev pub answer_of : Outcome → Option Answer
 answer_of (Ok (answer, next)) = Some answer
 answer_of (Err reason) = None
@@ -15,26 +15,26 @@ abbrev pub answer_at : Recording → ℕ → Option Answer
 answer_at r n =
     option_and_then (λ step. answer_of (outcome (world_at r n) step)) (slice_get r.steps n)
 
--- what is recorded of a step, if anything, is the answer that it gave
+-- true if a step's recorded answer, if any, is the one that it gave
 abbrev pub Agrees : Option Answer → Answer → Type 0
 Agrees recorded given = (answer : Answer) → recorded ≡ Some answer → answer ≡ given
 
--- another answer is recorded of a step than the one that it gave
+-- true if a step has a recorded answer other than the one that it gave
 abbrev pub Differs : Option Answer → Answer → Type 0
 Differs recorded given = (answer : Answer) × (recorded ≡ Some answer) × (answer ≢ given)
 
--- each of the first n steps gives the answer that is recorded of it
+-- true if each of the first n steps gives its recorded answer, if it has one
 abbrev pub AnswersAgreeTo : Recorded → ℕ → Type 0
 AnswersAgreeTo r n = (k : ℕ) (given : Answer) → k < n → answer_at (run_of r) k ≡ Some given
     → Agrees (recorded_at r k) given
 
--- each step does
+-- true if each step gives its recorded answer, if it has one
 abbrev pub AnswersAgree : Recorded → Type 0
 AnswersAgree r = (k : ℕ) (given : Answer) → answer_at (run_of r) k ≡ Some given
     → Agrees (recorded_at r k) given
 
--- the first n steps apply and give the answers that are recorded of them, and the next one applies
--- and gives another
+-- the first n steps apply and give their recorded answers, and the next one applies and gives
+-- another answer
 pub record AnswersOtherwiseAt (r : Recorded) (n : ℕ) : Type 0 where
   pub before : IsGood (record (run_of r) { steps = take n (run_of r).steps })
   pub agree : AnswersAgreeTo r n

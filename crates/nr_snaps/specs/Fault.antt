@@ -1,4 +1,4 @@
--- Why a recording is not loaded.
+-- The reasons why a recording is not loaded.
 use Rattle.std.specs.Prelude.{◌≢◌, ℕ, ◌-◌, ◌<◌, List, ◌++◌, codes, decimal}
 use Rattle.nr_recording.specs.Faults.{memory_text}
 use Rattle.nr_recording.specs.Recording.{Recorded, run_of}
@@ -8,16 +8,16 @@ use Rattle.nr_snaps.specs.Answers.{AnswersAgreeTo, AnswersOtherwiseAt}
 use Rattle.nr_snaps.specs.declared.fault.LoadFault.{LoadFault}
 use Rattle.nr_snaps.specs.declared.fault.LoadFault.TheVariants as fault
 
--- The steps before the one of this number, counted from 1, apply and give the answers that are
--- recorded of them. It is refused for the reason, which is not being out of memory; or it applies
--- and gives another answer.
+-- True if the steps before the one with this number, counted from 1, apply and give their recorded
+-- answers, and that step is refused for the reason, which is not running out of memory; or it
+-- applies and gives another answer than the recorded one.
 abbrev pub IsStepFault : Recorded → LoadFault → Type 0
 IsStepFault r (fault.Memory refused) = ⊥
 IsStepFault r (fault.Refused step reason) = (0 < step) × (reason ≢ out_of_memory)
     × IsRefusedAt (run_of r) (step - 1) reason × AnswersAgreeTo r (step - 1)
 IsStepFault r (fault.OtherAnswer step) = (0 < step) × AnswersOtherwiseAt r (step - 1)
 
--- the text that a fault is printed as
+-- the text of a fault
 abbrev pub load_fault_text : LoadFault → List ℕ
 load_fault_text (fault.Refused step reason) =
     codes "step " ++ decimal step ++ codes ": fault 107 reason " ++ decimal (refusal_number reason)

@@ -8,8 +8,8 @@ use Rattle.nr_rev.specs.declared.step.Step.{Step}
 use Rattle.nr_snaps.specs.Replay.{Replays}
 use Rattle.nr_snaps.specs.declared.film.TheConstants.{LEAST_EVERY, MOST_EVERY}
 
--- what is seen of a film: the recording, how many steps lie between two copies, and the state that
--- the replay begins with
+-- the abstract value of a film: the recording, the number of steps between two copies, and the
+-- first state of the replay
 pub record Reel (State : Type 0) : Type 0 where
   pub recording : Recording
   pub every : ℕ
@@ -17,21 +17,21 @@ pub record Reel (State : Type 0) : Type 0 where
 
 module _ {State : Type 0} (is_well_formed : State → Type 0) (world : State → World)
     (steps : State → Step → Answer → State → Type 0) where
-  -- the very state that the replay has at position n; it is well formed and means the position's
-  -- world
+  -- the state is exactly that of the replay at position n; it is well formed and represents the
+  -- position's world
   pub record IsFrame (film : Reel State) (n : ℕ) (state : State) : Type 0 where
     pub is_at : IsWorldAt is_well_formed world film.recording n state
     pub replays : Replays steps film.recording film.origin n state
 
-  -- the copies after position 0: one at each multiple of `every` up to the end, and each keeps the
-  -- state there
+  -- the copies after position 0: one at each multiple of `every` up to the end, which stores the
+  -- replay's state there
   pub record HasCopies {Snapshot : Type 0} (kept : Snapshot → State) (film : Reel State)
       (later : List Snapshot) : Type 0 where
     pub count : length later ≡ length film.recording.steps / film.every
     pub each : (i : ℕ) (copy : Snapshot) → slice_get later i ≡ Some copy
         → IsFrame film ((i + 1) * film.every) (kept copy)
 
-  -- what holds of each film
+  -- the invariant of films
   pub record IsFilm {Snapshot : Type 0} (kept : Snapshot → State) (film : Reel State)
       (later : List Snapshot) : Type 0 where
     pub least : LEAST_EVERY ≤ film.every

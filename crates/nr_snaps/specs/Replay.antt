@@ -1,10 +1,10 @@
--- The states that a replay comes through.
+-- The states of a replay.
 use Rattle.std.specs.Prelude.{◌≡◌, ℕ, zero, suc, Some, slice_get}
 use Rattle.nr_rev.specs.Run.{Recording}
 use Rattle.nr_rev.specs.declared.answer.Answer.{Answer}
 use Rattle.nr_rev.specs.declared.step.Step.{Step}
 
--- the step after position n leads from the old state to the new one
+-- true if the step after position n leads from the old state to the new one
 pub record LeadsOn {State : Type 0} (steps : State → Step → Answer → State → Type 0) (r : Recording)
     (n : ℕ) (old new : State) : Type 0 where
   pub step : Step
@@ -12,7 +12,8 @@ pub record LeadsOn {State : Type 0} (steps : State → Step → Answer → State
   pub answer : Answer
   pub leads : steps old step answer new
 
--- the first n steps of the recording lead, one after the other, from the origin to the state
+-- true if the first n steps of the recording lead, one after the other, from the origin to the
+-- state
 abbrev pub Replays : {State : Type 0} → (State → Step → Answer → State → Type 0) → Recording → State
     → ℕ → State → Type 0
 Replays steps r origin zero state = state ≡ origin

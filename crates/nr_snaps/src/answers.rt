@@ -11,8 +11,8 @@ impl<W: Worlds + Drop> Film<W>
 where
     W::Snapshot: Drop,
 {
-    /// The recording of the film's steps in version 2, each with the answer that it gives, whichever version was loaded.
-    /// It takes memory for a world, for the lists of the steps and answers and for the bytes that steps carry.
+    /// Returns the recording of the film's steps in version 2, each with the answer that it gives, whichever version
+    /// was loaded. It takes memory for a world, for the lists of steps and answers, and for the bytes in steps.
     pub fn with_answers(&self) -> Result<Recording, Memory>
         ensures { IfOk result (λ recorded. recorded ≡ answered self.now.recording) }
     {

@@ -14,14 +14,14 @@ use nr_rev::{Answer, Memory, Refusal, Step, Worlds};
 use std::alloc::Global;
 use std::marker::Model;
 
-/// The fewest steps that may lie between two copies.
+/// The fewest steps between two copies.
 pub const LEAST_EVERY: usize = 64;
 
-/// The most steps that may lie between two copies.
+/// The most steps between two copies.
 pub const MOST_EVERY: usize = 65_536;
 
-/// A recording whose steps all apply, with a copy of its world at position 0 and at each `every`
-/// steps after it, up to the end. Those after position 0 are at rest: they hold what is there. No call changes a film.
+/// A recording whose steps all apply, with a copy of its world at position 0 and after each `every` steps, up to the
+/// end. The copies after position 0 are snapshots, which hold the contents only. No call changes a film.
 #[derive(Drop)]
 pub struct Film<W: Worlds + Drop>
 where
@@ -30,10 +30,10 @@ where
     pub(crate) alloc: Global,
     pub(crate) recording: Recording,
     pub(crate) every: usize,
-    // the world at position 0, and the same at rest
+    // the world at position 0, and a snapshot of it
     pub(crate) start: W,
     pub(crate) first: W::Snapshot,
-    // those at `every`, twice `every` and so on, each at rest
+    // the snapshots at `every`, twice `every` and so on
     pub(crate) later: Vec<W::Snapshot>,
 }
 
@@ -58,7 +58,7 @@ impl<W: Worlds + Drop> Film<W>
 where
     W::Snapshot: Drop,
 {
-    /// How many steps there are.
+    /// Returns the number of steps.
     pub fn len(&self) -> usize
         ensures is { result ≡ length self.now.recording.steps }
         ensures within { result ≤ MOST_STEPS }
@@ -67,7 +67,7 @@ where
         self.recording.len()
     }
 
-    /// How many steps lie between two copies.
+    /// Returns the number of steps between two copies.
     pub fn every(&self) -> usize
         ensures is { result ≡ self.now.every }
         ensures least { LEAST_EVERY ≤ result }
@@ -76,21 +76,21 @@ where
         self.every
     }
 
-    /// The step after position n: `step(0)` is the first one. `None` from the end on.
+    /// Returns the step after position n: `step(0)` is the first one. Returns `None` from the end on.
     pub fn step(&self, n: usize) -> Option<&Step>
         ensures { option_copied result ≡ slice_get self.now.recording.steps n }
     {
         self.recording.step(n)
     }
 
-    /// The world at position 0.
+    /// Returns the world at position 0.
     pub fn start(&self) -> &W
         ensures { IsFrame W.is_well_formed W.world W.steps self.now 0 result.now }
     {
         &self.start
     }
 
-    /// The copy at position n, or the nearest one below it. It takes no memory.
+    /// Returns the copy at position n, or the nearest one below it. It takes no memory.
     pub fn snap_below(&self, n: usize) -> &W::Snapshot
         requires { n ≤ length self.now.recording.steps }
         ensures { IsFrame W.is_well_formed W.world W.steps self.now
@@ -104,7 +104,7 @@ where
         }
     }
 
-    /// The world of the copy at position n, or of the nearest one below it, in room of its own.
+    /// Makes the world of the copy at position n, or of the nearest one below it, with memory of its own.
     pub fn world_below(&self, n: usize) -> Result<W, Memory>
         requires { n ≤ length self.now.recording.steps }
         ensures { IfOk result (λ world. IsFrame W.is_well_formed W.world W.steps self.now
@@ -113,8 +113,8 @@ where
         W::restored(self.snap_below(n))
     }
 
-    /// A world becomes that of the copy at position n, or of the nearest one below it. If it has the limits of that one, its room
-    /// is used again and no memory is taken. Out of memory, it stays.
+    /// Restores into a world the copy at position n, or the nearest one below it. If the world has the limits of the
+    /// copy, its room is reused and no memory is taken. If memory runs out, the world stays as it is.
     pub fn restore_below(&self, world: &mut W, n: usize) -> Result<(), Memory>
         requires within { n ≤ length self.now.recording.steps }
         requires well_formed { W.is_well_formed world.old }
@@ -125,8 +125,9 @@ where
         world.restore(self.snap_below(n))
     }
 
-    /// Leads a world from position n to the next one, and puts the way back in the place of a delta. Only a step that takes bytes
-    /// out of a buffer can run out of memory; then the world stays, and that place may hold any delta.
+    /// Leads a world from position n to the next one, and stores the delta that undoes the step in `delta`. Only a step
+    /// that takes bytes out of a buffer can run out of memory; then the world stays as it is, and `delta` may hold
+    /// anything.
     #[inline(always)]
     pub fn apply(&self, world: &mut W, n: usize, delta: &mut W::Delta) -> Result<(), Memory>
         requires frame { IsFrame W.is_well_formed W.world W.steps self.now n world.old }
@@ -146,8 +147,8 @@ where
         }
     }
 
-    /// Leads a world from position n to the next one, returns the answer of the step, and keeps no way back. It takes no
-    /// memory.
+    /// Leads a world from position n to the next one, and returns the answer of the step. It stores no delta and takes
+    /// no memory.
     #[inline(always)]
     pub fn advance(&self, world: &mut W, n: usize) -> Answer
         requires frame { IsFrame W.is_well_formed W.world W.steps self.now n world.old }

@@ -1,4 +1,4 @@
-//! Laws over the definitions.
+//! Laws of the definitions.
 
 ghost use Rattle.std.specs.Prelude.{◌≡◌, ℕ};
 ghost use Rattle.nr_rev.specs.Run.{IsGood, Recording};
@@ -12,7 +12,7 @@ ghost use Rattle.nr_snaps.specs.declared.film.TheConstants.{LEAST_EVERY, MOST_EV
 
 use nr_rev::Worlds;
 
-/// A film has one state at each position: two walks that end there have the same, whole.
+/// A film has one state at each position: two replays that end there have exactly the same state.
 pub fn a_position_has_one_frame<W: Worlds>()
     ensures { (film : Reel W) (n : ℕ) (a b : W)
         → IsFrame W.is_well_formed W.world W.steps film n a
@@ -25,14 +25,14 @@ pub fn the_numbers()
     ensures most { MOST_EVERY ≡ 65536 }
 {}
 
-/// A recording that has a step's fault is not one whose steps all apply and give the answers that are recorded of them,
-/// and it has that fault alone. So what `load` reports of a recording is exactly where, and exactly why.
+/// If a recording has a fault at a step, not all of its steps apply and give their recorded answers, and it has no
+/// other fault. So `load` reports exactly the step and the reason.
 pub fn a_recording_has_one_fault()
     ensures bad { (r : Recorded) (fault : LoadFault) → IsStepFault r fault → ¬ (IsGood (run_of r) × AnswersAgree r) }
     ensures exact { (r : Recorded) (fault other : LoadFault) → IsStepFault r fault → IsStepFault r other → fault ≡ other }
 {}
 
-/// With answers a recording has the same run. So it is loaded as the same film, and with answers once more it is the same.
+/// A recording with answers has the same run. So it loads as the same film, and adding answers again changes nothing.
 pub fn answers_leave_the_run()
     ensures { (r : Recording) → run_of (answered r) ≡ r }
 {}

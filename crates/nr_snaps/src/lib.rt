@@ -1,7 +1,7 @@
-//! Loading a recording: its steps are replayed once, and copies of the world are kept on the way.
+//! Loads a recording: replays its steps once, and keeps copies of the world on the way.
 //!
-//! A film is a recording whose steps all apply, with a copy of the world at position 0 and at each `every` steps after
-//! it. Each copy is the very state that the replay came through, not just one that means the same world.
+//! A film is a recording whose steps all apply, with a copy of the world at position 0 and after each `every` steps.
+//! Each copy is exactly the state that the replay reached, not just one that represents the same world.
 #![tactic(auto)]
 
 mod answers;

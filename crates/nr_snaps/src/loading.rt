@@ -18,15 +18,16 @@ use nr_recording::Recording;
 use nr_rev::{Answer, Memory, Refusal, Worlds};
 use std::alloc::Global;
 
-/// Makes films.
+/// The loader of films.
 pub struct Snaps;
 
 impl Snaps {
-    /// Replays the recording once, and keeps a copy of the world at position 0 and at each `every`
-    /// steps after it, up to the end.
+    /// Replays the recording once, and keeps a copy of the world at position 0 and after each `every` steps, up to the
+    /// end.
     ///
-    /// A fault is that of the first step, by its number from 1, that does not apply, with its reason, or that applies
-    /// and answers otherwise than is recorded of it. The world at position 0, the copies and the list of them take memory; no step does.
+    /// Fails at the first step, by its number from 1, that does not apply, with the reason; or that applies and gives
+    /// another answer than the recorded one. The world at position 0, the copies and their list take memory; no step
+    /// does.
     pub fn load<W: Worlds + Drop>(
         alloc: Global,
         recording: Recording,
@@ -58,7 +59,7 @@ impl Snaps {
     }
 }
 
-// The copy at position 0, which shares with none.
+// Returns the copy at position 0, which shares nothing.
 fn first_copy<W: Worlds>(start: &W) -> Result<W::Snapshot, Memory>
 where
     W::Snapshot: Drop,
@@ -68,7 +69,7 @@ where
     start.snapshot(none.as_ref())
 }
 
-// Replays all steps, and returns the copies after position 0, each at rest.
+// Replays all steps, and returns the snapshots after position 0.
 fn replay<W: Worlds + Drop>(
     alloc: Global,
     start: &W,
@@ -99,7 +100,7 @@ where
     Ok(later)
 }
 
-// Leads the world from one position to another. It takes no memory: the fault is a step's.
+// Leads the world from one position to another. It takes no memory, so an error is that of a step.
 fn play<W: Worlds>(
     world: &mut W,
     recording: &Recording,
@@ -134,7 +135,7 @@ fn play<W: Worlds>(
     Ok(())
 }
 
-/// Whether another answer is recorded of a step than the one that it gave.
+/// Returns whether a step has a recorded answer other than the one that it gave.
 pub fn differs(recorded: Option<Answer>, given: Answer) -> bool
     ensures { MatchBool result (Differs recorded given) (Agrees recorded given) }
 {
@@ -144,7 +145,7 @@ pub fn differs(recorded: Option<Answer>, given: Answer) -> bool
     }
 }
 
-// Applies the step after position n, returns its answer, and keeps no way back. It takes no memory.
+// Applies the step after position n, and returns its answer. It stores no delta and takes no memory.
 #[inline(always)]
 fn advance<W: Worlds>(world: &mut W, recording: &Recording, n: usize) -> Result<Answer, Refusal>
     requires is_at { IsWorldAt W.is_well_formed W.world (run_of recording.now) n world.old }

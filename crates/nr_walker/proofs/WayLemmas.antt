@@ -1,4 +1,4 @@
--- The way back grows at its end, and is undone from there.
+-- The kept deltas grow at the end, and are undone from there.
 use Rattle.std.proofs.Common.{◌≡◌, ℕ, ◌+◌, ◌-◌, ◌%◌, ◌<◌, ◌≤◌, ◌⊎◌, inl, inr, List, ◌++◌, ◌∷◌, [], length, Some, refl, sym, ap, ◌∙◌, subst, arith}
 use Rattle.std.specs.List.{slice_get}
 use Rattle.std.specs.Global.{Vec}
@@ -23,7 +23,7 @@ module _ {State Delta : Type 0} (is_well_formed : State → Type 0) (world : Sta
     abbrev Kept : ℕ → List Delta → ℕ → Type 0
     Kept depth places k = IsKept is_well_formed world steps back film depth places k
 
-    -- with no deltas the way back is where it is
+    -- the walker keeps no deltas
     pub IsWay-none : (position depth next : ℕ) (state : State) (places : Vec Delta) → position ≤ length film.recording.steps → IsFrame is_well_formed world steps film position state
         → LEAST_DEPTH ≤ depth → depth ≤ MOST_DEPTH → next ≡ position % (depth + 1) → depth + 1 ≤ vec_capacity places
         → IsWay is_well_formed world steps back film position state places next 0 depth
@@ -40,7 +40,7 @@ module _ {State Delta : Type 0} (is_well_formed : State → Type 0) (world : Sta
           deltas = λ k below near. absurd (omega (arith, below, near));
         }
 
-    -- a write to the place of another step leaves what is kept
+    -- writing to the place of another step leaves the kept deltas unchanged
     kept-on : (depth position : ℕ) (places : List Delta) (written : Delta) (k : ℕ) → k < position → position < k + (depth + 1) → Kept depth places k
         → Kept depth (slice_set places (position % (depth + 1)) written) k
     kept-on depth position places written k below near kept =
@@ -50,7 +50,7 @@ module _ {State Delta : Type 0} (is_well_formed : State → Type 0) (world : Sta
           leads_back = kept.leads_back;
         }
 
-    -- the way back over other places that have what it keeps
+    -- the same kept deltas in other places
     IsWay-over : (position next kept depth : ℕ) (state : State) (places others : Vec Delta) → depth + 1 ≤ vec_capacity others
         → ((k : ℕ) → k < position → position ≤ k + kept → Kept depth places.items k → Kept depth others.items k)
         → IsWay is_well_formed world steps back film position state places next kept depth → IsWay is_well_formed world steps back film position state others next kept depth
@@ -76,7 +76,7 @@ module _ {State Delta : Type 0} (is_well_formed : State → Type 0) (world : Sta
         (λ k below near there.
         subst (λ xs. Kept depth xs k) (sym (is ∙ ap (λ i. slice_set places.items i delta) way.next_is)) (kept-on depth position places.items delta k below (omega (arith, near, few)) there)) way
 
-    -- a place more leaves what is kept
+    -- one more place leaves the kept deltas unchanged
     pub IsWay-longer : (position next kept depth : ℕ) (state : State) (places longer : Vec Delta) (delta : Delta) → longer.items ≡ places.items ++ delta ∷ [] → depth + 1 ≤ vec_capacity longer
         → IsWay is_well_formed world steps back film position state places next kept depth → IsWay is_well_formed world steps back film position state longer next kept depth
     IsWay-longer position next kept depth state places longer delta is room way =
@@ -119,7 +119,7 @@ module _ {State Delta : Type 0} (is_well_formed : State → Type 0) (world : Sta
               ];
         }
 
-    -- what is known of the place of the step before: the number that place_before gives
+    -- the facts about the place of the step before: the number that place_before returns
     abbrev Earlier : ℕ → ℕ → ℕ → Type 0
     Earlier next earlier depth = (position : ℕ) → 0 < position → next ≡ position % (depth + 1) → earlier ≡ (position - 1) % (depth + 1)
 
@@ -129,7 +129,7 @@ module _ {State Delta : Type 0} (is_well_formed : State → Type 0) (world : Sta
     last-kept position next earlier kept depth state places way some before =
         let behind = way.behind in (way.deltas (position - 1) (omega (arith, some, behind)) (omega (arith, some, behind)), before position (omega (arith, some, behind)) way.next_is)
 
-    -- the place of the last step is there
+    -- the last step has a place
     pub IsWay-place : (position next earlier kept depth : ℕ) (state : State) (places : Vec Delta) → IsWay is_well_formed world steps back film position state places next kept depth → 0 < kept
         → Earlier next earlier depth → earlier < length places.items
     IsWay-place position next earlier kept depth state places way some before =

@@ -1,4 +1,4 @@
--- How a walker goes from position to position, and what that takes.
+-- How a walker goes from one position to another, and the cost.
 use Rattle.std.specs.Prelude.{◌≡◌, ◌⊎◌, ℕ, ◌+◌, ◌-◌, ◌*◌, ◌/◌, ◌<◌, ◌≤◌, ◌&&◌, nat_lt, nat_le, min, if◌then◌else◌}
 use Rattle.nr_rev.specs.Auxiliary.Run.{LosesBytesAt}
 use Rattle.nr_snaps.specs.Film.{Reel}
@@ -6,8 +6,8 @@ use Rattle.nr_walker.specs.declared.moved.Moved.{Moved}
 use Rattle.nr_walker.specs.declared.route.Route.{Route}
 use Rattle.nr_walker.specs.declared.route.Route.TheVariants.{Back, Forward, FromCopy}
 
--- what is seen of a walker: its film and its position, how many deltas it keeps, and how many it
--- keeps at most
+-- the abstract value of a walker: its film, its position, the number of deltas that it keeps, and
+-- the most that it keeps
 pub record Walk (State : Type 0) : Type 0 where
   pub film : Reel State
   pub position : ℕ
@@ -19,8 +19,8 @@ module _ {State : Type 0} where
   abbrev pub copy_below : Walk State → ℕ → ℕ
   copy_below w n = n / w.film.every * w.film.every
 
-  -- The way to position n. Back, where all deltas on the way are kept. Forward, where it is fewer
-  -- steps than lie between two copies. Else from the copy at or below n.
+  -- The way to position n: back if all deltas on the way are kept; forward if that is fewer steps
+  -- than lie between two copies; or else from the copy at or below n.
   abbrev pub route : Walk State → ℕ → Route
   route w n =
       if nat_le n w.position && nat_le (w.position - n) w.kept then Back
@@ -39,27 +39,27 @@ module _ {State : Type 0} where
   abbrev pub at_copy : Walk State → ℕ → Walk State
   at_copy w n = record w { position = copy_below w n; kept = 0 }
 
-  -- where the walk arrives
+  -- the walker after the walk
   abbrev pub walk_by : Route → Walk State → ℕ → Walk State
   walk_by Back w n = backwards w n
   walk_by Forward w n = forwards w n
   walk_by FromCopy w n = forwards (at_copy w n) n
 
-  -- what it takes
+  -- the cost of the walk
   abbrev pub moved_by : Route → Walk State → ℕ → Moved
   moved_by Back w n = record { applies = 0; undos = w.position - n; copies = 0 }
   moved_by Forward w n = record { applies = n - w.position; undos = 0; copies = 0 }
   moved_by FromCopy w n = record { applies = n - copy_below w n; undos = 0; copies = 1 }
 
-  -- forward on the way to n, but not there: before a step that bytes leave a buffer at
+  -- true if the walker is on the way to n, but before a step at which bytes leave a buffer
   pub record StopsShort (from : Walk State) (n : ℕ) (stopped : Walk State) : Type 0 where
     pub on : from.position ≤ stopped.position
     pub short : stopped.position < n
     pub loses : LosesBytesAt from.film.recording stopped.position
     pub there : stopped ≡ forwards from stopped.position
 
-  -- Where a walk to n ends that runs out of memory. Going back takes none. Forward it stops short
-  -- of n. From a copy it stops so too, or stays where it was.
+  -- True if a walk to n that runs out of memory can end so. Going back takes no memory. Forward, it
+  -- stops short of n. From a copy, it stops short too, or stays where it was.
   abbrev pub IsRefusedBy : Route → Walk State → ℕ → Walk State → Type 0
   IsRefusedBy Back old n new = ⊥
   IsRefusedBy Forward old n new = StopsShort old n new

@@ -1,4 +1,4 @@
--- The way back that a walker keeps.
+-- The deltas that a walker keeps.
 use Rattle.std.specs.Prelude.{◌≡◌, ℕ, ◌+◌, ◌%◌, ◌<◌, ◌≤◌, List, length, slice_get, Some, vec_capacity}
 use Rattle.std.specs.Global.{Vec}
 use Rattle.nr_rev.specs.World.{World}
@@ -11,7 +11,7 @@ module _ {State Delta : Type 0} (is_well_formed : State → Type 0) (world : Sta
     (steps : State → Step → Answer → State → Type 0) (back : Delta → State → State → Type 0)
     (film : Reel State) where
   -- the delta leads back over the step after position k, from the film's state of the next position
-  -- to that of k
+  -- to the state of k
   pub record LeadsBackTo (k : ℕ) (delta : Delta) : Type 0 where
     pub new : State
     pub old : State
@@ -19,14 +19,14 @@ module _ {State Delta : Type 0} (is_well_formed : State → Type 0) (world : Sta
     pub before : IsFrame is_well_formed world steps film k old
     pub undone : back delta new old
 
-  -- the place of the step after position k has a delta that leads back over it
+  -- the place of the step after position k holds a delta that leads back over it
   pub record IsKept (depth : ℕ) (places : List Delta) (k : ℕ) : Type 0 where
     pub delta : Delta
     pub there : slice_get places (k % (depth + 1)) ≡ Some delta
     pub leads_back : LeadsBackTo k delta
 
-  -- the film's state of the position; the deltas of the last steps are in their places, and the
-  -- next step has a place beside them
+  -- the state is the film's state of the position; the deltas of the last steps are in their
+  -- places, and the next step has another place
   pub record IsWay (position : ℕ) (state : State) (places : Vec Delta) (next kept depth : ℕ) :
       Type 0 where
     pub within : position ≤ length film.recording.steps

@@ -1,8 +1,7 @@
 //! A walker: a world that goes to any position of a film, forwards and backwards.
 //!
-//! It keeps the way back over its last steps in a ring of deltas (an undo log), as many as it was made for. It goes by
-//! the shorter of three ways: back over deltas that it keeps, forward by steps, or from the film's copy at or below the
-//! position.
+//! It keeps the deltas of its last steps, up to a fixed number, in a ring (an undo log). It goes one of three ways:
+//! back over deltas that it keeps, forward by steps, or from the film's copy at or below the position.
 #![tactic(auto)]
 
 pub mod laws;

@@ -1,7 +1,6 @@
-//! What a walk to a position took.
+//! The cost of a walk to a position.
 
-/// What a walk to a position took: how many steps were applied, how many were undone, and how many
-/// copies of the world were made.
+/// The cost of a walk to a position: the number of steps applied, of steps undone, and of copies of the world made.
 #[derive(Clone, Copy, Debug, PartialEq, Eq)]
 pub struct Moved {
     pub applies: usize,

@@ -1,10 +1,10 @@
-//! The places of deltas: that of the step after position k is k modulo `depth + 1`.
+//! The places of deltas: the delta of the step after position k is at place k modulo `depth + 1`.
 
 ghost use Rattle.std.specs.Prelude.{◌≡◌, ℕ, ◌<◌, ◌≤◌, ◌+◌, ◌-◌, ◌%◌, vec_capacity, vec_len};
 
 use nr_rev::Worlds;
 
-/// Makes places until there are so many, in room that is there. They hold deltas of no step.
+/// Makes places until there are `count`, without taking memory. They hold deltas of no step.
 pub(crate) fn make_places<W: Worlds>(places: &mut Vec<W::Delta>, count: usize)
 where
     W::Delta: Drop,
@@ -17,7 +17,7 @@ where
     }
 }
 
-/// The place of the step after the one with this place.
+/// Returns the place of the step after the one at this place.
 #[inline(always)]
 pub(crate) fn place_after(place: usize, depth: usize) -> usize
     ensures is { (position : ℕ) → place ≡ position % (depth + 1)
@@ -27,7 +27,7 @@ pub(crate) fn place_after(place: usize, depth: usize) -> usize
     if place >= depth { 0 } else { place + 1 }
 }
 
-/// The place of the step before the one with this place.
+/// Returns the place of the step before the one at this place.
 #[inline(always)]
 pub(crate) fn place_before(place: usize, depth: usize) -> usize
     ensures { (position : ℕ) → 0 < position → place ≡ position % (depth + 1)

@@ -1,11 +1,11 @@
 //! The ways of a walker.
 
-/// How a walker goes to a position.
+/// The way in which a walker goes to a position.
 #[derive(Clone, Copy, Debug, PartialEq, Eq)]
 pub(crate) enum Route {
-    /// Over deltas that are kept.
+    /// Back over deltas that it keeps.
     Back,
-    /// By fewer steps than lie between two copies.
+    /// Forward by fewer steps than lie between two copies.
     Forward,
     /// From the copy at or below the position.
     FromCopy,

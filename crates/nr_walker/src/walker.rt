@@ -14,17 +14,17 @@ use nr_snaps::Film;
 use std::alloc::Global;
 use std::marker::Model;
 
-/// The fewest deltas that a walker may be made to keep.
+/// The fewest deltas that a walker can be made to keep.
 pub const LEAST_DEPTH: usize = 1;
 
-/// The most deltas that a walker may be made to keep.
+/// The most deltas that a walker can be made to keep.
 pub const MOST_DEPTH: usize = 65_536;
 
-/// A world at a position of a film, with the way back over the last steps.
+/// A world at a position of a film, with the deltas of the last steps.
 ///
-/// The delta of a step is written to its place and stays there: that of the step after position k lies in place k modulo
-/// `depth + 1`. So there is one place more than deltas are kept, and the next step writes to a place of no kept one, even if it
-/// is refused. A place that isn't used yet is made when a step comes to it, in room that was made at once.
+/// The delta of the step after position k is written to place k modulo `depth + 1` and stays there. There is one place
+/// more than kept deltas, so the next step overwrites no kept delta, even if it is refused. A place is initialized when
+/// a step first comes to it, in memory that was taken at once.
 #[derive(Drop)]
 pub struct Walker<'f, W: Worlds + Drop>
 where
@@ -69,8 +69,8 @@ where
     W::Delta: Drop,
     W::Snapshot: Drop,
 {
-    /// At position 0; it will keep the deltas of the last `depth` steps. Takes memory for a
-    /// copy of the world and for the room of the deltas.
+    /// Makes a walker at position 0 that keeps the deltas of the last `depth` steps. Takes memory for a copy of the
+    /// world and for the deltas.
     pub fn new(alloc: Global, film: &'f Film<W>, depth: usize) -> Result<Walker<'f, W>, Memory>
         requires least { LEAST_DEPTH ≤ depth }
         requires most { depth ≤ MOST_DEPTH }
@@ -91,7 +91,7 @@ where
         })
     }
 
-    /// How many steps lie behind it.
+    /// Returns the number of steps before the walker's position.
     pub fn position(&self) -> usize
         ensures is { result ≡ self.now.position }
         ensures within { result ≤ length self.now.film.recording.steps }
@@ -99,14 +99,14 @@ where
         self.position
     }
 
-    /// The film that it walks.
+    /// Returns the film that the walker is on.
     pub fn film(&self) -> &'f Film<W>
         ensures { result.now ≡ self.now.film }
     {
         self.film
     }
 
-    /// How many deltas it keeps: so many steps can be undone.
+    /// Returns the number of deltas that it keeps, which is the number of steps that it can undo.
     pub fn kept(&self) -> usize
         ensures is { result ≡ self.now.kept }
         ensures within { result ≤ self.now.depth }
@@ -115,7 +115,7 @@ where
         self.kept
     }
 
-    /// How many deltas it keeps at most.
+    /// Returns the most deltas that it keeps.
     pub fn depth(&self) -> usize
         ensures is { result ≡ self.now.depth }
         ensures least { LEAST_DEPTH ≤ result }
@@ -124,7 +124,7 @@ where
         self.depth
     }
 
-    /// The world at its position: the very state that the film's replay has there.
+    /// Returns the world at its position: exactly the state that the film's replay has there.
     pub fn world(&self) -> &W
         ensures { IsFrame W.is_well_formed W.world W.steps self.now.film self.now.position
             result.now }
@@ -132,16 +132,16 @@ where
         &self.world
     }
 
-    /// Goes to position n, and returns what it took.
+    /// Goes to position n, and returns the cost.
     ///
-    /// Back to a position over deltas that are all kept it undoes them. Forward by fewer steps than
-    /// lie between two copies of the film it applies them. Else its world becomes the film's copy at or below
-    /// n, no delta is kept, and the steps from there are applied. Of the steps that it applied it keeps the last
-    /// deltas, up to its depth.
+    /// If the walker keeps all deltas on the way back to n, it undoes them. If n is ahead by fewer steps than lie
+    /// between two copies of the film, it applies those steps. Otherwise its world becomes the film's copy at or below
+    /// n, it drops all deltas, and applies the steps from there. It keeps the last deltas of the steps that it applied,
+    /// up to its depth.
     ///
-    /// Going back over deltas takes no memory, and a step takes some only where bytes leave a buffer.
-    /// Where such a step runs out of memory, the walker is before it, with the deltas of the steps so
-    /// far. Where the copy does, it stays where it was.
+    /// Going back over deltas takes no memory, and a step takes memory only if bytes leave a buffer. If such a step
+    /// runs out of memory, the walker is before it, with the deltas of the steps so far. If restoring the copy runs out
+    /// of memory, the walker stays where it was.
     pub fn goto(&mut self, n: usize) -> Result<Moved, Memory>
         requires { n ≤ length self.old.film.recording.steps }
         ensures there { OnOk result (self.new ≡ walk_by (route self.old n) self.old n) }
@@ -180,7 +180,7 @@ where
         }
     }
 
-    // The way to position n.
+    // Returns the way to position n.
     fn route(&self, n: usize) -> Route
         ensures is { result ≡ route self.now n }
         ensures kept { self.now.kept ≤ self.now.depth }
@@ -194,7 +194,7 @@ where
         Route::FromCopy
     }
 
-    // Back to position n over deltas that are kept. It takes no memory.
+    // Goes back to position n over deltas that it keeps. It takes no memory.
     fn back_to(&mut self, n: usize)
         requires below { n ≤ self.old.position }
         requires kept { self.old.position - n ≤ self.old.kept }
@@ -205,7 +205,7 @@ where
         }
     }
 
-    // Forward to position n. Out of memory, it is before a step that takes some.
+    // Goes forward to position n. If memory runs out, the walker is before the step that needs it.
     fn forward_to(&mut self, n: usize) -> Result<(), Memory>
         requires from { self.old.position ≤ n }
         requires within { n ≤ length self.old.film.recording.steps }
@@ -219,7 +219,7 @@ where
         Ok(())
     }
 
-    // The world becomes the film's copy at or below n. Out of memory, nothing has changed.
+    // Restores the film's copy at or below n. If memory runs out, nothing has changed.
     fn to_copy_below(&mut self, n: usize) -> Result<(), Memory>
         requires { n ≤ length self.old.film.recording.steps }
         ensures ok { OnOk result (self.new ≡ at_copy self.old n) }
@@ -234,7 +234,7 @@ where
         Ok(())
     }
 
-    // One step forward; if as many deltas are kept as may be, the oldest is kept no more. Out of memory, it stays.
+    // Goes one step forward. If the walker is at its depth, it drops the oldest delta. If memory runs out, it stays.
     #[inline(always)]
     fn forward(&mut self) -> Result<(), Memory>
         requires within { self.old.position < length self.old.film.recording.steps }
@@ -253,7 +253,7 @@ where
         Ok(())
     }
 
-    // One step back. It takes no memory.
+    // Goes one step back. It takes no memory.
     #[inline(always)]
     fn backward(&mut self)
         requires { 0 < self.old.kept }

@@ -1,4 +1,4 @@
--- Beside `Answers`: what contracts and proofs cite, and no law of THEOREM.md rests on.
+-- Definitions that contracts and proofs cite beside `Answers`. No law of THEOREM.md rests on them.
 use Rattle.std.specs.Prelude.{List, [], ◌∷◌}
 use Rattle.nr_recording.specs.Recording.{Recorded}
 use Rattle.nr_recording.specs.declared.recording.RecordedStep.{RecordedStep}
@@ -9,7 +9,7 @@ use Rattle.nr_rev.specs.World.{World, empty_world}
 use Rattle.nr_rev.specs.declared.step.Step.{Step}
 use Rattle.nr_snaps.specs.Answers.{answer_of}
 
--- some steps from a world on, each with the answer that it gives
+-- steps from a world on, each with the answer that it gives
 abbrev pub answered_steps : World → List Step → List RecordedStep
 answered_steps w [] = []
 answered_steps w (step ∷ steps) = record { step = step; answer = answer_of (outcome w step) }

@@ -12,7 +12,7 @@ use Rattle.nr_snaps.proofs.CopiesLemmas.{each-push}
 use Rattle.nr_snaps.proofs.FrameLemmas.{Replays-good}
 use Rattle.nr_snaps.proofs.loading.replay.Goals as goal
 
--- one copy more
+-- one more copy
 pub loop-i-preserved : goal.loop-i-preserved
 loop-i-preserved g c =
     let wf = g.W.Reversible.is_well_formed in

@@ -5,11 +5,11 @@ use Rattle.nr_snaps.specs.Answers.{AnswersAgreeTo}
 use Rattle.nr_snaps.specs.Film.{IsFrame}
 use Rattle.nr_snaps.proofs.loading.replay.Given as goal
 
--- the film whose replay goes on
+-- the film that is being replayed
 abbrev pub ghost-play : goal.ghost-play
 ghost-play g a = g.film
 
--- the world is the frame of the last copy's position, and each copy keeps that of its own
+-- the world is the frame of the last copy's position, and each copy stores the frame of its own
 abbrev pub invariant-loop-i : goal.invariant-loop-i
 invariant-loop-i g l =
     record {

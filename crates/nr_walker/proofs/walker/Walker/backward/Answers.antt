@@ -12,7 +12,7 @@ index_mut-requires g c =
     let len = inside.places.ok.0 in
     omega (arith, within, len)
 
--- and its delta leads back
+-- the delta of the last step leads back
 pub undo_from-requires : goal.undo_from-requires
 undo_from-requires g c =
     let inside = c.self.inside in
@@ -21,7 +21,7 @@ undo_from-requires g c =
     c.place_before-self-inside.result inside.kept inside.depth inside.world inside.places c.index_mut.result.now c.self.invariant.0 some c.place_before-self-inside.ensures c.index_mut.ensures.value in
     (last.0, last.1)
 
--- one delta fewer is kept, and its place is that of the next step
+-- the walker keeps one delta less, whose place is now that of the next step
 pub invariant_of-self : goal.invariant_of-self
 invariant_of-self g c =
     let inside = c.self.inside in

@@ -2,7 +2,7 @@ use Rattle.std.proofs.Common.{◌≡◌, ◌-◌, ◌≤◌}
 use Rattle.nr_walker.specs.Walk.{forwards}
 use Rattle.nr_walker.proofs.walker.Walker.forward_to.Given as goal
 
--- it went forward, and hasn't passed n
+-- the walker went forward, and hasn't passed n
 abbrev pub invariant-loop-self : goal.invariant-loop-self
 invariant-loop-self g l =
     record {
