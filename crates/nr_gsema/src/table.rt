@@ -37,7 +37,7 @@ impl Model for GTable {
 }
 
 impl GTable {
-    /// Makes a table without goroutines, with room for so many, and with the semaphores of so many sockets, whose
+    /// Makes a table without goroutines, with room for this many, and with the semaphores of this many sockets, whose
     /// counts are 0 and whose queues are empty. `is_waited` searches all goroutines of such a table. Fails with
     /// `Memory` if memory runs out.
     pub fn with_limits(alloc: Global, goroutines: u32, sockets: u32) -> Result<GTable, Memory>
@@ -51,7 +51,7 @@ impl GTable {
         GTable::with_descriptors(alloc, goroutines, sockets, 0)
     }
 
-    /// Makes the table of `with_limits` that also counts the goroutines inside a wait, for each side of so many
+    /// Makes the table of `with_limits` that also counts the goroutines inside a wait, for each side of this many
     /// descriptors. For these, `is_waited` reads no goroutine. This only saves time; no contract mentions it. Fails
     /// with `Memory` if memory runs out.
     pub fn with_descriptors(

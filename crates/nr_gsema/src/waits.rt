@@ -26,7 +26,7 @@ impl Model for WaitCounts {
 }
 
 impl WaitCounts {
-    /// Makes the counts of so many descriptors, all 0. Fails with `Memory` if memory runs out.
+    /// Makes the counts of this many descriptors, all 0. Fails with `Memory` if memory runs out.
     pub(crate) fn with_room(alloc: Global, descriptors: u32) -> Result<WaitCounts, Memory>
         ensures { IfOk result (λ waits. waits ≡ replicate descriptors (twice 0)) }
     {

@@ -63,7 +63,7 @@ pub(crate) fn enter_front<'f, R: Threads + Sync>(
     front(rt, alloc, pass, film)
 }
 
-/// Makes a journal of so many words, two fronts with the tags 0 and 1, and a third pass.
+/// Makes a journal of this many words, two fronts with the tags 0 and 1, and a third pass.
 pub(crate) fn share<'f, R: Threads + Sync>(
     rt: &R,
     alloc: Global,

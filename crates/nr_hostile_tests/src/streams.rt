@@ -55,7 +55,7 @@ static CUTS: [Cut; 2] = [
     },
 ];
 
-/// Asserts the result if the replies are cut after so many bytes: the line whose reply was cut has run, and the front
+/// Asserts the result if the replies are cut after this many bytes: the line whose reply was cut has run, and the front
 /// continues from there.
 fn assert_cut<R: Wait + Threads + Sync + Abort>(
     rt: &R,

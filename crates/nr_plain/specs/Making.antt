@@ -18,7 +18,7 @@ use Rattle.nr_plain.specs.Edit.{with_changed}
 use Rattle.nr_plain.specs.Plan.{world_reason}
 use Rattle.nr_plain.specs.SocketEdit.{on_bytes}
 
--- the world after so many bytes left the front of a buffer of socket s
+-- the world after this many bytes left the front of a buffer of socket s
 abbrev pub after_taking : ℕ → Side → ℕ → World → World
 after_taking s side count w =
     record w { sockets = with_changed s (on_bytes side (λ held. drop count held)) w.sockets }
@@ -29,7 +29,7 @@ IsFrontOf s side count w bytes =
     (length bytes ≡ count) × IfSome (slice_get w.sockets s)
     (λ (socket : Socket). bytes ≡ take count (of_side side socket.buffers).bytes)
 
--- a delta leads from the new world back to the old one, and has at most so many words
+-- a delta leads from the new world back to the old one, and has at most this many words
 abbrev pub LeadsBackWithin : ℕ → World → World → PlainDelta → Type 0
 LeadsBackWithin most new old delta = PlainBack delta new old × (delta_weight delta ≤ most)
 

@@ -12,9 +12,9 @@ pub(crate) enum ListEdit<'a, T> {
     Extend(&'a [T]),
     /// Prepends items.
     ExtendFront(&'a [T]),
-    /// Removes so many items from the front, or all if there are fewer.
+    /// Removes this many items from the front, or all if there are fewer.
     DropFront(usize),
-    /// Keeps so many items at the front, or all if there are fewer.
+    /// Keeps this many items at the front, or all if there are fewer.
     Truncate(usize),
 }
 

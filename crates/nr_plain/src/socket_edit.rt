@@ -30,7 +30,7 @@ pub enum SocketUndo {
     LeaveQueue { side: Side },
     /// Decreases the count, and puts the former front back into the queue.
     Requeue { side: Side, front: Option<u32> },
-    /// Keeps only so many bytes in the buffer.
+    /// Keeps only this many bytes in the buffer.
     Cut { side: Side, len: usize },
     /// Puts the bytes back at the front of the buffer.
     Restore { side: Side, bytes: KeptBytes },

@@ -98,7 +98,7 @@ impl PlainSocket {
         SocketUndo::Cut { side, len }
     }
 
-    /// Removes so many bytes from the front of a buffer.
+    /// Removes this many bytes from the front of a buffer.
     pub(crate) fn lose(&mut self, side: Side, count: usize)
         ensures after { self.new ≡ record self.old {
           socket = on_bytes side (λ held. drop count held) self.old.socket;

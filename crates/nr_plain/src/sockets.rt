@@ -153,7 +153,7 @@ impl Sockets {
         }
     }
 
-    /// Removes so many bytes from the front of a socket's buffer, if it is open.
+    /// Removes this many bytes from the front of a socket's buffer, if it is open.
     pub(crate) fn lose(&mut self, socket: u32, side: Side, count: usize)
         ensures after { self.new ≡ record self.old {
           sockets = with_changed socket

@@ -161,7 +161,8 @@ impl PlainWorld {
         Ok(Answer::Done)
     }
 
-    /// Removes so many bytes from the front of a socket's buffer, and stores the undo with these bytes, if it is kept.
+    /// Removes this many bytes from the front of a socket's buffer, and stores the undo with these bytes, if it is
+    /// kept.
     fn take<K: Keeper<PlainDelta>>(
         &mut self,
         socket: u32,
@@ -181,8 +182,8 @@ impl PlainWorld {
     }
 }
 
-/// Returns a copy of so many bytes at the front if an undo is kept; otherwise returns an empty copy, which isn't read.
-/// Fails with `Memory` if memory runs out.
+/// Returns a copy of this many bytes at the front if an undo is kept; otherwise returns an empty copy, which isn't
+/// read. Fails with `Memory` if memory runs out.
 fn kept_front<K: Keeper<PlainDelta>>(
     alloc: Global,
     bytes: &[u8],
@@ -199,7 +200,7 @@ fn kept_front<K: Keeper<PlainDelta>>(
     }
 }
 
-/// Returns the answer of a `sysread` that got so many bytes.
+/// Returns the answer of a `sysread` that got this many bytes.
 fn read_answer(count: u32, peer_closed: bool) -> Answer
     ensures { result ≡ step.read_answer count peer_closed }
 {
@@ -225,7 +226,7 @@ fn writable<'a>(shut: bool, buffer: PlainBuffer, bytes: &'a [u8]) -> &'a [u8]
     &bytes[..count]
 }
 
-/// Returns the answer of a `syswrite` that put so many bytes.
+/// Returns the answer of a `syswrite` that put this many bytes.
 fn write_answer(count: u32, shut: bool) -> Answer
     ensures { result ≡ step.write_answer count shut }
 {

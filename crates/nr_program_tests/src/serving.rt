@@ -169,7 +169,7 @@ impl<'a> Connections for Callers<'a> {
     }
 }
 
-/// The callers of all fronts, one front's after the other's, with so many at each.
+/// The callers of all fronts, one front's after the other's, with this many at each.
 #[derive(Drop)]
 struct Switchboard<'a> {
     each: usize,
@@ -198,7 +198,7 @@ impl<'a> Ports for Switchboard<'a> {
     }
 }
 
-/// Serves a recording of twelve steps to these callers, with so many at each front.
+/// Serves a recording of twelve steps to these callers, with this many at each front.
 fn serve<R: Threads + Sync>(
     rt: &R,
     alloc: Global,

@@ -21,7 +21,7 @@ struct Cut<'a> {
     write_failed: bool,
 }
 
-/// Returns a read that fails after so many bytes.
+/// Returns a read that fails after this many bytes.
 fn starved(left: usize, replies: &str) -> Cut<'_> {
     Cut {
         left,
@@ -33,7 +33,7 @@ fn starved(left: usize, replies: &str) -> Cut<'_> {
     }
 }
 
-/// Returns a write that fails after so many bytes of a text.
+/// Returns a write that fails after this many bytes of a text.
 fn filled(room: usize, text: &str) -> Cut<'_> {
     Cut {
         left: ALL,

@@ -18,7 +18,7 @@ pub record PrintsFault {I : Type 0} (line : List ℕ) (input left : I) (old new 
   pub unread : left ≡ input
   pub printed : EndsPrinting line Refused old new status
 
--- the line for an accepted recording of so many steps
+-- the line for an accepted recording of this many steps
 abbrev pub accepted_line : ℕ → List ℕ
 accepted_line steps = codes "ok " ++ decimal steps ++ codes " steps\n"
 

@@ -120,8 +120,8 @@ journal_of_one = record { room = 65536; passes = 1 }
 
 -- The supply that a command may have when the session is in this state. Memory may be missing
 -- before the command is placed only if others may have placed words; its search may run out of
--- memory only if it searches through copies of worlds; the journal may be full only if it has so
--- many words.
+-- memory only if it searches through copies of worlds; the journal may be full only if as many
+-- words were placed as it has room for.
 abbrev pub CommandMayHave : Recording → JournalSize → Command → Supply → SessionState → Type 0
 CommandMayHave r journal command enough s = ⊤
 CommandMayHave r journal command no_memory s = journal.passes ≢ 1

@@ -66,9 +66,9 @@ impl From<ExitStatus> for ExitCode {
 }
 
 /// Opens the recording, whose text it frees, and answers the lines of the input on the output, one after the other,
-/// like a debugger that starts at position 0. Each reply describes the world at the debugger's position, that is, after
-/// so many of the recording's steps. A query, or a command that searches for a hit, may run out of memory, which is
-/// reported; the command's reply can be requested again.
+/// like a debugger that starts at position 0. Each reply describes the world at the debugger's position. A query, or a
+/// command that searches for a hit, may run out of memory, which is reported; the command's reply can be requested
+/// again.
 ///
 /// Returns `Done` if a line was `quit` or the input ended; `Refused` if the recording's first fault or `fault 108
 /// memory` was printed as one line, and nothing was read; and `StreamFailed` if a read or a write failed, so that only
@@ -216,7 +216,7 @@ where
     print(&Accepted(film.len()), ExitStatus::Done, output)
 }
 
-/// The acceptance of a recording with so many steps.
+/// The acceptance of a recording with this many steps.
 #[derive(Clone, Copy)]
 pub(crate) struct Accepted(pub(crate) usize);
 

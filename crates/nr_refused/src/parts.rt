@@ -15,7 +15,7 @@ fn came_of_table(made: Result<GTable, Memory>, goroutines: u32) -> Came {
     }
 }
 
-// Returns whether exactly so many goroutines were made, all idle, and none is queued.
+// Returns whether exactly this many goroutines were made, all idle, and none is queued.
 fn has_goroutines(table: &GTable, goroutines: u32) -> bool {
     let last = goroutines
         .checked_sub(1)

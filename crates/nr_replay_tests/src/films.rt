@@ -32,7 +32,7 @@ where
     Snaps::load(alloc, recording, 64).ok()
 }
 
-/// Appends so many steps that set the clock to 1, 2 and so on.
+/// Appends this many steps that set the clock to 1, 2 and so on.
 pub fn add_ticks(steps: &mut Vec<Step>, count: u32) -> Result<(), AllocError> {
     for time in 1..=i64::from(count) {
         steps.push(Step::Tick { time })?;
@@ -40,7 +40,7 @@ pub fn add_ticks(steps: &mut Vec<Step>, count: u32) -> Result<(), AllocError> {
     Ok(())
 }
 
-/// Returns a film of so many steps that set the clock to 1, 2 and so on, with a copy every 64 steps.
+/// Returns a film of this many steps that set the clock to 1, 2 and so on, with a copy every 64 steps.
 pub fn ticking<W: Worlds + Drop>(alloc: Global, count: u32) -> Option<Film<W>>
 where
     W::Snapshot: Drop,

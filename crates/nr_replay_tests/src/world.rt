@@ -264,7 +264,7 @@ fn undo_last(world: &mut World, deltas: &mut ArrayVec<Delta, 8>)
     }
 }
 
-/// Applies three steps, and undoes so many of the last ones.
+/// Applies three steps, and undoes this many of the last ones.
 fn lead_and_return(world: &mut World, steps: &[Step; 3], count: u32) -> Result<(), Refusal>
     requires { IsWorld world.old }
 {

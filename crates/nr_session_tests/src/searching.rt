@@ -47,7 +47,7 @@ fn marks(step: u32) -> Marks {
     marks
 }
 
-/// Returns so many workers, from 1 to 16.
+/// Returns this many workers, from 1 to 16.
 fn crew<R: Threads + Sync>(rt: &R, alloc: Global, workers: usize) -> ManyWorkers<&R, Open> {
     ManyWorkers::new(rt, alloc, Open, workers.max(1).min(16))
 }
@@ -159,7 +159,7 @@ fn four_hits() -> [Option<Found>; 4] {
     ]
 }
 
-/// Returns whether so many workers find these results.
+/// Returns whether this many workers find these results.
 fn is_found_by<R: Threads + Sync>(
     rt: &R,
     alloc: Global,

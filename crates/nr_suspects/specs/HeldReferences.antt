@@ -42,7 +42,7 @@ held_of_goroutines n w s held zero = []
 held_of_goroutines n w s held (suc k) =
     held_of_goroutines n w s held k ++ held_of_one n s k (cell w (Cell.Goroutine k)) (held k)
 
--- the held references of the sockets below k that are closed and not freed, among so many
+-- the held references of the sockets below k that are closed and not freed, among this many
 -- goroutines
 abbrev pub held_of_sockets : ℕ → World → (ℕ → ℕ → Holding) → ℕ → ℕ → List HeldReference
 held_of_sockets n w held goroutines zero = []

@@ -29,7 +29,7 @@ reason_of_code code =
     if code == 1 then Some why.Closing else (if code == 2 then Some why.Deadline
     else (if code == 3 then Some why.Error else None))
 
--- why a read wouldn't be answered `Again`: so many bytes can be read, or the peer has closed
+-- why a read wouldn't be answered `Again`: this many bytes can be read, or the peer has closed
 abbrev pub reason_to_read : ℕ → Bool → Option Reason
 reason_to_read bytes is_closed =
     if nat_lt 0 bytes then Some why.Bytes else (if is_closed then Some why.End else None)

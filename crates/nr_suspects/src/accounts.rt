@@ -25,7 +25,7 @@ impl Model for Accounts {
 }
 
 impl Accounts {
-    /// Makes the accounts of so many descriptors, none of which has been opened. Fails with `Memory` if memory runs
+    /// Makes the accounts of this many descriptors, none of which has been opened. Fails with `Memory` if memory runs
     /// out.
     pub fn new(alloc: Global, descriptors: u32) -> Result<Accounts, Memory>
         ensures { IfOk result (λ accounts. accounts ≡ replicate descriptors None) }

@@ -123,7 +123,7 @@ fn add_holders<W: Worlds>(
     Ok(())
 }
 
-/// Appends the held references of closed sockets in a world at this position, among so many sockets and goroutines,
+/// Appends the held references of closed sockets in a world at this position, among this many sockets and goroutines,
 /// sorted by socket and then by goroutine. Fails with `Memory` if memory runs out.
 pub fn list_held_references<W: Worlds>(
     world: &W,

@@ -25,7 +25,7 @@ impl Model for Ledger {
 }
 
 impl Ledger {
-    /// Makes a ledger of so many sockets and goroutines, none of which holds anything. Fails with `Memory` if memory
+    /// Makes a ledger of this many sockets and goroutines, none of which holds anything. Fails with `Memory` if memory
     /// runs out.
     pub fn new(alloc: Global, sockets: u32, goroutines: u32) -> Result<Ledger, Memory>
         ensures { IfOk result (λ ledger. ledger ≡ replicate sockets (replicate goroutines none_held)) }

@@ -25,7 +25,7 @@ impl Model for Peers {
 }
 
 impl Peers {
-    /// Makes the list for so many sockets, none of which has been opened. Fails with `Memory` if memory runs out.
+    /// Makes the list for this many sockets, none of which has been opened. Fails with `Memory` if memory runs out.
     pub fn new(alloc: Global, sockets: u32) -> Result<Peers, Memory>
         ensures { IfOk result (λ peers. peers ≡ replicate sockets None) }
     {

@@ -45,8 +45,8 @@ impl Model for Timers {
 }
 
 impl Timers {
-    /// Returns timers without an entry or a firing, with room for two of each for each of so many descriptors. The
-    /// first arming gets number 1. Fails with `Memory` if memory runs out.
+    /// Returns timers without an entry or a firing, for this many descriptors, with room for two entries and two
+    /// firings per descriptor. The first arming gets number 1. Fails with `Memory` if memory runs out.
     pub fn with_limits(alloc: Global, descriptors: u32) -> Result<Timers, Memory>
         requires { descriptors < 2 ^ 31 }
         ensures well_formed { IfOk result IsTimers }
