@@ -1,4 +1,4 @@
--- What a command comes to that is offered after a front has seen all others.
+-- The effects of offering a command after a front has read all other words.
 use Rattle.std.proofs.Common.{◌≡◌, ℕ, refl, sym, ap, ◌∙◌, subst, inl, Ok, Err}
 use Rattle.nr_journal.specs.Rule.{journal_room}
 use Rattle.nr_command.specs.declared.command.Command.{Command}
@@ -11,13 +11,13 @@ use Rattle.nr_front.specs.declared.fault.FrontFault.{FrontFault}
 use Rattle.nr_front.specs.declared.fault.FrontFault.TheVariants.{Memory, Placed, Full}
 use Rattle.nr_front.proofs.StepsLemmas.{learns_then, places_then}
 
--- it wasn't placed
+-- the command wasn't placed
 pub exec_failed : (a b d : FrontState) (command : Command) (fault : FrontFault) → CatchesAll a b → Placing command b d (Err fault) → Executes command a d (Err fault)
 exec_failed a b d command (Memory refused) x y = record { learns = learns_then a b d x.learns y.learns; wanted = y.wanted; company = y.company }
 exec_failed a b d command (Placed place) x y = absurd y
 exec_failed a b d command Full x y = record { learns = learns_then a b d x.learns y.learns; full = y.full ∙ ap journal_room x.learns.same.table; run = y.run }
 
--- it was placed and run
+-- the command was placed and run
 pub exec_answers : (a b d e : FrontState) (command : Command) (reply : Reply) → CatchesAll a b → Placing command b d (Ok tt) → e ≡ without_pending d → RepliesLast d command reply
     → Executes command a e (Ok reply)
 exec_answers a b d e command reply x y is replies =
@@ -40,7 +40,7 @@ exec_answers a b d e command reply x y is replies =
       run = refl;
     })
 
--- it was placed, and its reply is owed
+-- the command was placed, and its reply is owed
 pub exec_late : (a b d e : FrontState) (command : Command) (place : ℕ) → CatchesAll a b → Placing command b d (Ok tt) → e ≡ d → SearchIsPending d → place ≡ last_place e
     → Executes command a e (Err (Placed place))
 exec_late a b d e command place x y is wanted at =

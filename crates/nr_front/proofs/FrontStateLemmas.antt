@@ -1,4 +1,4 @@
--- The debugger of a history that goes on.
+-- The debugger of a growing history.
 use Rattle.std.proofs.Common.{◌≡◌, ◌≢◌, ℕ, List, [], ◌∷◌, ◌++◌, refl, sym, ap, subst, ◌∙◌, ◌/◌, ◌%◌, Option, Some, None}
 use Rattle.std.specs.Prelude.{option_map}
 use Rattle.nr_rev.specs.Run.{Recording}
@@ -20,7 +20,7 @@ pub after_words-append : (r : Recording) (d : Debugger) (xs ys : List ℕ) → a
 after_words-append r d [] ys = refl
 after_words-append r d (x ∷ xs) ys = after_words-append r (after_tagged r d (command_of x)) xs ys
 
--- after one word more
+-- after one more word
 pub after_words-more : (r : Recording) (words : List ℕ) (word : ℕ) → after_words r opening (words ++ word ∷ []) ≡ after_tagged r (after_words r opening words) (command_of word)
 after_words-more r words word = after_words-append r opening words (word ∷ [])
 
@@ -32,7 +32,7 @@ run_last r words command d d' b ran =
     ∙ sym (after_words-more r b.before b.word)
     ∙ sym (ap (λ (ws : List ℕ). after_words r opening ws) b.last)
 
--- a word was seen whose command isn't run yet
+-- a word was read whose command isn't run yet
 pub is_at_more : (r : Recording) (words : List ℕ) (word : ℕ) (d : Debugger) → d ≡ after_words r opening words → IsAt r (words ++ word ∷ []) (pending_command (pending_after (command_of word))) d
 is_at_more r words word d at =
     elim (command_with (word % 256) (word / 65536)) as (λ c. command_with (word % 256) (word / 65536) ≡ c
@@ -42,13 +42,13 @@ is_at_more r words word d at =
       | Some command ↦ λ is. record { before = words; word = word; last = refl; meaning = ap (λ (c : Option Command). option_map (λ (command : Command). (tag_of word, command)) c) is; behind = at }
     ] refl
 
--- the last word seen is one of the command that is due
+-- the last word read has the pending command
 pub due_behind : (view front_state : FrontState) (command : Command) (debugger : Debugger) → view ≡ front_state → pending_command front_state.pending ≡ Some command
     → IsAt view.recording view.pass_state.seen (pending_command view.pending) debugger → IsBehind view.recording view.pass_state.seen command debugger
 due_behind view front_state command debugger is pending at =
     subst (λ (c : Option Command). IsAt view.recording view.pass_state.seen c debugger) (ap (λ (d : FrontState). pending_command d.pending) is ∙ pending) at
 
--- it searches
+-- the pending command searches
 pub search_due : (view front_state : FrontState) (command : Command) (debugger : Debugger) → view ≡ front_state → pending_command front_state.pending ≡ Some command
     → IsAt view.recording view.pass_state.seen (pending_command view.pending) debugger → Searches view.recording command debugger → SearchIsPending front_state
 search_due view front_state command debugger is pending at searches = record {
@@ -59,7 +59,7 @@ search_due view front_state command debugger is pending at searches = record {
   searches = subst (λ (d : FrontState). Searches d.recording command debugger) is searches;
 }
 
--- it has its reply
+-- the pending command has its reply
 pub replies_last : (view front_state : FrontState) (command : Command) (debugger debugger' : Debugger) (reply : Reply) → view ≡ front_state → pending_command front_state.pending ≡ Some command
     → IsAt view.recording view.pass_state.seen (pending_command view.pending) debugger → (reply, debugger') ≡ run view.recording command debugger → RepliesLast front_state command reply
 replies_last view front_state command debugger debugger' reply is pending at ran = record {
@@ -68,7 +68,7 @@ replies_last view front_state command debugger debugger' reply is pending at ran
   answer = ap (λ (r : Ran). r.0) ran ∙ ap (λ (d : FrontState). (run d.recording command debugger).0) is;
 }
 
--- a word of another was seen, so the journal has more than one pass
+-- a word of another user was read, so the journal has more than one pass
 pub seen_at : (r : Recording) (old new : PassState) (word : ℕ) (debugger : Debugger) (was pending : Pending) → was ≡ Nothing → IsAt r old.seen (pending_command was) debugger
     → new ≡ having_seen old word → old.passes ≢ 1 → pending ≡ pending_after (command_of word) → IsAt r new.seen (pending_command pending) debugger × HasCompany pending new.passes
 seen_at r old new word debugger was pending without_pending at is others left =

@@ -1,4 +1,4 @@
--- What a look, an offer and a command that is run do to a front, one after the other.
+-- The effects of reading a word, offering one and running a command, one after the other.
 use Rattle.std.proofs.Common.{◌≡◌, ◌≢◌, ℕ, ◌+◌, ◌<◌, ◌≤◌, List, [], ◌∷◌, ◌++◌, arith, length, refl, sym, ap, ◌∙◌, subst, append_assoc, append-nil, Option, Some, None, false, inl, inr}
 use Rattle.std.specs.List.{All}
 use Rattle.std.proofs.lemmas.List.Elements.{All-append, All-cons, All-nil}
@@ -21,7 +21,7 @@ own_pending-others : (x : Option (ℕ × Command)) → own_pending (pending_afte
 own_pending-others None = refl
 own_pending-others (Some tagged) = refl
 
--- another's word was seen, and its command is due
+-- another user's word was read, and its command is pending
 pub sees_word : (word : ℕ) (view old new : FrontState) (journal : TableId) → view ≡ old → old.table ≡ journal → IsUnmoved view new → new.pass_state ≡ having_seen view.pass_state word
     → IsOthers view.pass_state.tag word → view.pass_state.passes ≢ 1 → length view.pass_state.seen < journal_room journal → new.pending ≡ pending_after (command_of word) → SeesWord word old new
 sees_word word view old new journal is at same pass_state others company room pending = record {
@@ -33,7 +33,7 @@ sees_word word view old new journal is at same pass_state others company room pe
   unowed = ap own_pending pending ∙ own_pending-others (command_of word);
 }
 
--- what stays where no word was seen
+-- what stays if no word was read
 record SeesNothing (old new : PassState) : Type 0 where
   pub seen : new.seen ≡ old.seen
   pub tag : new.tag ≡ old.tag
@@ -87,7 +87,7 @@ sees_others_then a b d x y = (
 same_then : (a b d : FrontState) → IsUnmoved a b → IsUnmoved b d → IsUnmoved a d
 same_then a b d x y = record { table = y.table ∙ x.table; recording = y.recording ∙ x.recording; workers = y.workers ∙ x.workers; walker_state = y.walker_state ∙ x.walker_state }
 
--- no word was seen
+-- no word was read
 learns_none : (a b : FrontState) → IsUnmoved a b → SeesNothing a.pass_state b.pass_state → owed_command a ≡ None → owed_command b ≡ None → Learns a b
 learns_none a b same none before after = record {
   same = same;
@@ -107,7 +107,7 @@ learns_then a b d x y = record {
   unowed_still = y.unowed_still;
 }
 
--- one word more was seen
+-- one more word was read
 pub learns_word : (word : ℕ) (a b : FrontState) → owed_command a ≡ None → SeesWord word a b → Learns a b
 learns_word word a b unowed s = record {
   same = s.same;
@@ -117,7 +117,7 @@ learns_word word a b unowed s = record {
   unowed_still = s.unowed;
 }
 
--- what was due was run
+-- the pending command was run
 pub learns_run : (a b d : FrontState) → Learns a b → d ≡ without_pending b → Learns a d
 learns_run a b d x is = subst (λ (t : FrontState). Learns a t) (sym is) (record {
   same = record { table = x.same.table; recording = x.same.recording; workers = x.same.workers; walker_state = x.same.walker_state };
@@ -127,14 +127,14 @@ learns_run a b d x is = subst (λ (t : FrontState). Learns a t) (sym is) (record
   unowed_still = refl;
 })
 
--- what stays where a look found no word
+-- what stays if no further word was found
 found_none : (a b : FrontState) → FindsNone a b → SeesNothing a.pass_state b.pass_state
 found_none a b none = elim none as (λ _. SeesNothing a.pass_state b.pass_state) [
   | inl p ↦ looked_once a.pass_state b.pass_state p.0
   | inr p ↦ same_pass_state a.pass_state b.pass_state p.0
 ]
 
--- a look found no word
+-- no further word was found
 pub learns_end : (a b : FrontState) → owed_command a ≡ None → Sees a b false → Learns a b
 learns_end a b unowed s = learns_none a b s.0 (found_none a b s.2) unowed (ap own_pending s.1)
 
@@ -155,14 +155,14 @@ caught_all a b d l same s = record {
   run = s.1;
 }
 
--- all that the pass learned is seen
+-- all that the pass has learned of is read
 pub seen_all_caught : (a b : FrontState) → CatchesAll a b → HasSeenAll b
 seen_all_caught a b c = elim c.caught_up as (λ _. HasSeenAll b) [
   | inl p ↦ inl (subst (λ (xs : List ℕ). StartsWith b.pass_state.seen xs) (sym c.learns.sees_others.4) p.1)
   | inr p ↦ inr (p.1 ∙ sym (ap journal_room c.learns.same.table))
 ]
 
--- so it is with a word more
+-- the same with one more word
 pub seen_all_more : (word : ℕ) (a b : FrontState) → HasSeenAll a → SeesWord word a b → HasSeenAll b
 seen_all_more word a b all s = elim all as (λ _. HasSeenAll b) [
   | inl p ↦ inl (rw s.pass_state (p.0 ++ word ∷ [], ap (λ (l : List ℕ). l ++ word ∷ []) p.1 ∙ append_assoc a.pass_state.learned p.0 (word ∷ [])))
@@ -172,14 +172,14 @@ seen_all_more word a b all s = elim all as (λ _. HasSeenAll b) [
 pub seen_all_run : (a b : FrontState) → HasSeenAll a → b ≡ without_pending a → HasSeenAll b
 seen_all_run a b all is = subst HasSeenAll (sym is) all
 
--- what the pass learned is seen, where there is room
+-- all that the pass has learned of is read, if there is room
 learned_seen : (a : FrontState) → HasSeenAll a → length a.pass_state.seen < journal_room a.table → StartsWith a.pass_state.seen a.pass_state.learned
 learned_seen a all room = elim all as (λ _. StartsWith a.pass_state.seen a.pass_state.learned) [
   | inl p ↦ p
   | inr p ↦ absurd (omega (arith, p, room))
 ]
 
--- the own word was placed at once
+-- the front's own word was placed at once
 pub places_one : (a b : FrontState) (command : Command) → owed_command a ≡ None → HasSeenAll a → OffersCommand command a b offered.Placed → PlacesCommand command a b
 places_one a b command unowed all o = record {
   between = [];
@@ -195,7 +195,7 @@ places_one a b command unowed all o = record {
   unowed = unowed;
 }
 
--- it was placed after words of others were seen
+-- the front's own word was placed after words of others were read
 pub places_then : (a b d : FrontState) (command : Command) → Learns a b → PlacesCommand command b d → PlacesCommand command a d
 places_then a b d command x y =
     let before : b.pass_state.seen ++ y.between ≡ a.pass_state.seen ++ (x.sees_others.0 ++ y.between) =
@@ -217,7 +217,7 @@ places_then a b d command x y =
       unowed = x.unowed;
     }
 
--- no offer was taken, since all words are seen
+-- no offer was accepted, since all words are read
 pub learns_full : (a b : FrontState) (command : Command) → owed_command a ≡ None → OffersCommand command a b offered.Full → Learns a b
 learns_full a b command unowed o = learns_none a b o.0 (same_pass_state a.pass_state b.pass_state o.1) unowed (ap own_pending o.2)
 
@@ -228,7 +228,7 @@ finds_full a b d command l o = record {
   run = o.2;
 }
 
--- memory was refused for another's command
+-- another user's command ran out of memory
 pub is_refused : (a b d : FrontState) → Learns a b → d ≡ b → SearchIsPending b → HasCompany b.pending b.pass_state.passes → IsRefusedMemory a d
 is_refused a b d l is wanted company = subst (λ (t : FrontState). IsRefusedMemory a t) (sym is)
     (record { learns = l; wanted = wanted; company = of_others b.pending wanted.command b.pass_state.passes wanted.pending l.unowed_still company })

@@ -1,4 +1,4 @@
--- What the calls of a front do.
+-- The effects of a front's calls.
 use Rattle.std.specs.Prelude.{◌≡◌, ◌≢◌, ℕ, ◌≤◌, ◌⊎◌, List, [], ◌∷◌, ◌++◌, length, Option, Some, None, Result, Ok, Err}
 use Rattle.std.specs.List.{All}
 use Rattle.nr_journal.specs.Pass.{SeesOthers, CatchesUp}
@@ -16,8 +16,8 @@ use Rattle.nr_front.specs.declared.pending.Pending.TheVariants.{Nothing}
 use Rattle.nr_front.specs.declared.fault.FrontFault.{FrontFault}
 use Rattle.nr_front.specs.declared.fault.FrontFault.TheVariants.{Memory, Placed, Full}
 
--- The same journal, and the same recording with as many steps between two copies; as many workers
--- search, and as many deltas are kept at most.
+-- The journal, the recording, the number of steps between two copies, the number of workers, and
+-- the most deltas kept are the same.
 pub record IsSame (old new : FrontState) : Type 0 where
   pub table : new.table ≡ old.table
   pub recording : new.recording ≡ old.recording
@@ -25,14 +25,14 @@ pub record IsSame (old new : FrontState) : Type 0 where
   pub every : new.walker_state.every ≡ old.walker_state.every
   pub depth : new.walker_state.depth ≡ old.walker_state.depth
 
--- the same journal, the same recording and as many workers, and the walker is where it was
+-- the journal, the recording and the number of workers are the same, and the walker hasn't moved
 pub record IsUnmoved (old new : FrontState) : Type 0 where
   pub table : new.table ≡ old.table
   pub recording : new.recording ≡ old.recording
   pub workers : new.workers ≡ old.workers
   pub walker_state : new.walker_state ≡ old.walker_state
 
--- words of others were seen, if any, and no reply is owed, before or after
+-- words of others were read, if there were any, and no reply is owed, before or after
 pub record Learns (old new : FrontState) : Type 0 where
   pub same : IsUnmoved old new
   pub sees_others : SeesOthers old.pass_state new.pass_state
@@ -40,28 +40,29 @@ pub record Learns (old new : FrontState) : Type 0 where
   pub unowed : owed_command old ≡ None
   pub unowed_still : owed_command new ≡ None
 
--- words of others were seen until one look more found none, or all words of the journal are seen;
+-- words of others were read until no further word was found, or all words of the journal are read;
 -- and all were run
 pub record CatchesAll (old new : FrontState) : Type 0 where
   pub learns : Learns old new
   pub caught_up : CatchesUp (journal_room old.table) old.pass_state new.pass_state
   pub run : new.pending ≡ Nothing
 
--- words of others were seen, and one of them searches: that ran out of memory; so there are others
+-- words of others were read, and one of them ran out of memory when it searched; so there are
+-- others
 pub record IsRefusedMemory (old new : FrontState) : Type 0 where
   pub learns : Learns old new
   pub wanted : SearchIsPending new
   pub company : new.pass_state.passes ≢ 1
 
--- all words of the journal are seen and run, and so there is no room for one more
+-- all words of the journal are read and run, so there is no room for another
 pub record FindsFull (old new : FrontState) : Type 0 where
   pub learns : Learns old new
   pub full : length new.pass_state.seen ≡ journal_room old.table
   pub run : new.pending ≡ Nothing
 
--- The command's word, with the front's tag, was placed once, behind the words that were seen, among
--- them all that the pass had learnt of. Those seen by this call, between the old ones and the own,
--- are others', and there is none where the journal has one pass.
+-- The command's word, with the front's tag, was placed once, after the words that were read, which
+-- include all that the pass had learned of. The words that this call read before its own are those
+-- of others, and there are none if the journal has one pass.
 pub record PlacesCommand (command : Command) (old new : FrontState) : Type 0 where
   pub between : List ℕ
   pub same : IsUnmoved old new
@@ -96,7 +97,7 @@ pub record StaysOwed (old new : FrontState) (place : ℕ) : Type 0 where
   pub unchanged : new ≡ old
   pub at : place ≡ last_place old
 
--- what `exec` of a command does
+-- true if `exec` of a command may have this effect
 abbrev pub Executes : Command → FrontState → FrontState → Result Reply FrontFault → Type 0
 Executes command old new (Ok reply) = Answers command old new reply
 Executes command old new (Err (Memory refused)) = IsRefusedMemory old new
@@ -104,56 +105,56 @@ Executes command old new (Err (Placed place)) =
     IsLeftOwed command old new place ⊎ StaysOwed old new place
 Executes command old new (Err Full) = FindsFull old new
 
--- The front with this of its walker.
+-- The front with this state of its walker.
 abbrev pub with_walker_state : WalkerState → FrontState → FrontState
 with_walker_state walker_state front_state = record front_state { walker_state = walker_state }
 
--- All is seen and run. Then the walker is led to the debugger's position, if the look is at the
--- world. The reply is what the look shows of the debugger that the words lead to.
+-- All words are read and run. Then the walker goes to the debugger's position, if the query is
+-- about the world. The reply is that of the debugger after the words.
 pub record RepliesToLook (query : Query) (old new : FrontState) (reply : Reply) : Type 0 where
   pub caught_up : FrontState
   pub catches_all : CatchesAll old caught_up
   pub led : new ≡ with_walker_state (after_look query (replica_of caught_up)) caught_up
   pub answer : reply ≡ query_reply caught_up.recording (replica_of caught_up).debugger query
 
--- all is seen and run; the look itself ran out of memory, and left the walker on the way or at the
--- position
+-- all words are read and run; the query itself ran out of memory, and left the walker on the way or
+-- at the position
 pub record IsRefusedLook (query : Query) (old new : FrontState) : Type 0 where
   pub caught_up : FrontState
   pub catches_all : CatchesAll old caught_up
   pub moved : new ≡ with_walker_state new.walker_state caught_up
   pub wanted : LookIsRefused query (replica_of caught_up) new.walker_state
 
--- What `look` does. It runs out of memory for another's command that searches, or for itself once
--- all is seen and run.
+-- True if `look` may have this effect. It runs out of memory for another user's command that
+-- searches, or for itself once all words are read and run.
 abbrev pub Looks : Query → FrontState → FrontState → Result Reply FrontFault → Type 0
 Looks query old new (Ok reply) = RepliesToLook query old new reply
 Looks query old new (Err (Memory refused)) = IsRefusedMemory old new ⊎ IsRefusedLook query old new
 Looks query old new (Err (Placed place)) = StaysOwed old new place
 Looks query old new (Err Full) = ⊥
 
--- with nothing due
+-- the front with no pending command
 abbrev pub without_pending : FrontState → FrontState
 without_pending front_state = record front_state { pending = Nothing }
 
--- the reply that was owed is returned, and owed no more
+-- the owed reply is returned, and no longer owed
 pub record AnswersOwed (old new : FrontState) (reply : Reply) : Type 0 where
   pub command : Command
   pub was_owed : owed_command old ≡ Some command
   pub replies : RepliesLast old command reply
   pub now : new ≡ without_pending old
 
--- none was owed
+-- no reply was owed
 pub record OwesNothing (old new : FrontState) : Type 0 where
   pub unowed : owed_command old ≡ None
   pub unchanged : new ≡ old
 
--- the search of the command whose reply is owed ran out of memory once more
+-- the search of the command whose reply is owed ran out of memory again
 pub record IsStillOwed (old new : FrontState) (place : ℕ) : Type 0 where
   pub stays : StaysOwed old new place
   pub wanted : SearchIsPending old
 
--- what `resume` does
+-- true if `resume` may have this effect
 abbrev pub Resumes : FrontState → FrontState → Result (Option Reply) FrontFault → Type 0
 Resumes old new (Ok None) = OwesNothing old new
 Resumes old new (Ok (Some reply)) = AnswersOwed old new reply

@@ -1,5 +1,5 @@
--- What contracts see of a front: a pass of the journal, and a debugger that runs the words that the
--- pass sees.
+-- The abstract value of a front: a pass of the journal, and a debugger that runs the words that the
+-- pass reads.
 use Rattle.std.specs.Prelude.{◌≡◌, ℕ, List, [], ◌∷◌, ◌++◌, Option, Some, None}
 use Rattle.atomic_table.specs.Seated.{TableId}
 use Rattle.nr_rev.specs.Run.{Recording}
@@ -12,8 +12,8 @@ use Rattle.nr_command.specs.declared.debugger.Debugger.{Debugger}
 use Rattle.nr_front.specs.Replica.{WalkerState}
 use Rattle.nr_front.specs.declared.pending.Pending.{Pending}
 
--- What is seen of a front: its journal, its recording, how many workers search, its walker, what
--- its pass knows, and the command of the last word seen, where that isn't run yet.
+-- The abstract value of a front: its journal, its recording, the number of workers, its walker,
+-- what its pass knows, and the command of the last word read, if it isn't run yet.
 pub record FrontState : Type 0 where
   pub table : TableId
   pub recording : Recording
@@ -22,7 +22,7 @@ pub record FrontState : Type 0 where
   pub pass_state : PassState
   pub pending : Pending
 
--- the words end with one of this command, and the debugger is that of the words before it
+-- the last of the words has this command, and the debugger is that of the words before it
 pub record IsBehind (r : Recording) (words : List ℕ) (command : Command) (debugger : Debugger) :
     Type 0 where
   pub before : List ℕ
@@ -31,7 +31,7 @@ pub record IsBehind (r : Recording) (words : List ℕ) (command : Command) (debu
   pub meaning : command_of word ≡ Some (tag_of word, command)
   pub behind : debugger ≡ after_words r opening before
 
--- the debugger is that of the words, less the last where its command is due
+-- true if the debugger is that of the words, without the last if its command is pending
 abbrev pub IsAt : Recording → List ℕ → Option Command → Debugger → Type 0
 IsAt r words None debugger = debugger ≡ after_words r opening words
 IsAt r words (Some command) debugger = IsBehind r words command debugger

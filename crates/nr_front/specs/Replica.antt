@@ -1,8 +1,8 @@
--- What a replica is, and what a look takes that leads its walker.
+-- The state of a replica's walker.
 use Rattle.std.specs.Prelude.{ℕ}
 
--- What is seen of a walker: its position, how many deltas it keeps and how many at most, and how
--- many steps lie between two copies of its film.
+-- The abstract value of a walker: its position, the number of deltas that it keeps, the most that
+-- it keeps, and the number of steps between two copies of its film.
 pub record WalkerState : Type 0 where
   pub position : ℕ
   pub kept : ℕ

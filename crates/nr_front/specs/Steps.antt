@@ -1,4 +1,4 @@
--- What the steps do that the calls of a front are made of.
+-- The effects of the steps of a front's calls.
 use Rattle.std.specs.Prelude.{◌≡◌, ◌≢◌, ℕ, ◌<◌, ◌⊎◌, Bool, true, false, length, Option, Some, None, Result, Ok, Err}
 use Rattle.nr_journal.specs.Rule.{IsOthers, StartsWith, journal_room}
 use Rattle.nr_journal.specs.Auxiliary.Rule.{looked, having_seen}
@@ -14,12 +14,12 @@ use Rattle.nr_front.specs.declared.pending.Pending.TheVariants.{Nothing, Others,
 use Rattle.nr_front.specs.declared.fault.FrontFault.{FrontFault}
 use Rattle.nr_front.specs.declared.fault.FrontFault.TheVariants.{Memory, Placed, Full}
 
--- what a word of another leaves due: its command, if it is one's
+-- what is pending after a word of another user: its command, if it is the word of one
 abbrev pub pending_after : Option (ℕ × Command) → Pending
 pending_after None = Nothing
 pending_after (Some tagged) = Others tagged.1
 
--- one word more was seen, another's, so the journal has more than one pass
+-- one more word was read, of another user, so the journal has more than one pass
 pub record SeesWord (word : ℕ) (old new : FrontState) : Type 0 where
   pub same : IsUnmoved old new
   pub pass_state : new.pass_state ≡ having_seen old.pass_state word
@@ -28,20 +28,20 @@ pub record SeesWord (word : ℕ) (old new : FrontState) : Type 0 where
   pub room : length old.pass_state.seen < journal_room old.table
   pub unowed : owed_command new ≡ None
 
--- a look found no word, or all words are seen
+-- true if no further word was found, or all words are read
 abbrev pub FindsNone : FrontState → FrontState → Type 0
 FindsNone old new =
     ((new.pass_state ≡ looked old.pass_state)
     × StartsWith old.pass_state.seen old.pass_state.learned)
     ⊎ ((new.pass_state ≡ old.pass_state) × (length old.pass_state.seen ≡ journal_room old.table))
 
--- a look, which says whether a word was found
+-- true if one more word was read, or, for false, none was found
 abbrev pub Sees : FrontState → FrontState → Bool → Type 0
 Sees old new true = (word : ℕ) × SeesWord word old new
 Sees old new false = IsUnmoved old new × (new.pending ≡ Nothing) × FindsNone old new
 
--- an offer: the command's word is placed, and it is due; another's word was there; or all words are
--- seen
+-- true if an offer had one of these effects: the command's word is placed and the command pending;
+-- another user's word took the place; or all words are read
 abbrev pub OffersCommand : Command → FrontState → FrontState → Offered → Type 0
 OffersCommand command old new offered.Placed =
     IsUnmoved old new × (new.pass_state ≡ having_seen old.pass_state
@@ -52,12 +52,12 @@ OffersCommand command old new offered.Full =
     IsUnmoved old new × (new.pass_state ≡ old.pass_state) × (new.pending ≡ Nothing)
     × (length old.pass_state.seen ≡ journal_room old.table)
 
--- all that the pass learnt of is seen, or all words of the journal are
+-- true if all that the pass has learned of is read, or all words of the journal are
 abbrev pub HasSeenAll : FrontState → Type 0
 HasSeenAll front_state = StartsWith front_state.pass_state.seen front_state.pass_state.learned
     ⊎ (length front_state.pass_state.seen ≡ journal_room front_state.table)
 
--- a command was offered until it was placed, and is due
+-- true if a command was offered until it was placed, and is pending
 abbrev pub Placing : Command → FrontState → FrontState → Result (Unit {0}) FrontFault → Type 0
 Placing command old new (Ok _) = PlacesCommand command old new × (new.pending ≡ Own command)
 Placing command old new (Err (Memory refused)) = IsRefusedMemory old new

@@ -1,4 +1,4 @@
-//! Why a call has no reply.
+//! The reasons why a call has no reply.
 
 ghost use Rattle.std.specs.Prelude.{◌≡◌};
 ghost use Rattle.nr_rev.specs.Refusing.{refused_memory};
@@ -6,12 +6,13 @@ ghost use Rattle.nr_front.specs.declared.fault.FrontFault.TheVariants as faults;
 
 use nr_rev::Memory;
 
-/// Why a call has no reply.
+/// The reason why a call has no reply.
 #[derive(Clone, Copy, Debug, PartialEq, Eq)]
 pub enum FrontFault {
-    /// There was no memory for another's command that comes first, or for the look. The call's command isn't placed.
+    /// Memory ran out for a command of another user that comes first, or for the query. The call's command isn't
+    /// placed.
     Memory(Memory),
-    /// A command at this index of the journal, from 1, ran out of memory. Its reply is owed.
+    /// The command at this index of the journal, counted from 1, ran out of memory. Its reply is owed.
     Placed(usize),
     /// The journal is full. The call's command isn't placed.
     Full,

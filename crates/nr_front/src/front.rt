@@ -17,8 +17,8 @@ use nr_snaps::Film;
 use std::alloc::Global;
 use std::marker::Model;
 
-/// A pass of the journal, and a machine that runs the words that the pass sees: one user's replica. Contracts see the
-/// journal, the recording, how many workers search, the machine's walker, what the pass knows, and what the machine
+/// One user's replica: a pass of the journal, and a machine that runs the words that the pass reads. Contracts see the
+/// journal, the recording, the number of workers, the machine's walker, what the pass knows, and what the machine
 /// hasn't run yet.
 #[derive(Drop)]
 pub struct Front<'f, W: Worlds + Drop + Sync, F: Finder>
@@ -59,12 +59,13 @@ where
     W::Delta: Drop,
     W::Snapshot: Drop + Sync,
 {
-    /// Runs what others placed, places the command, and returns what it does at its index. The reply is that of a
+    /// Runs the commands of other users so far, places the command, and runs it at its index. Returns the reply of a
     /// debugger that runs the words of the journal up to there.
     ///
-    /// Where another's command that searches runs out of memory, it fails with `Memory`, and its own isn't placed. Where
-    /// its own does, which is in the journal then, it fails with `Placed`: `resume` returns the reply. While a reply is
-    /// owed it only fails with `Placed` again. Where the journal is full it fails with `Full`, and has run all words.
+    /// Fails with `Memory` if another user's command, which searches, runs out of memory; the own command isn't placed
+    /// then. Fails with `Placed` if the own command runs out of memory; it is in the journal then, and `resume` returns
+    /// the reply. While a reply is owed, it only fails with `Placed` again. Fails with `Full` if the journal is full,
+    /// after running all words.
     pub fn exec(&mut self, journal: &Journal, command: Command) -> Result<Reply, FrontFault>
         requires { self.old.table ≡ journal.now }
         ensures same { IsUnmoved self.old self.new }
@@ -74,7 +75,7 @@ where
             return Err(FrontFault::Placed(self.place()));
         }
         self.catch_up(journal)?;
-        // (`?` would make the fault anew, and the prover not know that it is the same)
+        // (With `?`, the prover would not know that the fault is the same.)
         if let Err(fault) = self.offer_until_placed(journal, command) {
             return Err(fault);
         }
@@ -84,12 +85,13 @@ where
         }
     }
 
-    /// Runs what others placed, until it finds no word more, and then looks. No word is placed.
+    /// Runs the commands of other users until the journal has no further word, and then answers the query. It places no
+    /// word.
     ///
-    /// A look at the world, for a value or a dump, leads the walker to the debugger's position. It fails with `Memory`
-    /// where another's command that searches ran out of it, or the walker on the way, as `Walker::goto` says, or a dump of
-    /// something. So a look at the debugger alone never runs out of memory for itself. While a reply is owed it does
-    /// nothing and fails with `Placed`.
+    /// A query about the world, for a value or a dump, leads the walker to the debugger's position. Fails with `Memory`
+    /// if another user's command, which searches, runs out of memory; if the walker does on its way, as described at
+    /// `Walker::goto`; or if a dump that isn't empty does. So a query about the debugger itself never runs out of
+    /// memory of its own. While a reply is owed, it does nothing and fails with `Placed`.
     pub fn look(&mut self, journal: &Journal, query: Query) -> Result<Reply, FrontFault>
         requires { self.old.table ≡ journal.now }
         ensures same { IsSame self.old self.new }
@@ -102,7 +104,7 @@ where
         Ok(self.look_here(query)?)
     }
 
-    /// Returns the reply that is owed, once; None where none is. Where it runs out of memory again, it fails with
+    /// Returns the owed reply, once; `None` if no reply is owed. If the command runs out of memory again, fails with
     /// `Placed` and the same index, and the reply is still owed.
     pub fn resume(&mut self) -> Result<Option<Reply>, FrontFault>
         ensures same { IsUnmoved self.old self.new }
@@ -124,8 +126,8 @@ where
     W::Delta: Drop,
     W::Snapshot: Drop + Sync,
 {
-    /// A front over a film, at its first position, with a walker that keeps the way back over its last `depth` steps.
-    /// The pass has seen no word. Where memory runs out, the pass comes back.
+    /// Makes a front over a film, at its first position, with a walker that keeps the deltas of its last `depth` steps.
+    /// The pass has read no word. If memory runs out, returns the pass.
     pub fn new(
         alloc: Global,
         pass: Pass,

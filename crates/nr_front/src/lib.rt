@@ -1,5 +1,5 @@
 //! One user's *replica* of the shared session. It has a pass of the journal, and a debugger that runs the words that
-//! the pass sees, its own and others', in the journal's order.
+//! the pass reads, its own and those of others, in the order of the journal.
 #![tactic(auto)]
 
 mod fault;

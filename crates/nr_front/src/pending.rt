@@ -1,4 +1,4 @@
-//! What a front's machine hasn't run yet.
+//! The command that a front's machine hasn't run yet.
 
 ghost use Rattle.std.specs.Prelude.{◌≡◌};
 ghost use Rattle.nr_command.specs.Word.{command_of};
@@ -7,18 +7,18 @@ ghost use Rattle.nr_front.specs.Steps.{pending_after};
 
 use nr_command::Command;
 
-/// What a front's machine hasn't run yet: the command of the last word seen, or nothing.
+/// The command that a front's machine hasn't run yet, which is that of the last word read; or none.
 #[derive(Clone, Copy, Debug, PartialEq, Eq)]
 pub enum Pending {
     Nothing,
-    /// Another's command.
+    /// A command of another user.
     Others(Command),
     /// The front's own command, whose reply is owed.
     Own(Command),
 }
 
 impl Pending {
-    /// What a word of another leaves due.
+    /// Returns what is pending after a word of another user.
     pub(crate) fn at(word: u64) -> Pending
         ensures { result ≡ pending_after (command_of word) }
     {
@@ -28,7 +28,7 @@ impl Pending {
         }
     }
 
-    /// The command that is due.
+    /// Returns the pending command.
     pub(crate) fn command(self) -> Option<Command>
         ensures { result ≡ pending_command self }
     {
@@ -38,7 +38,7 @@ impl Pending {
         }
     }
 
-    /// The front's own command, if that is what is due.
+    /// Returns the pending command, if it is the front's own.
     pub(crate) fn own(self) -> Option<Command>
         ensures { result ≡ own_pending self }
     {

@@ -1,4 +1,4 @@
-//! A replica: a debugger over a film, and the walker that is led to its position when somebody looks at the world.
+//! A replica: a debugger over a film, and a walker that goes to the debugger's position for queries about the world.
 
 ghost use Rattle.std.specs.Prelude.{◌≡◌, ◌≤◌, IfOk, OnErr, OnOk};
 ghost use Rattle.nr_command.specs.Debugger.{Searches, opening, run, query_reply};
@@ -13,7 +13,7 @@ use nr_walker::Walker;
 use std::alloc::Global;
 use std::marker::Model;
 
-/// A debugger over a film, with a walker of its own. Contracts see the film's recording, how many workers search, the
+/// A debugger over a film, with a walker of its own. Contracts see the film's recording, the number of workers, the
 /// debugger and the walker.
 #[derive(Drop)]
 pub struct Replica<'f, W: Worlds + Drop + Sync, F: Finder>
@@ -52,8 +52,8 @@ where
     W::Delta: Drop,
     W::Snapshot: Drop + Sync,
 {
-    /// At position 0; it keeps the way back over the last `depth` steps that it walked. Takes memory for a copy
-    /// of the film's first world, and for that way.
+    /// Makes a replica at position 0, whose walker keeps the deltas of its last `depth` steps. Takes memory for a copy
+    /// of the film's first world, and for the deltas.
     pub fn new(
         alloc: Global,
         film: &'f Film<W>,
@@ -98,8 +98,8 @@ where
             .exec(self.walker.film(), &self.finder, command)
     }
 
-    /// Looks at what the debugger shows at its position. A look at the world leads the walker there first; it runs out
-    /// of memory on the way, or for a dump of something. Nothing else changes, also where it fails.
+    /// Answers a query at the debugger's position. A query about the world leads the walker there first; it runs out of
+    /// memory on the way, or for a dump that isn't empty. Nothing else changes, even if it fails.
     pub(crate) fn look(&mut self, query: Query) -> Result<Reply, Memory>
         ensures recording { self.new.recording ≡ self.old.recording }
         ensures workers { self.new.workers ≡ self.old.workers }

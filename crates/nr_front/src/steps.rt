@@ -1,4 +1,4 @@
-//! The steps that the calls of a front are made of.
+//! The steps of a front's calls.
 
 ghost use Rattle.std.specs.Prelude.{◌≡◌, Some, None, IfOk, OnOk, OnErr};
 ghost use Rattle.nr_command.specs.Debugger.{query_reply};
@@ -21,21 +21,21 @@ where
     W::Delta: Drop,
     W::Snapshot: Drop + Sync,
 {
-    /// The command whose reply is owed.
+    /// Returns the command whose reply is owed.
     pub(crate) fn owed_command(&self) -> Option<Command>
         ensures { result ≡ owed_command self.now }
     {
         self.pending.own()
     }
 
-    /// The index of the last word seen, from 1.
+    /// Returns the index of the last word read, counted from 1.
     pub(crate) fn place(&self) -> usize
         ensures { result ≡ last_place self.now }
     {
         self.pass.seen()
     }
 
-    /// Runs the command that is due. Out of memory, nothing has changed.
+    /// Runs the pending command. If memory runs out, nothing has changed.
     pub(crate) fn run(&mut self, command: Command) -> Result<Reply, Memory>
         requires { pending_command self.old.pending ≡ Some command }
         ensures without_pending { OnOk result (self.new ≡ without_pending self.old) }
@@ -49,7 +49,7 @@ where
         Ok(reply)
     }
 
-    /// Runs the command that is due, if one is. Out of memory, nothing has changed.
+    /// Runs the pending command, if there is one. If memory runs out, nothing has changed.
     fn run_pending(&mut self) -> Result<(), Memory>
         ensures without_pending { OnOk result (self.new ≡ without_pending self.old) }
         ensures unchanged { OnErr result (self.new ≡ self.old) }
@@ -62,7 +62,7 @@ where
         }
     }
 
-    /// Runs the command that is due, and lets its reply go. Out of memory, nothing has changed.
+    /// Runs the pending command, and drops its reply. If memory runs out, nothing has changed.
     fn run_unanswered(&mut self, command: Command) -> Result<(), Memory>
         requires { pending_command self.old.pending ≡ Some command }
         ensures without_pending { OnOk result (self.new ≡ without_pending self.old) }
@@ -74,7 +74,8 @@ where
         Ok(())
     }
 
-    /// Shows the debugger of the words seen. Only the walker moves, and only for a look at the world.
+    /// Answers a query with the debugger of the words read so far. Only the walker moves, and only for a query about
+    /// the world.
     pub(crate) fn look_here(&mut self, query: Query) -> Result<Reply, Memory>
         requires { self.old.pending ≡ Nothing }
         ensures moved { self.new ≡ with_walker_state self.new.walker_state self.old }
@@ -86,7 +87,7 @@ where
         self.replica.look(query)
     }
 
-    /// Sees one word more, if there is one: its command is due then.
+    /// Reads one more word, if there is one, whose command is pending then. Returns whether there was one.
     fn see(&mut self, journal: &Journal) -> bool
         requires table { self.old.table ≡ journal.now }
         requires without_pending { self.old.pending ≡ Nothing }
@@ -101,7 +102,7 @@ where
         }
     }
 
-    /// Sees words and runs their commands, until a look finds none, or all words of the journal are seen.
+    /// Reads words and runs their commands, until no further word is found or all words of the journal are read.
     pub(crate) fn catch_up(&mut self, journal: &Journal) -> Result<(), Memory>
         requires table { self.old.table ≡ journal.now }
         requires unowed { owed_command self.old ≡ None }
@@ -116,7 +117,8 @@ where
         }
     }
 
-    /// Offers the command's word once. The command is due then, or that of the word that was there.
+    /// Offers the command's word once. Afterwards that command is pending, or the command of the word that took the
+    /// place.
     fn offer(&mut self, journal: &Journal, command: Command) -> Offered
         requires table { self.old.table ≡ journal.now }
         requires without_pending { self.old.pending ≡ Nothing }
@@ -132,7 +134,7 @@ where
         offered
     }
 
-    /// Offers the command's word until it is placed, and runs the commands of the words that it loses to.
+    /// Offers the command's word until it is placed, and runs the commands of the words that took its place before.
     pub(crate) fn offer_until_placed(
         &mut self,
         journal: &Journal,

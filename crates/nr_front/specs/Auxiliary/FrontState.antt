@@ -1,4 +1,5 @@
--- Beside `FrontState`: what contracts and proofs cite, and no law of THEOREM.md rests on.
+-- Definitions that contracts and proofs cite beside `FrontState`. No law of THEOREM.md rests on
+-- them.
 use Rattle.std.specs.Prelude.{◌≡◌, ◌≢◌, ℕ, length, Option, Some, None}
 use Rattle.nr_rev.specs.Run.{Recording}
 use Rattle.nr_journal.specs.Pass.{Entered}
@@ -12,11 +13,11 @@ use Rattle.nr_front.specs.declared.pending.Pending.{Pending}
 use Rattle.nr_front.specs.declared.pending.Pending.TheVariants.{Nothing, Others, Own}
 use Rattle.nr_front.specs.FrontState.{FrontState, IsBehind}
 
--- its pass
+-- the front's pass
 abbrev pub pass_of : FrontState → Entered
 pass_of front_state = record { table = front_state.table; pass_state = front_state.pass_state }
 
--- a front whose debugger has run no word, with so many workers and this of its walker
+-- a front whose debugger has run no word, with this number of workers and this walker
 abbrev pub opened_front : Entered → Recording → ℕ → WalkerState → FrontState
 opened_front pass recording workers walker_state =
     record {
@@ -28,7 +29,8 @@ opened_front pass recording workers walker_state =
       pending = Nothing;
     }
 
--- its machine, where nothing is due: the debugger is that of the words that the pass has seen
+-- the front's machine if no command is pending: its debugger is that of the words that the pass has
+-- read
 abbrev pub replica_of : FrontState → ReplicaState
 replica_of front_state =
     record {
@@ -38,41 +40,41 @@ replica_of front_state =
       walker_state = front_state.walker_state;
     }
 
--- the command that is due
+-- the pending command
 abbrev pub pending_command : Pending → Option Command
 pending_command Nothing = None
 pending_command (Others command) = Some command
 pending_command (Own command) = Some command
 
--- the front's own command, if that is what is due
+-- the pending command, if it is the front's own
 abbrev pub own_pending : Pending → Option Command
 own_pending Nothing = None
 own_pending (Others command) = None
 own_pending (Own command) = Some command
 
--- another's command is due only where the journal has more than one pass
+-- true if a command of another user is pending only if the journal has more than one pass
 abbrev pub HasCompany : Pending → ℕ → Type 0
 HasCompany Nothing passes = Unit {0}
 HasCompany (Others command) passes = passes ≢ 1
 HasCompany (Own command) passes = Unit {0}
 
--- the command whose reply is owed: the front's own, placed and not run yet
+-- the command whose reply is owed: the front's own, placed and not yet run
 abbrev pub owed_command : FrontState → Option Command
 owed_command front_state = own_pending front_state.pending
 
--- the index of the last word seen, from 1
+-- the index of the last word read, from 1
 abbrev pub last_place : FrontState → ℕ
 last_place front_state = length front_state.pass_state.seen
 
--- the last word seen is one of this command, and this is its reply: that of the debugger that the
--- words before it lead to
+-- true if the last word read has this command, and this is its reply: that of the debugger after
+-- the words before it
 pub record RepliesLast (front_state : FrontState) (command : Command) (reply : Reply) : Type 0 where
   pub debugger : Debugger
   pub behind : IsBehind front_state.recording front_state.pass_state.seen command debugger
   pub answer : reply ≡ (run front_state.recording command debugger).0
 
--- the command that is due searches, from where the words before its own lead: so it may be refused
--- memory
+-- true if the pending command searches, starting after the words before its own, so that it may run
+-- out of memory
 pub record SearchIsPending (front_state : FrontState) : Type 0 where
   pub command : Command
   pub debugger : Debugger

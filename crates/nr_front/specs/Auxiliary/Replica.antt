@@ -1,4 +1,4 @@
--- Beside `Replica`: what contracts and proofs cite, and no law of THEOREM.md rests on.
+-- Definitions that contracts and proofs cite beside `Replica`. No law of THEOREM.md rests on them.
 use Rattle.std.specs.Prelude.{◌≡◌, ◌⊎◌, ℕ, true, if◌then◌else◌}
 use Rattle.nr_rev.specs.Run.{Recording}
 use Rattle.nr_walker.specs.Walk.{IsRefusedBy, Walk, route, walk_by}
@@ -8,19 +8,20 @@ use Rattle.nr_command.specs.declared.command.Query.{Query}
 use Rattle.nr_command.specs.declared.debugger.Debugger.{Debugger}
 use Rattle.nr_front.specs.Replica.{WalkerState}
 
--- what is seen of a replica: its recording, how many workers search, its debugger, and its walker
+-- the abstract value of a replica: its recording, the number of workers, its debugger, and its
+-- walker
 pub record ReplicaState : Type 0 where
   pub recording : Recording
   pub workers : ℕ
   pub debugger : Debugger
   pub walker_state : WalkerState
 
--- what is seen of this walker
+-- the state of this walker
 abbrev pub walker_state_of : {State : Type 0} → Walk State → WalkerState
 walker_state_of w =
     record { position = w.position; kept = w.kept; depth = w.depth; every = w.film.every }
 
--- the walker over the recording of which this is seen, whatever its states are
+-- a walker over the recording with this state; the states of its film don't matter
 abbrev pub walk_of : Recording → WalkerState → Walk (Unit {0})
 walk_of r f =
     record {
@@ -30,28 +31,28 @@ walk_of r f =
       depth = f.depth;
     }
 
--- what is seen of one that hasn't walked
+-- the state of a walker that hasn't moved
 abbrev pub at_start : ℕ → ℕ → WalkerState
 at_start every depth = record { position = 0; kept = 0; depth = depth; every = every }
 
--- what is seen of one that was led to position n, the way that walkers go there
+-- the state of a walker that has gone to position n, in the way that walkers do
 abbrev pub led_to : ℕ → Recording → WalkerState → WalkerState
 led_to n r f = walker_state_of (walk_by (route (walk_of r f) n) (walk_of r f) n)
 
--- what is seen of it after a look: one at the world leads it to the debugger's position
+-- the walker's state after a query: one about the world leads it to the debugger's position
 abbrev pub after_look : Query → ReplicaState → WalkerState
 after_look query m =
     if is_at_world query then led_to m.debugger.position m.recording m.walker_state
     else m.walker_state
 
--- It ran out of memory on the way to position n: at a copy, or forward at a step that bytes leave a
--- buffer at. Going back over deltas takes none.
+-- True if the walker ran out of memory on the way to position n: at a copy, or forward at a step at
+-- which bytes leave a buffer. Going back over deltas takes no memory.
 abbrev pub IsRefusedOnTheWay : ℕ → Recording → WalkerState → WalkerState → Type 0
 IsRefusedOnTheWay n r old new =
     IsRefusedBy (route (walk_of r old) n) (walk_of r old) n (walk_of r new)
 
--- Why a look ran out of memory. It is at the world. The walker ran out of it on the way to the
--- debugger's position, or is there and the look copies what it prints.
+-- True if a query may run out of memory: it is about the world, and the walker ran out of memory on
+-- the way to the debugger's position, or is there and the query copies what it prints.
 pub record LookIsRefused (query : Query) (m : ReplicaState) (new : WalkerState) : Type 0 where
   pub at_world : is_at_world query ≡ true
   pub why :

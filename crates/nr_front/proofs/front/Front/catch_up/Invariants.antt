@@ -1,4 +1,4 @@
--- Words of others were seen and run so far, and no look found none.
+-- Words of others were read and run so far, and each time there was a further word.
 use Rattle.std.proofs.Common.{◌≡◌, ◌-◌, length}
 use Rattle.nr_journal.specs.Rule.{journal_room}
 use Rattle.nr_front.specs.Front.{Learns}
