@@ -28,6 +28,7 @@ UNTOUCHED = ("messages",)  # modules that contain only texts, and folders of the
 FOUND, SURVIVED, UNTESTED, UNBUILT = "found", "survives", "no test calls it", "can't be compiled"
 FAILS_ANYWAY = "its test fails without it too"
 PATIENCE, GO_PATIENCE = 600, 1_800  # seconds
+COMPILING = "from netrev_go.toolchain import find_go, overlay; overlay(find_go())"
 LONGEST, TIMES = 30.0, 20.0  # seconds that any test may take, and how many times as long as when its calls were noted
 
 
@@ -221,10 +222,13 @@ class Worker:
             self._server.end()
 
     def is_unbuilt(self, mutant: Mutant, text: str) -> bool:
-        """Whether Go's type checker rejects the mutant."""
-        path = self.room / mutant.file
+        """Whether Go doesn't compile the mutant."""
         self.put(mutant.file, mutant.applied(text))
-        ran = subprocess.run(["gofmt", "-e", str(path)], capture_output=True, check=False)
+        path = os.pathsep.join([str(self.room / "python"), os.environ.get("PYTHONPATH", "")])
+        environment = {**os.environ, "PYTHONPATH": path, "GO111MODULE": "off"}
+        folder = (self.room / mutant.file).parent
+        words = [self.python, "-c", COMPILING] if folder.name == "log" else ["go", "build", "-o", os.devnull, "."]
+        ran = subprocess.run(words, cwd=folder, env=environment, capture_output=True, check=False)
         self.put(mutant.file, text)
         return ran.returncode != 0
 
