@@ -1,10 +1,10 @@
--- What the program's arguments ask for.
+-- The selection that the program's arguments make.
 use Rattle.std.proofs.Common.{◌≡◌, List, Option, Some, None, option_map, option_and_then, sym, ap, ◌∙◌, codes, [], ◌∷◌, refl}
 use Rattle.clap.specs.Words.{Row, Text, first_of}
 use Rattle.nr_arguments.specs.Arguments.{Ask, IsPlain, asked_in, asked_on}
 use Rattle.clap.proofs.OnLiterals.{clap_on_literals}
 
--- two views of what is there, as a pair
+-- two views of an option's value, as a pair
 pub both_views : {B X Y : Type 0} (f : B → X) (g : B → Y) (o : Option B) (x : X) (y : Y) → Some x ≡ option_map f o
     → Some y ≡ option_map (λ (p : X × Y). p.1) (option_map {U = X × Y} (λ b. (f b, g b)) o) → option_map {U = X × Y} (λ b. (f b, g b)) o ≡ Some (x, y)
 both_views f g None x y e h = cc
@@ -22,11 +22,11 @@ pub asked_in-word : {B : Type 0} (f : B → Text) (g : B → List Row) (o : Opti
 asked_in-word f g o name rows file word named with_rows read is =
     asked_in-file _ name rows file (both_views f g o name rows named with_rows) read ∙ ap (λ (n : Text). asked_on n rows file) is
 
--- and without one
+-- no selection without a file
 pub asked_in-none : (found : Option (Text × List Row)) (name : Text) (rows : List Row) → found ≡ Some (name, rows) → None ≡ first_of (codes "file") rows → asked_in found ≡ None
 asked_in-none found name rows is read = ap asked_in is ∙ ap (option_and_then (asked_on name rows)) (sym read)
 
--- a program's name and a plain file name ask for the program
+-- a subcommand's name and a plain file name select the program
 pub run_asks : (program file : Text) → IsPlain file → Ask (program ∷ codes "run" ∷ file ∷ []) (codes "run", file, None)
 unfolding clap_on_literals
 run_asks program [] plain = record { faultless = refl; is_asked = refl }

@@ -1,4 +1,4 @@
--- A word has one code, and marks have one byte.
+-- A word has exactly one code, and marks have exactly one byte.
 use Rattle.std.proofs.Common.{◌≡◌, ℕ, ◌/◌, ◌%◌, ◌<◌, ◌==◌, refl, arith}
 use Rattle.std.proofs.lemmas.Bool.Decides.{nat_tests}
 use Rattle.nr_rev.specs.declared.descriptor.WaitWord.{WaitWord}

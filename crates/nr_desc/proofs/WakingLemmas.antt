@@ -1,4 +1,4 @@
--- Who is woken: whom a word held and holds no longer.
+-- The woken goroutines are those that a word held before and doesn't hold after.
 use Rattle.std.proofs.Common.{◌≡◌, ◌∙◌, ℕ, None, Some, ap, refl, sym}
 use Rattle.std.proofs.lemmas.Option.{same_Some}
 use Rattle.nr_rev.specs.declared.descriptor.WaitWord.{WaitWord}
@@ -14,14 +14,14 @@ use Rattle.nr_desc.specs.declared.op.DescAnswer.{DescAnswer}
 use Rattle.nr_desc.specs.declared.op.DescOp.{DescOp}
 use Rattle.nr_desc.specs.declared.op.DescOp.TheVariants as op
 
--- a word that stays lets nobody go
+-- a word that is unchanged releases no goroutine
 pub let_go_same : (word : WaitWord) → let_go word word ≡ None
 let_go_same Nil = refl
 let_go_same Ready = refl
 let_go_same Wait = refl
 let_go_same (Held g) = refl
 
--- words that stay let nobody go
+-- words that are unchanged release no goroutine
 pub none_let_go : (words : Sides WaitWord) → twice None ≡ both_let_go words words
 none_let_go words =
     let read = let_go_same words.read in
@@ -48,6 +48,6 @@ held_by (op.Fire function sequence) old new side g is = side_held side old.words
 held_by (op.Event tag mode error) old new side g is = side_held side old.words new.words g is
 held_by _ old new side g is = none_held side (of_side side old.words) g is
 
--- whoever is woken of a side was held by its word
+-- a goroutine that is woken at a side was held by its word
 pub woken_held : (old new : Descriptor) (op : DescOp) (answer : DescAnswer) (side : Side) (g : ℕ) → StepTo old op answer new → of_side side answer.woken ≡ Some g → of_side side old.words ≡ Held g
 woken_held old new op answer side g step is = held_by op old new side g (ap (of_side side) (sym step.woken) ∙ is)

@@ -1,4 +1,4 @@
--- What a well-formed world knows of its buffers.
+-- Facts about the buffers of a well-formed world.
 use Rattle.std.proofs.Common.{◌≡◌, ℕ, ◌+◌, ◌≤◌, length, Some, arith}
 use Rattle.std.specs.Prelude.{slice_get}
 use Rattle.nr_rev.specs.declared.sides.Side.TheVariants.{Read, Write}
@@ -13,7 +13,7 @@ capacity_within w s socket h at =
     let fits = h.sockets s socket at in
     ((fits.capacities Read).1, (fits.capacities Write).1)
 
--- so much as there is room for fits into the output
+-- as many bytes as there is room for fit into the output
 pub written_fits : (w : World) (s : ℕ) (socket : Socket) (n : ℕ) → WellFormed w → slice_get w.sockets s ≡ Some socket → n ≤ room_of socket.buffers.write
     → length socket.buffers.write.bytes + n ≤ w.limits.buffer
 written_fits w s socket n h at room =

@@ -1,4 +1,4 @@
--- How a plan goes on by the change of a descriptor.
+-- Extending a plan by the change of a descriptor.
 use Rattle.std.proofs.Common.{◌≡◌, ℕ, ◌*◌, ◌≤◌, List, [], ◌∷◌, ◌++◌, length, map, Option, Some, None, Result, Ok, Err, refl, sym, ap, ◌∙◌, arith, length-append}
 use Rattle.std.proofs.lemmas.List.{length-map}
 use Rattle.std.proofs.lemmas.List.Sums.{sum_by-append, sum_by-cons}
@@ -27,7 +27,7 @@ both_obeyed (Some order) b before =
     elim (after_order order before) as (λ (r : Result (Sides (Option Timer) × ℕ) Refusal). (r >>= after_orders (option_to_list b)) ≡ ((r >>= λ after. Ok after) >>= after_orders (option_to_list b)))
     [ Ok after ↦ refl | Err e ↦ refl ]
 
--- changes behind others
+-- changes made after others
 pub after_edits-append : (xs ys : List Edit) (w : World) → after_edits (xs ++ ys) w ≡ after_edits ys (after_edits xs w)
 after_edits-append [] ys w = refl
 after_edits-append (x ∷ xs) ys w = after_edits-append xs ys (after_edit x w)
@@ -36,7 +36,7 @@ pub CanEditAll-append : (xs ys : List Edit) (w : World) → CanEditAll xs w → 
 CanEditAll-append [] ys w first rest = rest
 CanEditAll-append (x ∷ xs) ys w first rest = (first.0, CanEditAll-append xs ys (after_edit x w) first.1 rest)
 
--- those that a word held go on
+-- the goroutines that a word held continue
 wakes_lead : (gs : List ℕ) (w : World) → after_edits (map Wake gs) w ≡ after_wakes gs w
 wakes_lead [] w = refl
 wakes_lead (g ∷ gs) w = wakes_lead gs (after_edit (Wake g) w)
@@ -49,7 +49,7 @@ woken_words : (gs : List ℕ) → total_weight (map Wake gs) ≡ 7 * length gs
 woken_words [] = refl
 woken_words (g ∷ gs) = let one = sum_by-cons edit_weight (Wake g) (map Wake gs) in let rest = woken_words gs in omega (arith, one, rest)
 
--- the world after some changes, with the descriptor changed so
+-- the world after some changes and this change of the descriptor
 where_it_leads : (d : ℕ) (row : DescriptorRow) (change : Change) (w v : World) (after : Sides (Option Timer) × ℕ) → v.next_arming ≡ w.next_arming
     → after_orders change.orders (row.timers, w.next_arming) ≡ Ok after
     → after_change d row change v ≡ Ok (after_edits (Row d (record { descriptor = change.descriptor; timers = after.0 }) ∷ Arming after.1 ∷ map Wake change.woken) v)
@@ -59,7 +59,7 @@ where_it_leads d row change w v after same are =
     ∙ ap (λ (r : Result (Sides (Option Timer) × ℕ) Refusal). r >>= λ p. Ok (next p)) are
     ∙ ap Ok (sym (wakes_lead change.woken (after_edit (Arming after.1) (after_edit (Row d (record { descriptor = change.descriptor; timers = after.0 })) v))))
 
--- the plan that has the changes behind those it had
+-- the plan extended by these changes
 pub continued : (d : ℕ) (row : DescriptorRow) (change : Change) (w : World) (before plan : Plan) (after : Sides (Option Timer) × ℕ)
     → CanEditAll before.edits.items w → (after_edits before.edits.items w).next_arming ≡ w.next_arming → length change.woken ≤ 2
     → after_orders change.orders (row.timers, w.next_arming) ≡ Ok after

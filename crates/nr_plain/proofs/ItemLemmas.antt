@@ -1,4 +1,4 @@
--- A list with an element changed, and changed back.
+-- A list with an element changed, and the change undone.
 use Rattle.std.proofs.Common.{◌≡◌, ℕ, List, set, Option, Some, None, refl, sym, ap, subst, ◌∙◌}
 use Rattle.std.proofs.lemmas.Option.{unwrap_or-slice_get}
 use Rattle.std.specs.Prelude.{IfSome, option_map, slice_get, unwrap_or}
@@ -21,18 +21,18 @@ module _ {X : Type 0} (change back : X → X) (xs : List X) (place : ℕ) where
       let read = ap (λ (found : Option X). unwrap_or found x) (sym at) ∙ unwrap_or-slice_get xs place x in
       subst (λ y. set (set xs place (change x)) place y ≡ xs) returns (set_read_back xs place x (change x) read)
 
-  -- what is changed is changed back
+  -- undoing the change of an element restores the list
   pub changed_back : IfSome (slice_get xs place) (λ x. x ≡ back (change x)) → with_changed place back (with_changed place change xs) ≡ xs
   changed_back returns =
       ap (λ (found : Option X). with_item place (option_map back found) (with_changed place change xs)) (changed-here change xs place)
       ∙ returned_as (slice_get xs place) refl returns
 
--- known of the element, known of the changed one
+-- a fact about the changed element, from one about the element
 pub mapped_known : {X Y : Type 0} (change : X → Y) (P : Y → Type 0) (found : Option X) → IfSome found (λ x. P (change x)) → IfSome (option_map change found) P
 mapped_known change P None known = tt
 mapped_known change P (Some x) known = known
 
--- two facts of the one that is there, and what follows
+-- two facts about an element, and their consequence
 pub both_known : {X : Type 0} {P Q R : X → Type 0} (found : Option X) → IfSome found P → IfSome found Q → ((x : X) → P x → Q x → R x) → IfSome found R
 both_known None one other follows = tt
 both_known (Some x) one other follows = follows x one other

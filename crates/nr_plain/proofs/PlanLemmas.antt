@@ -1,4 +1,4 @@
--- Steps whose plan is made, and who stays well formed by what is made.
+-- Plans lead to the steps' outcomes, and the worlds remain well-formed.
 use Rattle.std.proofs.Common.{◌≡◌, ◌≤◌, Bool, Result, Ok, Err, arith, sym, subst}
 use Rattle.nr_rev.specs.declared.refusal.Refusal.{Refusal}
 use Rattle.nr_rev.specs.declared.step.Step.{Step}
@@ -13,13 +13,13 @@ use Rattle.nr_plain.specs.Delta.{PlainBack, delta_weight}
 use Rattle.nr_plain.specs.Making.{Makes}
 use Rattle.nr_plain.specs.Plan.{LeadsTo, after_edits, total_weight}
 
--- what is made stays well formed
+-- the world remains well-formed after a step
 pub makes_well_formed : {Place : Type 0} (keeps : Bool) (holds : Place → PlainDelta → Type 0) (place : Place) (step : Step) (old new : World) (r : Result Answer Refusal)
     → IsTimely step → WellFormed old → Makes keeps holds place step old r new → WellFormed new
 makes_well_formed {Place} keeps holds place step old new (Ok answer) timely fits made = step_keeps old step answer new timely fits made.0
 makes_well_formed {Place} keeps holds place step old new (Err reason) timely fits made = subst WellFormed (sym made.1) fits
 
--- a plan is made by its changes
+-- making a plan's changes applies its step
 pub plan_made : {Place : Type 0} (keeps : Bool) (holds : Place → PlainDelta → Type 0) (place : Place) (step : Step) (old new : World) (plan : Plan) (delta : PlainDelta)
     → LeadsTo step old plan → new ≡ after_edits plan.edits.items old → holds place delta → PlainBack delta new old → delta_weight delta ≤ total_weight plan.edits.items
     → Makes keeps holds place step old (Ok plan.answer) new

@@ -56,7 +56,7 @@ module _ (w : World) (g : ℕ) (p : ℕ × Side) (h : WellFormed w) where
       by_socket (at ∙ ap (λ (q : ℕ × Side). Some (Acquiring q.0 q.1)) same) (slice_get w.sockets p.0) refl
   by_status (Some _) at e = absurd cc
 
--- where one acquires, the queue has room
+-- if a goroutine acquires a semaphore, its queue has room
 pub acquiring_has_room : (w : World) (g : ℕ) → WellFormed w → (r : Result (ℕ × Side) Refusal) → r ≡ acquiring_by g w
     → IfOk r (λ p. IfSome (slice_get w.sockets p.0) (λ (socket : Socket). length (of_side p.1 socket.semaphores).queue < w.limits.goroutines))
 acquiring_has_room w g h (Ok p) e = by_status w g p h (slice_get w.goroutines g) refl (sym e)

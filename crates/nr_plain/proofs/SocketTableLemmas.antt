@@ -1,4 +1,4 @@
--- The sockets that are opened, as they are seen when one is opened, changed or taken back.
+-- The open sockets as contracts see them, after one is opened, changed or closed again.
 use Rattle.std.proofs.Common.{◌≡◌, ℕ, ◌-◌, ◌<◌, ◌≤◌, List, length, length-take, get_or, map, set, take, Option, Some, sym, ap, subst, ◌∙◌, arith}
 use Rattle.std.proofs.Math.Seq.{take-set-lt}
 use Rattle.std.proofs.lemmas.List.{get_or-take, length-map, length-set, length-take-le, map-set, take-map, take-take}
@@ -15,23 +15,23 @@ use Rattle.nr_plain.specs.Sockets.{Edits, EditsSocket, HasRoom}
 use Rattle.nr_plain.specs.SocketTable.{RoomedSocket, SocketTable}
 use Rattle.nr_plain.proofs.ItemLemmas.{changed-here, changed_back}
 
--- the sockets that are opened
+-- the open sockets
 abbrev pub seen : ℕ → List RoomedSocket → List Socket
 seen opened all = map (λ (p : RoomedSocket). p.socket) (take opened all)
 
--- the table of them
+-- the table of the open sockets
 abbrev pub table : ℕ → ℕ → ℕ → List RoomedSocket → SocketTable
 table queue_room byte_room opened all = record { sockets = seen opened all; room = length all; queue_room = queue_room; byte_room = byte_room }
 
 module _ (all : List RoomedSocket) (opened place : ℕ) (few : opened ≤ length all) (within : place < opened) where
-  -- one of them is seen
+  -- an open socket is in the table
   pub seen_at : (old : RoomedSocket) → old ≡ get_or all place old → slice_get (seen opened all) place ≡ Some old.socket
   seen_at old read =
       slice_get-map (λ (p : RoomedSocket). p.socket) (take opened all) place
       ∙ ap (option_map (λ (p : RoomedSocket). p.socket))
       (slice_get_read (take opened all) opened place old (sym (length-take-le opened all few)) within (read ∙ sym (get_or-take opened all place old within)))
 
-  -- and so is what is put in its place
+  -- so is the socket that replaces it
   pub seen_changed : (old new : RoomedSocket) (change : Socket → Socket) → old ≡ get_or all place old → new.socket ≡ change old.socket → seen opened (set all place new) ≡ with_changed place change (seen opened all)
   seen_changed old new change read is =
       ap (map (λ (p : RoomedSocket). p.socket)) (take-set-lt opened all place new within)
@@ -46,11 +46,11 @@ module _ (all : List RoomedSocket) (opened place : ℕ) (few : opened ≤ length
       ∙ ap (λ (sockets : List Socket). record { sockets = sockets; room = length all; queue_room = queue_room; byte_room = byte_room })
       (seen_changed old new change read (ap (λ (p : RoomedSocket). p.socket) is))
 
-  -- what is known of one that is seen
+  -- a fact about an open socket holds in the table
   pub known_here : (P : Socket → Type 0) (old : RoomedSocket) → old ≡ get_or all place old → P old.socket → IfSome (slice_get (seen opened all) place) P
   known_here P old read known = subst (λ (o : Option Socket). IfSome o P) (sym (seen_at old read)) known
 
-  -- a change of one, and what undoes it
+  -- the change of an open socket, and its undo
   pub edited : (queue_room byte_room : ℕ) (old new : RoomedSocket) (edit : SocketEdit) (undo : SocketUndo) → old ≡ get_or all place old → HasRoom queue_room byte_room old → Edits edit undo old new
       → EditsSocket place edit undo (table queue_room byte_room opened all) (table queue_room byte_room opened (set all place new))
   edited queue_room byte_room old new edit undo read room edits =
@@ -68,15 +68,15 @@ module _ (all : List RoomedSocket) (opened place : ℕ) (few : opened ≤ length
         light = edits.light;
       }
 
--- each has its room
+-- each socket has its room
 pub room_of : {queue_room byte_room : ℕ} (all : List RoomedSocket) (place : ℕ) (socket : RoomedSocket) → All (HasRoom queue_room byte_room) all → place < length all → socket ≡ get_or all place socket → HasRoom queue_room byte_room socket
 room_of {queue_room} {byte_room} all place socket rooms within read = subst (HasRoom queue_room byte_room) (sym read) (All-get_or (HasRoom queue_room byte_room) all place socket within rooms)
 
--- they are as many as are opened
+-- the table has as many sockets as are open
 pub length-seen : (all : List RoomedSocket) (opened : ℕ) → opened ≤ length all → length (seen opened all) ≡ opened
 length-seen all opened few = length-map (take opened all) (λ (p : RoomedSocket). p.socket) ∙ length-take-le opened all few
 
--- the last one taken back
+-- undoing the opening of the last socket
 pub last_taken_back : (all : List RoomedSocket) (opened : ℕ) → opened ≤ length all → seen (opened - 1) all ≡ take (length (seen opened all) - 1) (seen opened all)
 last_taken_back all opened few =
     sym
@@ -84,7 +84,7 @@ last_taken_back all opened few =
     ∙ take-map (λ (p : RoomedSocket). p.socket) (opened - 1) (take opened all)
     ∙ ap (map (λ (p : RoomedSocket). p.socket)) (take-take (opened - 1) opened all (omega arith)))
 
--- nothing is known of one that isn't opened
+-- a socket that isn't open isn't in the table
 pub past_all : (all : List RoomedSocket) (opened place : ℕ) → opened ≤ place → (P : Socket → Type 0) → IfSome (slice_get (seen opened all) place) P
 past_all all opened place past P =
     let most = length-take opened all in

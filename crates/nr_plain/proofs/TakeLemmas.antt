@@ -1,4 +1,4 @@
--- Bytes that leave the front of a buffer, and come back.
+-- Removing bytes from the front of a buffer, and putting them back.
 use Rattle.std.proofs.Common.{◌≡◌, ℕ, ◌+◌, ◌/◌, ◌≤◌, [], ◌∷◌, ◌++◌, List, length, length-append, drop, take, take-append-drop, refl, sym, ap, ◌∙◌, arith}
 use Rattle.std.proofs.lemmas.List.Sums.{sum_by-cons}
 use Rattle.std.proofs.lemmas.Option.{IfSome_then}
@@ -18,7 +18,7 @@ use Rattle.nr_plain.specs.SocketEdit.{CanUndoSocket, UndoesSocket, after_socket_
 use Rattle.nr_plain.proofs.ItemLemmas.{both_known, changed-here, changed_back, mapped_known}
 
 module _ (bytes held : List ℕ) (front : bytes ≡ take (length bytes) held) where
-  -- the bytes before what is left are the whole again
+  -- the removed bytes followed by the rest are the original bytes
   joined : held ≡ bytes ++ drop (length bytes) held
   joined = sym (ap (λ (taken : List ℕ). taken ++ drop (length bytes) held) front ∙ take-append-drop (length bytes) held)
 
@@ -28,7 +28,7 @@ module _ (bytes held : List ℕ) (front : bytes ≡ take (length bytes) held) wh
       let parts = length-append bytes (drop (length bytes) held) in
       omega (arith, whole, parts, short)
 
--- the bytes come back to the buffer of a socket that they left
+-- the bytes can be put back into the socket's buffer
 bytes_return : (queue_room byte_room : ℕ) (socket : Socket) (side : Side) (bytes : List ℕ) → length (of_side side socket.buffers).bytes ≤ byte_room
     → bytes ≡ take (length bytes) (of_side side socket.buffers).bytes
     → UndoesSocket queue_room byte_room (Restore side bytes) (on_bytes side (λ held. drop (length bytes) held) socket) socket
@@ -48,7 +48,7 @@ module _ (w : World) (s : ℕ) (side : Side) (bytes : List ℕ) where
   abbrev returning : Socket → Socket
   returning = after_socket_undo (Restore side bytes)
 
-  -- and so to the world
+  -- the same for the world
   restored : IfSome (slice_get w.sockets s) (λ (socket : Socket). length (of_side side socket.buffers).bytes ≤ w.limits.buffer)
       → IfSome (slice_get w.sockets s) (λ (socket : Socket). bytes ≡ take (length bytes) (of_side side socket.buffers).bytes)
       → Undoes (undo.Socket s (Restore side bytes)) (after_taking s side (length bytes) w) w
@@ -63,7 +63,7 @@ module _ (w : World) (s : ℕ) (side : Side) (bytes : List ℕ) where
             (sym (changed_back taking returning w.sockets s (IfSome_then (slice_get w.sockets s) back (λ socket undoes. undoes.1)))),
       )
 
--- a delta that holds the bytes that left leads back
+-- a delta with the removed bytes leads back
 pub taken_back : (w : World) (s : ℕ) (side : Side) (count : ℕ) (bytes : List ℕ) (delta : PlainDelta)
     → IfSome (slice_get w.sockets s) (λ (socket : Socket). length (of_side side socket.buffers).bytes ≤ w.limits.buffer)
     → IsFrontOf s side count w bytes → delta.undos.items ≡ undo.Socket s (Restore side bytes) ∷ []

@@ -1,4 +1,4 @@
--- A firing takes effect for the deadline that is set, and in time.
+-- A firing takes effect only for the deadline that is set, and in time.
 use Rattle.std.proofs.Common.{◌≡◌, ◌≢◌, ℕ, Bool, true, false, not, Option, Some, None, Result, Ok, refl, sym, ap, subst, ◌∙◌}
 use Rattle.std.specs.Prelude.{if◌then◌else◌, slice_get, remove}
 use Rattle.std.proofs.lemmas.Bool.{eqb-true}
@@ -28,7 +28,7 @@ by_cases : {A : Type 0} {P : A → Type 0} (c : Bool) {x y : Result A Refusal} �
 by_cases true a b = a refl
 by_cases false a b = b refl
 
--- a firing that changes something has its side's sequence
+-- a firing that changes something has its side's current sequence
 current_change : (f : TimerFunction) (n : ℕ) (d : Descriptor) → ComesTo (λ (change : Option Change). change ≢ None → n ≡ of_side (side_of_function f) d.sequences) (change_by_firing f n d)
 current_change f n d =
     by_cases (not (is_current f n d)) (λ _. ComesTo-ok (λ differs. absurd (differs refl))) λ e.

@@ -1,4 +1,4 @@
--- A deadline that is set was set by a step, and a timeout is due to it.
+-- Each deadline that is set was set by a step, and each timeout is due to such a deadline.
 use Rattle.std.proofs.Common.{◌≡◌, ◌≢◌, ℕ, Bool, true, false, not, ◌&&◌, List, [], ◌∷◌, ◌++◌, length, ◌⊎◌, inl, inr, Option, Some, None, Ok, refl, sym, ap, subst, ◌∙◌, true≢false}
 use Rattle.std.specs.Prelude.{◌==◌, if◌then◌else◌, nat_lt, remove, slice_get, slice_set, option_map, ℤ, pos}
 use Rattle.std.proofs.lemmas.Bool.{eqb-false, eqb-true}
@@ -37,7 +37,7 @@ use Rattle.nr_suspects.proofs.ReadinessLemmas.{changed_rows, follows_quietly, sa
 
 -- ---- the deadline of a side
 
--- the deadlines of a row's side
+-- the deadline of a side in a descriptor's row
 abbrev deadline_at : Side → DescriptorRow → ℤ
 deadline_at side row = of_side side row.descriptor.deadlines
 
@@ -45,7 +45,7 @@ of_cell : (w : World) (d : ℕ) (side : Side) → cell w (deadline_cell d side) 
 of_cell w d Read = refl
 of_cell w d Write = refl
 
--- the deadline of a side is set: it isn't 0
+-- the deadline of a side is set, that is, it isn't 0
 abbrev pub IsDeadline : World → ℕ → Side → Type 0
 IsDeadline w d side = (t : ℤ) × (option_map (deadline_at side) (slice_get w.descriptors d) ≡ Some t) × (t ≢ pos 0)
 
@@ -59,7 +59,7 @@ same_deadline side (Some x) (Some y) e = ap Some (times e)
     times : CellValue.Time (deadline_at side x) ≡ CellValue.Time (deadline_at side y) → deadline_at side x ≡ deadline_at side y
     times f = cc
 
--- the deadline of a row that is there
+-- the deadline of a side whose row is known
 of_row : (rows : List DescriptorRow) (d : ℕ) (side : Side) (row : DescriptorRow) (t : ℤ) → slice_get rows d ≡ Some row → option_map (deadline_at side) (slice_get rows d) ≡ Some t → deadline_at side row ≡ t
 of_row rows d side row t at is = same_Some _ _ (sym (ap (option_map (deadline_at side)) at) ∙ is)
 
@@ -92,7 +92,8 @@ Sets step d side = (g : ℕ) × (mode : Mode) × (t : ℤ) × (step ≡ Step.Set
 abbrev pub IsNoOpening : Step → Answer → ℕ → Type 0
 IsNoOpening step answer d = (g s : ℕ) → step ≡ Step.PollOpen g s → answer ≢ answers.Number d
 
--- a deadline that is set after a step was set before, or the step set it; and the step didn't open its descriptor
+-- a deadline that is set after a step was set before, and the step didn't open its descriptor; or
+-- the step set it
 abbrev WasSet : World → Step → ℕ → Side → Answer × World → Type 0
 WasSet w step d side left = IsDeadline left.1 d side → (IsDeadline w d side ⊎ Sets step d side) × IsNoOpening step left.0 d
 
@@ -172,7 +173,7 @@ changed_was_set e d side row change w at before = record { value = λ next is se
           | inr other ↦ (set.0, sym (ap (option_map (deadline_at side)) other.1) ∙ there, set.2)
         ]
 
--- a step of another kind
+-- a step that isn't a `pollopen` opens no descriptor
 not_opening : (step : Step) (left : Answer × World) (d : ℕ) → ((g s : ℕ) → step ≢ Step.PollOpen g s) → (g s : ℕ) → step ≡ Step.PollOpen g s → left.0 ≢ answers.Number d
 not_opening step left d other g s is = absurd (other g s is)
 

@@ -1,4 +1,4 @@
--- A debt is kept exactly where an event came for a side and nothing paid since.
+-- A side has a debt if and only if an event came for it and nothing has paid since.
 use Rattle.std.proofs.Common.{◌≡◌, ◌≢◌, ◌⊎◌, inl, inr, ℕ, zero, suc, ◌+◌, ◌<◌, Bool, true, false, Option, Some, None, refl, sym, ap, subst, ◌∙◌, arith}
 use Rattle.std.specs.Prelude.{◌==◌, if◌then◌else◌, option_and_then, option_map, IsTrue}
 use Rattle.std.proofs.lemmas.Bool.{eqb-false, eqb-true}
@@ -20,24 +20,25 @@ use Rattle.nr_suspects.specs.Settings.{after_passing, after_setting}
 use Rattle.nr_suspects.proofs.PresenceLemmas.{event_is_kept}
 use Rattle.nr_suspects.proofs.SettingLemmas.{below_or_here}
 
--- the debt of a side, by what is kept of its descriptor
+-- the debt of a side, from the descriptor's account
 abbrev pub debt_of : Side → Option Account → Option Debt
 debt_of side a = option_and_then (λ (x : Account). of_side side x.debts) a
 
--- the event that a debt is of
+-- the event of a debt
 abbrev pub event_of : Option Debt → Option ℕ
 event_of debt = option_map (λ (b : Debt). b.event) debt
 
--- what pays, in terms of the notice and of what is kept
+-- the notice pays the debt of a side, given the descriptor's account
 abbrev pub Pays : ℕ → Side → Notice → Option Account → Type 0
 Pays d side x a =
     ((s : ℕ) × (x ≡ notices.Opened d s)) ⊎ ((s : ℕ) × (x ≡ notices.Tried s side) × (option_map (λ (y : Account). y.socket) a ≡ Some s))
 
--- what comes for a side of an open descriptor
+-- the notice is an event for a side of descriptor d
 abbrev pub Comes : ℕ → Side → Notice → Type 0
 Comes d side x = (mode : Mode) × (x ≡ notices.Event d mode) × IsTrue (names_side mode side)
 
--- What a notice does to the debt of a side: it makes one, it pays, or it leaves the event.
+-- The effect of a notice on the debt of a side: it adds one, pays it, or leaves the event
+-- unchanged.
 pub data Effect (n d : ℕ) (side : Side) (x : Notice) (a : Option Account) : Type 0 where
   Owes : Comes d side x → event_of (debt_of side (account_after n d x a)) ≡ Some n → Effect n d side x a
   Clears : Pays d side x a → debt_of side (account_after n d x a) ≡ None → Effect n d side x a
@@ -205,11 +206,11 @@ module _ (r : Recording) (d : ℕ) (side : Side) where
   effect_at : (n : ℕ) → Effect (suc n) d side (notice_at r n) (account r d n)
   effect_at n = effect (suc n) d side (notice_at r n) (account r d n)
 
-  -- an event comes to a descriptor of which something is kept
+  -- an event comes only to a descriptor with an account
   kept_there : (n : ℕ) → Comes d side (notice_at r n) → account r d n ≡ None → ⊥
   kept_there n comes none = let kept = event_is_kept r d n comes.0 comes.1 in none-some _ (sym none ∙ kept.1)
 
-  -- what isn't paid by a position, nor by the step after it, isn't paid by the next
+  -- if no step before position n nor the one after it pays, no step before position n + 1 pays
   unpaid_on : (n event : ℕ) → ((k : ℕ) → event < k → k < n → ¬ IsPayment r d side k) → ¬ IsPayment r d side n → (k : ℕ) → event < k → k < suc n → ¬ IsPayment r d side k
   unpaid_on n event before now k after below =
       elim (below_or_here k n below) [
@@ -217,7 +218,7 @@ module _ (r : Recording) (d : ℕ) (side : Side) where
         | inr same ↦ subst (λ j. ¬ IsPayment r d side j) (sym same) now
       ]
 
-  -- a debt is of an event that nothing paid
+  -- a debt belongs to an event that nothing has paid
   pub debt_is_owed : (n : ℕ) (b : Debt) → debt r d side n ≡ Some b → (owed : Owed r n d side) × (b.event ≡ owed.event + 1)
   debt_is_owed zero b is = cc
   debt_is_owed (suc n) b is = go (effect_at n) (debt_is_owed n)
@@ -246,7 +247,7 @@ module _ (r : Recording) (d : ℕ) (side : Side) where
             sym old.2 ∙ owed.1,
           )
 
-  -- an event that nothing paid is kept as a debt
+  -- an event that nothing has paid is a debt
   pub owed_is_kept : (n event : ℕ) → event < n → IsEvent r d side event → ((k : ℕ) → event < k → k < n → ¬ IsPayment r d side k)
       → (b : Debt) × (debt r d side n ≡ Some b)
   owed_is_kept zero event before came unpaid = absurd (omega (arith, before))
@@ -264,7 +265,7 @@ module _ (r : Recording) (d : ℕ) (side : Side) where
       go (Leaves not_paid silent same) (inr here) kept =
           absurd (kept_there n (subst (IsEvent r d side) here came) (silent (subst (IsEvent r d side) here came)))
 
-  -- if nothing is owed, each event was paid
+  -- if there is no debt, each event was paid
   pub paid_since : (n event : ℕ) → event < n → IsEvent r d side event → debt r d side n ≡ None
       → (k : ℕ) × (event < k) × (k < n) × IsPayment r d side k
   paid_since zero event before came none = absurd (omega (arith, before))

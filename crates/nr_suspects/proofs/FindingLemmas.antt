@@ -1,4 +1,4 @@
--- What is listed of deadlines is so, and all of it is listed.
+-- The list of findings about deadlines is correct and complete.
 use Rattle.std.proofs.Common.{◌≡◌, ℕ, zero, suc, ◌<◌, Bool, true, false, not, ◌&&◌, ◌⊎◌, inl, inr, List, [], ◌∷◌, ◌++◌, Option, Some, None, Ok, refl, sym, ap, subst, ◌∙◌, arith, true≢false}
 use Rattle.std.specs.Prelude.{Contains, ◌==◌, if◌then◌else◌, nat_lt, ℤ}
 use Rattle.std.specs.Option.{option_map_or}
@@ -42,7 +42,7 @@ use Rattle.nr_suspects.proofs.SettingLemmas.{IsSet, below_or_here, set_now, set_
 same_opening : (d e s k : ℕ) → notices.Opened d s ≡ notices.Opened e k → d ≡ e
 same_opening d e s k is = cc
 
--- a step that opens a descriptor is noticed so
+-- a step with another notice opened no descriptor
 unopened : (w : World) (step : Step) (answer : Answer) (next : World) (d s : ℕ) → IsNoOpening step answer d → Noticed w step answer next → notice w step answer next ≡ notices.Opened d s → ⊥
 unopened w step answer next d s none (OfOpening g k e is number same) opened = none g k is (number ∙ ap answers.Number (same_opening e d k s (sym same ∙ opened)))
 unopened w step answer next d s none (OfEvent e tag mode error is done same) opened = differ (sym same ∙ opened)
@@ -76,11 +76,11 @@ unopened w step answer next d s none (OfVisit v at same) opened = by (is_taken w
         nothing g = cc
 unopened w step answer next d s none (Quiet quiet) opened = true≢false (sym quiet ∙ ap is_quiet opened)
 
--- the deadline of an empty world isn't set
+-- no deadline is set in the empty world
 none_at_first : (d : ℕ) (side : Side) (r : Recording) → IsDeadline (world_at r 0) d side → ⊥
 none_at_first d side r set = none-some _ set.1
 
--- a descriptor whose deadline is set was made
+-- a `setdeadline` applies only to a descriptor that was made
 setdeadline_made : (w : World) (g d : ℕ) (mode : Mode) (t : ℤ) → ComesTo (λ left. IsMade w d) (setdeadline g d mode t w)
 setdeadline_made w g d mode t = ComesTo-then (ComesTo-any (idle g w)) λ _. ComesTo-bind (ComesTo-open_row_of d w) λ row at. record { value = λ left is. (row, at) }
 
@@ -118,7 +118,7 @@ deadline_has_setting r d side (suc n) set = go (moves r n) (deadline_has_setting
 
 -- ---- a timeout has a setting
 
--- the deadline of a check that was noticed with code 2 is set
+-- a check with code 2 found a deadline that is set
 checked_is_set : (w : World) (step : Step) (answer : Answer) (next : World) (v : Visit) → outcome w step ≡ Ok (answer, next) → Noticed w step answer next → notice w step answer next ≡ notices.Checked v 2 → IsDeadline w v.descriptor v.side
 checked_is_set w step answer next v is (OfOpening g k e at number same) checked = absurd (differ (sym same ∙ checked))
   where
@@ -253,7 +253,7 @@ passed_has_setting r n d passings side p passed some = deadline_has_setting r d 
 
 -- ---- one finding
 
--- what a listed finding says of its step
+-- the contents of a listed finding
 record Says (n d : ℕ) (side : Side) (c : Consequence) (a : Option Account) (found : DeadlineFinding) : Type 0 where
   position : found.position ≡ n
   descriptor : found.descriptor ≡ d
@@ -283,7 +283,7 @@ pub is_below : (a b : ℕ) → a < b → nat_lt a b ≡ true
 is_below a b h = grind (arith, h)
 
 module _ (r : Recording) where
-  -- what a finding of the step after position k says is so
+  -- a finding about the step after position k is correct
   is_finding : (n k d : ℕ) (side : Side) (c : Consequence) (found : DeadlineFinding) → k < n → Says (suc k) d side c (account r d k) found → Comes r k d side c → IsFinding r n found
   is_finding n k d side c found below is comes = record {
     at = k;
@@ -293,7 +293,7 @@ module _ (r : Recording) where
     set = subst (λ e. IsSetBy r k e found.side found.setting) (sym is.descriptor) (subst (λ s. IsSetBy r k d s found.setting) (sym is.side_is) (setting_is r d side k found.setting is.setting));
   }
 
-  -- what is kept of a descriptor that there may be
+  -- the account of a descriptor below the limit, or none
   within_is : (k d : ℕ) → (account_within r k d ≡ account r d k) ⊎ (account_within r k d ≡ None)
   within_is k d = by (nat_lt d r.limits.descriptors)
     where
@@ -316,7 +316,7 @@ module _ (r : Recording) where
     | inr none ↦ absurd (none-some _ (sym (ap (woken_of side) none) ∙ is))
   ]
 
-  -- below the limit all of it is kept
+  -- below the limit the account is the descriptor's
   pub within : (k d : ℕ) → d < r.limits.descriptors → account_within r k d ≡ account r d k
   within k d below = ap (λ b. if b then account r d k else None) (is_below d r.limits.descriptors below)
 
@@ -363,7 +363,7 @@ module _ (r : Recording) where
   later : (n : ℕ) (found : DeadlineFinding) → IsFinding r n found → IsFinding r (suc n) found
   later n found is = record { at = is.at; before = omega (arith, is.before); position = is.position; comes = is.comes; set = is.set }
 
-  -- what is listed is so
+  -- each listed finding is correct
   pub listed_is_so : (n : ℕ) (found : DeadlineFinding) → Contains (deadline_findings r n) found → IsFinding r n found
   listed_is_so zero found at = absurd (nowhere found at)
   listed_is_so (suc n) found at = elim (Contains-append_cases (deadline_findings r n) (findings_at (suc n) (notice_at r n) (account_within r n)) found at) [
@@ -371,7 +371,7 @@ module _ (r : Recording) where
     | inr last ↦ from_step (suc n) n (notice_at r n) found (omega arith) refl last
   ]
 
-  -- what is found at a step is listed after it
+  -- a finding at a step is listed at each later position
   pub listed_from : (n k : ℕ) (found : DeadlineFinding) → k < n → Contains (findings_at (suc k) (notice_at r k) (account_within r k)) found → Contains (deadline_findings r n) found
   listed_from zero k found below at = absurd (omega (arith, below))
   listed_from (suc n) k found below at = elim (below_or_here k n below) [

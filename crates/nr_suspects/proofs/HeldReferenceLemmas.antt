@@ -1,4 +1,4 @@
--- Just the references that are held are listed, and a closed socket that isn't listed has none.
+-- The list of held references is exact, and a closed socket that isn't listed has no reference.
 use Rattle.std.proofs.Common.{◌≡◌, ◌≢◌, ℕ, zero, suc, ◌-◌, ◌<◌, ◌≤◌, Bool, true, false, ◌&&◌, inl, inr, List, [], ◌∷◌, Some, refl, sym, ap, subst, ◌∙◌, arith}
 use Rattle.std.specs.Prelude.{All, Contains, IsTrue, ◌==◌, if◌then◌else◌, nat_lt, slice_get}
 use Rattle.std.specs.Option.{option_map_or}
@@ -28,7 +28,7 @@ use Rattle.nr_suspects.proofs.NotebookLemmas.{not_below}
 
 -- ---- one holding
 
--- this one is of what this goroutine holds of this socket
+-- the entry describes this goroutine's holding of this socket
 record IsOfOne (n s g : ℕ) (status : CellValue) (h : Holding) (held : HeldReference) : Type 0 where
   more : h.given < h.taken
   position : held.position ≡ n
@@ -109,7 +109,7 @@ module _ (n : ℕ) (w : World) (held_of : ℕ → ℕ → Holding) (goroutines :
 
 -- ---- the laws
 
--- each that is listed is held
+-- each listed reference is held
 pub listed_is_held : (r : Recording) (n : ℕ) (held : HeldReference) → Contains (held_references r n) held → IsHeld r n held.socket held.goroutine × IsListed r n held
 listed_is_held r n held at =
     let found = of_sockets n (world_at r n) (λ s g. holding r g s n) r.limits.goroutines r.limits.sockets held at in
@@ -126,7 +126,7 @@ listed_is_held r n held at =
           record { position = is.position; count = omega (arith, taken, given, more, count); since = is.since ∙ sym (ap (λ (h : Holding). h.since) same) },
         )
 
--- each that is held is listed
+-- each held reference is listed
 pub held_is_listed : (r : Recording) (n s g : ℕ) → s < r.limits.sockets → g < r.limits.goroutines → IsHeld r n s g
     → (held : HeldReference) × Contains (held_references r n) held × (held.socket ≡ s) × (held.goroutine ≡ g)
 held_is_listed r n s g few below is =
@@ -140,7 +140,7 @@ held_is_listed r n s g few below is =
       found.3,
     )
 
--- where nobody holds more than it gave back, no more was taken than was given back
+-- if no goroutine took more than it returned, all together didn't either
 nobody_more : (f h : ℕ → ℕ) (k : ℕ) → ((g : ℕ) → g < k → f g ≤ h g) → total f k ≤ total h k
 nobody_more f h zero less = omega arith
 nobody_more f h (suc k) less =

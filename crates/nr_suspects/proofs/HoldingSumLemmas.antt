@@ -1,4 +1,4 @@
--- What all goroutines took and gave back of a socket makes up the count of its lock.
+-- The references of a socket that all goroutines took and returned add up to the count of its lock.
 use Rattle.std.proofs.Common.{◌≡◌, ℕ, zero, suc, ◌+◌, ◌<◌, ◌≤◌, Bool, true, false, ◌&&◌, inl, inr, List, Option, Some, None, Ok, refl, sym, ap, subst, ◌∙◌, arith, true≢false}
 use Rattle.std.specs.Prelude.{All, ◌==◌, if◌then◌else◌, slice_get}
 use Rattle.nr_rev.specs.declared.sides.Side.TheVariants.{Read, Write}
@@ -47,7 +47,7 @@ total_both : (f h : ℕ → ℕ) (k : ℕ) → total (λ g. f g + h g) k ≡ tot
 total_both f h zero = refl
 total_both f h (suc k) = let rest = total_both f h k in omega (arith, rest)
 
--- one place among others
+-- 1 at place h, 0 elsewhere
 abbrev place_of : ℕ → ℕ → ℕ
 place_of h g = if g == h then 1 else 0
 
@@ -70,7 +70,7 @@ one_place h (suc k) below = by (k == h) refl (λ less. one_place h k less)
 abbrev count_if : Bool → ℕ
 count_if b = if b then 1 else 0
 
--- one place of one socket
+-- 1 at place h of socket s, 0 elsewhere
 abbrev here_of : ℕ → ℕ → ℕ → ℕ → ℕ
 here_of s h k g = if (g == h) && (s == k) then 1 else 0
 
@@ -122,13 +122,13 @@ moved n g s (notices.SocketOpened sock room) h = (omega arith, omega arith)
 moved n g s (notices.PeerClosed sock) h = (omega arith, omega arith)
 moved n g s notices.Nothing h = (omega arith, omega arith)
 
--- it moves none
+-- true if a notice neither takes nor returns a reference
 abbrev moves_none : Notice → Bool
 moves_none (notices.TookReference h k) = false
 moves_none (notices.GaveReference h k) = false
 moves_none x = true
 
--- all that a notice moves of socket s, among the goroutines below G
+-- the references of socket s that a notice takes and returns, summed over the goroutines below G
 record Sums (s G : ℕ) (x : Notice) (takes gives : ℕ) : Type 0 where
   takes_is : total (took s x) G ≡ takes
   gives_is : total (gave s x) G ≡ gives
@@ -225,7 +225,7 @@ ran : (w next : World) (o : Option ℕ) → moves_none (running w next o notices
 ran w next None = refl
 ran w next (Some d) = refl
 
--- a goroutine that is there is below the limit
+-- a goroutine that exists is below the limit
 there_below : (w : World) (g : ℕ) (status : Status) → WellFormed w → slice_get w.goroutines g ≡ Some status → g < w.limits.goroutines
 there_below w g status fits at =
     let within = slice_get_within w.goroutines g status at in
@@ -250,7 +250,7 @@ rwunlock_below w g k side fits = ComesTo-then (idle_below w g fits) λ below. re
 rwlock_below : (w : World) (g k : ℕ) (side : Side) → WellFormed w → ComesTo (λ left. g < w.limits.goroutines) (rwlock g k side w)
 rwlock_below w g k side fits = ComesTo-bind (ComesTo-ends (Ends-status_of g w)) λ status at. record { value = λ left is. there_below w g status fits at }
 
--- what is noticed of a step moves what it takes and gives
+-- the notice of a step takes and returns as many references as the step
 step_sums : (w : World) (step : Step) (answer : Answer) (next : World) (s : ℕ) → WellFormed w → outcome w step ≡ Ok (answer, next) → Sums s w.limits.goroutines (notice w step answer next) (takes s step answer) (gives s step)
 step_sums w Step.Spawn answer next s fits is = none_moved s w.limits.goroutines (notice w Step.Spawn answer next) refl
 step_sums w (Step.Exit g) answer next s fits is = none_moved s w.limits.goroutines (notice w (Step.Exit g) answer next) refl
@@ -289,7 +289,7 @@ step_sums w (Step.CloseWrite g k) answer next s fits is = none_moved s w.limits.
 timely_at : (steps : List Step) (n : ℕ) (step : Step) → All IsTimely steps → slice_get steps n ≡ Some step → IsTimely step
 timely_at steps n step timely read = subst IsTimely (get_or_from_slice_get steps n step step read) (timely n step (slice_get_within steps n step read))
 
--- what all goroutines took and gave back makes up the count of the lock
+-- the references that all goroutines took and returned add up to the count of the lock
 pub sums_at : (r : Recording) (n s : ℕ) → 0 < r.limits.goroutines → All IsTimely r.steps
     → references_at (world_at r n) s + total (λ g. (holding r g s n).given) r.limits.goroutines ≡ total (λ g. (holding r g s n).taken) r.limits.goroutines
 sums_at r zero s room timely = let none = total_none r.limits.goroutines in omega (arith, none)

@@ -1,4 +1,4 @@
--- A step is written down in the ledger, at one place of one row.
+-- A step changes the ledger at one place of one row.
 use Rattle.std.proofs.Common.{◌≡◌, ◌≢◌, ◌⊎◌, inl, inr, ℕ, ◌≤◌, List, length, Option, None, Some, set, refl, ap, sym, ◌∙◌, arith}
 use Rattle.std.specs.Prelude.{map, option_and_then, option_map, slice_get}
 use Rattle.std.proofs.lemmas.List.{length-map}
@@ -16,11 +16,11 @@ module _ {X : Type 0} (items : X → List Holding) (rows : List X) (s : ℕ) whe
   place_is : (t g : ℕ) (row : X) → slice_get rows t ≡ Some row → place (map items rows) t g ≡ slice_get (items row) g
   place_is t g row at = ap (option_and_then (λ (r : List Holding). slice_get r g)) (row_is t row at)
 
-  -- a row of a ledger with room has room
+  -- a row of a ledger whose counts can grow has counts that can grow
   pub row_has_room : (row : X) → slice_get rows s ≡ Some row → CanCount (map items rows) → RowCanCount (items row)
   row_has_room row at room g h is = room s g h (place_is s g row at ∙ is)
 
--- a row that a step was written down in
+-- the ledger after one row was updated with a step
 pub row_noted : {X : Type 0} (items : X → List Holding) (rows : List X) (n g s : ℕ) (notice : Notice) (old new : X) → slice_get rows s ≡ Some old → IsRowHeldAt n g s notice (items old) (items new)
     → IsHeldAt n g s notice (map items rows) (map items (set rows s new))
 row_noted items rows n g s notice old new at noted =
@@ -43,7 +43,7 @@ row_noted items rows n g s notice old new at noted =
     within t k (inr apart) same is =
         place_is items (set rows s new) s t k new is ∙ noted.elsewhere k apart ∙ sym (place_is items rows s t k old (ap (slice_get rows) same ∙ at))
 
--- past the rows there is no place
+-- beyond the rows there is no place
 no_place : (rows : List (List Holding)) (s g : ℕ) → length rows ≤ s → place rows s g ≡ None
 no_place rows s g past = go (slice_get rows s) refl
   where
@@ -51,7 +51,7 @@ no_place rows s g past = go (slice_get rows s) refl
     go None at = ap (option_and_then (λ (r : List Holding). slice_get r g)) at
     go (Some row) at = let within = slice_get_within rows s row at in absurd (omega (arith, within, past))
 
--- where a socket has no row nothing is written down
+-- if a socket has no row, nothing is updated
 pub no_row : {X : Type 0} (items : X → List Holding) (rows : List X) (n g s : ℕ) (notice : Notice) → length rows ≤ s → IsHeldAt n g s notice (map items rows) (map items rows)
 no_row items rows n g s notice past =
     let none : place (map items rows) s g ≡ None = no_place (map items rows) s g (let same = length-map rows items in omega (arith, past, same)) in

@@ -19,7 +19,7 @@ use Rattle.nr_rev.specs.Step.{Outcome, acquiring_of, armed_of, checking_of, ente
 use Rattle.nr_rev.specs.World.{World, empty_world, is_free_number, is_waited, least_entry}
 use Rattle.nr_laws.proofs.AspectLemmas.{ComesTo, ComesTo-ok, ComesTo-refused, ComesTo-any, ComesTo-bind, ComesTo-then, ComesTo-either}
 
--- the limits stay
+-- the step leaves the limits unchanged
 abbrev KeepsLimits : World → Answer × World → Type 0
 KeepsLimits w left = left.1.limits ≡ w.limits
 
@@ -68,7 +68,7 @@ fired_limits : (d : ℕ) (row : DescriptorRow) (change : Option Change) (w : Wor
 fired_limits d row None w = ComesTo-ok refl
 fired_limits d row (Some change) w = ComesTo-bind (changed_limits d row change w) λ next same. ComesTo-ok same
 
--- every kind
+-- every kind of step leaves the limits unchanged
 limits_kept : (w : World) (step : Step) → ComesTo (KeepsLimits w) (outcome w step)
 limits_kept w Step.Spawn = ComesTo-then (ComesTo-any (refused_unless (nat_lt (length w.goroutines) w.limits.goroutines) _)) λ _. ComesTo-ok refl
 limits_kept w (Step.Exit g) = ComesTo-then (ComesTo-any (idle g w)) λ _. ComesTo-ok refl
@@ -116,6 +116,6 @@ run_limits : (w : World) (steps : List Step) → (world_after w steps).limits �
 run_limits w [] = refl
 run_limits w (step ∷ steps) = run_limits (next_of w (outcome w step)) steps ∙ next_limits w step
 
--- at each position
+-- the world at each position has the recording's limits
 pub limits_at : (r : Recording) (n : ℕ) → (world_at r n).limits ≡ r.limits
 limits_at r n = run_limits (empty_world r.limits) (take n r.steps)

@@ -43,15 +43,15 @@ ComesTo-cases : {A : Type 0} {P : A → Type 0} (c : Bool) {x y : Result A Refus
 ComesTo-cases true a b = a refl
 ComesTo-cases false a b = b refl
 
--- the lock with one waiter more
+-- the lock with one more waiter
 abbrev with_waiter : Side → Lock → Lock
 with_waiter side lock = record lock { waiters = with_side side (of_side side lock.waiters + 1) lock.waiters }
 
--- the lock with the side locked, and one reference more
+-- the lock with the side locked and one more reference
 abbrev locked_at : Side → Lock → Lock
 locked_at side lock = record lock { locked = with_side side true lock.locked; references = lock.references + 1 }
 
--- what a try of a side leaves
+-- the result of trying to lock a side
 data Tried (side : Side) (lock : Lock) (left : LockOutcome) : Type 0 where
   Refused : left.answer ≡ answers.No → left.lock ≡ lock → lock.closed ≡ true → Tried side lock left
   Waits : left.answer ≡ answers.Wait → left.lock ≡ with_waiter side lock → lock.closed ≡ false → of_side side lock.locked ≡ true → Tried side lock left
@@ -67,11 +67,11 @@ tried side lock =
     (λ locked. ComesTo-bind (raised (of_side side lock.waiters)) λ n is. ComesTo-ok (Waits refl (ap (λ k. record lock { waiters = with_side side k lock.waiters }) is) is_open locked))
     (λ free. ComesTo-bind (raised lock.references) λ n is. ComesTo-ok (Takes refl (ap (λ k. record lock { locked = with_side side true lock.locked; references = k }) is) is_open free))
 
--- the lock with the side given back: one reference less, and one waiter less
+-- the lock with the side unlocked, one reference less and one waiter less
 abbrev freed_at : Side → Lock → Lock
 freed_at side lock = record lock { locked = with_side side false lock.locked; references = lock.references - 1; waiters = with_side side (of_side side lock.waiters - 1) lock.waiters }
 
--- what giving a side back leaves
+-- the result of unlocking a side
 record Freed (side : Side) (lock : Lock) (left : LockOutcome) : Type 0 where
   was : of_side side lock.locked ≡ true
   lock_is : left.lock ≡ freed_at side lock
@@ -101,11 +101,11 @@ decref_keeps lock = ComesTo-then (ComesTo-any (refused_if (lock.references == 0)
 
 -- ---- what a step does to a side
 
--- whether the side is locked, as a view of a socket
+-- true if the side is locked, as a view of a socket
 abbrev locked_in : Side → Option Socket → Bool
 locked_in side o = option_map_or (λ (socket : Socket). of_side side socket.lock.locked) o false
 
--- the side is as it was, or the step locked it, or it freed it
+-- the side is unchanged, or the step locked it, or the step unlocked it
 data Turn (w : World) (s : ℕ) (side : Side) (step : Step) (left : Answer × World) : Type 0 where
   Kept : is_locked left.1 s side ≡ is_locked w s side → Turn w s side step left
   Locked : (g : ℕ) → step ≡ Step.RwLock g s side → left.0 ≡ answers.Yes → is_locked w s side ≡ false → is_locked left.1 s side ≡ true → Turn w s side step left
@@ -127,7 +127,7 @@ module _ (w : World) (g k : ℕ) (socket : Socket) (lock : Lock) (status : Statu
   now_locked : (side : Side) → is_locked left_world k side ≡ of_side side lock.locked
   now_locked side = ap (locked_in side) socket_here
 
-  -- a side of some socket that the new lock has as the old one
+  -- a side that the new lock has unchanged is unchanged in the world
   unseen : (s : ℕ) (side : Side) → of_side side lock.locked ≡ of_side side socket.lock.locked → is_locked left_world s side ≡ is_locked w s side
   unseen s side same = slice_get-set_unseen (locked_in side) w.sockets k socket (record socket { lock = lock }) s at same
 
@@ -145,7 +145,7 @@ module _ (w : World) (g k : ℕ) (socket : Socket) (lock : Lock) (status : Statu
         | inr other ↦ inr other.0
       ]
 
--- after a try of a side
+-- the sides after an attempt to lock one
 tried_turn : (w : World) (g k s : ℕ) (at_side side : Side) (socket : Socket) (status : Status) (left : LockOutcome) (at : slice_get w.sockets k ≡ Some socket)
     → Tried at_side socket.lock left → Turn w s side (Step.RwLock g k at_side) (left.answer, left_world w g k socket left.lock status at)
 tried_turn w g k s at_side side socket status left at (Refused answer lock closed) = Kept (unseen w g k socket left.lock status at s side (ap (λ (x : Lock). of_side side x.locked) lock))
@@ -259,7 +259,7 @@ unchanged w s side step cannot = record {
   value = λ left is. Kept (same_locks side (slice_get left.1.sockets s) (slice_get w.sockets s) (step_keeps_cell w step left.0 left.1 (Cell.Lock s) is cannot));
 }
 
--- every kind
+-- the law for every kind of step
 turns : (w : World) (s : ℕ) (side : Side) (step : Step) → Turns w s side step (outcome w step)
 turns w s side (Step.SockOpen rc wc) = sockopen_turns w rc wc s side
 turns w s side (Step.Incref g k) = incref_turns w g k s side
@@ -313,7 +313,7 @@ just_an_unlock_frees w step s side answer next is before after = by ((turns w s 
 
 -- ---- a try
 
--- what an rwlock comes to
+-- the result of an rwlock
 record Lock-left (w : World) (g s : ℕ) (side : Side) (left : Answer × World) : Type 0 where
   socket : Socket
   at : slice_get w.sockets s ≡ Some socket
@@ -389,7 +389,7 @@ waits_at_a_locked_side w g s side socket next there is =
 
 -- ---- giving back
 
--- what an rwunlock comes to
+-- the result of an rwunlock
 record Unlock-left (w : World) (g s : ℕ) (side : Side) (left : Answer × World) : Type 0 where
   socket : Socket
   at : slice_get w.sockets s ≡ Some socket
@@ -432,11 +432,11 @@ unlock_owes_a_waiter w g s side socket answer next there is =
 
 -- ---- runs
 
--- among these steps, from a world on, is an rwunlock of the side that applies
+-- these steps, from a world on, include an rwunlock of the side that applies
 abbrev GivenBack : World → ℕ → Side → List Step → Type 0
 GivenBack w s side steps = (n k : ℕ) × (slice_get steps n ≡ Some (Step.RwUnlock k s side)) × IsOk (outcome (world_after w (take n steps)) (Step.RwUnlock k s side))
 
--- the same, one step earlier
+-- the same after one more step at the beginning
 given_back_later : (w : World) (s : ℕ) (side : Side) (step : Step) (steps : List Step) → GivenBack (next_of w (outcome w step)) s side steps → GivenBack w s side (step ∷ steps)
 given_back_later w s side step steps rest = (suc rest.0, rest.1, rest.2, rest.3)
 

@@ -1,4 +1,4 @@
--- The list of lost wake-ups: how it grows, and that it has just those that there are.
+-- The list of lost wake-ups: how it grows, and that it is exact.
 use Rattle.std.proofs.Common.{◌≡◌, inl, inr, ℕ, zero, suc, ◌+◌, ◌<◌, Bool, true, false, List, [], ◌∷◌, ◌++◌, Option, Some, None, refl, ap, subst, sym, ◌∙◌, add-one, arith}
 use Rattle.std.specs.Prelude.{Contains, ◌==◌, option_map, slice_get}
 use Rattle.std.proofs.lemmas.Bool.{eqb-false, eqb-true}
@@ -27,7 +27,7 @@ use Rattle.nr_suspects.proofs.DebtLemmas.{debt_is_owed, debt_of, owed_is_kept, p
 
 -- ---- listing
 
--- the list with those of one descriptor more, of which this is kept
+-- the list extended by the lost wake-ups of the next descriptor
 pub next_listed : (n : ℕ) (w : World) (kept : ℕ → Option Account) (d : ℕ) (a : Option Account) (before between after : List LostWakeUp) → a ≡ kept d → before ≡ lost_below n w kept d
     → between ≡ before ++ lost_at n w d a Read → after ≡ between ++ lost_at n w d a Write → after ≡ lost_below n w kept (d + 1)
 next_listed n w kept d a before between after same is read write =
@@ -45,7 +45,7 @@ here x = Contains-push [] x
 pub nowhere : {X : Type 0} (y : X) → Contains [] y → ⊥
 nowhere y at = omega (arith, at.1)
 
--- this one is of a side whose word holds its goroutine, and to which this is owed
+-- the entry is of a side whose word holds its goroutine, and that has this debt
 pub record IsOf (n d : ℕ) (side : Side) (word : CellValue) (debt : Option Debt) (lost : LostWakeUp) : Type 0 where
   pub held : word ≡ CellValue.WaitWord (Held lost.goroutine)
   pub owed : (b : Debt) × (debt ≡ Some b) × (lost.event ≡ b.event) × (lost.taken ≡ b.taken)
@@ -72,7 +72,7 @@ from_word n d side (CellValue.Time x) debt lost at = absurd (nowhere lost at)
 from_word n d side (CellValue.Status x) debt lost at = absurd (nowhere lost at)
 
 module _ (n : ℕ) (w : World) (kept : ℕ → Option Account) where
-  -- a lost wake-up of a side is one of the side that it names
+  -- the lost wake-up of a side names that side
   at_own : (d : ℕ) (side : Side) (lost : LostWakeUp) → Contains (lost_at n w d (kept d) side) lost → Contains (lost_at n w lost.descriptor (kept lost.descriptor) lost.side) lost
   at_own d side lost at =
       let is = from_word n d side (cell w (word_cell d side)) (debt_of side (kept d)) lost at in
@@ -107,7 +107,7 @@ module _ (n : ℕ) (w : World) (kept : ℕ → Option Account) where
   to_all (suc k) d side lost below at =
       to_next k d side lost (d == k) refl (λ e. let apart = eqb-false d k e in to_all k d side lost (omega (arith, below, apart)) at) at
 
--- a word holds just a goroutine that is parked there
+-- a word holds only a goroutine that is parked at its side
 pub held_word : (o : Option DescriptorRow) (side : Side) (g : ℕ) → value_or_absent (λ (row : DescriptorRow). CellValue.WaitWord (of_side side row.descriptor.words)) o ≡ CellValue.WaitWord (Held g)
     → option_map (λ (row : DescriptorRow). of_side side row.descriptor.words) o ≡ Some (Held g)
 held_word None side g e = cc
@@ -121,14 +121,14 @@ pub word_held : (o : Option DescriptorRow) (side : Side) (g : ℕ) → option_ma
 word_held None side g e = cc
 word_held (Some row) side g e = ap CellValue.WaitWord (same_Some _ _ e)
 
--- a listed one is of the side that it names
+-- each listed lost wake-up is of the side that it names
 pub listed_word : (r : Recording) (n : ℕ) (lost : LostWakeUp) → Contains (lost_wake_ups r n) lost
     → IsOf n lost.descriptor lost.side (cell (world_at r n) (word_cell lost.descriptor lost.side)) (debt r lost.descriptor lost.side n) lost
 listed_word r n lost at =
     let d = lost.descriptor in
     from_word n d lost.side (cell (world_at r n) (word_cell d lost.side)) (debt r d lost.side n) lost (from_all n (world_at r n) (λ e. account r e n) r.limits.descriptors lost at)
 
--- a listed one is lost
+-- each listed lost wake-up is one
 pub listed_is_lost : (r : Recording) (n : ℕ) (lost : LostWakeUp) → WellFormed (world_at r n) → Contains (lost_wake_ups r n) lost
     → (has : HasLost r n lost.goroutine lost.descriptor lost.side) × (lost.position ≡ n) × (lost.event ≡ has.owed.event + 1)
 listed_is_lost r n lost fits at =
@@ -140,7 +140,7 @@ listed_is_lost r n lost fits at =
     let word : HasWaitWord w.descriptors d side (Held lost.goroutine) = held_word (slice_get w.descriptors d) side lost.goroutine (sym (word_of_cell w d side) ∙ is.held) in
     (record { parked = (fits.words.held lost.goroutine d side).0 word; owed = owed.0 }, is.position, is.owed.2 ∙ owed.1)
 
--- a lost one is listed
+-- each lost wake-up is listed
 pub lost_is_listed : (r : Recording) (n g d : ℕ) (side : Side) → WellFormed (world_at r n) → d < r.limits.descriptors → HasLost r n g d side
     → (lost : LostWakeUp) × Contains (lost_wake_ups r n) lost × (lost.goroutine ≡ g) × (lost.descriptor ≡ d) × (lost.side ≡ side)
 lost_is_listed r n g d side fits below has =
@@ -151,7 +151,7 @@ lost_is_listed r n g d side fits below has =
     let listed : lost_at n w d (account r d n) side ≡ lost ∷ [] = ap (λ x. lost_by n d side x (debt r d side n)) word ∙ ap (lost_by n d side (CellValue.WaitWord (Held g))) b.1 in
     (lost, to_all n w (λ e. account r e n) r.limits.descriptors d side lost below (subst (λ xs. Contains xs lost) (sym listed) (here lost)), refl, refl, refl)
 
--- where none is listed, a goroutine that is parked sleeps behind a payment of each event
+-- if none is listed, each event for the side of a parked goroutine was paid
 pub paid_if_none : (r : Recording) (n g d : ℕ) (side : Side) (event : ℕ) → WellFormed (world_at r n) → d < r.limits.descriptors → lost_wake_ups r n ≡ []
     → HasView parked_of (world_at r n).goroutines g (d, side) → event < n → IsEvent r d side event
     → (k : ℕ) × (event < k) × (k < n) × IsPayment r d side k

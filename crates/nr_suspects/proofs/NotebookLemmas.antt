@@ -1,4 +1,4 @@
--- The notebook has what is kept at each position of a recording.
+-- The notebook is correct at each position of a recording.
 use Rattle.std.proofs.Common.{◌≡◌, ℕ, zero, suc, ◌+◌, ◌-◌, ◌^◌, ◌<◌, ◌≤◌, ◌&&◌, Bool, true, false, List, [], ◌++◌, length, replicate, Option, Some, None, Ok, refl, sym, ap, subst, ◌∙◌, arith, add-one}
 use Rattle.std.specs.Prelude.{◌==◌, if◌then◌else◌, nat_lt, option_and_then, option_map, slice_get}
 use Rattle.std.specs.Option.{option_map_or}
@@ -37,7 +37,7 @@ use Rattle.nr_suspects.proofs.SleeperLemmas.{kept_shows, sleepers_same}
 use Rattle.nr_suspects.specs.Suspects.{AreFound, AreNotes, Notes, found_lines, suspect_lines}
 use Rattle.nr_suspects.specs.declared.suspects.Suspects.{Suspects}
 
--- what the step after a position did
+-- the notice of the step after a position
 pub notice_here : (r : Recording) (n : ℕ) (step : Step) (answer : Answer) (next : World) → slice_get r.steps n ≡ Some step → outcome (world_at r n) step ≡ Ok (answer, next)
     → notice_at r n ≡ notice (world_at r n) step answer next
 notice_here r n step answer next read applies =
@@ -82,7 +82,7 @@ notes_first r notes accounts peers rows deadlines =
 
 -- ---- one step more
 
--- what is kept at the places is what the recording has within its limits
+-- the accounts are those of the recording, within its limits
 kept_within : (r : Recording) (n d : ℕ) (accounts : List (Option Account)) → AreAccounts r n accounts → kept_of accounts d ≡ account_within r n d
 kept_within r n d accounts are = by (nat_lt d r.limits.descriptors) refl (slice_get accounts d) refl
   where
@@ -215,7 +215,7 @@ held_same n w f g goroutines (suc k) same =
     ap (λ xs. xs ++ (if is_unfreed w k then held_of_goroutines n w k (f k) goroutines else [])) (held_same n w f g goroutines k (λ s x below within. same s x (omega (arith, below)) within))
     ∙ ap (λ ys. held_of_sockets n w g goroutines k ++ (if is_unfreed w k then ys else [])) (held_below_same n w k (f k) (g k) goroutines (λ x within. same k x (omega arith) within))
 
--- what is kept of the sockets' other ends is what the machine has of them
+-- the other ends in the notebook are the machine's
 peers_are : (r : Recording) (n : ℕ) (peers : List (Option Peer)) → WellFormed (world_at r n) → ArePeers r n peers → (s : ℕ) → peer_in peers s ≡ option_map peer_of (slice_get (world_at r n).sockets s)
 peers_are r n peers fits are s = by (nat_lt s r.limits.sockets) refl (slice_get peers s) (slice_get (world_at r n).sockets s) refl refl
   where
@@ -233,7 +233,7 @@ peers_are r n peers fits are s = by (nat_lt s r.limits.sockets) refl (slice_get 
         let places = are.places in
         absurd (not_below s r.limits.sockets above (omega (arith, within, places)))
 
--- the goroutines that sleep on are those that the notes show
+-- the sleepers in the notebook are the recording's
 asleep_are : (r : Recording) (n : ℕ) (notes : Notes) → WellFormed (world_at r n) → AreNotes r n notes
     → sleepers_below n (world_at r n) (reason_kept (world_at r n) (kept_of notes.accounts) (peer_in notes.peers)) r.limits.descriptors ≡ sleepers r n
 asleep_are r n notes fits are =
@@ -242,7 +242,7 @@ asleep_are r n notes fits are =
     kept_shows w (kept_of notes.accounts) (peer_in notes.peers) d side (peers_are r n notes.peers fits are.peers)
     (ap (λ o. option_map (λ (y : Account). y.socket) (option_and_then (λ a. a) o)) (are.accounts.each d below) ∙ socket_is r d n)
 
--- what is found with the notes of a recording is what the recording has
+-- the suspects found with the notebook are the recording's
 pub found_are : (r : Recording) (w : World) (notes : Notes) (found : Suspects) → AreNotes r (length r.steps) notes → w ≡ world_at r (length r.steps) → WellFormed w
     → AreFound (length r.steps) w r.limits notes found → found_lines found ≡ suspect_lines r
 found_are r w notes found are there fits is =

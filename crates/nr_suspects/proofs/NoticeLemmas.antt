@@ -1,4 +1,4 @@
--- What a step does, by what is noticed of it.
+-- The effect of a step, from its notice.
 use Rattle.std.proofs.Common.{◌≡◌, ℕ, zero, suc, Bool, true, false, List, [], ◌∷◌, take, ◌⊎◌, inl, inr, Option, Some, None, Ok, Err, refl, sym, ap, ◌∙◌, arith}
 use Rattle.std.specs.Prelude.{if◌then◌else◌, slice_get, ℤ}
 use Rattle.std.specs.Option.{option_map_or}
@@ -17,7 +17,7 @@ use Rattle.nr_suspects.specs.Notices.{checking, fired_descriptor, if_answered, n
 
 -- ---- positions
 
--- the world after one step more, if there is one
+-- the world after one more step, if there is one
 abbrev made_by : Option Step → World → World
 made_by None w = w
 made_by (Some step) w = next_of w (outcome w step)
@@ -28,7 +28,8 @@ after_next [] w (suc n) = refl
 after_next (step ∷ steps) w zero = refl
 after_next (step ∷ steps) w (suc n) = after_next steps (next_of w (outcome w step)) n
 
--- The step after a position leads to the next one, and this is noticed of it; or the world stays, and nothing is noticed.
+-- The step after a position leads to the next one with this notice; or the world is unchanged, and
+-- there is no notice.
 pub data Moves (r : Recording) (n : ℕ) : Type 0 where
   Made : (step : Step) (answer : Answer) (next : World) → slice_get r.steps n ≡ Some step → outcome (world_at r n) step ≡ Ok (answer, next) → world_at r (suc n) ≡ next → notice_at r n ≡ notice (world_at r n) step answer next → Moves r n
   Stays : world_at r (suc n) ≡ world_at r n → notice_at r n ≡ notices.Nothing → Moves r n
@@ -98,7 +99,7 @@ socket_cases capacity answers.Pipe = inr refl
 
 -- ---- notices by step
 
--- nothing of what opens a descriptor, comes for it, sets its deadlines, or visits it
+-- true if a notice neither opens a descriptor nor is an event, sets deadlines or visits a side
 abbrev pub is_quiet : Notice → Bool
 is_quiet (notices.Tried s side) = true
 is_quiet (notices.TookReference g s) = true
@@ -108,7 +109,7 @@ is_quiet (notices.PeerClosed s) = true
 is_quiet notices.Nothing = true
 is_quiet x = false
 
--- What is noticed of a step that was made.
+-- The notice of a step that applied.
 pub data Noticed (w : World) (step : Step) (answer : Answer) (next : World) : Type 0 where
   OfOpening : (g s d : ℕ) → step ≡ Step.PollOpen g s → answer ≡ answers.Number d → notice w step answer next ≡ notices.Opened d s → Noticed w step answer next
   OfEvent : (d tag : ℕ) (mode : Mode) (error : Bool) → step ≡ Step.PollEvent d tag mode error → answer ≡ answers.Done → notice w step answer next ≡ notices.Event d mode → Noticed w step answer next
@@ -185,7 +186,7 @@ module _ (w : World) (answer : Answer) (next : World) where
 
 -- ---- checks
 
--- a check is noticed with its code, and of any other answer nothing is
+-- a check's notice has its code; any other answer has no notice
 pub checking_cases : (v : Visit) (answer : Answer) → ((code : ℕ) × (answer ≡ answers.Code code) × (checking v answer ≡ notices.Checked v code)) ⊎ (checking v answer ≡ notices.Nothing)
 checking_cases v (answers.Number x) = inr refl
 checking_cases v (answers.Code x) = inl (x, refl, refl)
@@ -202,7 +203,7 @@ checking_cases v answers.Again = inr refl
 checking_cases v answers.Stale = inr refl
 checking_cases v answers.Pipe = inr refl
 
--- a check is no event
+-- a check isn't an event
 pub checking_is_no_event : (v : Visit) (answer : Answer) (d : ℕ) (mode : Mode) → checking v answer ≡ notices.Event d mode → ⊥
 checking_is_no_event v answer d mode is = elim (checking_cases v answer) [
   | inl code ↦ checked (sym code.2 ∙ is)

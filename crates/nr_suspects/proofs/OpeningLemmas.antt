@@ -1,4 +1,4 @@
--- The socket that a descriptor was last opened for is the one that the machine has in its row.
+-- The socket for which a descriptor was last opened is the one in its row.
 use Rattle.std.proofs.Common.{◌≡◌, ◌≢◌, ℕ, zero, suc, ◌*◌, ◌&&◌, ◌||◌, not, Bool, true, false, length, List, [], ◌∷◌, Option, Some, None, inl, inr, refl, sym, ap, subst, ◌∙◌, true≢false}
 use Rattle.std.specs.Prelude.{if◌then◌else◌, ◌==◌, int_le, int_lt, nat_le, nat_lt, option_map, remove, slice_get, slice_set, ℤ}
 use Rattle.std.proofs.lemmas.Bool.{eqb-false, eqb-true}
@@ -77,7 +77,7 @@ by_descriptors : (w : World) (o : Outcome) → ComesTo (KeepsDescriptors w) o �
 by_descriptors w o kept =
     record { value = λ left is d. ap (λ (xs : List DescriptorRow). option_map (λ (row : DescriptorRow). row.descriptor.socket) (slice_get xs d)) (kept.value left is) }
 
--- a row whose socket stays
+-- changing a row without its socket changes no descriptor's socket
 row_set : (w : World) (e : ℕ) (old new : DescriptorRow) → slice_get w.descriptors e ≡ Some old → new.descriptor.socket ≡ old.descriptor.socket → (d : ℕ)
     → option_map (λ (row : DescriptorRow). row.descriptor.socket) (slice_get (slice_set w.descriptors e new) d) ≡ row_socket w d
 row_set w e old new at same d = slice_get-set_unseen (option_map (λ (row : DescriptorRow). row.descriptor.socket)) w.descriptors e old new d at (ap Some same)
@@ -262,12 +262,12 @@ closewrite_rows w g k = by_descriptors w (outcome w (Step.CloseWrite g k)) (Come
 
 -- ---- what is noticed of them
 
--- no descriptor was opened
+-- true if the notice opens no descriptor
 abbrev opens_none : Notice → Bool
 opens_none (notices.Opened d s) = false
 opens_none x = true
 
--- the socket that descriptor d was last opened for, after a notice
+-- the socket for which descriptor d was last opened, after a notice
 abbrev socket_after : ℕ → Notice → Option ℕ → Option ℕ
 socket_after d (notices.Opened e s) o = if d == e then Some s else o
 socket_after d x o = o
@@ -316,7 +316,7 @@ ran w next (Some d) = refl
 
 -- ---- every kind
 
--- after a step the socket of descriptor d is what its notice says
+-- after a step the socket of descriptor d is the one that the notice gives
 abbrev Follows : World → ℕ → Step → Outcome → Type 0
 Follows w d step o = ComesTo (λ (left : Answer × World). row_socket left.1 d ≡ socket_after d (notice w step left.0 left.1) (row_socket w d)) o
 
@@ -325,7 +325,7 @@ stays w step d kept none = record {
   value = λ left is. kept.value left is d ∙ sym (none_stays d (notice w step left.0 left.1) (row_socket w d) (none left.0 left.1));
 }
 
--- a place that was taken has a row, and the others are as they were
+-- a place that was taken has a row, and the other rows are unchanged
 record IsTaken (w : World) (place : ℕ × World) : Type 0 where
   others : (d : ℕ) → d ≢ place.0 → row_socket place.1 d ≡ row_socket w d
 
@@ -338,7 +338,7 @@ taken_place [] w =
       others = λ d apart. push_seen (λ (row : DescriptorRow). row.descriptor.socket) w.descriptors new_row d false (number_apart d (length w.descriptors) apart);
     })
 
--- a descriptor as it is opened
+-- an opened descriptor has this socket
 opened_socket_is : (s : ℕ) (x : Descriptor) → ComesTo (λ (y : Descriptor). y.socket ≡ s) (opened_for s x)
 opened_socket_is s x = ComesTo-bind (ComesTo-any (both_raised x.sequences)) λ sequences _. ComesTo-ok refl
 
@@ -363,7 +363,7 @@ pollopen_follows w g s d =
     ComesTo-bind (opened_socket_is s row.descriptor) λ descriptor is.
     ComesTo-ok (opens w place.1 place.0 d s row (record row { descriptor = descriptor }) at is was (d == place.0) refl)
 
--- every kind
+-- the law for every kind of step
 follows : (w : World) (step : Step) (d : ℕ) → Follows w d step (outcome w step)
 follows w Step.Spawn d = stays w Step.Spawn d (spawn_rows w) (λ a m. refl)
 follows w (Step.Exit g) d = stays w (Step.Exit g) d (exit_rows w g) (λ a m. refl)
@@ -425,7 +425,7 @@ kept_socket n d (notices.SocketOpened s capacity) a = mapped a (noted n d (notic
 kept_socket n d (notices.PeerClosed s) a = mapped a (noted n d (notices.PeerClosed s)) (λ y. refl)
 kept_socket n d notices.Nothing a = mapped a (noted n d notices.Nothing) (λ y. refl)
 
--- the socket that a descriptor was last opened for is the one in its row
+-- the socket for which a descriptor was last opened is the one in its row
 pub socket_is : (r : Recording) (d n : ℕ) → socket_at r d n ≡ option_map (λ (row : DescriptorRow). row.descriptor.socket) (slice_get (world_at r n).descriptors d)
 socket_is r d zero = refl
 socket_is r d (suc n) = go (moves r n) (socket_is r d n)

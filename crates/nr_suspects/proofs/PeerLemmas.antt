@@ -1,4 +1,4 @@
--- What is kept of a socket's other end is what the machine has of it.
+-- The other ends in the notebook are the machine's.
 use Rattle.std.proofs.Common.{◌≡◌, ℕ, zero, suc, ◌*◌, ◌&&◌, ◌||◌, not, Bool, true, false, length, List, [], ◌∷◌, Option, Some, None, inl, inr, refl, sym, ap, ◌∙◌, true≢false}
 use Rattle.std.specs.Prelude.{if◌then◌else◌, ◌==◌, int_le, int_lt, nat_le, nat_lt, option_map, remove, slice_get, slice_set, ℤ}
 use Rattle.std.proofs.lemmas.Bool.{eqb-false, eqb-true}
@@ -81,7 +81,7 @@ fired_sockets d row (Some change) w = ComesTo-bind (changed_sockets d row change
 
 -- ---- steps that leave the other ends alone
 
--- the other end of socket s
+-- the other end of socket s in the machine
 abbrev pub seen_peer : World → ℕ → Option Peer
 seen_peer w s = option_map peer_of (slice_get w.sockets s)
 
@@ -91,7 +91,7 @@ KeepsPeers w left = (s : ℕ) → seen_peer left.1 s ≡ seen_peer w s
 by_sockets : (w : World) (o : Outcome) → ComesTo (KeepsSockets w) o → ComesTo (KeepsPeers w) o
 by_sockets w o kept = record { value = λ left is s. ap (λ (xs : List Socket). option_map peer_of (slice_get xs s)) (kept.value left is) }
 
--- a socket whose other end stays
+-- changing a socket without its other end changes no other end
 peers_set : (w : World) (k : ℕ) (old new : Socket) → slice_get w.sockets k ≡ Some old → peer_of new ≡ peer_of old → (s : ℕ) → option_map peer_of (slice_get (slice_set w.sockets k new) s) ≡ seen_peer w s
 peers_set w k old new at same s = slice_get-set_unseen (option_map peer_of) w.sockets k old new s at (ap Some same)
 
@@ -188,7 +188,7 @@ closewrite_peers w g k = ComesTo-then (ComesTo-any (idle g w)) λ _. ComesTo-bin
 
 -- ---- what is noticed of them
 
--- it is of no socket's other end
+-- true if the notice concerns no socket's other end
 abbrev is_peerless : Notice → Bool
 is_peerless (notices.SocketOpened s capacity) = false
 is_peerless (notices.PeerClosed s) = false
@@ -238,7 +238,7 @@ ran w next (Some d) = refl
 
 -- ---- every kind
 
--- after a step the other end of socket s is what its notice says
+-- after a step the other end of socket s is the one that the notice gives
 abbrev Follows : World → ℕ → Step → Outcome → Type 0
 Follows w s step o = ComesTo (λ (left : Answer × World). seen_peer left.1 s ≡ peer_after s (notice w step left.0 left.1) (seen_peer w s)) o
 
@@ -254,7 +254,7 @@ sockopen_follows w rc wc s =
     ComesTo-then (ComesTo-any (sized wc w)) λ _.
     ComesTo-ok (push_seen peer_of w.sockets (new_socket rc wc) s (s == length w.sockets) refl)
 
--- socket k's peer has closed
+-- the step that closes socket k's peer
 closes : (w : World) (k s : ℕ) (socket : Socket) → slice_get w.sockets k ≡ Some socket → (b : Bool) → (s == k) ≡ b
     → option_map peer_of (slice_get (slice_set w.sockets k (record socket { peer_closed = true })) s) ≡ (if b then option_map closed_peer (seen_peer w s) else seen_peer w s)
 closes w k s socket at true e =
@@ -275,7 +275,7 @@ peerclose_follows w k s =
     ComesTo-then (ComesTo-any (refused_if socket.peer_closed _)) λ _.
     ComesTo-ok (closes w k s socket there (s == k) refl)
 
--- every kind
+-- the law for every kind of step
 follows : (w : World) (step : Step) (s : ℕ) → Follows w s step (outcome w step)
 follows w Step.Spawn s = stays w Step.Spawn s (spawn_peers w) (λ a m. refl)
 follows w (Step.Exit g) s = stays w (Step.Exit g) s (exit_peers w g) (λ a m. refl)
@@ -309,7 +309,7 @@ follows w Step.Pop s = stays w Step.Pop s (pop_peers w) (λ a m. refl)
 follows w (Step.Fire i) s = stays w (Step.Fire i) s (fire_peers w i) (λ a m. ran w m (fired_descriptor w (Step.Fire i)))
 follows w (Step.CloseWrite g k) s = stays w (Step.CloseWrite g k) s (closewrite_peers w g k) (λ a m. refl)
 
--- what is kept of a socket's other end is what the machine has of it
+-- a socket's other end in the notebook is the machine's
 pub peer_is : (r : Recording) (s n : ℕ) → peer r s n ≡ option_map peer_of (slice_get (world_at r n).sockets s)
 peer_is r s zero = refl
 peer_is r s (suc n) = go (moves r n) (peer_is r s n)

@@ -1,4 +1,4 @@
--- Of each descriptor that was made something is kept, so an event finds it.
+-- Each descriptor that was made has an account, so an event finds one.
 use Rattle.std.proofs.Common.{◌≡◌, ℕ, zero, suc, Bool, true, false, List, [], ◌∷◌, length, ◌⊎◌, inl, inr, Option, Some, None, Ok, refl, sym, ap, subst, ◌∙◌, true≢false}
 use Rattle.std.specs.Prelude.{◌==◌, ◌||◌, if◌then◌else◌, nat_lt, slice_get, option_map}
 use Rattle.std.proofs.lemmas.Bool.{eqb-false}
@@ -33,15 +33,15 @@ use Rattle.nr_suspects.proofs.NoticeLemmas.{Moves, Made, Stays, Noticed, OfOpeni
 
 -- ---- steps
 
--- descriptor d was made
+-- descriptor d exists
 abbrev pub IsMade : World → ℕ → Type 0
 IsMade w d = (row : DescriptorRow) × (slice_get w.descriptors d ≡ Some row)
 
--- a descriptor that is made after a step was made before, or the step opened it
+-- a descriptor that exists after a step existed before, or the step opened it
 abbrev WasMade : World → Step → ℕ → Answer × World → Type 0
 WasMade w step d left = IsMade left.1 d → IsMade w d ⊎ ((g s : ℕ) × (step ≡ Step.PollOpen g s) × (left.0 ≡ answers.Number d))
 
--- a descriptor whose row is new was made before
+-- changing a row makes no new descriptor
 row_was_made : (w : World) (e d : ℕ) (row new : DescriptorRow) → slice_get w.descriptors e ≡ Some row → IsMade (with_row e new w) d → IsMade w d
 row_was_made w e d row new at made =
     elim (slice_get-set_cases w.descriptors e row new d at) [
@@ -81,7 +81,7 @@ pollclose_made w g e d =
     ComesTo-bind (ComesTo-any (closed row.descriptor)) λ descriptor _.
     ComesTo-ok (λ made. inl (row_was_made w e d row (record row { descriptor = descriptor }) at made))
 
--- a descriptor of a cell that shows what it showed was made before
+-- a descriptor whose cell is unchanged existed before
 same_is_made : (a b : Option DescriptorRow) → value_or_absent (λ (row : DescriptorRow). CellValue.Number row.descriptor.fdseq) a ≡ value_or_absent (λ (row : DescriptorRow). CellValue.Number row.descriptor.fdseq) b
     → (row : DescriptorRow) × (a ≡ Some row) → (row : DescriptorRow) × (b ≡ Some row)
 same_is_made a (Some row) e made = (row, refl)
@@ -96,7 +96,7 @@ unchanged w step d cannot = record {
   value = λ left is made. inl (same_is_made (slice_get left.1.descriptors d) (slice_get w.descriptors d) (step_keeps_cell w step left.0 left.1 (Cell.DescriptorSequence d) is cannot) made);
 }
 
--- every kind
+-- the law for every kind of step
 was_made : (w : World) (step : Step) (d : ℕ) → ComesTo (WasMade w step d) (outcome w step)
 was_made w Step.Spawn d = unchanged w Step.Spawn d refl
 was_made w (Step.Exit g) d = unchanged w (Step.Exit g) d refl
@@ -132,11 +132,11 @@ was_made w (Step.CloseWrite g k) d = unchanged w (Step.CloseWrite g k) d refl
 
 -- ---- what is kept
 
--- something is kept
+-- the account exists
 abbrev pub IsKept : Option Account → Type 0
 IsKept a = (x : Account) × (a ≡ Some x)
 
--- what is kept stays, whatever is noticed
+-- an account persists after any notice
 pub kept_on : (n d : ℕ) (x : Notice) (a : Option Account) → IsKept a → IsKept (account_after n d x a)
 kept_on n d (notices.Opened e s) a kept = by_opening (d == e)
   where
@@ -155,7 +155,7 @@ kept_on n d (notices.SocketOpened sock room) a kept = (kept.0, ap (option_map (n
 kept_on n d (notices.PeerClosed sock) a kept = (kept.0, ap (option_map (noted n d (notices.PeerClosed sock))) kept.1)
 kept_on n d notices.Nothing a kept = (kept.0, ap (option_map (noted n d notices.Nothing)) kept.1)
 
--- what was just opened is kept
+-- a descriptor that was just opened has an account
 pub opened_is_kept : (n d s : ℕ) (a : Option Account) → IsKept (account_after n d (notices.Opened d s) a)
 opened_is_kept n d s a = by (d == d) refl
   where
@@ -163,7 +163,7 @@ opened_is_kept n d s a = by (d == d) refl
     by true e = (newly_opened s, refl)
     by false e = absurd (eqb-false d d e refl)
 
--- a descriptor that is made after a step was made before, or its opening is noticed
+-- a descriptor that exists after a step existed before, or the notice opened it
 opens : (w : World) (step : Step) (answer : Answer) (next : World) (d : ℕ) → outcome w step ≡ Ok (answer, next) → IsMade next d → IsMade w d ⊎ ((s : ℕ) × (notice w step answer next ≡ notices.Opened d s))
 opens w step answer next d is made = elim ((was_made w step d).value (answer, next) is made) [
   | inl before ↦ inl before
@@ -171,7 +171,7 @@ opens w step answer next d is made = elim ((was_made w step d).value (answer, ne
       inr (opening.1, ap (λ x. notice w x answer next) opening.2 ∙ ap (λ a. notice w (Step.PollOpen opening.0 opening.1) a next) opening.3)
 ]
 
--- of each descriptor that is made something is kept
+-- each descriptor that exists has an account
 pub made_is_kept : (r : Recording) (d n : ℕ) → IsMade (world_at r n) d → IsKept (account r d n)
 made_is_kept r d zero made = absurd (none-some _ made.1)
 made_is_kept r d (suc n) made = go (moves r n) (made_is_kept r d n)
@@ -187,14 +187,14 @@ made_is_kept r d (suc n) made = go (moves r n) (made_is_kept r d n)
 
 -- ---- events
 
--- an event that was done is of a descriptor that was made
+-- an event that was done belongs to a descriptor that exists
 event_made : (w : World) (d tag : ℕ) (mode : Mode) (error : Bool) → ComesTo (λ left. IsMade w d) (pollevent d tag mode error w)
 event_made w d tag mode error = ComesTo-bind (ComesTo-ends (Ends-row_of d w)) λ row at. record { value = λ left is. (row, at) }
 
 same_event : (d e : ℕ) (mode other : Mode) → notices.Event d mode ≡ notices.Event e other → (d ≡ e) × (mode ≡ other)
 same_event d e mode other is = (cc, cc)
 
--- The step of an event: it was done, and led to the next position.
+-- The step of an event: it was done and led to the next position.
 pub record EventStep (r : Recording) (d n : ℕ) (mode : Mode) : Type 0 where
   pub tag : ℕ
   pub error : Bool
@@ -248,7 +248,7 @@ event_step r d n mode event = go (moves r n)
     go (Stays same none) = not_quiet notices.Nothing (sym none ∙ event) refl
     go (Made step answer next read is leads noticed) = by step answer next is leads (sym noticed ∙ event) (noticed_of w answer next step)
 
--- an event comes to a descriptor of which something is kept
+-- an event's descriptor has an account
 pub event_is_kept : (r : Recording) (d n : ℕ) (mode : Mode) → notice_at r n ≡ notices.Event d mode → IsKept (account r d n)
 event_is_kept r d n mode event =
     let step = event_step r d n mode event in

@@ -1,4 +1,4 @@
--- Readiness is made by events, and taken by three kinds of steps alone.
+-- Only events make a side ready, and only three kinds of steps take readiness.
 use Rattle.std.proofs.Common.{◌≡◌, ℕ, length, Bool, true, false, not, ◌&&◌, ◌||◌, List, [], ◌∷◌, ◌++◌, ◌⊎◌, inl, inr, Option, Some, None, Ok, refl, sym, ap, subst, ◌∙◌, true≢false}
 use Rattle.std.specs.Prelude.{◌==◌, if◌then◌else◌, nat_lt, remove, slice_get, slice_set, option_map, ℤ, negsuc}
 use Rattle.std.specs.Ordering.{int_eq}
@@ -74,7 +74,7 @@ is_then_ready w d side ready = ap is_ready_word (word_of_cell w d side) ∙ go (
 
 -- ---- changes of a descriptor
 
--- each side that is ready stays so
+-- each side that is ready remains ready
 abbrev KeepsReady : Descriptor → Descriptor → Type 0
 KeepsReady old new = (side : Side) → of_side side old.words ≡ Ready → of_side side new.words ≡ Ready
 
@@ -112,7 +112,7 @@ evict_keeps d =
     let reading : Descriptor = (unblocked false Read stopped).descriptor in
     ComesTo-ok (λ side ready. unblocked_keeps false Write reading side (unblocked_keeps false Read stopped side ready))
 
--- a timer that follows the deadlines leaves words and deadlines
+-- a change of the timers that leaves words and deadlines unchanged
 abbrev pub FollowsQuietly : Descriptor → Change → Type 0
 FollowsQuietly d change = (change.descriptor.words ≡ d.words) × (change.descriptor.deadlines ≡ d.deadlines)
 
@@ -142,7 +142,7 @@ deadline_keeps clock mode t d =
 expire_keeps : (side : Side) (d : Descriptor) → KeepsReady d (expire side d).descriptor
 expire_keeps side d = unblocked_keeps false side (record d { deadlines = with_side side (negsuc 0) d.deadlines })
 
--- what a firing changes keeps a side ready
+-- a firing keeps each ready side ready
 abbrev FiringKeeps : Descriptor → Option Change → Type 0
 FiringKeeps d change = (x : Change) → change ≡ Some x → KeepsReady d x.descriptor
 
@@ -158,11 +158,11 @@ firing_keeps function sequence d =
 
 -- ---- rows
 
--- a side that is ready stays so
+-- a ready side of descriptor d remains ready
 abbrev StaysReady : List DescriptorRow → List DescriptorRow → ℕ → Side → Type 0
 StaysReady rows new d side = HasWaitWord rows d side Ready → HasWaitWord new d side Ready
 
--- the word of a row that is there
+-- the word of a side whose row is known
 row_word : (rows : List DescriptorRow) (d : ℕ) (side : Side) (row : DescriptorRow) (word : WaitWord) → slice_get rows d ≡ Some row → HasWaitWord rows d side word → of_side side row.descriptor.words ≡ word
 row_word rows d side row word at has = same_Some _ _ (sym (ap (option_map (λ (r : DescriptorRow). of_side side r.descriptor.words)) at) ∙ has)
 
@@ -175,7 +175,7 @@ row_stays rows e d side row new at kept ready =
       | inr other ↦ ap (option_map (λ (r : DescriptorRow). of_side side r.descriptor.words)) other.1 ∙ ready
     ]
 
--- waking goroutines leaves the descriptors
+-- waking goroutines leaves the descriptors unchanged
 woken_rows : (gs : List ℕ) (w : World) → (after_wakes gs w).descriptors ≡ w.descriptors
 woken_rows [] w = refl
 woken_rows (g ∷ gs) w = woken_rows gs _
@@ -198,7 +198,8 @@ change_stays e d side row change w at kept = record {
 
 -- ---- steps
 
--- what takes the readiness of a side of descriptor d by a step: the descriptor is opened anew, or a goroutine takes up its word
+-- a step takes the readiness of a side of descriptor d by reopening the descriptor or by consuming
+-- the word
 abbrev Opens : Step → Answer × World → ℕ → Type 0
 Opens step left d = (g s : ℕ) × (step ≡ Step.PollOpen g s) × (left.0 ≡ answers.Number d)
 
@@ -210,11 +211,11 @@ abbrev TakesUp : World → Step → Answer × World → ℕ → Side → Type 0
 TakesUp w step left d side =
     (v : Visit) × (notice w step left.0 left.1 ≡ visiting w left.1 left.0 (Some v)) × (v.descriptor ≡ d) × (v.side ≡ side) × IsTaker (kind_of step)
 
--- a side that is ready stays so, unless its readiness is taken
+-- a side that is ready remains ready, unless its readiness is taken
 abbrev KeepsOrTakes : World → Step → ℕ → Side → Answer × World → Type 0
 KeepsOrTakes w step d side left = IsReady w d side → IsReady left.1 d side ⊎ Opens step left d ⊎ TakesUp w step left d side
 
--- a side of a row with a new word stays ready, unless it is that word's
+-- changing one word of a row keeps every other side ready
 word_or_kept : (rows : List DescriptorRow) (e d : ℕ) (s side : Side) (row : DescriptorRow) (word : WaitWord) → slice_get rows e ≡ Some row → HasWaitWord rows d side Ready
     → HasWaitWord (slice_set rows e (record row { descriptor = with_wait_word s word row.descriptor })) d side Ready ⊎ ((e ≡ d) × (s ≡ side))
 word_or_kept rows e d s side row word at ready =
@@ -268,7 +269,7 @@ pollreset_takes w g e d s side =
     ]
     by_code row at false ready = inl ready
 
--- where a goroutine with this status is in a wait, as its cell shows it
+-- the place at which a goroutine with this status waits, from its cell
 pub visits : (w : World) (g d : ℕ) (side : Side) (status : Status) → slice_get w.goroutines g ≡ Some status → wait_place (CellValue.Status status) ≡ Some (d, side)
     → visit_at g (wait_place (cell w (Cell.Goroutine g))) ≡ Some (record { goroutine = g; descriptor = d; side = side })
 visits w g d side status at place = ap (λ o. visit_at g (wait_place (value_or_absent CellValue.Status o))) at ∙ ap (visit_at g) place
@@ -322,7 +323,7 @@ blockswap_takes w g d side =
     ComesTo-ok
     (swapped_takes w g place.0 d place.1 side (of_side place.1 row.descriptor.words) row at (visits w g place.0 place.1 status there (ap (λ x. wait_place (CellValue.Status x)) swaps)))
 
--- parking holds a word that waits, and leaves any other
+-- a commit replaces only a waiting word by the goroutine, and leaves other words unchanged
 committed_stays : (w : World) (g e d : ℕ) (s side : Side) (row : DescriptorRow) → slice_get w.descriptors e ≡ Some row → (word : WaitWord) → of_side s row.descriptor.words ≡ word
     → StaysReady w.descriptors (committed_by g e s word row w).1.descriptors d side
 committed_stays w g e d s side row at Wait is ready = elim (word_or_kept w.descriptors e d s side row (Held g) at ready) [
@@ -381,11 +382,11 @@ fire_stays w i d side =
     ComesTo-bind (firing_keeps entry.timer.function entry.timer.sequence row.descriptor) λ change kept.
     fired_stays entry.descriptor d side row change (record w { firings = remove w.firings i }) at kept
 
--- a step that keeps it
+-- a step that keeps sides ready satisfies the law
 keeps : (w : World) (step : Step) (d : ℕ) (side : Side) → ComesTo (λ left. StaysReady w.descriptors left.1.descriptors d side) (outcome w step) → ComesTo (KeepsOrTakes w step d side) (outcome w step)
 keeps w step d side stays = record { value = λ left is ready. inl (stays.value left is ready) }
 
--- a step that changes no word
+-- a step that changes no word satisfies the law
 unchanged : (w : World) (step : Step) (d : ℕ) (side : Side) → can_change (kind_of step) (word_cell d side) ≡ false → ComesTo (KeepsOrTakes w step d side) (outcome w step)
 unchanged w step d side cannot = record {
   value = λ left is ready. inl (ready_is left.1 d side (ap is_ready_word (step_keeps_cell w step left.0 left.1 (word_cell d side) is cannot) ∙ is_then_ready w d side ready));
@@ -400,7 +401,7 @@ untouched : (w : World) (step : Step) (d : ℕ) (side : Side) → can_change (ki
     → ComesTo (KeepsOrTakes w step d side) (outcome w step)
 untouched w step d side a b = unchanged w step d side (same_for step (word_cell d) side a b)
 
--- every kind
+-- the law for every kind of step
 keeps_or_takes : (w : World) (step : Step) (d : ℕ) (side : Side) → ComesTo (KeepsOrTakes w step d side) (outcome w step)
 keeps_or_takes w Step.Spawn d side = untouched w Step.Spawn d side refl refl
 keeps_or_takes w (Step.Exit g) d side = untouched w (Step.Exit g) d side refl refl
@@ -434,7 +435,7 @@ keeps_or_takes w Step.Pop d side = untouched w Step.Pop d side refl refl
 keeps_or_takes w (Step.Fire i) d side = keeps w (Step.Fire i) d side (fire_stays w i d side)
 keeps_or_takes w (Step.CloseWrite g k) d side = untouched w (Step.CloseWrite g k) d side refl refl
 
--- readiness is taken by three kinds of steps alone, or by another opening
+-- only three kinds of steps and another opening take readiness
 pub taken_by_three : (w next : World) (step : Step) (answer : Answer) (d : ℕ) (side : Side) → outcome w step ≡ Ok (answer, next) → is_ready w d side ≡ true → is_ready next d side ≡ false
     → IsTakenBy w step answer next d side
 taken_by_three w next step answer d side is before after =
@@ -471,7 +472,7 @@ unblock_readies (Held g) = refl
 unblocked_readies : (side : Side) (d : Descriptor) → of_side side (unblocked true side d).descriptor.words ≡ Ready
 unblocked_readies side d = of_side-with_side_same side (unblock (of_side side d.words) true).0 d.words ∙ unblock_readies (of_side side d.words)
 
--- a side that an event names is ready after it
+-- a side that an event names is ready afterwards
 event_readies : (mode : Mode) (error : Bool) (d : Descriptor) (side : Side) → names_side mode side ≡ true → of_side side (change_by_event mode error d).descriptor.words ≡ Ready
 event_readies mode error d side names = by side (names_side mode Read) (names_side mode Write) names refl refl
   where

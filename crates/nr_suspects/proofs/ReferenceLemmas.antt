@@ -1,4 +1,4 @@
--- A lock's count of references is what was taken less what was given back.
+-- A lock's reference count is the number of references taken minus the number returned.
 use Rattle.std.proofs.Common.{◌≡◌, ℕ, Bool, true, false, ◌+◌, ◌-◌, ◌/◌, ◌%◌, ◌^◌, ◌≤◌, List, [], ◌∷◌, length, refl, sym, ap, subst, ◌∙◌, inl, inr, arith, Option, Some, None, Result, Ok, Err, eq-eqb}
 use Rattle.std.specs.Prelude.{All, ◌==◌, ◌&&◌, ◌||◌, not, nat_lt, slice_get, if◌then◌else◌}
 use Rattle.std.specs.Option.{option_map_or}
@@ -40,7 +40,7 @@ use Rattle.nr_suspects.specs.References.{references_at, taken_by, takes, gives, 
 
 -- ---- a lock's operations
 
--- what is left of a lock has as many references as before, and those taken, less those given back
+-- the resulting lock has the references before, plus those taken, minus those returned
 abbrev LockCounts : ℕ → Lock → Result LockOutcome Refusal → Type 0
 LockCounts give lock o = ComesTo (λ (left : LockOutcome). left.lock.references + give ≡ lock.references + taken_by left.answer) o
 
@@ -64,7 +64,7 @@ rw_lock_counts side lock =
     (ComesTo-bind (ComesTo-any (raised_field (of_side side lock.waiters))) λ n _. ComesTo-ok refl)
     (ComesTo-bind (raised lock.references) λ n is. ComesTo-ok (omega (arith, is))))
 
--- an answer that takes nothing
+-- the answer of a return takes no reference
 last_takes : (lock : Lock) → taken_by (Lock.last_of lock) ≡ 0
 last_takes lock = by_last (lock.closed)
   where
@@ -78,7 +78,7 @@ last_takes lock = by_last (lock.closed)
 some_there : (n : ℕ) → (n == 0) ≡ false → n - 1 + 1 ≡ n
 some_there n e = let apart = eqb-false n 0 e in omega (arith, apart)
 
--- the last reference is given up only where none is left
+-- the answer `Last` means that no reference is left
 last_is_none : (lock : Lock) → Lock.last_of lock ≡ Answer.Last → lock.references ≡ 0
 last_is_none lock e = eqb-true lock.references 0 (both_true lock.closed (lock.references == 0) (is_last (lock.closed && (lock.references == 0)) e)).1
   where
@@ -86,7 +86,7 @@ last_is_none lock e = eqb-true lock.references 0 (both_true lock.closed (lock.re
     is_last true e = refl
     is_last false e = cc
 
--- one reference less is left, and none where the answer says that it was the last
+-- one reference less is left, and none if the answer is `Last`
 record Gives (lock : Lock) (left : LockOutcome) : Type 0 where
   one : left.lock.references + 1 ≡ lock.references
   none_taken : taken_by left.answer ≡ 0
@@ -224,7 +224,7 @@ unchanged w step s h timely cannot = record { value = each }
         let same = step_keeps_cell w step answer next (Cell.Lock s) is cannot in
         ap (λ n. n + 0) (same_count (slice_get next.sockets s) (slice_get w.sockets s) (λ x e. (fits.sockets s x e).lock) (λ x e. (h.sockets s x e).lock) same)
 
--- every kind
+-- the law for every kind of step
 pub counted : (w : World) (step : Step) (s : ℕ) → WellFormed w → IsTimely step → Counts w s step (outcome w step)
 counted w Step.Spawn s h t = unchanged w Step.Spawn s h t refl
 counted w (Step.Exit g) s h t = unchanged w (Step.Exit g) s h t refl

@@ -1,4 +1,4 @@
--- A write side that is shut stays so, and a write to it is answered `Pipe`.
+-- A write side that is shut remains shut, and a write to it is answered `Pipe`.
 use Rattle.std.proofs.Common.{◌≡◌, ◌≢◌, ◌⊎◌, inl, inr, ℕ, Bool, true, false, List, [], ◌∷◌, ◌++◌, length, set, Option, Some, None, Ok, Err, refl, sym, ap, ◌∙◌, zero, suc, arith}
 use Rattle.std.specs.Prelude.{◌↔◌, ◌==◌, if◌then◌else◌, min, nat_lt, slice_get, take}
 use Rattle.std.proofs.lemmas.List.{append-nil}
@@ -24,7 +24,7 @@ use Rattle.nr_laws.proofs.AspectLemmas.{ComesTo, ComesTo-ok, ComesTo-any, ComesT
 use Rattle.nr_laws.proofs.AspectStepLemmas.{step_keeps_cell}
 use Rattle.nr_laws.proofs.LookupLemmas.{Ends-socket_of}
 
--- what the cell of a write side shows of a socket
+-- the value of a write side's cell, from its socket
 abbrev mark_in : Option Socket → CellValue
 mark_in o = value_or_absent (λ (socket : Socket). Number (bit socket.shut)) o
 
@@ -65,7 +65,7 @@ write_pipes w g s bytes =
 pub pipe_just_if : (w : World) (g s : ℕ) (bytes : List ℕ) (answer : Answer) (next : World) → outcome w (Step.SysWrite g s bytes) ≡ Ok (answer, next) → (answer ≡ answers.Pipe) ↔ (cell w (Cell.Shut s) ≡ Number 1)
 pipe_just_if w g s bytes answer next is = (write_pipes w g s bytes).value (answer, next) is
 
--- what is there, written over itself
+-- writing an element over itself changes nothing
 set_there : {A : Type 0} (xs : List A) (i : ℕ) (x : A) → slice_get xs i ≡ Some x → set xs i x ≡ xs
 set_there [] i x at = refl
 set_there (y ∷ xs) zero x at = ap (λ z. z ∷ xs) (sym (same_Some _ _ at))
@@ -94,7 +94,7 @@ pipe_keeps w g s bytes next is = (write_keeps w g s bytes).value (answers.Pipe, 
 
 -- ---- what shuts
 
--- the write side of s is shut after a step just if it was, or the step shuts it
+-- the write side of s is shut after a step if and only if it was shut before or the step shuts it
 abbrev Follows : World → ℕ → Step → Outcome → Type 0
 Follows w s step o = ComesTo (λ (left : Answer × World). IsShut left.1 s ↔ (IsShut w s ⊎ ((g : ℕ) × (step ≡ Step.CloseWrite g s)))) o
 
@@ -169,7 +169,7 @@ closewrite_follows w s g k =
       ],
     )
 
--- every kind
+-- the law for every kind of step
 follows : (w : World) (s : ℕ) (step : Step) → Follows w s step (outcome w step)
 follows w s (Step.SockOpen rc wc) = sockopen_follows w s rc wc
 follows w s (Step.CloseWrite g k) = closewrite_follows w s g k

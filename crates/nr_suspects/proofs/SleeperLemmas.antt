@@ -1,4 +1,4 @@
--- The list of goroutines that sleep on: how it grows, that it has just those that there are, and that what is kept shows them.
+-- The list of sleepers: how it grows, that it is exact, and that the notebook gives the same list.
 use Rattle.std.proofs.Common.{◌≡◌, inl, inr, ℕ, zero, suc, ◌+◌, ◌-◌, ◌<◌, ◌/◌, ◌%◌, ◌&&◌, Bool, true, false, List, [], ◌∷◌, ◌++◌, length, Option, Some, None, refl, ap, subst, sym, ◌∙◌, add-one, arith}
 use Rattle.std.specs.Prelude.{Contains, ◌==◌, if◌then◌else◌, nat_lt, option_map, option_and_then, slice_get}
 use Rattle.std.specs.Option.{option_or}
@@ -37,7 +37,7 @@ use Rattle.nr_suspects.proofs.ReadinessLemmas.{word_of_cell}
 
 -- ---- listing
 
--- the list with those of one descriptor more
+-- the list extended by the sleepers of the next descriptor
 pub next_listed : (n : ℕ) (w : World) (reasons : ℕ → Side → Option Reason) (d : ℕ) (read write : Option Reason) (before between after : List Sleeper) → read ≡ reasons d Read → write ≡ reasons d Write
     → before ≡ sleepers_below n w reasons d → between ≡ before ++ sleeper_at n w d Read read → after ≡ between ++ sleeper_at n w d Write write → after ≡ sleepers_below n w reasons (d + 1)
 next_listed n w reasons d read write before between after reads writes is first second =
@@ -50,7 +50,7 @@ next_listed n w reasons d read write before between after reads writes is first 
 
 -- ---- just those that there are
 
--- this one is of a side whose word holds its goroutine, and that has this reason to be answered
+-- the entry is of a side whose word holds its goroutine, and has this reason to wake it
 pub record IsOf (n d : ℕ) (side : Side) (word : CellValue) (why : Option Reason) (s : Sleeper) : Type 0 where
   pub held : word ≡ CellValue.WaitWord (Held s.goroutine)
   pub has_reason : why ≡ Some s.reason
@@ -77,7 +77,7 @@ from_word n d side (CellValue.Time x) why s at = absurd (nowhere s at)
 from_word n d side (CellValue.Status x) why s at = absurd (nowhere s at)
 
 module _ (n : ℕ) (w : World) (reasons : ℕ → Side → Option Reason) where
-  -- a sleeper of a side is one of the side that it names
+  -- the sleeper of a side names that side
   at_own : (d : ℕ) (side : Side) (s : Sleeper) → Contains (sleeper_at n w d side (reasons d side)) s → Contains (sleeper_at n w s.descriptor s.side (reasons s.descriptor s.side)) s
   at_own d side s at =
       let is = from_word n d side (cell w (word_cell d side)) (reasons d side) s at in
@@ -112,7 +112,7 @@ module _ (n : ℕ) (w : World) (reasons : ℕ → Side → Option Reason) where
   to_all (suc k) d side s below at =
       to_next k d side s (d == k) refl (λ e. let apart = eqb-false d k e in to_all k d side s (omega (arith, below, apart)) at) at
 
--- a listed one sleeps on
+-- each listed goroutine sleeps on
 pub listed_sleeps : (r : Recording) (n : ℕ) (s : Sleeper) → WellFormed (world_at r n) → Contains (sleepers r n) s → SleepsOn (world_at r n) s.goroutine s.descriptor s.side s.reason × (s.position ≡ n)
 listed_sleeps r n s fits at =
     let w = world_at r n in
@@ -122,12 +122,12 @@ listed_sleeps r n s fits at =
     let word : HasWaitWord w.descriptors d side (Held s.goroutine) = held_word (slice_get w.descriptors d) side s.goroutine (sym (word_of_cell w d side) ∙ is.held) in
     (record { parked = (fits.words.held s.goroutine d side).0 word; has_reason = is.has_reason }, is.position)
 
--- a descriptor that a goroutine is parked at is below the limit
+-- a descriptor at which a goroutine is parked is below the limit
 word_within : {X : Type 0} (xs : List DescriptorRow) (f : DescriptorRow → X) (d : ℕ) (x : X) (o : Option DescriptorRow) → slice_get xs d ≡ o → option_map f o ≡ Some x → d < length xs
 word_within xs f d x None at is = absurd (none-some _ is)
 word_within xs f d x (Some row) at is = slice_get_within xs d row at
 
--- one that sleeps on is listed
+-- each goroutine that sleeps on is listed
 pub sleeper_is_listed : (r : Recording) (n g d : ℕ) (side : Side) (why : Reason) → WellFormed (world_at r n) → SleepsOn (world_at r n) g d side why
     → Contains (sleepers r n) (record { position = n; goroutine = g; descriptor = d; side = side; reason = why })
 sleeper_is_listed r n g d side why fits sleeps =
@@ -151,14 +151,14 @@ neither : (a b : Option Reason) → option_or a b ≡ None → (a ≡ None) × (
 neither None b e = (refl, e)
 neither (Some why) b e = absurd (none-some _ (sym e))
 
--- the code of a check, by what it finds
+-- the code of a check, from its findings
 abbrev code_by : Bool → Bool → Bool → ℕ
 code_by closing passed error = if closing then 1 else (if passed then 2 else (if error then 3 else 0))
 
 some_none : {A : Type 0} (why : Reason) → Some why ≡ None → A
 some_none why e = absurd (none-some _ (sym e))
 
--- a check has no reason only if its code is 0
+-- a check gives no reason only if its code is 0
 code_is_none : (closing passed error : Bool) → reason_of_code (code_by closing passed error) ≡ None → code_by closing passed error ≡ 0
 code_is_none true passed error e = some_none why.Closing e
 code_is_none false true error e = some_none why.Deadline e
@@ -182,7 +182,7 @@ has_nothing : (side : Side) (socket : Socket) → reason_of_socket side socket �
 has_nothing Read socket none = no_bytes socket.buffers.read.bytes socket.peer_closed none
 has_nothing Write socket none = no_room (room_of socket.buffers.write) socket.shut none
 
--- if none is listed, a side at which a goroutine is parked has no reason to be answered
+-- if no sleeper is listed, there is no reason to wake a parked goroutine
 pub none_if_none : (r : Recording) (n g d : ℕ) (side : Side) (row : DescriptorRow) → WellFormed (world_at r n) → sleepers r n ≡ [] → HasView parked_of (world_at r n).goroutines g (d, side)
     → slice_get (world_at r n).descriptors d ≡ Some row
     → (check side row.descriptor ≡ 0) × ((socket : Socket) → slice_get (world_at r n).sockets row.descriptor.socket ≡ Some socket → HasNothing side socket)
@@ -239,7 +239,7 @@ sockets_show : (w : World) (s : ℕ) (side : Side) (o : Option Socket) → slice
 sockets_show w s side None at = refl
 sockets_show w s side (Some socket) at = socket_shows w s side socket at
 
--- a descriptor of which its socket is kept has the reasons of its row
+-- a descriptor with its account and the sockets' other ends gives the reasons of its row
 account_shows : (w : World) (d : ℕ) (side : Side) (peers : ℕ → Option Peer) (a : Option Account) (o : Option DescriptorRow) → slice_get w.descriptors d ≡ o → ((s : ℕ) → peers s ≡ option_map peer_of (slice_get w.sockets s))
     → option_map (λ (y : Account). y.socket) a ≡ option_map (λ (row : DescriptorRow). row.descriptor.socket) o → option_and_then (reason_of_account w d side peers) a ≡ option_and_then (reason_of_row w side) o
 account_shows w d side peers None None at ends same = refl
@@ -259,7 +259,7 @@ pub kept_shows : (w : World) (kept : ℕ → Option Account) (peers : ℕ → Op
     → option_map (λ (y : Account). y.socket) (kept d) ≡ option_map (λ (row : DescriptorRow). row.descriptor.socket) (slice_get w.descriptors d) → reason_kept w kept peers d side ≡ reason w d side
 kept_shows w kept peers d side ends same = account_shows w d side peers (kept d) (slice_get w.descriptors d) refl ends same
 
--- the same list for the same reasons
+-- equal reasons give equal lists
 pub sleepers_same : (n : ℕ) (w : World) (f g : ℕ → Side → Option Reason) (k : ℕ) → ((d : ℕ) (side : Side) → d < k → f d side ≡ g d side) → sleepers_below n w f k ≡ sleepers_below n w g k
 sleepers_same n w f g zero same = refl
 sleepers_same n w f g (suc k) same =

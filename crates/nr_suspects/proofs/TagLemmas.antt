@@ -1,4 +1,4 @@
--- An event takes effect only with its descriptor's tag, and a tag never comes back.
+-- An event takes effect only with its descriptor's tag, and a tag is never used again.
 use Rattle.std.proofs.Common.{◌≡◌, ◌≢◌, ◌⊎◌, inl, inr, ℕ, ◌+◌, ◌≤◌, Bool, true, false, ◌||◌, not, List, [], ◌∷◌, length, Option, Some, None, Result, Ok, Err, refl, sym, ap, subst, ◌∙◌, arith}
 use Rattle.std.specs.Prelude.{◌↔◌, ◌==◌, if◌then◌else◌, nat_lt, slice_get, slice_set}
 use Rattle.std.proofs.Common.{eq-eqb}
@@ -33,7 +33,7 @@ use Rattle.nr_laws.proofs.LookupLemmas.{Ends-row_of}
 
 -- ---- one event
 
--- what an event comes to, given the descriptor's row
+-- the outcome of an event, given the descriptor's row
 abbrev event_at : ℕ → ℕ → Mode → Bool → World → DescriptorRow → Outcome
 event_at d tag mode error w row =
     if is_free_number d w.free || not (tag == row.descriptor.fdseq) then Ok (Stale, w) else (do
@@ -43,7 +43,7 @@ event_at d tag mode error w row =
 event_is : (w : World) (d tag : ℕ) (mode : Mode) (error : Bool) (row : DescriptorRow) → slice_get w.descriptors d ≡ Some row → pollevent d tag mode error w ≡ event_at d tag mode error w row
 event_is w d tag mode error row at = ap (λ o. ◌>>=◌ (found_or o NoSuchDescriptor) (event_at d tag mode error w)) at
 
--- an event with the tag takes effect: its change gives no orders to timers
+-- an event with the right tag takes effect: its change has no orders to timers
 event_done : (w : World) (d : ℕ) (mode : Mode) (error : Bool) (row : DescriptorRow) → (next : World) × (after_change d row (change_by_event mode error row.descriptor) w ≡ Ok next)
 event_done w d Mode.Read error row = (_, refl)
 event_done w d Mode.Write error row = (_, refl)
@@ -122,7 +122,7 @@ module _ (w : World) (d tag : ℕ) (mode : Mode) (error : Bool) (row : Descripto
 
 -- ---- tags rise
 
--- descriptor d was made, and its tag is t or more
+-- descriptor d exists, and its tag is at least t
 abbrev AtLeast : ℕ → ℕ → World → Type 0
 AtLeast t d w = (row : DescriptorRow) × (slice_get w.descriptors d ≡ Some row) × (t ≤ row.descriptor.fdseq)
 
@@ -164,7 +164,7 @@ closed_tag x =
     at_most : {n : ℕ} → n ≡ x.fdseq + 1 → x.fdseq + 1 ≤ n
     at_most is = omega (arith, is)
 
--- a row that is replaced by one with no lesser tag
+-- replacing a row by one with a tag that isn't lower keeps tags at least t
 row_rises : (t d e : ℕ) (w : World) (row new : DescriptorRow) → slice_get w.descriptors e ≡ Some row → row.descriptor.fdseq ≤ new.descriptor.fdseq → AtLeast t d w
     → (y : DescriptorRow) × (slice_get (slice_set w.descriptors e new) d ≡ Some y) × (t ≤ y.descriptor.fdseq)
 row_rises t d e w row new at more was =
@@ -188,7 +188,7 @@ pollclose_rises t d w g e was =
     ComesTo-bind (closed_tag row.descriptor) λ descriptor more.
     ComesTo-ok (row_rises t d e w row (record row { descriptor = descriptor }) at (omega (arith, more)) was)
 
--- a close leaves a greater tag
+-- a close leaves a higher tag
 close_raises : (w : World) (g d : ℕ) (row : DescriptorRow) → slice_get w.descriptors d ≡ Some row → ComesTo (λ (left : Answer × World). AtLeast (row.descriptor.fdseq + 1) d left.1) (pollclose g d w)
 close_raises w g d row there =
     ComesTo-then (ComesTo-any (idle g w)) λ _.
@@ -202,7 +202,7 @@ close_raises w g d row there =
       subst (λ (x : DescriptorRow). x.descriptor.fdseq + 1 ≤ descriptor.fdseq) (same_Some _ _ (sym at ∙ there)) more,
     )
 
--- every kind
+-- the law for every kind of step
 rises : (t d : ℕ) (w : World) (step : Step) → Rises t d w (outcome w step)
 rises t d w (Step.PollOpen g s) = pollopen_rises t d w g s
 rises t d w (Step.PollClose g e) = pollclose_rises t d w g e

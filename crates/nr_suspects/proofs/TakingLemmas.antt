@@ -1,4 +1,5 @@
--- Each lost wake-up names the step that took its readiness: readiness that nobody took is there.
+-- Each lost wake-up names the step that took its readiness, because readiness that no step took
+-- remains.
 use Rattle.std.proofs.Common.{◌≡◌, ◌≢◌, ℕ, zero, suc, Bool, true, false, ◌⊎◌, inl, inr, Option, Some, None, Ok, refl, sym, ap, subst, ◌∙◌, arith, true≢false}
 use Rattle.std.specs.Prelude.{Contains, ◌==◌, if◌then◌else◌, option_map}
 use Rattle.std.proofs.lemmas.Bool.{eqb-false, eqb-true}
@@ -34,11 +35,12 @@ use Rattle.nr_suspects.proofs.ReadinessLemmas.{event_makes_ready, taken_by_three
 
 -- ---- where a debt comes from
 
--- the goroutine of a visit took the readiness of this side
+-- the visiting goroutine is at this side
 abbrev IsAt : Visit → ℕ → Side → Type 0
 IsAt v d side = (v.descriptor ≡ d) × (v.side ≡ side)
 
--- A debt after a notice is of the event that came, or its readiness was taken now, or it was there before and nobody took it.
+-- A debt after a notice is of the event that came now; or its readiness was taken now; or it
+-- existed before, and no step took its readiness.
 data DebtFrom (n d : ℕ) (side : Side) (x : Notice) (a : Option Account) (b : Debt) : Type 0 where
   Fresh : Comes d side x → b ≡ record { event = n; taken = None } → DebtFrom n d side x a b
   TakenNow : (v : Visit) (old : Debt) → x ≡ notices.TookReadiness v → IsAt v d side → debt_of side a ≡ Some old → b ≡ taken_by n v.goroutine old → DebtFrom n d side x a b
@@ -122,7 +124,7 @@ from_taking n d v side y b false is which at =
     same_visit : (u : Visit) → notices.TookReadiness v ≡ notices.TookReadiness u → u ≡ v
     same_visit u same = cc
 
--- what leaves the debts leaves this one
+-- a notice that leaves the debts unchanged leaves this one unchanged
 from_others : (n d : ℕ) (side : Side) (x : Notice) (y : Account) (b : Debt) → (noted n d x y).debts ≡ y.debts → debt_of side (account_after n d x (Some y)) ≡ debt_of side (Some (noted n d x y))
     → ((v : Visit) → x ≢ notices.TookReadiness v) → ((s : ℕ) → x ≢ notices.Opened d s) → debt_of side (account_after n d x (Some y)) ≡ Some b → DebtFrom n d side x (Some y) b
 from_others n d side x y b same is took opened at = Old (sym (ap (of_side side) same) ∙ sym is ∙ at) (λ v e here. took v e) opened
@@ -162,7 +164,7 @@ debt_from n d side notices.Nothing None b at = cc
 -- ---- over a recording
 
 module _ (r : Recording) (d : ℕ) (side : Side) where
-  -- readiness that nobody took is there
+  -- readiness that no step took remains
   ready_on : (w next : World) (step : Step) (answer : Answer) (n : ℕ) → outcome w step ≡ Ok (answer, next) → is_ready w d side ≡ true
       → ((v : Visit) → notice w step answer next ≡ notices.TookReadiness v → ¬ IsAt v d side) → ((s : ℕ) → notice w step answer next ≢ notices.Opened d s) → is_ready next d side ≡ true
   ready_on w next step answer n is ready untaken unopened = by (is_ready next d side) refl
@@ -192,7 +194,7 @@ module _ (r : Recording) (d : ℕ) (side : Side) where
           ∙ ready_on w next step answer n came (before there none) (λ v took. untaken v (noticed ∙ took)) (λ s opened. unopened s (noticed ∙ opened))
       go (Old there untaken unopened) before (Stays same quiet) = ap (λ x. is_ready x d side) same ∙ before there none
 
-  -- what a debt names took its readiness
+  -- the step that a debt names took its readiness
   taking_is : (n : ℕ) (b : Debt) (t : StepBy) → debt r d side n ≡ Some b → b.taken ≡ Some t → IsTaking r n d side b.event t
   taking_is zero b t is some = cc
   taking_is (suc n) b t is some = go (debt_from (suc n) d side (notice_at r n) (account r d n) b is) (taking_is n b t)
@@ -218,7 +220,7 @@ module _ (r : Recording) (d : ℕ) (side : Side) where
           }
       go (Old there untaken unopened) before = on (before there some)
 
--- each lost wake-up names its taking
+-- each lost wake-up names the step that took its readiness
 pub names_taking : (r : Recording) (n : ℕ) (lost : LostWakeUp) → WellFormed (world_at r n) → Contains (lost_wake_ups r n) lost
     → (taken : StepBy) × (lost.taken ≡ Some taken) × IsTaking r n lost.descriptor lost.side lost.event taken
 names_taking r n lost fits at = by is.owed.0.taken refl

@@ -1,4 +1,5 @@
--- A goroutine that a deadline woke is kept with the setting of that deadline, so a deadline that is taken back is listed.
+-- A goroutine that a deadline woke is recorded together with the setting of that deadline, so a
+-- deadline that is taken back is listed.
 use Rattle.std.proofs.Common.{◌≡◌, ◌≢◌, ℕ, zero, suc, ◌<◌, ◌++◌, [], Bool, true, false, ◌⊎◌, inl, inr, Option, Some, None, refl, sym, ap, subst, ◌∙◌}
 use Rattle.std.specs.Prelude.{Contains, ◌==◌, if◌then◌else◌}
 use Rattle.std.specs.Option.{option_map_or}
@@ -27,11 +28,11 @@ use Rattle.nr_suspects.specs.Settings.{after_passing, after_setting, looked_at, 
 use Rattle.nr_suspects.proofs.FindingLemmas.{listed_from, listed_if_set, passed_has_setting, within}
 use Rattle.nr_suspects.proofs.SettingLemmas.{IsSet, set_on}
 
--- the goroutine that is kept as woken at a side
+-- the recorded woken goroutine of a side
 abbrev woken_in : Side → Sides Deadline → Option ℕ
 woken_in side deadlines = (of_side side deadlines).woken
 
--- it was woken before
+-- a goroutine was recorded as woken before
 abbrev WasWoken : Side → Account → Type 0
 WasWoken side y = (h : ℕ) × (woken_in side y.deadlines ≡ Some h)
 
@@ -62,7 +63,8 @@ from_set : (n g : ℕ) (mode : Mode) (side : Side) (deadlines : Sides Deadline) 
 from_set n g mode Read deadlines h e = set_cases _ _ deadlines.read h (names_side mode Read) e
 from_set n g mode Write deadlines h e = set_cases _ _ deadlines.write h (names_side mode Write) e
 
--- What is kept after a notice was kept before it, unless the deadline passed by it.
+-- A goroutine that is recorded after a notice was recorded before it, unless the deadline passed
+-- now.
 data WokenFrom (d : ℕ) (side : Side) (x : Notice) (a : Option Account) : Type 0 where
   Now : (passings : Sides (Option Passing)) (p : Passing) → x ≡ notices.PassedDeadline d passings → of_side side passings ≡ Some p → WokenFrom d side x a
   Before : (h : ℕ) → woken_of side a ≡ Some h → ((s : ℕ) → x ≢ notices.Opened d s) → WokenFrom d side x a
@@ -128,7 +130,7 @@ woken_from n d side (notices.SocketOpened sock room) None h at = absurd (none-so
 woken_from n d side (notices.PeerClosed sock) None h at = absurd (none-some _ at)
 woken_from n d side notices.Nothing None h at = absurd (none-some _ at)
 
--- a goroutine is kept as woken only with the setting of its deadline
+-- a goroutine is recorded as woken only together with the setting of its deadline
 pub woken_is_set : (r : Recording) (d : ℕ) (side : Side) (n h : ℕ) → woken_of side (account r d n) ≡ Some h → IsSet side (account r d n)
 woken_is_set r d side zero h at = absurd (none-some _ at)
 woken_is_set r d side (suc n) h at = go (woken_from (suc n) d side (notice_at r n) (account r d n) h at) (woken_is_set r d side n)

@@ -1,4 +1,4 @@
--- The entry that a removal took out fits in again.
+-- The entry that a removal took out can be inserted again.
 use Rattle.std.proofs.Common.{◌≡◌, ⊎_elim, ℕ, ◌+◌, ◌<◌, ◌≤◌, List, [], ◌∷◌, ◌++◌, length, refl, sym, ap, ◌∙◌, subst, arith}
 use Rattle.std.specs.List.{swap}
 use Rattle.std.proofs.lemmas.List.{get_or_append_left, get_or_push, length_push}
@@ -12,7 +12,7 @@ use Rattle.nr_timers.specs.Index.{key, Absent, Keyed}
 use Rattle.nr_timers.proofs.PathLemmas.{at-swap}
 use Rattle.nr_timers.proofs.ChangeLemmas.{length-TakenBack}
 
--- the entry to be put back fits
+-- the entry to restore fits
 module _ (old rest : List Entry) (p limit : ℕ) (e : Entry) (le : p ≤ length rest) (is : old ≡ swap (rest ++ e ∷ []) p (length rest)) (h : Keyed old limit) where
   sw : Swapped (at (rest ++ e ∷ [])) (at (swap (rest ++ e ∷ []) p (length rest))) p (length rest)
   sw = let size = length_push rest e in at-swap (rest ++ e ∷ []) p (length rest) (omega arith) (omega arith)

@@ -1,4 +1,4 @@
--- Insertion and removal, made of a push, a pop, an exchange and a way up or down.
+-- Insertion and removal as a push or a pop, an exchange, and a move up or down.
 use Rattle.std.proofs.Common.{◌≡◌, ◌≢◌, ◌⊎◌, inl, inr, ⊎_elim, ℕ, zero, suc, ◌+◌, ◌-◌, ◌<◌, ◌≤◌, Bool, true, false, List, [], ◌∷◌, ◌++◌, length, take, refl, sym, ap, ◌∙◌, subst, arith}
 use Rattle.std.specs.List.{swap}
 use Rattle.std.proofs.lemmas.List.{ext_get_or, get_or_append_left, get_or_push, length_push, take_at, take_all, take_more, get_or-take, length-take-le}
@@ -15,7 +15,7 @@ use Rattle.nr_timers.proofs.OrderLemmas.{less_once, not_less-trans, same_less}
 use Rattle.nr_timers.proofs.PathLemmas.{Leads-between, at-swap, swap-swap, moved_down-moved_up, moved_up-moved_down, length-moved_up, length-moved_down}
 use Rattle.nr_timers.proofs.SiftLemmas.{path_end, size_of, size_of_up}
 
--- a way up or down over a list that differs at p alone
+-- a move up or down in a list that differs only at p
 module _ (mid old new : List Entry) (p : ℕ) (x : Entry) (within : p < length new) (was_at : x ≡ at mid p) (same : (k : ℕ) → k < length new → k ≢ p → at mid k ≡ at old k) where
   pub Raised-over : (q : ℕ) → Raised mid p (at mid p) q new → Raised old p x q new
   Raised-over q h =
@@ -95,7 +95,7 @@ module _ (old : List Entry) (entry : Entry) where
       } in
       subst (λ xs. OrderedAbove xs p) (sym e) (subst (λ x. OrderedAbove (old ++ entry ∷ []) x) (sym is) it)
 
--- what is at the end of a way down was at its beginning
+-- the entry at the end of a move down was at its beginning
 pub at-moved_down : (n : ℕ) (new : List Entry) (p q : ℕ) → p < length new → Leads n p q → at (moved_down n new p) p ≡ at new q
 at-moved_down zero new p q lt h = ap (at new) (sym h)
 at-moved_down (suc n) new p q lt h =
@@ -117,7 +117,7 @@ uninserted_entry old mid q last len entry some size is moved e =
     let last_is : length mid - 1 ≡ last = omega arith in
     e ∙ ap (at mid) last_is ∙ ap (λ xs. at xs last) moved.2 ∙ at-moved_down moved.0 old last q (omega arith) moved.1
 
--- the ways back from a move
+-- the undo of a move
 pub TakenBack-up : (rest new : List Entry) (p q : ℕ) → p < length rest → ((n : ℕ) × Leads n p q × (new ≡ moved_up n rest p)) → TakenBack p q new rest
 TakenBack-up rest new p q within h = inl (h.0, h.1, sym (ap (λ xs. moved_down h.0 xs p) h.2 ∙ moved_down-moved_up h.0 rest p within))
 
@@ -139,12 +139,12 @@ pub length-TakenBack : (new rest : List Entry) (p q : ℕ) → TakenBack p q new
 length-TakenBack new rest p q (inl h) = ap length h.2 ∙ length-moved_down h.0 new p
 length-TakenBack new rest p q (inr h) = ap length h.2 ∙ length-moved_up h.0 new q
 
--- no way
+-- a move of length 0
 not_moved : (rest new : List Entry) (p q : ℕ) → q ≡ p → ((n : ℕ) × Leads n p q × (new ≡ moved_up n rest p)) → new ≡ rest
 not_moved rest new p q e (zero, h, is) = is
 not_moved rest new p q e (suc n, h, is) = let lt = Leads-lt n p q h in absurd (omega arith)
 
--- up or down
+-- a move up or down
 module _ (old mid : List Entry) (p up : ℕ) (within : p < length old) (raised : Raised old p (at old p) up mid) (moved : (n : ℕ) × Leads n p up × (mid ≡ moved_up n old p)) where
   module _ (lt : up < p) where
     pub sifted_up : Sifted old p up mid
@@ -208,18 +208,18 @@ module _ (old : List Entry) (p : ℕ) (within : p < length old) where
   pub length-refilled : length (refilled old p) ≡ length old - 1
   length-refilled = let size = length-swap old p (length old - 1) in length-take-le (length old - 1) (swap old p (length old - 1)) (omega arith)
 
-  -- what is where p is refilled
+  -- the entries after p is refilled
   pub at_refilled : (k : ℕ) → k < length old - 1 → (k ≡ p → ⊥) → at (refilled old p) k ≡ at old k
   at_refilled k lt other = get_or-take (length old - 1) (swap old p (length old - 1)) k blank lt ∙ moved.2 k other (λ e. omega arith)
 
   at_place : p < length old - 1 → at (refilled old p) p ≡ at old (length old - 1)
   at_place lt = get_or-take (length old - 1) (swap old p (length old - 1)) p blank lt ∙ moved.0
 
-  -- the entry that is taken out
+  -- the entry that is removed
   pub taken_out : at (swap old p (length old - 1)) (length old - 1) ≡ at old p
   taken_out = moved.1
 
-  -- the entry put back
+  -- the removed entry, restored
   pub refilled_back : swap (refilled old p ++ at old p ∷ []) p (length old - 1) ≡ old
   refilled_back =
       let mid : List Entry = swap old p (length old - 1) in
@@ -259,7 +259,7 @@ module _ (old : List Entry) (p : ℕ) (within : p < length old) where
         ∙ refilled_back),
   )
 
-  -- its two ends
+  -- the two ends of the move
   module _ (rest : List Entry) (entry : Entry) (is : rest ≡ refilled old p) (entry_is : entry ≡ at old p) where
     size_rest : length rest ≡ length old - 1
     size_rest = ap length is ∙ length-refilled
@@ -321,7 +321,7 @@ module _ (old : List Entry) (p : ℕ) (within : p < length old) where
         pub sifted_back : TakenBack p q new rest → RemovedBack p q entry new old
         sifted_back back = let more = size_rest in let there = inside in removed_back rest new q entry is entry_is (omega arith) (inr (omega arith, omega arith)) back
 
--- what is left when the last entry was taken off
+-- the list after the last entry was removed
 pub refilled_is : (old mid rest : List Entry) (p n : ℕ) → n ≡ length old → mid ≡ swap old p (n - 1) → rest ≡ take (length mid - 1) mid → rest ≡ refilled old p
 refilled_is old mid rest p n e1 e2 e3 =
     let e : mid ≡ swap old p (length old - 1) = e2 ∙ ap (λ x. swap old p (x - 1)) e1 in

@@ -1,4 +1,5 @@
--- A heap's entries are those of the timers that descriptors have: as many, and the least at place 0.
+-- A heap's entries are the timers of the descriptors: there are as many, and the least is at place
+-- 0.
 use Rattle.std.proofs.Common.{◌≡◌, ◌≢◌, ◌⊎◌, inl, inr, ⊎_elim, ℕ, zero, suc, ◌+◌, ◌<◌, ◌≤◌, Bool, true, false, if◌then◌else◌, List, [], ◌∷◌, ◌++◌, length, Option, Some, None, refl, sym, ap, ◌∙◌, subst, arith}
 use Rattle.std.specs.Prelude.{slice_get, slice_index_or}
 use Rattle.nr_rev.proofs.SideLemmas.{of_side-twice}
@@ -21,7 +22,7 @@ use Rattle.nr_timers.proofs.OrderLemmas.{least_first, less_once}
 use Rattle.nr_timers.proofs.DrawnLemmas.{Has}
 use Rattle.nr_timers.proofs.LookupLemmas.{key_is, one_side, timer_found, timer_none, has_or_absent, Apart-tail}
 
--- among others is somewhere in the list
+-- an entry among others is somewhere in the list
 in_has : (e : Entry) (xs : List Entry) → In e xs → Has e xs
 in_has e [] p = absurd p
 in_has e (x ∷ xs) (inl same) = (0, omega arith, same)
@@ -41,7 +42,7 @@ in_second : (e : Entry) (xs ys : List Entry) → In e ys → In e (xs ++ ys)
 in_second e [] ys p = p
 in_second e (x ∷ xs) ys p = inr (in_second e xs ys p)
 
--- no two entries have one key
+-- no two entries have the same key
 abbrev Once : List Entry → Type 0
 Once [] = Unit {0}
 Once (x ∷ xs) = ((y : Entry) → In y xs → key y ≢ key x) × Once xs
@@ -64,7 +65,7 @@ once_of (x ∷ xs) apart = (
   once_of xs (Apart-tail key x xs apart),
 )
 
--- entries that are all among others, each once, are no more than those
+-- distinct entries that are all in another list aren't more than that list's
 without : (x : Entry) (ys : List Entry) → In x ys → List Entry
 without x [] p = []
 without x (y ∷ ys) (inl e) = ys
@@ -94,7 +95,7 @@ no_more (x ∷ xs) ys once all =
     (λ z q. ⊎_elim (λ e. absurd (once.0 z q (ap key e))) (λ r. r) (in_without x z ys p (all z (inr q)))) in
     omega arith
 
--- the entry before all others is the least one
+-- the entry that is before all others is the least
 least_none : (xs : List Entry) → length xs ≡ 0 → least_of xs ≡ None
 least_none [] e = refl
 least_none (x ∷ xs) e = absurd (omega arith)
@@ -136,7 +137,7 @@ Timers = List (Sides (Option Timer))
 abbrev armed_in : Timers → ℕ → Side → Option Timer
 armed_in timers k side = of_side side (slice_index_or timers k (twice None))
 
--- it is of the descriptor, and its side's
+-- an entry of a descriptor has its number, and its side's timer
 at_in : (d : ℕ) (sides : Sides (Option Timer)) (e : Entry) → In e (entries_at d sides) → (e.descriptor ≡ d) × (of_side e.side sides ≡ Some e.timer)
 at_in d sides e p =
     ⊎_elim (λ q. let r = entry_in d Read sides.read e q in (r.1, ap (λ s. of_side s sides) r.2 ∙ r.0))
@@ -150,7 +151,7 @@ from_in (sides ∷ timers) d e p =
     (λ there. let r = from_in timers (d + 1) e there in let is = r.1 in (suc r.0, omega arith, r.2))
     (in_append e (entries_at d sides) (entries_from (d + 1) timers) p)
 
--- each of their timers is among them
+-- each of their timers is among the entries
 abbrev entry : ℕ → Side → Timer → Entry
 entry d side timer = record { descriptor = d; side = side; timer = timer }
 
@@ -173,7 +174,7 @@ in_from (sides ∷ timers) d (suc k) side timer is =
     in_second (entry (d + suc k) side timer) (entries_at d sides) (entries_from (d + 1) timers)
     (subst (λ n. In (entry n side timer) (entries_from (d + 1) timers)) same (in_from timers (d + 1) k side timer is))
 
--- they have a key each
+-- the entries of descriptors have distinct keys
 once_entry : (d : ℕ) (side : Side) (o : Option Timer) → Once (entry_of d side o)
 once_entry d side None = tt
 once_entry d side (Some timer) = (λ y p. absurd p, tt)
@@ -205,7 +206,7 @@ once_from (sides ∷ timers) d =
     absurd (omega arith)
     )
 
--- in an ordered heap whose entries have numbers of their own, the one at place 0 is less than each other
+-- in an ordered heap with distinct numbers, the entry at place 0 is less than every other
 pub first_before : (t : State) (k : ℕ) → IsTimers t → 0 < k → k < length t.entries → is_less (at t.entries 0) (at t.entries k) ≡ true
 first_before t k well some lt = by (is_less (at t.entries 0) (at t.entries k)) refl
   where

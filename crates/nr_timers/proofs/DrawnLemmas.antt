@@ -1,4 +1,4 @@
--- Which entries two heaps have in common.
+-- The entries that two heaps have in common.
 use Rattle.std.proofs.Common.{◌≡◌, ◌≢◌, ◌⊎◌, inl, inr, ⊎_elim, ℕ, zero, suc, ◌+◌, ◌-◌, ◌<◌, ◌≤◌, nat_eq, if◌then◌else◌, List, [], ◌∷◌, ◌++◌, length, take, refl, sym, ap, ◌∙◌, subst, arith}
 use Rattle.std.specs.List.{swap}
 use Rattle.std.proofs.lemmas.List.{length_push, take_all, take_more}
@@ -14,7 +14,7 @@ use Rattle.nr_timers.specs.Auxiliary.Change.{TakenBack, InsertedBack, RemovedBac
 use Rattle.nr_timers.proofs.PathLemmas.{at-swap, swap-swap, moved_down-moved_up, moved_up-moved_down, length-moved_up, length-moved_down}
 use Rattle.nr_timers.proofs.ChangeLemmas.{at_pushed, at_last, at-moved_down, length-TakenBack, TakenBack-none}
 
--- each entry of the one is in the other, at a place of its own
+-- each entry of the one heap is in the other, at a place of its own
 pub record Drawn (whole some : List Entry) : Type 0 where
   pub from : ℕ → ℕ
   pub within : (p : ℕ) → p < length some → from p < length whole
@@ -33,7 +33,7 @@ Drawn-trans xs ys zs g h =
       apart = λ p q a b e. h.apart p q a b (g.apart (h.from p) (h.from q) (h.within p a) (h.within q b) e);
     }
 
--- the place from which an exchange brings what is at k
+-- the place from which an exchange brings the entry at k
 abbrev exchanged : ℕ → ℕ → ℕ → ℕ
 exchanged a b k = if nat_eq k a then b else (if nat_eq k b then a else k)
 
@@ -113,7 +113,7 @@ Drawn-down (suc n) xs p lt =
     (Drawn-down n xs (parent p) (omega arith))
     (Drawn-swap (moved_down n xs (parent p)) p (parent p) (omega arith) (omega arith))
 
--- taken back, a heap has the same entries
+-- a heap has the same entries after a move back
 pub Drawn-back : (new rest : List Entry) (p q : ℕ) → ((p ≡ length new) × (q ≡ p) ⊎ (p < length new) × (q < length new)) → TakenBack p q new rest → Drawn new rest × Drawn rest new
 Drawn-back new rest p q (inl h) back =
     let still : new ≡ rest = TakenBack-unique p p new new rest (TakenBack-none new p) (subst (λ i. TakenBack p i new rest) h.1 back) in
@@ -131,7 +131,7 @@ Drawn-back new rest p q (inr h) (inr back) =
           (subst (λ (ys : List Entry). Drawn (moved_up back.0 new q) ys) (moved_down-moved_up back.0 new q h.1) (Drawn-down back.0 (moved_up back.0 new q) q (omega arith))),
     )
 
--- the entry is somewhere
+-- the entry is somewhere in the list
 abbrev pub Has : Entry → List Entry → Type 0
 Has x xs = (p : ℕ) × (p < length xs) × (at xs p ≡ x)
 
@@ -167,7 +167,7 @@ Apart-pushed f xs e h other p q lt lt_q same =
     )
     (cases_lt p (length xs))
 
--- a removal, as its way back says it
+-- a removal, from its undo
 module _ (p q : ℕ) (e : Entry) (new old : List Entry) (back : RemovedBack p q e new old) where
   both_ways : Drawn new back.1 × Drawn back.1 new
   both_ways = Drawn-back new back.1 p q back.0 back.2
@@ -195,23 +195,23 @@ module _ (p q : ℕ) (e : Entry) (new old : List Entry) (back : RemovedBack p q 
       let low = le in
       subst (λ (ys : List Entry). Drawn (back.1 ++ e ∷ []) ys) (sym old_is) (Drawn-swap (back.1 ++ e ∷ []) p (length new) (omega arith) (omega arith))
 
-  -- what is left was there before
+  -- each remaining entry was there before
   pub Drawn-removed : Drawn old new
   Drawn-removed = Drawn-trans old back.1 new (Drawn-trans old (back.1 ++ e ∷ []) back.1 from_old (Drawn-pushed back.1 e)) both_ways.1
 
-  -- and so did the one that is gone
+  -- so was the removed entry
   pub Has-removed : Has e old
   Has-removed =
       let size = length_push back.1 e in
       Drawn-has old (back.1 ++ e ∷ []) e from_old (length back.1, omega arith, at_last back.1 e)
 
-  -- all others are left
+  -- all other entries remain
   pub Has-left : (x : Entry) → Has x old → Has x new ⊎ (x ≡ e)
   Has-left x h =
       ⊎_elim (λ there. inl (Drawn-has new back.1 x both_ways.0 there)) (λ is. inr is)
       (Has-pushed back.1 e x (Drawn-has (back.1 ++ e ∷ []) old x to_old h))
 
-  -- none that is left is like the one that is gone
+  -- no remaining entry equals the removed one
   pub removed_apart : (f : Entry → ℕ) → Apart f old → (x : Entry) → Has x new → f x ≢ f e
   removed_apart f h x has same =
       let size = length_push back.1 e in
@@ -222,7 +222,7 @@ module _ (p q : ℕ) (e : Entry) (new old : List Entry) (back : RemovedBack p q 
       (ap f (at_pushed back.1 e there.0 there.1 ∙ there.2) ∙ same ∙ ap f (sym (at_last back.1 e))) in
       omega arith
 
--- an insertion, as its way back says it
+-- an insertion, from its undo
 module _ (q : ℕ) (new old : List Entry) (back : InsertedBack q new old) where
   mid_is : old ++ at new q ∷ [] ≡ moved_down back.1 new (length new - 1)
   mid_is =
@@ -247,7 +247,7 @@ module _ (q : ℕ) (new old : List Entry) (back : InsertedBack q new old) where
       (subst (λ (ys : List Entry). Drawn (moved_down back.1 new (length new - 1)) ys) (moved_up-moved_down back.1 new (length new - 1) (omega arith))
       (Drawn-up back.1 (moved_down back.1 new (length new - 1)) (length new - 1) (omega arith)))
 
-  -- all that was there is left
+  -- all entries from before remain
   pub Has-kept : (x : Entry) → Has x old → Has x new
   Has-kept x h = Drawn-has new old x (Drawn-trans new (old ++ at new q ∷ []) old from_new (Drawn-pushed old (at new q))) h
 
@@ -256,7 +256,7 @@ module _ (q : ℕ) (new old : List Entry) (back : InsertedBack q new old) where
       let size = length_push old (at new q) in
       Drawn-has new (old ++ at new q ∷ []) (at new q) from_new (length old, omega arith, at_last old (at new q))
 
-  -- nothing else is there
+  -- there is no other new entry
   pub Has-there : (x : Entry) → Has x new → Has x old ⊎ (x ≡ at new q)
   Has-there x h = Has-pushed old (at new q) x (Drawn-has (old ++ at new q ∷ []) new x to_new h)
 

@@ -1,4 +1,4 @@
--- One exchange on the way of an entry up or down.
+-- One exchange in an entry's move up or down.
 use Rattle.std.proofs.Common.{◌≡◌, ◌⊎◌, inl, inr, ⊎_elim, ℕ, suc, ◌<◌, ◌≤◌, true, false, List, length, refl, sym, ap, ◌∙◌, subst, arith}
 use Rattle.std.proofs.lemmas.List.Edits.{Swapped}
 use Rattle.std.proofs.lemmas.Bool.{cases_eq, cases_lt}
@@ -12,7 +12,7 @@ use Rattle.nr_timers.proofs.PathLemmas.{Leads-between}
 
 module _ (old new : List Entry) (p : ℕ) (above : 0 < p) (within : p < length old) (size : length new ≡ length old) (less : is_less (at old p) (at old (parent p)) ≡ true)
     (swapped : Swapped (at old) (at new) p (parent p)) where
-  -- up one place
+  -- a move up by one place
   pub OrderedAbove-up : OrderedAbove old p → OrderedAbove new (parent p)
   OrderedAbove-up h = record {
     others = λ i i_above i_within not_here.
@@ -65,7 +65,7 @@ module _ (old new : List Entry) (p : ℕ) (above : 0 < p) (within : p < length o
 
 module _ (old new : List Entry) (p c : ℕ) (above : 0 < c) (is_child : parent c ≡ p) (within : c < length old) (size : length new ≡ length old) (less : is_less (at old c) (at old p) ≡ true)
     (least : (i : ℕ) → 0 < i → i < length old → parent i ≡ p → is_less (at old i) (at old c) ≡ false) (swapped : Swapped (at old) (at new) c p) where
-  -- down one place
+  -- a move down by one place
   pub OrderedBelow-down : OrderedBelow old p → OrderedBelow new c
   OrderedBelow-down h = record {
     others = λ i i_above i_within not_below.

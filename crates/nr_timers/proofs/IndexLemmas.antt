@@ -1,4 +1,4 @@
--- The index through an exchange, a push and a pop.
+-- The index after an exchange, a push and a pop.
 use Rattle.std.proofs.Common.{◌≡◌, ◌≢◌, ⊎_elim, ℕ, zero, suc, ◌+◌, ◌-◌, ◌<◌, List, [], ◌∷◌, ◌++◌, length, get_or, set, take, refl, sym, ap, ◌∙◌, subst, arith}
 use Rattle.std.specs.List.{swap, sum_by}
 use Rattle.std.proofs.lemmas.List.{get_or-set_same, get_or-set_other, length-set, get_or_append_left, get_or_push, length_push, get_or-take, length-take-le}
@@ -11,7 +11,7 @@ use Rattle.nr_timers.specs.Index.{key, Absent, Keyed}
 use Rattle.nr_timers.specs.Auxiliary.Index.{free, IsIndexed}
 use Rattle.nr_timers.proofs.PathLemmas.{at-swap}
 
--- what the index holds
+-- an index gives each entry a key of its own
 pub keyed : (xs : List Entry) (ix : List ℕ) → IsIndexed xs ix → Keyed xs (length ix)
 keyed xs ix h = record {
   below = h.below;
@@ -158,7 +158,7 @@ module _ (xs : List Entry) (ix : List ℕ) (h : IsIndexed xs ix) where
     pub has_room : length xs < length ix
     has_room = let s = sum_push in let c = h.count in omega arith
 
-    -- an entry goes last
+    -- an entry is appended
     pub IsIndexed-push : IsIndexed (xs ++ e ∷ []) (set ix (key e) (length xs + 1))
     IsIndexed-push =
         let size = length_push xs e in
@@ -190,7 +190,7 @@ module _ (xs : List Entry) (ix : List ℕ) (h : IsIndexed xs ix) where
         }
 
   module _ (some_entry : 0 < length xs) where
-    -- the last entry goes
+    -- the last entry is removed
     pub IsIndexed-pop : IsIndexed (take (length xs - 1) xs) (set ix (key (at xs (length xs - 1))) 0)
     IsIndexed-pop =
         let size : length (take (length xs - 1) xs) ≡ length xs - 1 = length-take-le (length xs - 1) xs (omega arith) in
@@ -229,7 +229,7 @@ module _ (xs : List Entry) (ix : List ℕ) (h : IsIndexed xs ix) where
               omega arith;
         }
 
--- the index after the code's own steps
+-- the index after the steps of the code
 pub index_swapped : (xs zs : List Entry) (ix : List ℕ) (a b ka kb : ℕ) → IsIndexed xs ix → a < length xs → b < length xs → zs ≡ swap xs a b → ka ≡ key (at xs a) → kb ≡ key (at xs b)
     → IsIndexed zs (set (set ix ka (b + 1)) kb (a + 1))
 index_swapped xs zs ix a b ka kb h wa wb e ea eb =

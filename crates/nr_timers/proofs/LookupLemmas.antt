@@ -1,4 +1,4 @@
--- Which timer entries give a descriptor's side.
+-- The entry of a descriptor's side.
 use Rattle.std.proofs.Common.{◌≡◌, ◌≢◌, ◌⊎◌, inl, inr, ⊎_elim, ℕ, zero, suc, ◌+◌, ◌*◌, ◌<◌, Bool, true, false, ◌&&◌, List, [], ◌∷◌, length, Option, Some, None, refl, sym, ap, ◌∙◌, subst, arith}
 use Rattle.std.specs.Prelude.{◌==◌, cond, find, option_map}
 use Rattle.std.proofs.lemmas.Bool.{cases_eq}
@@ -13,7 +13,7 @@ use Rattle.nr_timers.specs.Index.{key, key_of, Absent}
 use Rattle.nr_timers.specs.TimersOf.{is_for, timer_of, SetsTimer}
 use Rattle.nr_timers.proofs.DrawnLemmas.{Has}
 
--- a cell is that of one descriptor's side
+-- a cell belongs to only one descriptor's side
 pub one_side : (d e : ℕ) (s t : Side) → key_of d s ≡ key_of e t → (d ≡ e) × (s ≡ t)
 one_side d e Read Read h = let is : 2 * d ≡ 2 * e = h in (omega arith, refl)
 one_side d e Read Write h = let is : 2 * d ≡ 2 * e + 1 = h in absurd (omega arith)
@@ -79,7 +79,7 @@ Apart-tail f y ys h p q lt lt_q e =
     let same : suc p ≡ suc q = h (suc p) (suc q) (omega arith) (omega arith) e in
     omega arith
 
--- there is an entry of a cell, or none
+-- a cell has an entry or none
 pub has_or_absent : (k : ℕ) (xs : List Entry) → Absent k xs ⊎ ((x : Entry) × Has x xs × (key x ≡ k))
 has_or_absent k [] = inl (λ p lt e. let no : p < 0 = lt in omega arith)
 has_or_absent k (y ∷ ys) =
@@ -112,7 +112,7 @@ timer_none d s (y ∷ ys) none =
     ap (first_timer d s y ys) (not_for_key d s y (Absent-head (key_of d s) y ys none))
     ∙ timer_none d s ys (Absent-tail (key_of d s) y ys none)
 
--- where the same entries have a descriptor's side, it has the same timer
+-- a descriptor's side with the same entries has the same timer
 pub same_timer : (d : ℕ) (s : Side) (xs ys : List Entry) → Apart key xs → Apart key ys → ((x : Entry) → key x ≡ key_of d s → Has x xs → Has x ys)
     → ((x : Entry) → key x ≡ key_of d s → Has x ys → Has x xs) → timer_of xs d s ≡ timer_of ys d s
 same_timer d s xs ys apart_x apart_y to from =
@@ -127,7 +127,7 @@ same_timer d s xs ys apart_x apart_y to from =
 other_side : (d k : ℕ) (s t : Side) → d ≢ k → key_of d s ≢ key_of k t
 other_side d k s t n e = n (one_side d k s t e).0
 
--- one descriptor's side has this timer, and all others what they had
+-- one descriptor's side has this timer, and all others are unchanged
 pub sets_timer : (d : ℕ) (side : Side) (timer : Option Timer) (old new : List Entry) → timer_of new d side ≡ timer
     → ((k : ℕ) (s : Side) → key_of k s ≢ key_of d side → timer_of new k s ≡ timer_of old k s) → SetsTimer d side timer old new
 sets_timer d Read timer old new here others =

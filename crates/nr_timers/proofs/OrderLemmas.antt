@@ -18,11 +18,11 @@ pub less_self : (a : Entry) → is_less a a ≡ false
 unfolding is_less
 less_self a = grind (arith, ints, nat_tests)
 
--- an answer of the order at equal entries
+-- the order's answer for equal entries
 pub same_less : (a b c d : Entry) (v : Bool) → a ≡ c → b ≡ d → is_less c d ≡ v → is_less a b ≡ v
 same_less a b c d v p q h = rw (p, q) h
 
--- in an ordered heap nothing is less than the entry at place 0
+-- in an ordered heap no entry is less than the one at place 0
 pub least_first : (xs : List Entry) → Ordered xs → (n i : ℕ) → i ≤ n → i < length xs → is_less (at xs i) (at xs 0) ≡ false
 least_first xs h n zero le lt = less_self (at xs 0)
 least_first xs h zero (suc i) le lt = absurd (omega arith)

@@ -10,17 +10,17 @@ use Rattle.nr_timers.specs.PathToRoot.{parent, Leads, OnPath}
 use Rattle.nr_timers.specs.Auxiliary.PathToRoot.{moved_up, moved_down}
 use Rattle.nr_timers.specs.PathLaws.{Leads-lt}
 
--- of two places on a path the lower number is on the path of the other
+-- of two places on a path, the one with the lower number is on the path of the other
 pub Leads-between : (n m p q k : ℕ) → Leads n p q → Leads m p k → k ≤ q → OnPath q k
 Leads-between zero m p q k a b le = (m, subst (λ x. Leads m x k) (sym a) b)
 Leads-between (suc n) zero p q k a b le = let below = Leads-lt n p q a in absurd (omega arith)
 Leads-between (suc n) (suc m) p q k a b le = Leads-between n m (parent p) q k a.1 b.1 le
 
--- what is where after an exchange
+-- the entries after an exchange
 pub at-swap : (places : List Entry) (a b : ℕ) → a < length places → b < length places → Swapped (at places) (at (swap places a b)) a b
 at-swap places a b p q = swapped_from_swap places (swap places a b) a b blank p q refl
 
--- an exchange made twice
+-- an exchange made twice changes nothing
 pub swap-swap : (places : List Entry) (a b : ℕ) → a < length places → b < length places → swap (swap places a b) a b ≡ places
 swap-swap places a b p q =
     let once = at-swap places a b p q in
@@ -41,14 +41,14 @@ pub length-moved_down : (n : ℕ) (places : List Entry) (p : ℕ) → length (mo
 length-moved_down zero places p = refl
 length-moved_down (suc n) places p = length-swap (moved_down n places (parent p)) p (parent p) ∙ length-moved_down n places (parent p)
 
--- down again after up
+-- a move up followed by a move down changes nothing
 pub moved_down-moved_up : (n : ℕ) (places : List Entry) (p : ℕ) → p < length places → moved_down n (moved_up n places p) p ≡ places
 moved_down-moved_up zero places p h = refl
 moved_down-moved_up (suc n) places p h =
     let size = length-swap places p (parent p) in
     ap (λ xs. swap xs p (parent p)) (moved_down-moved_up n (swap places p (parent p)) (parent p) (omega arith)) ∙ swap-swap places p (parent p) h (omega arith)
 
--- up again after down
+-- a move down followed by a move up changes nothing
 pub moved_up-moved_down : (n : ℕ) (places : List Entry) (p : ℕ) → p < length places → moved_up n (moved_down n places p) p ≡ places
 moved_up-moved_down zero places p h = refl
 moved_up-moved_down (suc n) places p h =

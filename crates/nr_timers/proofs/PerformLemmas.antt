@@ -1,4 +1,4 @@
--- An operation that is performed is made, leaves well-formed timers, and has its way back.
+-- An operation that is performed has its result, leaves well-formed timers, and can be undone.
 use Rattle.std.proofs.Common.{◌≡◌, ℕ, ℤ, ◌+◌, ◌-◌, ◌*◌, ◌^◌, ◌<◌, ◌≤◌, true, List, [], ◌∷◌, ◌++◌, length, Option, Some, None, refl, sym, ap, ◌∙◌, subst, ⊎_elim, arith, lit≤}
 use Rattle.std.specs.Prelude.{int_le, nat_lt, if◌then◌else◌, remove, slice_get}
 use Rattle.std.proofs.lemmas.Option.{slice_get_within}
@@ -128,7 +128,7 @@ popping old well now some due room q e new firings first is removed back ordered
     }
     )
 
--- a firing taken out leaves the others as they are
+-- removing a firing leaves the others unchanged
 abbrev left_from : ℕ → ℕ → ℕ
 left_from i p = if nat_lt p i then p else p + 1
 

@@ -1,4 +1,4 @@
--- An entry's way up or down, from one exchange and the rest of the way.
+-- An entry's move up or down, from one exchange and the rest of the move.
 use Rattle.std.proofs.Common.{◌≡◌, ⊎_elim, ℕ, suc, ◌+◌, ◌<◌, ◌≤◌, true, false, List, length, refl, sym, ap, ◌∙◌, subst, arith}
 use Rattle.std.specs.List.{swap}
 use Rattle.std.proofs.lemmas.List.Edits.{Swapped, length-swap}
@@ -12,7 +12,7 @@ use Rattle.nr_timers.specs.PathLaws.{Leads-more, OnPath-le}
 use Rattle.nr_timers.proofs.PathLemmas.{at-swap, moved_down-more, length-moved_up, length-moved_down}
 use Rattle.nr_timers.proofs.ExchangeLemmas.{OrderedAbove-up, Raised-up, OrderedBelow-down, Sunk-down}
 
--- the least so far and one more
+-- the least so far, compared with one more entry
 pub least_new : (xs : List Entry) (from i least new : ℕ) → new ≡ i → is_less (at xs i) (at xs least) ≡ true → ((j : ℕ) → from ≤ j → j < i → is_less (at xs j) (at xs least) ≡ false) → (j : ℕ)
     → from ≤ j → j < i + 1 → is_less (at xs j) (at xs new) ≡ false
 least_new xs from i least new e less so_far j lo hi =
@@ -85,12 +85,12 @@ module _ (old : List Entry) (p : ℕ) (within : p < length old) (lowest : (i : �
   pub OrderedBelow-none : OrderedBelow old p → Ordered old
   OrderedBelow-none h i above within = ⊎_elim (λ e. rw e (lowest i above within e)) (λ other. h.others i above within other) (cases_eq (parent i) p)
 
--- where the least child isn't less, none is
+-- if the least child isn't less, no child is
 pub none_less : (old : List Entry) (p c : ℕ) → is_less (at old c) (at old p) ≡ false → ((i : ℕ) → 0 < i → i < length old → parent i ≡ p → is_less (at old i) (at old c) ≡ false) → (i : ℕ) → 0 < i
     → i < length old → parent i ≡ p → is_less (at old i) (at old p) ≡ false
 none_less old p c not_less least i above within child = not_less-trans (at old p) (at old c) (at old i) not_less (least i above within child)
 
--- one exchange more on a known way
+-- one more exchange in a known move
 pub lower_more : (old mid new : List Entry) (p q : ℕ) → q < p → ((n : ℕ) × Leads n (parent p) q × (mid ≡ moved_down n old (parent p))) → new ≡ swap mid p (parent p)
     → (n : ℕ) × Leads n p q × (new ≡ moved_down n old p)
 lower_more old mid new p q lt h e = (suc h.0, (omega arith, h.1), e ∙ ap (λ xs. swap xs p (parent p)) h.2)

@@ -1,4 +1,4 @@
--- What an operation leads to, from what the heap's changes leave.
+-- The result of an operation, from the changes of the heap.
 use Rattle.std.proofs.Common.{◌≡◌, ◌≢◌, ◌⊎◌, inl, inr, ⊎_elim, ℕ, ℤ, ◌+◌, ◌-◌, ◌*◌, ◌^◌, ◌<◌, true, List, [], ◌∷◌, ◌++◌, length, Option, Some, None, refl, sym, ap, ◌∙◌, subst, arith}
 use Rattle.std.specs.Prelude.{int_le}
 use Rattle.std.specs.Prelude.{slice_get}
@@ -25,7 +25,7 @@ use Rattle.nr_timers.proofs.ChangeLemmas.{at_last}
 use Rattle.nr_timers.proofs.DrawnLemmas.{Drawn, Drawn-all, Has, Drawn-has, Drawn-apart, Has-pushed, Apart-pushed, Drawn-removed, Has-removed, Has-left, removed_apart, Has-kept, Has-inserted, Has-there, inserted_apart}
 use Rattle.nr_timers.proofs.LookupLemmas.{key_is, one_side, timer_found, timer_none, same_timer, sets_timer}
 
--- those of one cell are gone, and all others left
+-- the entry of one cell was removed, and all others remain
 pub record Emptied (k : ℕ) (old new : List Entry) : Type 0 where
   pub drawn : Drawn old new
   pub absent : Absent k new
@@ -69,7 +69,7 @@ numbered_from next entries firings below below_f once once_f apart =
 keyed_from : (limit : ℕ) (xs : List Entry) → ((x : Entry) → Has x xs → key x < limit) → Apart key xs → Keyed xs limit
 keyed_from limit xs below once = record { below = λ p lt. below (at xs p) (p, lt, refl); once = once }
 
--- what stays when entries leave
+-- the facts that hold after entries are removed
 module _ (old new : List Entry) (drawn : Drawn old new) where
   keyed_drawn : (limit : ℕ) → Keyed old limit → Keyed new limit
   keyed_drawn limit keyed =
@@ -84,7 +84,7 @@ module _ (old new : List Entry) (drawn : Drawn old new) where
       n.firings_once
       (λ x y h g. has_apart next old firings x y n (Drawn-has old new x drawn h) g)
 
--- the timer of a side that is emptied, and of the others
+-- the timers of the emptied side and of the others
 emptied_sets : (d limit : ℕ) (side : Side) (old new : List Entry) → Keyed old limit → Emptied (key_of d side) old new → SetsTimer d side None old new
 emptied_sets d limit side old new keyed e =
     sets_timer d side None old new (timer_none d side new e.absent)
@@ -163,7 +163,7 @@ key_below : (d k : ℕ) (s : Side) → d < k → key_of d s < 2 * k
 key_below d k Read lt = omega arith
 key_below d k Write lt = omega arith
 
--- the cell of an entry whose descriptor may be
+-- the cell of an entry whose descriptor is below the limit
 pub armed_below : (e : Entry) (k : ℕ) → e.descriptor < k → key e < 2 * k
 armed_below e k lt = subst (λ n. n < 2 * k) (sym (key_is e)) (key_below e.descriptor k e.side lt)
 
@@ -235,14 +235,14 @@ module _ (old : State) (well : IsTimers old) (e : Entry) (mid new : List Entry) 
         in_range = omega arith;
       }
 
--- the armed entry with the timer of the one that is gone is that one
+-- the armed entry with the timer of the removed one is the removed one
 pub with_old_timer : (new : List Entry) (to : ℕ) (e gone : Entry) → at new to ≡ e → key gone ≡ key e → with_timer new to gone.timer ≡ gone
 with_old_timer new to e gone arrives same =
     let both = one_side e.descriptor gone.descriptor e.side gone.side (sym (key_is e) ∙ sym same ∙ key_is gone) in
     ap (λ (x : Entry). record x { timer = gone.timer }) arrives
     ∙ (λ i. record { descriptor = both.0 i; side = both.1 i; timer = gone.timer })
 
--- what the least entry is
+-- facts about the least entry
 module _ (old : State) (least : Entry) (now : ℤ) (is : slice_get old.entries 0 ≡ Some least) where
   pub some : 0 < length old.entries
   some = slice_get_within old.entries 0 least is

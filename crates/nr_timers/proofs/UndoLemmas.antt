@@ -1,4 +1,4 @@
--- The state that undoing leaves is the one that the delta leads back to.
+-- The state after an undo is the one to which the delta leads back.
 use Rattle.std.proofs.Common.{◌≡◌, ℕ, ◌-◌, ◌*◌, List, length, take, sym, ap, ◌∙◌, subst, arith, suc, [], ◌∷◌, ◌++◌, zero, Some}
 use Rattle.std.specs.Prelude.{insert, remove, slice_get}
 use Rattle.std.proofs.lemmas.List.{append-nil, drop_all}
@@ -60,7 +60,7 @@ module _ (now new : State) (descriptors : new.descriptors ≡ now.descriptors) w
         rest = λ i. record { entries = new.entries; firings = firings i; next = next i; descriptors = descriptors i };
       }
 
--- what putting the entry back requires
+-- the conditions for restoring the entry
 pub rearmed_needs : (now : State) (to place last limit : ℕ) (timer : Timer) (mid : List Entry) → InsertedBack to now.entries mid → limit ≡ 2 * now.descriptors
     → ((old : State) × RearmedBack to place last timer now old) → (x : List Entry) × RemovedBack place last (with_timer now.entries to timer) mid x × Keyed x limit
 rearmed_needs now to place last limit timer mid back is (old, b) = (
@@ -69,14 +69,14 @@ rearmed_needs now to place last limit timer mid back is (old, b) = (
   subst (λ n. Keyed old.entries n) (sym is) b.keyed,
 )
 
--- the last firing taken away
+-- removing the last firing
 pub last_is : (xs : List Entry) (e : Entry) → slice_get xs (length xs - 1) ≡ Some e → e ≡ at xs (length xs - 1)
 last_is xs e is = sym (get_or_from_slice_get xs (length xs - 1) e blank is)
 
 pub last_removed : (xs : List Entry) → remove xs (length xs - 1) ≡ take (length xs - 1) xs
 last_removed xs = ap (λ (ys : List Entry). take (length xs - 1) xs ++ ys) (drop_all (suc (length xs - 1)) xs (omega arith)) ∙ append-nil (take (length xs - 1) xs)
 
--- a firing that was taken out of a place comes back to it
+-- inserting a removed firing again restores the list
 pub returned : (xs : List Entry) (i : ℕ) (e : Entry) → slice_get xs i ≡ Some e → insert (remove xs i) i e ≡ xs
 returned [] i e there = absurd cc
 returned (x ∷ xs) zero e there = cc

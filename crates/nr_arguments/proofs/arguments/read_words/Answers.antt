@@ -12,7 +12,7 @@ netrev_is_free : is_simple_and_free netrev ≡ true
 unfolding clap_on_literals
 netrev_is_free = refl
 
--- the command line has no fault, and the matches that are there name the program
+-- the command line has no fault, and the matches select the program
 pub returns-in-Some-clause-ok : goal.returns-in-Some-clause-ok
 returns-in-Some-clause-ok c =
     let is : app_of c.in_ok-command.command ≡ netrev = c.in_ok-command.ensures in
@@ -25,7 +25,7 @@ returns-in-Some-clause-ok c =
       is_asked = ap asked_in (sym found) ∙ c.in-Some.ensures.named;
     }
 
--- the matches that are there name no program
+-- the matches select no program
 pub returns-clause-err : goal.returns-clause-err
 returns-clause-err c =
     let is : app_of c.in_ok-command.command ≡ netrev = c.in_ok-command.ensures in

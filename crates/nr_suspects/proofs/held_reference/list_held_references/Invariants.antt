@@ -1,4 +1,4 @@
--- What is held of the sockets so far is listed.
+-- The held references of the sockets so far are listed.
 use Rattle.std.proofs.Common.{◌≡◌, ◌++◌}
 use Rattle.nr_suspects.specs.HeldReferences.{held_of_sockets}
 use Rattle.nr_suspects.specs.Holdings.{holding_of}

@@ -1,4 +1,4 @@
--- Those at the descriptors so far are listed, at most two for each.
+-- The sleepers at the descriptors so far are listed, at most two per descriptor.
 use Rattle.std.proofs.Common.{◌≡◌, ◌≤◌, ◌*◌, length}
 use Rattle.nr_suspects.specs.Accounts.{kept_of}
 use Rattle.nr_suspects.specs.Peers.{peer_in}

@@ -1,4 +1,4 @@
--- wherever all the undos lead, those that are left lead
+-- the remaining undos lead to the state to which all undos lead
 use Rattle.std.proofs.Common.{length}
 use Rattle.nr_rev.specs.Transaction.{LeadsBack}
 use Rattle.nr_rev.specs.World.{World}

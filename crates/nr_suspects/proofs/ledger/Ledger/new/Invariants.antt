@@ -1,4 +1,4 @@
--- So many rows are made.
+-- This many rows are made.
 use Rattle.std.proofs.Common.{◌≡◌, replicate}
 use Rattle.std.specs.Prelude.{map}
 use Rattle.nr_suspects.specs.Holdings.{none_held}

@@ -2,7 +2,7 @@ use Rattle.std.proofs.Common.{◌≡◌, ◌+◌, ◌*◌, ◌<◌, ◌≤◌, �
 use Rattle.nr_timers.specs.Order.{is_less, at}
 use Rattle.nr_timers.proofs.heap.Heap.least_child.Given as goal
 
--- the least of the children so far
+-- the least of the children seen so far
 abbrev pub invariant-loop-i : goal.invariant-loop-i
 invariant-loop-i l =
     record {
