@@ -1,4 +1,4 @@
--- The bytes that came with one read, gone over one by one.
+-- The bytes of one read, visited one by one.
 use Rattle.std.proofs.Common.{◌≡◌, ℕ, suc, ◌+◌, ◌<◌, ◌≤◌, Bool, ◌||◌, true, false, Ok, Err, List, [], ◌∷◌, ◌++◌, length, take, drop, refl, sym, ap, ◌∙◌, subst, nat_eq, append_assoc, append-nil, get_or, take-append-drop, take_all, drop-cons}
 use Rattle.std.proofs.lemmas.Bool.{false≢true}
 use Rattle.std.proofs.lemmas.List.{take_more}
@@ -18,8 +18,7 @@ use Rattle.nr_lines.proofs.BatchLemmas.{all_out, cut_held, cut_printing, lines_m
 use Rattle.nr_lines.proofs.LineLemmas.{kept_more, meaning_of-take, unfinished_line-byte, unfinished_line-feed, whole_lines-byte, whole_lines-feed}
 use Rattle.nr_lines.proofs.TurnLemmas.{has_quit-append, turn_asks}
 
--- Behind the bytes that were read before, these were gone over. Their lines had their turns, and none
--- of them was quit.
+-- After the bytes that were read before, these were visited. Their lines had their turns, and none of them was quit.
 pub record GoneOver (before read : List ℕ) (d d' : FrontState) (old new : Outgoing) (held line : List ℕ) (whole whole' : ℕ) : Type 0 where
   pub lines : List (List ℕ)
   pub lines_are : whole_lines read ≡ whole_lines before ++ lines
@@ -27,12 +26,12 @@ pub record GoneOver (before read : List ℕ) (d d' : FrontState) (old new : Outg
   pub no_quit : has_quit lines ≡ false
   pub kept : line ≡ take 257 (unfinished_line read)
 
--- where each reply goes out at once, none is held
+-- if each reply is written immediately, no bytes are held
 pub none_held : (outbox : Outbox) → is_at_once outbox ≡ true → held_bytes outbox ≡ []
 none_held AtOnce once = refl
 none_held (Held page) once = absurd (false≢true once)
 
--- none of the bytes is gone over
+-- none of the bytes is visited
 pub none_over : (before : List ℕ) (d : FrontState) (w : Outgoing) (held line : List ℕ) (whole : ℕ) → held ≡ [] → line ≡ take 257 (unfinished_line before) → GoneOver before (before ++ []) d d w w held line whole whole
 none_over before d w held line whole none kept =
     let same : before ++ [] ≡ before = append-nil before in
@@ -44,7 +43,7 @@ none_over before d w held line whole none kept =
       kept = kept ∙ ap (λ (l : List ℕ). take 257 (unfinished_line l)) (sym same);
     }
 
--- a byte that is no line feed
+-- a byte that isn't a line feed
 pub byte_more : (before read : List ℕ) (d d' : FrontState) (old w : Outgoing) (held line line' : List ℕ) (whole whole' b : ℕ) → GoneOver before read d d' old w held line whole whole' → nat_eq b 10 ≡ false
     → line' ≡ take 257 (line ++ b ∷ []) → GoneOver before (read ++ b ∷ []) d d' old w held line' whole whole'
 byte_more before read d d' old w held line line' whole whole' b g goes e = record {
@@ -55,23 +54,23 @@ byte_more before read d d' old w held line line' whole whole' b g goes e = recor
   kept = e ∙ ap (λ l. take 257 (l ++ b ∷ [])) g.kept ∙ kept_more (unfinished_line read) b ∙ ap (take 257) (sym (unfinished_line-byte read b goes));
 }
 
--- the line that is kept asks for what the whole line does
+-- the kept line has the meaning of the whole line
 asks : (line rest : List ℕ) → line ≡ take 257 rest → meaning_of line ≡ meaning_of rest
 asks line rest kept = ap meaning_of kept ∙ meaning_of-take rest
 
--- the lines, with one more and others behind it
+-- the lines, with one more and others after it
 lines_with : (before read : List ℕ) (lines : List (List ℕ)) (b : ℕ) (bs : List ℕ) → nat_eq b 10 ≡ true → whole_lines read ≡ whole_lines before ++ lines
     → whole_lines (read ++ b ∷ bs) ≡ whole_lines before ++ (lines ++ unfinished_line read ∷ whole_lines bs)
 lines_with before read lines b bs feed lines_are =
     whole_lines-feed read b bs feed ∙ ap (λ (l : List (List ℕ)). l ++ unfinished_line read ∷ whole_lines bs) lines_are ∙ append_assoc (whole_lines before) lines (unfinished_line read ∷ whole_lines bs)
 
--- the line that is kept had its turn
+-- the kept line had its turn
 batch_more : (d p p' : FrontState) (old w w' : Outgoing) (box box' : Outbox) (lines : List (List ℕ)) (line rest : List ℕ) (whole mid whole' : ℕ) → Batch d p old w (held_bytes box) lines whole mid
     → line ≡ take 257 rest → Turned p line p' w box w' box' mid whole' → Batch d p' old w' (held_bytes box') (lines ++ rest ∷ []) whole whole'
 batch_more d p p' old w w' box box' lines line rest whole mid whole' b kept t =
     lines_more d p p' old w w' (held_bytes box) (held_bytes box') lines rest t.text whole mid whole' b (turn_asks line rest t.text p p' (asks line rest kept) t.turn) t.goes t.count
 
--- a line feed, behind a line that isn't quit
+-- a line feed, after a line that isn't quit
 pub line_more : (before read : List ℕ) (d p p' : FrontState) (old w w' : Outgoing) (box box' : Outbox) (line line' : List ℕ) (whole mid whole' b : ℕ)
     → GoneOver before read d p old w (held_bytes box) line whole mid → nat_eq b 10 ≡ true → is_quit (meaning_of line) ≡ false → Turned p line p' w box w' box' mid whole' → line' ≡ []
     → GoneOver before (read ++ b ∷ []) d p' old w' (held_bytes box') line' whole whole'
@@ -86,12 +85,12 @@ line_more before read d p p' old w w' box box' line line' whole mid whole' b g f
       kept = cleared ∙ ap (take 257) (sym (unfinished_line-feed read b feed));
     }
 
--- the line by another name
+-- another name for the line
 pub relined_over : (before read : List ℕ) (d d' : FrontState) (old w : Outgoing) (held line slice : List ℕ) (whole whole' : ℕ) → GoneOver before read d d' old w held line whole whole' → slice ≡ line
     → GoneOver before read d d' old w held slice whole whole'
 relined_over before read d d' old w held line slice whole whole' g same = subst (λ (l : List ℕ). GoneOver before read d d' old w held l whole whole') (sym same) g
 
--- all bytes are gone over
+-- all bytes are visited
 pub all_over : (at_once : Bool) (before bytes : List ℕ) (i : ℕ) (d d' : FrontState) (old w : Outgoing) (held line : List ℕ) (whole whole' : ℕ)
     → GoneOver before (before ++ take i bytes) d d' old w held line whole whole' → length bytes ≤ i → AnswersBytes at_once before bytes d d' old w held line whole whole' (Ok false)
 all_over at_once before bytes i d d' old w held line whole whole' g all =
@@ -140,14 +139,14 @@ line_cut before bytes read bs d p p' old w w' box held line line' whole mid whol
       kept = λ (is : Err e ≡ Ok false). cc;
     }
 
--- what is held of the texts of these lines is put out
+-- the held bytes of the texts of these lines are put out
 pub runs_out : (at_once : Bool) (d d' : FrontState) (old w w' : Outgoing) (held : List ℕ) (lines : List (List ℕ)) (whole whole' : ℕ) (quits : Bool)
     → RunsLines at_once d d' old w held lines whole whole' (Ok quits) → WritesAll w w' held → RunsLines at_once d d' old w' [] lines whole whole' (Ok quits)
 runs_out at_once d d' old w w' held lines whole whole' false runs goes = (all_out d d' old w w' held lines whole whole' runs.0 goes, runs.1)
 runs_out at_once d d' old w w' held lines whole whole' true (front, line, back, split, b, none, quit) goes =
     (front, line, back, split, all_out d d' old w w' held (front ++ line ∷ []) whole whole' b goes, none, quit)
 
--- or a write fails then
+-- a write failed when the held bytes were put out
 pub runs_cut : (at_once : Bool) (d d' : FrontState) (old w w' : Outgoing) (held : List ℕ) (lines : List (List ℕ)) (whole whole' : ℕ) (quits : Bool) (e : LineEnd) → (at_once ≡ true → held ≡ [])
     → RunsLines at_once d d' old w held lines whole whole' (Ok quits) → FailsToPutOut w w' held whole' e → Cut at_once d d' old w' lines whole e
 runs_cut at_once d d' old w w' held lines whole whole' false e none runs fails =
@@ -155,7 +154,7 @@ runs_cut at_once d d' old w w' held lines whole whole' false e none runs fails =
 runs_cut at_once d d' old w w' held lines whole whole' true e none (front, line, back, split, b, goes, quit) fails =
     cut_held d d' old w w' held (front ++ line ∷ []) back lines whole whole' whole' e at_once none b (none_before_last front line goes) fails (split ∙ sym (append_assoc front (line ∷ []) back))
 
--- the same of the lines that end among some bytes
+-- the same for the lines that end in some bytes
 pub bytes_out : (at_once : Bool) (before bytes : List ℕ) (d d' : FrontState) (old w w' : Outgoing) (held line : List ℕ) (whole whole' : ℕ) (quits : Bool)
     → AnswersBytes at_once before bytes d d' old w held line whole whole' (Ok quits) → WritesAll w w' held → AnswersBytes at_once before bytes d d' old w' [] line whole whole' (Ok quits)
 bytes_out at_once before bytes d d' old w w' held line whole whole' quits a goes =
@@ -166,7 +165,7 @@ pub bytes_cut : (at_once : Bool) (before bytes : List ℕ) (d d' : FrontState) (
 bytes_cut at_once before bytes d d' old w w' held line whole whole' quits e none a fails =
     record { lines = a.lines; lines_are = a.lines_are; runs = runs_cut at_once d d' old w w' held a.lines whole whole' quits e none a.runs fails; kept = λ (is : Err e ≡ Ok false). cc }
 
--- a write had failed before: what was held then is of no matter
+-- a write had failed before, so the held bytes don't matter
 pub bytes_failed : (at_once : Bool) (before bytes : List ℕ) (d d' : FrontState) (old w : Outgoing) (held line : List ℕ) (whole whole' : ℕ) (e : LineEnd)
     → AnswersBytes at_once before bytes d d' old w held line whole whole' (Err e) → AnswersBytes at_once before bytes d d' old w [] line whole whole' (Err e)
 bytes_failed at_once before bytes d d' old w held line whole whole' e a = record { lines = a.lines; lines_are = a.lines_are; runs = a.runs; kept = a.kept }
@@ -193,11 +192,11 @@ one_cut p p' w w' box line rest whole e none kept s =
     cut_printing p p p' w w w' (held_bytes box) [] [] (rest ∷ []) rest s.text whole whole s.part e (is_at_once box)
     (none_held box) first refl (turn_asks line rest s.text p p' (asks line rest kept) s.turn) s.cut s.ending refl
 
--- what came, at the byte at i
+-- the bytes so far, at the byte at i
 pub came_at : (before bytes : List ℕ) (i : ℕ) → i < length bytes → before ++ bytes ≡ (before ++ take i bytes) ++ get_or bytes i 0 ∷ drop (suc i) bytes
 came_at before bytes i h =
     ap (λ bs. before ++ bs) (sym (take-append-drop i bytes) ∙ ap (λ bs. take i bytes ++ bs) (drop-cons bytes i 0 h)) ∙ sym (append_assoc before (take i bytes) (get_or bytes i 0 ∷ drop (suc i) bytes))
 
--- what is read, with the byte at i
+-- the bytes that were read, with the byte at i
 pub read_at : (before bytes : List ℕ) (i : ℕ) → i < length bytes → (before ++ take i bytes) ++ get_or bytes i 0 ∷ [] ≡ before ++ take (i + 1) bytes
 read_at before bytes i h = append_assoc before (take i bytes) (get_or bytes i 0 ∷ []) ∙ ap (λ bs. before ++ bs) (sym (take_more bytes i 0 h))

@@ -1,4 +1,4 @@
--- What the line loop keeps, and how it ends.
+-- The invariant of the line loop, and its results.
 use Rattle.std.proofs.Common.{◌≡◌, ℕ, ◌<◌, min, Bool, true, false, cond, Ok, Err, List, [], ◌∷◌, ◌++◌, arith, length, take, refl, sym, ap, ◌∙◌, subst, nat_eq, append_assoc, append-nil}
 use Rattle.std.specs.Prelude.{Result}
 use Rattle.std.proofs.lemmas.List.{length-take}
@@ -26,7 +26,7 @@ use Rattle.nr_lines.specs.LoopInvariant.{AnswersBy, LoopInvariant, unfinished_li
 use Rattle.nr_lines.proofs.LineLemmas.{lines_at_end}
 use Rattle.nr_lines.proofs.TurnLemmas.{has_quit-append, one_text_each, some_count-append, turns_append}
 
--- a read that was prompt is so still, where more lines have texts
+-- a prompt read still is prompt if more lines have texts
 pub prompt_more : (from : Incoming) (old : Outgoing) (moments : List Moment) (lines texts later more : List (List ℕ)) → ArePrompt from old moments lines texts
     → ArePrompt from old moments (lines ++ later) (texts ++ more)
 prompt_more from old moments lines texts later more all =
@@ -43,7 +43,7 @@ prompt_more from old moments lines texts later more all =
       unended = p.unended;
     }) moments all
 
--- the end isn't found now, where it wasn't found then
+-- true if the end isn't found now unless it was found then
 abbrev pub StaysOpen : Incoming → Incoming → Type 0
 StaysOpen r r' = r.ended ≡ false → r'.ended ≡ false
 
@@ -63,7 +63,7 @@ prompt_now r r' w w' p p' read line whole st unended m now = record {
   unended = λ none. now.2 (unended none);
 }
 
--- the reads so far, and those that are made now
+-- the reads so far, and those of now
 passes_more : (r r' r'' : Incoming) (before now : List Moment) → Passes r r' before → Passes r' r'' now → Passes r r'' (before ++ now)
 passes_more r r' r'' before now first then = then ∙ ap (λ (l : List Moment). l ++ now) first ∙ append_assoc r.moments before now
 
@@ -73,12 +73,12 @@ prompt_still r r' w w' p p' read line whole st unended now all =
     All-append (IsPrompt r w (whole_lines read) st.texts) st.moments now st.prompt
     (All-weaker (IsNow r' w') (IsPrompt r w (whole_lines read) st.texts) (prompt_now r r' w w' p p' read line whole st unended) now all)
 
--- what is written with more texts
+-- the written bytes with more texts
 written_more : (old w w' : Outgoing) (texts more : List (List ℕ)) (out : List ℕ) → Sends old w (concat texts) → Sends w w' out → concat more ≡ out ++ [] → Sends old w' (concat (texts ++ more))
 written_more old w w' texts more out so_far later all =
     subst (Sends old w') (ap (λ (l : List ℕ). concat texts ++ l) (sym (append-nil out) ∙ sym all) ∙ sym (concat-append texts more)) (sends_then old w w' (concat texts) out so_far later)
 
--- the lines that came with one read were answered, and none was quit
+-- the lines of one read were answered, and none was quit
 pub goes_on : (from left : Incoming) (old w w' : Outgoing) (d p p' : FrontState) (came read line line' : List ℕ) (lines : List (List ℕ)) (whole whole' : ℕ)
     → LoopInvariant from left old w d p came read line whole → whole_lines came ≡ whole_lines read ++ lines → Batch p p' w w' [] lines whole whole' → has_quit lines ≡ false
     → line' ≡ take 257 (unfinished_line came) → LoopInvariant from left old w' d p' came came line' whole'
@@ -194,7 +194,7 @@ cut from left old w w' d p p' came read kept lines whole ended at_once e st line
           (subst (λ (x : FrontState). AnswersLines from left old w' d x (Err (Write (saturating_count (some_count (st.texts ++ c.texts))) (saturating_count c.n)))) (sym (c.exact once).0) answers);
     }
 
--- whether a read failed, and whether a write did, without the counts
+-- whether a read failed, and whether a write failed, without the counts
 reads_of : Result End StreamFailure → Bool
 reads_of (Err failures.Read) = true
 reads_of _ = false
@@ -277,7 +277,7 @@ closed r r' w w' p p' read line whole st at_end none = record {
   );
 }
 
--- a read failed, or no more of them were tried
+-- a read failed, or no more reads are tried
 pub stopped : (r r' r'' : Incoming) (w w' : Outgoing) (p p' : FrontState) (read line : List ℕ) (whole : ℕ) → LoopInvariant r r' w w' p p' read read line whole → StaysOpen r r' → Receives r' r'' []
     → (moments : List Moment) → ReadsAt r' r'' w' moments → AnswersLines r r'' w w' p p' (Err Read)
 stopped r r' r'' w w' p p' read line whole st unended none moments now = record {
@@ -337,13 +337,13 @@ last_quits at_once true from left old w w' d p p' read line whole whole' st at_e
     (quits from left old w w' d p p' read read line front quit back whole whole' true st (last_line read line st.kept some ∙ ap (λ (l : List (List ℕ)). whole_lines read ++ l) split) (λ _. at_end) b goes stops)
 last_quits at_once false from left old w w' d p p' read line whole whole' st at_end some runs is = absurd (false≢true is)
 
--- or a write failed
+-- a write failed in the last line
 pub last_cut : (at_once : Bool) (from left : Incoming) (old w w' : Outgoing) (d p p' : FrontState) (read line : List ℕ) (whole : ℕ) (e : LineEnd) → LoopInvariant from left old w d p read read line whole → IsOver left
     → 0 < length line → Cut at_once p p' w w' (unfinished_line read ∷ []) whole e → AnswersBy at_once from left old w' d p' (Err e)
 last_cut at_once from left old w w' d p p' read line whole e st at_end some c =
     cut from left old w w' d p p' read read line (unfinished_line read ∷ []) whole true at_once e st (last_line read line st.kept some) (λ _. at_end) c
 
--- some bytes came, and the lines that end among them were answered: none is quit, or one is
+-- some bytes came, and the lines that end in them were answered: none is quit, or one is
 pub bytes_go_on : (at_once quits : Bool) (from left : Incoming) (old w w' : Outgoing) (d p p' : FrontState) (read bytes line line' : List ℕ) (whole whole' : ℕ) → LoopInvariant from left old w d p (read ++ bytes) read line whole
     → AnswersBytes at_once read bytes p p' w w' [] line' whole whole' (Ok quits) → quits ≡ false → LoopInvariant from left old w' d p' (read ++ bytes) (read ++ bytes) line' whole'
 bytes_go_on at_once false from left old w w' d p p' read bytes line line' whole whole' st a goes =
@@ -358,13 +358,13 @@ bytes_quit at_once true from left old w w' d p p' read bytes line line' whole wh
     (quits from left old w w' d p p' (read ++ bytes) read line front quit back whole whole' false st (a.lines_are ∙ ap (λ (l : List (List ℕ)). whole_lines read ++ l) split) (λ (h : false ≡ true). cc) b goes stops)
 bytes_quit at_once false from left old w w' d p p' read bytes line line' whole whole' st a is = absurd (false≢true is)
 
--- or a write failed
+-- a write failed after some bytes came
 pub bytes_cut : (at_once : Bool) (from left : Incoming) (old w w' : Outgoing) (d p p' : FrontState) (read bytes line line' : List ℕ) (whole whole' : ℕ) (e : LineEnd) → LoopInvariant from left old w d p (read ++ bytes) read line whole
     → AnswersBytes at_once read bytes p p' w w' [] line' whole whole' (Err e) → AnswersBy at_once from left old w' d p' (Err e)
 bytes_cut at_once from left old w w' d p p' read bytes line line' whole whole' e st a =
     cut from left old w w' d p p' (read ++ bytes) read line a.lines whole false at_once e st a.lines_are (λ (h : false ≡ true). cc) a.runs
 
--- nothing came yet
+-- no bytes have come yet
 pub invariant_at_first : (r : Incoming) (w : Outgoing) (p : FrontState) (line : List ℕ) → line ≡ [] → LoopInvariant r r w w p p [] [] line 0
 invariant_at_first r w p line e = record {
   texts = [];
@@ -379,7 +379,7 @@ invariant_at_first r w p line e = record {
   count = refl;
 }
 
--- a read that gave some bytes
+-- a read that returned some bytes
 pub came_more : (r r' r'' : Incoming) (w w' : Outgoing) (p p' : FrontState) (read line bytes : List ℕ) (whole : ℕ) → LoopInvariant r r' w w' p p' read read line whole → StaysOpen r r' → Receives r' r'' bytes
     → (moments : List Moment) → ReadsAt r' r'' w' moments → LoopInvariant r r'' w w' p p' (read ++ bytes) read line whole
 came_more r r' r'' w w' p p' read line bytes whole st unended more moments now = record {
@@ -395,12 +395,12 @@ came_more r r' r'' w w' p p' read line bytes whole st unended more moments now =
   count = st.count;
 }
 
--- the line by another name
+-- another name for the line
 pub relined : (r r' : Incoming) (w w' : Outgoing) (p p' : FrontState) (came read line slice : List ℕ) (whole : ℕ) → LoopInvariant r r' w w' p p' came read line whole → slice ≡ line
     → LoopInvariant r r' w w' p p' came read slice whole
 relined r r' w w' p p' came read line slice whole st e = subst (λ l. LoopInvariant r r' w w' p p' came read l whole) (sym e) st
 
--- a read that gave none
+-- a read that returned none
 pub last_invariant : (r r' r'' : Incoming) (w w' : Outgoing) (p p' : FrontState) (read line slice buf : List ℕ) (whole n : ℕ) → LoopInvariant r r' w w' p p' read read line whole → StaysOpen r r'
     → Receives r' r'' (take n buf) → (moments : List Moment) → ReadsAt r' r'' w' moments → n ≡ 0 → slice ≡ line → LoopInvariant r r'' w w' p p' read read slice whole
 last_invariant r r' r'' w w' p p' read line slice buf whole n st unended more moments now none e =

@@ -1,4 +1,4 @@
--- A transcript only goes on.
+-- A transcript only grows.
 use Rattle.std.proofs.Common.{◌≡◌, ℕ, ap, sym, ◌∙◌, arith, List, [], ◌∷◌, ◌++◌, append-nil, append_assoc}
 use Rattle.nr_journal.specs.declared.view.PassState.{PassState}
 use Rattle.nr_command.specs.Word.{word_of}
@@ -8,7 +8,7 @@ use Rattle.nr_front.specs.Front.{PlacesCommand}
 use Rattle.nr_lines.specs.Auxiliary.Engine.{Grows, Turns}
 use Rattle.nr_lines.proofs.KeptLemmas.{IsKept, turns_keep}
 
--- nothing was seen
+-- no word was read
 none_seen : (d d' : FrontState) → d'.pass_state ≡ d.pass_state → Grows d d'
 none_seen d d' is = record {
   words = ([], ap (λ (t : PassState). t.seen) is ∙ sym (append-nil d.pass_state.seen));

@@ -1,4 +1,4 @@
--- What each call of a front keeps, lines keep.
+-- A relation that each call of a front keeps is kept by lines.
 use Rattle.std.proofs.Common.{◌≡◌, ℕ, ap, inl, inr, List, [], ◌∷◌, Option, Some, None, Result, Ok, Err}
 use Rattle.nr_command.specs.Command.{meaning_of}
 use Rattle.nr_command.specs.declared.command.Command.{Command}
@@ -14,13 +14,13 @@ use Rattle.nr_front.specs.declared.fault.FrontFault.TheVariants.{Memory, Placed,
 use Rattle.nr_lines.specs.Auxiliary.Engine.{Turns}
 use Rattle.nr_lines.specs.Auxiliary.Turn.{MayReply}
 
--- a relation between the states of a front before and after a call, which each of its calls keeps
+-- true of a relation between the states of a front before and after a call that each of its calls keeps
 pub record IsKept (R : FrontState → FrontState → Type 0) : Type 0 where
-  -- nothing was seen
+  -- no word was read
   pub stays : (d d' : FrontState) → d'.pass_state ≡ d.pass_state → R d d'
-  -- words of others were seen
+  -- words of others were read
   pub learns : (d d' : FrontState) → Learns d d' → R d d'
-  -- a word of its own was placed
+  -- a word of the front's own was placed
   pub places : (command : Command) (d d' : FrontState) → PlacesCommand command d d' → R d d'
   -- one call followed the other
   pub joins : (a b c : FrontState) → R a b → R b c → R a c
@@ -29,7 +29,7 @@ module _ (R : FrontState → FrontState → Type 0) (kept : IsKept R) where
   same : (d d' : FrontState) → d' ≡ d → R d d'
   same d d' is = kept.stays d d' (ap (λ (t : FrontState). t.pass_state) is)
 
-  -- words of others were seen, and then the walker moved
+  -- words of others were read, and then the walker moved
   learns_led : (d mid d' : FrontState) → Learns d mid → d'.pass_state ≡ mid.pass_state → R d d'
   learns_led d mid d' l is = kept.joins d mid d' (kept.learns d mid l) (kept.stays mid d' is)
 

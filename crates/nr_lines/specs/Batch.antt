@@ -1,4 +1,4 @@
--- The lines that came with one read, and their texts.
+-- The lines of one read, and their texts.
 use Rattle.std.specs.Prelude.{◌≡◌, ℕ, ◌+◌, ◌<◌, Bool, true, false, List, [], ◌∷◌, ◌++◌, length, take, Some, Result, Ok, Err}
 use Rattle.std.specs.List.{concat}
 use Rattle.nr_text.specs.Streams.{Outgoing, Sends, WritesPrefix, saturating_count}
@@ -20,8 +20,8 @@ use Rattle.nr_lines.specs.declared.ending.LineEnd.{LineEnd}
 use Rattle.nr_lines.specs.declared.ending.LineEnd.TheVariants.{Write}
 use Rattle.nr_lines.specs.declared.outbox.Outbox.{Outbox}
 
--- A front that is asked this may return this reply, and be so then. The reply was printed, or a
--- write failed.
+-- True if a front may give a reply to this line and have this state then, and the reply was printed
+-- or a write failed.
 abbrev pub PrintsReply : Result Line LineFault → FrontState → FrontState → Outgoing → Outbox
     → Outgoing → Outbox → Result (Unit {0}) Part → Type 0
 PrintsReply asked d d' old before new after printed =
@@ -45,7 +45,7 @@ pub record StopsPrinting (d : FrontState) (line : List ℕ) (d' : FrontState) (o
   pub cut : CutBehind old (held_bytes before) text new part
   pub ending : e ≡ Write whole part
 
--- A write failed inside the bytes that were held.
+-- A write failed within the held bytes.
 pub record FailsToPutOut (old new : Outgoing) (held : List ℕ) (whole : ℕ) (e : LineEnd) :
     Type 0 where
   pub part : ℕ
@@ -64,8 +64,8 @@ pub record Batch (d d' : FrontState) (old new : Outgoing) (held : List ℕ)
   pub count : (n : ℕ) → whole ≡ saturating_count n
       → whole' ≡ saturating_count (n + some_count texts)
 
--- A write failed inside the text of a line, after the texts of those before it. The lines behind it
--- had their turns too; where each reply goes out at once, no line had, and the counts are reported.
+-- A write failed within the text of a line, after the texts of earlier lines. Later lines had their
+-- turns too; if each reply is written immediately, there are none, and the counts are reported.
 pub record Cut (at_once : Bool) (d d' : FrontState) (old new : Outgoing) (lines : List (List ℕ))
     (whole : ℕ) (e : LineEnd) : Type 0 where
   pub front : List (List ℕ)
@@ -89,8 +89,8 @@ pub record Cut (at_once : Bool) (d d' : FrontState) (old new : Outgoing) (lines 
   pub exact : at_once ≡ true → (d' ≡ after) × ((k : ℕ) → whole ≡ saturating_count k
       → e ≡ Write (saturating_count (k + some_count texts)) (saturating_count n))
 
--- Of these lines, those up to the first `quit` had their turns, or a write failed. It says whether
--- there was a `quit`.
+-- True if the lines up to the first `quit` had their turns, and the result says whether there was
+-- one; or a write failed.
 abbrev pub RunsLines : Bool → FrontState → FrontState → Outgoing → Outgoing → List ℕ
     → List (List ℕ) → ℕ → ℕ → Result Bool LineEnd → Type 0
 RunsLines at_once d d' old new held lines whole whole' (Ok false) =
@@ -102,8 +102,8 @@ RunsLines at_once d d' old new held lines whole whole' (Ok true) =
 RunsLines at_once d d' old new held lines whole whole' (Err e) =
     Cut at_once d d' old new lines whole e
 
--- Behind the bytes that were read before, the lines that end among some more bytes had their turns.
--- The line that is kept is what follows them, up to 257 bytes of it.
+-- After the bytes that were read before, the lines that end in some more bytes had their turns. The
+-- kept line is what follows them, up to 257 bytes of it.
 pub record AnswersBytes (at_once : Bool) (before bytes : List ℕ) (d d' : FrontState)
     (old new : Outgoing) (held line : List ℕ) (whole whole' : ℕ) (result : Result Bool LineEnd) :
     Type 0 where

@@ -3,12 +3,12 @@ use Rattle.std.specs.Prelude.{◌≡◌, ℕ, ◌<◌, true, List, [], ◌++◌,
 use Rattle.nr_text.specs.Streams.{Outgoing, Sends, saturating_count}
 use Rattle.nr_text.specs.declared.sink.Part.{Part}
 
--- the bytes, where they are known
+-- the bytes, if they are known
 abbrev pub known_bytes : Option (List ℕ) → List ℕ
 known_bytes None = []
 known_bytes (Some bytes) = bytes
 
--- A text was added to the bytes that were held. The first of all these are out now, and the rest is
+-- A text was added to the held bytes. The first of all these bytes are out now, and the rest is
 -- held.
 pub record GoesBehind (old : Outgoing) (held text : List ℕ) (new : Outgoing) (still : List ℕ) :
     Type 0 where
@@ -17,8 +17,8 @@ pub record GoesBehind (old : Outgoing) (held text : List ℕ) (new : Outgoing) (
   pub sends : Sends old new out
   pub calm : new.failed ≡ old.failed
 
--- A text was to be added to the bytes that were held, and a write failed. The first n of all these
--- are out, and not the next. Where none was held, this count reports n.
+-- A text was to be added to the held bytes, and a write failed. The first n of all these bytes are
+-- out, and not the next. If no bytes were held, the count reports n.
 pub record CutBehind (old : Outgoing) (held text : List ℕ) (new : Outgoing) (count : ℕ) :
     Type 0 where
   pub n : ℕ
@@ -27,7 +27,7 @@ pub record CutBehind (old : Outgoing) (held text : List ℕ) (new : Outgoing) (c
   pub failed : new.failed ≡ true
   pub count_is : held ≡ [] → count ≡ saturating_count n
 
--- A text was printed behind the bytes that were held, or a write failed.
+-- True if a text was printed after the held bytes, or a write failed.
 abbrev pub PrintsBehind : Outgoing → List ℕ → Outgoing → List ℕ → List ℕ
     → Result (Unit {0}) Part → Type 0
 PrintsBehind old held new still text (Ok _) = GoesBehind old held text new still

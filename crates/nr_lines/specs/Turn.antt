@@ -1,4 +1,4 @@
--- What one line is answered.
+-- The text of a reply, and `quit`.
 use Rattle.std.specs.Prelude.{ℕ, Bool, true, false, List, [], Option, Some, None, Result, Ok}
 use Rattle.nr_command.specs.Reply.{text_of}
 use Rattle.nr_command.specs.declared.command.Line.{Line}
@@ -6,12 +6,12 @@ use Rattle.nr_command.specs.declared.command.Line.TheVariants.{Quit}
 use Rattle.nr_command.specs.declared.command.LineFault.{LineFault}
 use Rattle.nr_command.specs.declared.reply.Reply.{Reply}
 
--- The text of a reply, empty where there is none.
+-- The text of a reply, or the empty text if there is none.
 abbrev pub text_or_none : Option Reply → List ℕ
 text_or_none None = []
 text_or_none (Some reply) = text_of reply
 
--- whether it is `quit`
+-- true if the line is `quit`
 abbrev pub is_quit : Result Line LineFault → Bool
 is_quit (Ok Quit) = true
 is_quit asked = false

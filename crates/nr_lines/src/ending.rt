@@ -1,25 +1,25 @@
-//! How serving the lines ends.
+//! How serving ends.
 
 /// How serving ended.
 #[derive(Clone, Copy, Debug, PartialEq, Eq)]
 pub enum End {
-    /// The reader's bytes are all read, and no line was `quit`.
+    /// All bytes of the reader were read, and no line was `quit`.
     Closed,
     /// A line was `quit`.
     Quit,
 }
 
-/// Why serving stopped.
+/// The reason why serving stopped.
 #[derive(Clone, Copy, Debug, PartialEq, Eq)]
 pub enum LineEnd {
     /// A read failed.
     Read,
-    /// A write failed, or took nothing, after so many whole texts and so many bytes of the next.
-    /// Each count stays at `u64::MAX`.
+    /// A write failed, or took nothing, after this many whole texts and this many bytes of the next one. Each count
+    /// stops at `u64::MAX`.
     Write { whole: u64, part: u64 },
 }
 
-/// Which stream failed, where replies go out together: how many of them are out is not counted.
+/// The stream that failed when replies go out together, so that the number of replies that are out isn't counted.
 #[derive(Clone, Copy, Debug, PartialEq, Eq)]
 pub enum StreamFailure {
     /// A read failed.

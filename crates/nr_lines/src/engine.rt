@@ -18,16 +18,16 @@ use nr_text::{Sink, Source};
 use std::io::{Read, Write};
 use std::sync::Wait;
 
-/// How many bytes are read at once.
+/// The number of bytes to read at once.
 const CHUNK: usize = 512;
 
-/// Answers the lines of a source, up to the first `quit`, and writes each reply alone. The last line may lack its line feed.
-/// Before each read all whole lines that came are answered, and their replies are out.
+/// Answers the lines of a source, up to the first `quit`, and writes each reply by itself. The last line may lack its
+/// line feed. Before each read, all whole lines so far are answered, and their replies are out.
 ///
-/// The source may be read past `quit`, or past the line whose reply was not written. Where a read failed, the whole
-/// lines before it are answered. Whatever the end, the front can be used again, and each line up to there was run, also
-/// one whose reply was not written. A failure is reported exactly where there was one. It gives up only after 2^64 - 1 reads, of
-/// which the last one then counts as failed.
+/// It may have read past `quit`, or past the line whose reply was not written. If a read failed, the whole lines before
+/// it are answered. However it ends, the front can be used again, and each line up to that point was run, including one
+/// whose reply was not written. It reports a failure exactly if there was one. It gives up after 2^64 - 1 reads, the
+/// last of which then counts as failed.
 pub fn answer<R: Read, W: Write, S: Worlds + Drop + Sync, F: Finder>(
     r: &mut Source<R>,
     w: &mut Sink<W>,
@@ -49,7 +49,7 @@ where
     answer_by(&mut Outbox::AtOnce, r, w, front, journal)
 }
 
-/// As `answer`, for callers that have a runtime which may wait: it is used for nothing.
+/// Does what `answer` does, for callers whose runtime may wait. It doesn't use the runtime.
 pub fn serve<R: Read, W: Write, S: Worlds + Drop + Sync, F: Finder>(
     _rt: &impl Wait,
     r: &mut Source<R>,
@@ -72,8 +72,8 @@ where
     answer(r, w, front, journal)
 }
 
-/// As `answer`, but the replies to the lines that came with one read are held, up to 4 KB, and go out in one write before the
-/// next read. If a write fails, lines after the one whose reply was cut may have been run too.
+/// Does what `answer` does, but holds the replies to the lines of one read, up to 4 KB, and writes them at once before
+/// the next read. If a write fails, lines after the one whose reply was cut may have been run too.
 pub fn answer_together<R: Read, W: Write, S: Worlds + Drop + Sync, F: Finder>(
     r: &mut Source<R>,
     w: &mut Sink<W>,
@@ -97,7 +97,7 @@ where
     }
 }
 
-/// Answers the lines of a source, up to the first `quit`, by an outbox.
+/// Answers the lines of a source, up to the first `quit`, through an outbox.
 fn answer_by<R: Read, W: Write, S: Worlds + Drop + Sync, F: Finder>(
     outbox: &mut Outbox,
     r: &mut Source<R>,

@@ -1,4 +1,4 @@
-//! Lines in, replies out: answers the lines of a reader by a front of the shared session.
+//! Answers the lines of a reader with a front of the shared session, and writes the replies.
 #![tactic(auto)]
 
 mod batch;

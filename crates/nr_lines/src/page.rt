@@ -1,4 +1,4 @@
-//! Replies that are held.
+//! Pages of held replies.
 
 ghost use Rattle.std.specs.Prelude.{◌≡◌, ℕ, ◌≤◌, ◌-◌, ◌++◌, [], false, length, take, true};
 ghost use Rattle.nr_text.specs.Streams.{saturating_count};
@@ -11,10 +11,10 @@ use std::io::Write;
 use std::marker::Model;
 use std::mem::replace;
 
-/// How many bytes of replies are held at most.
+/// The size of a page in bytes.
 const ROOM: usize = 4096;
 
-/// Replies that are held, one after the other.
+/// Held replies, one after the other.
 #[derive(Drop)]
 pub(crate) struct Page {
     sink: Sink<ArrayVec<u8, ROOM>>,
@@ -32,7 +32,7 @@ impl Model for Page {
 }
 
 impl Page {
-    /// An empty page.
+    /// Makes an empty page.
     pub(crate) fn new() -> Page
         ensures { result ≡ [] }
     {
@@ -41,7 +41,7 @@ impl Page {
         }
     }
 
-    /// Prints a text: it is held, or goes out behind what is held, where there is no room for it.
+    /// Prints a text: holds it, or, if there is no room for it, puts the held bytes out and then the text.
     pub(crate) fn print<W: Write, T: Text>(&mut self, text: &T, w: &mut Sink<W>) -> Result<(), Part>
         ensures { PrintsBehind w.old self.old w.new self.new (T.text text.now) result }
     {
@@ -52,7 +52,7 @@ impl Page {
         w.print(text)
     }
 
-    /// Holds a text, if there is room for it.
+    /// Holds a text if there is room for it. Returns whether there was.
     fn hold<T: Text>(&mut self, text: &T) -> bool
         ensures holds { result ≡ true → self.new ≡ self.old ++ T.text text.now }
         ensures leaves { result ≡ false → self.new ≡ self.old }
@@ -64,8 +64,8 @@ impl Page {
         false
     }
 
-    /// Takes back the bytes of a part of a text, which are the last ones.
-    // (It has room for a page, which would be cleared for each text that is held.)
+    /// Removes the bytes of a part of a text, which are the last ones.
+    // (Not inlined: it has a local page, which would be cleared for each text that is held.)
     #[inline(never)]
     fn take_back(&mut self, part: Part)
         ensures { (n : ℕ) → part.0 ≡ saturating_count n → n ≤ length self.old
@@ -76,7 +76,7 @@ impl Page {
         self.sink = Sink::new(bytes);
     }
 
-    /// Puts out what is held, in one write where the writer takes all of it.
+    /// Puts the held bytes out, in one write if the writer takes them all.
     pub(crate) fn put_out<W: Write>(&mut self, w: &mut Sink<W>) -> Result<(), Part>
         ensures prints { Prints w.old w.new self.old result }
         ensures empty { self.new ≡ [] }
@@ -85,7 +85,7 @@ impl Page {
         w.print(&bytes.as_slice())
     }
 
-    /// Takes what is held.
+    /// Removes and returns the held bytes.
     fn take(&mut self) -> ArrayVec<u8, ROOM>
         ensures bytes { result.items ≡ self.old }
         ensures empty { self.new ≡ [] }

@@ -1,4 +1,4 @@
-//! One line and its answer.
+//! The turn of one line: running it and printing its answer.
 
 ghost use Rattle.std.specs.Prelude.{◌≡◌, true, Err, None, IfErr, IfNone, IfOk, IfSome, OnOk};
 ghost use Rattle.nr_command.specs.Command.{meaning_of};
@@ -20,7 +20,7 @@ use nr_search::Finder;
 use nr_text::{Part, Sink};
 use std::io::Write;
 
-/// Answers a line, and says whether it is `quit`. `whole` counts the texts that were printed whole.
+/// Answers a line. Returns whether it is `quit`. `whole` counts the texts that were printed whole.
 pub(crate) fn turn<W: Write, S: Worlds + Drop + Sync, F: Finder>(
     line: &[u8],
     outbox: &mut Outbox,
@@ -58,7 +58,7 @@ where
     }
 }
 
-/// Whether it is `quit`.
+/// Returns whether a line is `quit`.
 fn is_quit(asked: Result<Line, LineFault>) -> bool
     ensures { result ≡ is_quit asked }
 {
@@ -68,10 +68,10 @@ fn is_quit(asked: Result<Line, LineFault>) -> bool
     }
 }
 
-// A reply has room for 64 marks, and a function clears all its locals when it is entered. So each is printed where it is
-// made, by a function of its own.
+// A reply has room for 64 marks, and a function clears all its locals on entry. So each reply is printed by the
+// function that makes it.
 
-/// Prints the reply; `None` where there is none, since the line is empty.
+/// Prints the reply. Returns `None` if there is none, because the line is empty.
 fn print_reply<W: Write, S: Worlds + Drop + Sync, F: Finder>(
     asked: Result<Line, LineFault>,
     outbox: &mut Outbox,
@@ -103,7 +103,7 @@ where
     }
 }
 
-/// Prints the reply to a command or to a look.
+/// Prints the reply to a command or to a query.
 fn print_given<W: Write>(
     given: &Result<Reply, FrontFault>,
     outbox: &mut Outbox,
@@ -117,7 +117,7 @@ fn print_given<W: Write>(
     }
 }
 
-/// Prints the reply where one was asked for once more.
+/// Prints the reply to `resume`.
 fn print_resumed<W: Write>(
     given: &Result<Option<Reply>, FrontFault>,
     outbox: &mut Outbox,
@@ -138,14 +138,14 @@ fn print_bye<W: Write>(outbox: &mut Outbox, w: &mut Sink<W>) -> Result<(), Part>
     outbox.print(&Reply::Bye, w)
 }
 
-/// Prints the reply that says why nothing was done.
+/// Prints the reply that says why the line did nothing.
 fn print_fault<W: Write>(fault: Fault, outbox: &mut Outbox, w: &mut Sink<W>) -> Result<(), Part>
     ensures { Delivers w.old outbox.old w.new outbox.new (text_of (replies.Fault fault)) result }
 {
     outbox.print(&Reply::Fault(fault), w)
 }
 
-/// What a front's fault is reported as.
+/// Returns the reply's fault for a front's fault.
 fn fault_of(fault: FrontFault) -> Fault
     ensures { replies.Fault result ≡ fault_reply fault }
 {

@@ -1,4 +1,4 @@
--- Beside `Engine`: what contracts and proofs cite, and no law of THEOREM.md rests on.
+-- Definitions that contracts and proofs cite beside `Engine`. No law of THEOREM.md rests on them.
 use Rattle.std.specs.Prelude.{◌≡◌, ℕ, ◌<◌, ◌≤◌, nat_lt, Bool, true, false, List, [], ◌∷◌, ◌++◌, length, take, filter, Result, Ok, Err}
 use Rattle.std.specs.List.{All, concat}
 use Rattle.nr_text.specs.Moments.{Moment}
@@ -16,11 +16,11 @@ use Rattle.nr_lines.specs.declared.ending.StreamFailure.{StreamFailure}
 use Rattle.nr_lines.specs.declared.ending.StreamFailure.TheVariants as failures
 use Rattle.nr_lines.specs.Engine.{has_quit, lines_of}
 
--- the lines of a text that end by a line feed
+-- the lines of a text that end with a line feed
 abbrev pub whole_lines : List ℕ → List (List ℕ)
 whole_lines text = lines_of false text
 
--- Lines and their texts, one turn after the other.
+-- True if these lines have these texts, one turn after the other.
 abbrev pub Turns : FrontState → List (List ℕ) → List (List ℕ) → FrontState → Type 0
 Turns d [] [] d' = d' ≡ d
 Turns d (line ∷ lines) (text ∷ texts) d' =
@@ -28,17 +28,17 @@ Turns d (line ∷ lines) (text ∷ texts) d' =
 Turns d [] (text ∷ texts) d' = ⊥
 Turns d (line ∷ lines) [] d' = ⊥
 
--- the words seen begin those seen then, and no look that found none is taken back
+-- the words that were read stay, and so does the number of looks that found none, or it grows
 pub record Grows (d d' : FrontState) : Type 0 where
   pub words : StartsWith d'.pass_state.seen d.pass_state.seen
   pub looks : d.pass_state.looks ≤ d'.pass_state.looks
 
--- How many texts aren't empty.
+-- The number of texts that aren't empty.
 abbrev pub some_count : List (List ℕ) → ℕ
 some_count texts = length (filter (λ text. nat_lt 0 (length text)) texts)
 
--- When a read was made, each whole line that had been received was answered, one text each, and
--- nothing else had been sent: the first of these lines, and of their texts. The read before it had
+-- When a read was made, each whole line that had been received was answered, with one text each,
+-- and nothing else had been sent: these are the first lines and their texts. The read before it had
 -- not found the end.
 pub record IsPrompt (from : Incoming) (old : Outgoing) (lines texts : List (List ℕ)) (m : Moment) :
     Type 0 where
@@ -53,12 +53,12 @@ pub record IsPrompt (from : Incoming) (old : Outgoing) (lines texts : List (List
   pub of_texts : texts ≡ answers ++ texts_behind
   pub unended : from.ended ≡ false → m.ended ≡ false
 
--- Each of the reads was prompt, where these lines had these texts.
+-- True if each of the reads was prompt, with these lines and texts.
 abbrev pub ArePrompt : Incoming → Outgoing → List Moment → List (List ℕ) → List (List ℕ) → Type 0
 ArePrompt from old moments lines texts = All (IsPrompt from old lines texts) moments
 
--- These lines were answered whole, none of them quit, and `out` is their texts. The front was d
--- before, and is d' then. The reads were prompt.
+-- These lines were answered whole, none of them is `quit`, and `out` is their texts. The front was
+-- d before, and is d' afterwards. The reads were prompt.
 pub record Answered (Prompt : List (List ℕ) → List (List ℕ) → Type 0) (d : FrontState)
     (lines : List (List ℕ)) (out : List ℕ) (d' : FrontState) : Type 0 where
   pub texts : List (List ℕ)
@@ -67,7 +67,7 @@ pub record Answered (Prompt : List (List ℕ) → List (List ℕ) → Type 0) (d
   pub no_quit : has_quit lines ≡ false
   pub written : out ≡ concat texts
 
--- One of the lines is the first quit, and `out` is the texts up to its own.
+-- One of the lines is the first `quit`, and `out` is the texts up to its own.
 pub record Quitted (Prompt : List (List ℕ) → List (List ℕ) → Type 0) (d : FrontState)
     (lines : List (List ℕ)) (out : List ℕ) (d' : FrontState) : Type 0 where
   pub front : List (List ℕ)
@@ -81,8 +81,8 @@ pub record Quitted (Prompt : List (List ℕ) → List (List ℕ) → Type 0) (d 
   pub turns : Turns d (front ++ line ∷ []) texts d'
   pub written : out ≡ concat texts
 
--- The lines before one were answered whole, `whole` texts of them not empty; of that line's text
--- the first n bytes were written, and not all of it. The line was run.
+-- The lines before one were answered whole, and `whole` of their texts aren't empty. The first n
+-- bytes of that line's text were written, and not all of it. The line was run.
 pub record WrittenInPart (Prompt : List (List ℕ) → List (List ℕ) → Type 0) (d : FrontState)
     (lines : List (List ℕ)) (whole part : ℕ) (out : List ℕ) (d' : FrontState) : Type 0 where
   pub front : List (List ℕ)
@@ -102,8 +102,8 @@ pub record WrittenInPart (Prompt : List (List ℕ) → List (List ℕ) → Type 
   pub within : n < length text
   pub written : out ≡ concat texts ++ take n text
 
--- What was written for the lines that were read, by how it ended. `ended`: the source was at its
--- end.
+-- What was written for the lines that were read, depending on the result. `ended` says whether the
+-- source was at its end.
 abbrev pub Ends : (List (List ℕ) → List (List ℕ) → Type 0) → Result End LineEnd → Bool → FrontState
     → List (List ℕ) → List ℕ → FrontState → Type 0
 Ends Prompt (Ok Closed) ended d lines out d' = (ended ≡ true) × Answered Prompt d lines out d'
@@ -112,9 +112,9 @@ Ends Prompt (Err Read) ended d lines out d' = (ended ≡ false) × Answered Prom
 Ends Prompt (Err (Write whole part)) ended d lines out d' =
     WrittenInPart Prompt d lines whole part out d'
 
--- From a source that was `from` and is `left` some bytes were received, and to a sink that was
--- `old` and is `new` others were sent. Those sent answer the lines of those received, by a front
--- that was d and is d' then, and nothing else. Before each read, all whole lines were answered.
+-- Some bytes were received from a source, which was `from` and is `left`, and others were sent to a
+-- sink, which was `old` and is `new`. Those sent are exactly the answers to the lines of those
+-- received, by a front that was d and is d'. Before each read, all whole lines were answered.
 pub record AnswersLines (from left : Incoming) (old new : Outgoing) (d d' : FrontState)
     (result : Result End LineEnd) : Type 0 where
   pub read : List ℕ
@@ -127,24 +127,24 @@ pub record AnswersLines (from left : Incoming) (old new : Outgoing) (d d' : Fron
   pub at_end : ended ≡ true → IsOver left
   pub ends : Ends (ArePrompt from old moments) result ended d (lines_of ended read) out d'
 
--- it reports that a read failed
+-- true if the result says that a read failed
 abbrev pub is_read_failure : Result End LineEnd → Bool
 is_read_failure (Err Read) = true
 is_read_failure _ = false
 
--- it reports that a write failed
+-- true if the result says that a write failed
 abbrev pub is_write_failure : Result End LineEnd → Bool
 is_write_failure (Err (Write whole part)) = true
 is_write_failure _ = false
 
--- how serving ended, without the counts
+-- the result without the counts
 abbrev pub without_counts : Result End LineEnd → Result End StreamFailure
 without_counts (Ok ending) = Ok ending
 without_counts (Err Read) = Err failures.Read
 without_counts (Err (Write whole part)) = Err failures.Write
 
--- As AnswersLines, by a front that was `last` behind the lines that were answered, with counts that
--- aren't reported. If a write failed, lines behind the one whose text was cut may have had their
+-- As `AnswersLines`, with a front that was `last` after the answered lines, and with counts that
+-- aren't reported. If a write failed, lines after the one whose text was cut may have had their
 -- turns too.
 pub record AnswersTogether (from left : Incoming) (old new : Outgoing) (d d' : FrontState)
     (result : Result End StreamFailure) : Type 0 where

@@ -1,4 +1,4 @@
--- Beside `Turn`: what contracts and proofs cite, and no law of THEOREM.md rests on.
+-- Definitions that contracts and proofs cite beside `Turn`. No law of THEOREM.md rests on them.
 use Rattle.std.specs.Prelude.{◌≡◌, ℕ, ◌+◌, nat_lt, List, length, Option, Some, None, Result, Ok, Err, if◌then◌else◌}
 use Rattle.nr_command.specs.Command.{meaning_of}
 use Rattle.nr_text.specs.Streams.{saturating_count}
@@ -14,25 +14,25 @@ use Rattle.nr_front.specs.declared.fault.FrontFault.{FrontFault}
 use Rattle.nr_front.specs.declared.fault.FrontFault.TheVariants.{Memory, Placed, Full}
 use Rattle.nr_lines.specs.Turn.{text_or_none}
 
--- the reply that says why there is none
+-- the reply that says why a call has no other
 abbrev pub fault_reply : FrontFault → Reply
 fault_reply (Memory refused) = Fault (faults.Memory refused)
 fault_reply (Placed place) = Fault (faults.Placed place)
 fault_reply Full = Fault faults.JournalFull
 
--- the reply to a command or to a look
+-- the reply to a command or to a query
 abbrev pub reply_given : Result Reply FrontFault → Reply
 reply_given (Ok reply) = reply
 reply_given (Err fault) = fault_reply fault
 
--- the reply where one was asked for once more
+-- the reply to `resume`
 abbrev pub resumed : Result (Option Reply) FrontFault → Reply
 resumed (Ok None) = NothingOwed
 resumed (Ok (Some reply)) = reply
 resumed (Err fault) = fault_reply fault
 
--- A front that is asked this may return this reply, and be so then: what a command does, a look or
--- a resumption, is what the front's own calls do.
+-- True if a front may give this reply to this line, and have this state then: for a command, a
+-- query or `resume`, what the front's own calls do.
 abbrev pub MayReply : Result Line LineFault → FrontState → Option Reply → FrontState → Type 0
 MayReply (Ok (Run command)) d reply d' = (given : Result Reply FrontFault)
     × Executes command d d' given × (reply ≡ Some (reply_given given))
@@ -49,6 +49,6 @@ abbrev pub Turn : FrontState → List ℕ → List ℕ → FrontState → Type 0
 Turn d line text d' =
     (reply : Option Reply) × MayReply (meaning_of line) d reply d' × (text ≡ text_or_none reply)
 
--- the count with one text more, if it isn't empty
+-- the count plus one if the text isn't empty
 abbrev pub count_with : ℕ → List ℕ → ℕ
 count_with n text = if nat_lt 0 (length text) then saturating_count (n + 1) else n

@@ -1,4 +1,4 @@
--- Behind whatever was read before, these bytes were gone over.
+-- After the bytes that were read before, these were visited.
 use Rattle.std.proofs.Common.{◌≡◌, List, ◌++◌, ℕ, take}
 use Rattle.nr_lines.specs.LoopInvariant.{unfinished_line}
 use Rattle.nr_lines.specs.Outbox.{held_bytes, is_at_once}

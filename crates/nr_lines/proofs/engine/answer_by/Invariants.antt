@@ -1,5 +1,5 @@
--- What came from the source is answered, up to the line that is kept, nothing is held, and neither a read nor a write failed. No
--- read found the end, and each turn of the loop made one.
+-- All bytes from the source are answered, up to the kept line; no bytes are held, and neither a read nor a write
+-- failed. No read found the end, and each turn of the loop made one.
 use Rattle.std.proofs.Common.{◌≡◌, ◌≤◌, ℕ, List, [], length, false}
 use Rattle.nr_lines.proofs.EngineLemmas.{StaysOpen}
 use Rattle.nr_lines.specs.LoopInvariant.{LoopInvariant}
