@@ -1,4 +1,4 @@
--- The cells that a step changed are those of all cells that differ.
+-- The cells that a step changed are exactly the cells that differ.
 use Rattle.std.proofs.Common.{◌≡◌, ◌≢◌, ◌↔◌, ℕ, max, ◌<◌, ◌≤◌, Bool, true, false, not, List, [], ◌∷◌, ◌++◌, length, None, Ok, refl, sym, ap, subst, ◌∙◌, inl, inr, arith}
 use Rattle.std.specs.Prelude.{Contains, nat_lt, slice_get}
 use Rattle.std.specs.List.Sorted.{IsStrictlySortedBy}
@@ -44,7 +44,7 @@ apart_by a b Equal Equal first second e f = cc
 apart_by a b Equal Greater first second e f = cc
 apart_by a b Greater d first second e f = cc
 
--- of two cells one comes first
+-- of two cells only one comes before the other
 apart : (c d : Cell) → listing_order c d ≡ Less → listing_order d c ≡ Less → ⊥
 apart c d e f =
     apart_by (nat_cmp (cell_number c) (cell_number d)) (nat_cmp (number_or_0 c) (number_or_0 d)) (nat_cmp (cell_number d) (cell_number c)) (nat_cmp (number_or_0 d) (number_or_0 c))
@@ -66,7 +66,7 @@ first_same c d cs ds before_c before_d same =
       ]
     ]
 
--- what is behind the first one is behind the other first one, which is the same
+-- two sorted lists with the same first cell have the same cells after it
 behind_first : (c : Cell) (cs ds : List Cell) (x : Cell) → Before listing_order c cs → (Contains (c ∷ cs) x → Contains (c ∷ ds) x) → Contains cs x → Contains ds x
 behind_first c cs ds x before both at =
     elim (here_or_later c ds x (both (later c cs x at))) [
@@ -218,14 +218,14 @@ module _ (w next : World) where
   in_all (Cell.Info d) other = in_descriptors Cell.Info d (7, omega arith, refl) (descriptor_below (λ x. Number (summary x)) d other)
   in_all (Cell.Shut s) other = in_shut s (socket_below (λ x. Number (bit x.shut)) s other)
 
-  -- just those that differ are left
+  -- `differing_cells` contains exactly the cells that differ
   pub differing : (c : Cell) → Contains (differing_cells w next) c ↔ (cell next c ≢ cell w c)
   differing c = just_differing (all_cells w next) w next c (in_all c)
 
   pub differing_in_order : IsStrictlySortedBy listing_order (differing_cells w next)
   differing_in_order = IsStrictlySortedBy-filter listing_order (λ c. not (same_value (cell next c) (cell w c))) (all_cells w next) all_in_order
 
--- the cells that a step changed, of those that it touched, are those of all that differ
+-- the changed cells among those that a step may change are all cells that differ
 pub changed_differing : (w : World) (step : Step) (answer : Answer) (next : World) → outcome w step ≡ Ok (answer, next) → changed_cells w step next ≡ differing_cells w next
 changed_differing w step answer next is =
     same_list (changed_cells w step next) (differing_cells w next) (changed_in_order w step next) (differing_in_order w next) λ c. (

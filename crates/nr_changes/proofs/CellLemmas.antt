@@ -1,4 +1,4 @@
--- A cell that a step doesn't touch shows what it showed.
+-- A cell that a step doesn't touch keeps its value.
 use Rattle.std.proofs.Common.{◌≡◌, ◌≢◌, ℕ, Bool, true, false, List, [], ◌∷◌, ◌++◌, map, length, Option, Some, None, Ok, refl, sym, ap, subst, ◌∙◌, inl, inr, arith}
 use Rattle.std.specs.Prelude.{Contains, slice_get}
 use Rattle.std.specs.Option.{option_map_or}
@@ -30,7 +30,7 @@ use Rattle.nr_changes.proofs.KeepsLemmas.{Keeps, Touches, state_of}
 use Rattle.nr_changes.proofs.MemberLemmas.{here, later, nowhere, here_or_later, Contains-filter, Contains-in_order}
 use Rattle.nr_changes.proofs.SocketTouchLemmas.{spawn_touches, exit_touches, incref_touches, increfclose_touches, decref_touches, rwlock_touches, rwunlock_touches, acquire_touches, release_touches, sockopen_touches, arrive_touches, peerclose_touches, sysread_touches, syswrite_touches, drain_touches, closewrite_touches}
 
--- every kind
+-- the law for every kind of step
 pub step_touches : (w : World) (step : Step) → Touches (touched w step) w (outcome w step)
 step_touches w Step.Spawn = spawn_touches w
 step_touches w (Step.Exit g) = exit_touches w g
@@ -82,7 +82,7 @@ in_goroutines t g at =
     Contains-append_right (cells_at None) _ (Cell.Goroutine g)
     (Contains-append_left (goroutine_cells (in_order t.goroutines)) _ (Cell.Goroutine g) (mapped (in_order t.goroutines) g (Contains-in_order t.goroutines g at)))
 
--- the cells behind the goroutines
+-- the cells after those of goroutines
 abbrev socket_part : Touched → List Cell
 socket_part t = option_map_or socket_cells t.socket []
 
@@ -156,7 +156,7 @@ apart_stays t w next keeps = each
     each (Cell.Info d) apart = of_descriptor (λ x. Number (summary x)) d apart
     each (Cell.Shut s) apart = of_socket (λ x. Number (bit x.shut)) s apart
 
--- a cell that isn't among those of what is touched has another owner
+-- a cell that isn't listed for what is touched has another owner
 unlisted_apart : (t : Touched) (c : Cell) → ¬ Contains (cells_of t) c → IsApart t (owner_of c)
 unlisted_apart t Cell.Clock none = none (in_world t Cell.Clock (0, omega arith, refl))
 unlisted_apart t Cell.Waiters none = none (in_world t Cell.Waiters (1, omega arith, refl))

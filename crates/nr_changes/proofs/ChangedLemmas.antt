@@ -1,4 +1,4 @@
--- Just what differs is among the changed cells.
+-- The changed cells include exactly those that differ.
 use Rattle.std.proofs.Common.{◌≡◌, ◌≢◌, ◌↔◌, Bool, true, false, not, List, Ok, rules, refl, sym, ap, subst, ◌∙◌, true≢false}
 use Rattle.std.specs.Prelude.{Contains, filter}
 use Rattle.std.specs.List.{list_any}
@@ -33,7 +33,7 @@ among cells c e =
 not_among : (cells : List Cell) (c : Cell) → list_any (λ x. same_cell x c) cells ≡ false → ¬ Contains cells c
 not_among cells c e at = true≢false (sym (list_any-from_Any (λ x. same_cell x c) cells (at.0, c, at.1, at.2, cell_self c)) ∙ e)
 
--- of cells among which is each that differs, just those that differ are left
+-- if cells include all that differ, filtering them leaves exactly these
 pub just_differing : (cells : List Cell) (w next : World) (c : Cell) → (cell next c ≢ cell w c → Contains cells c)
     → Contains (filter (λ x. not (same_value (cell next x) (cell w x))) cells) c ↔ (cell next c ≢ cell w c)
 just_differing cells w next c there = (differs, found)

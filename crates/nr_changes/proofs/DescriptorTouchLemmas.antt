@@ -1,4 +1,4 @@
--- Steps on descriptors, waits, deadlines and timers change nothing but what they touch.
+-- Steps on descriptors, waits, deadlines and timers change only what they touch.
 use Rattle.std.proofs.Common.{◌≡◌, ℕ, Bool, ◌&&◌, ◌||◌, not, List, [], ◌∷◌, length, Option, Some, None, refl, ap, ◌∙◌, subst, sym}
 use Rattle.std.specs.Prelude.{Contains, slice_get, option_map, option_and_then, ◌==◌, nat_lt, int_lt, int_le, ◌*◌, ℤ}
 use Rattle.std.specs.Option.{option_map_or}
@@ -66,7 +66,7 @@ waitbegin_touches w g d side =
     ComesTo-then (ComesTo-any (refused_if ((check side row.descriptor == 0) && is_waited d side w.goroutines) _)) λ _.
     ComesTo-ok (Keeps-if (check side row.descriptor == 0) (goroutine_set _ w g _ _ (here g [])) Keeps-same)
 
--- the descriptor is that of the wait that the goroutine is inside of
+-- the descriptor is that of the goroutine's wait
 inside : (w : World) (g d : ℕ) (side : Side) (status : Status) → slice_get w.goroutines g ≡ Some status → wait_of status ≡ Some (d, side) → descriptor_at g w ≡ Some d
 inside w g d side status at is = ap (λ o. option_map (λ (place : ℕ × Side). place.0) (option_and_then wait_of o)) at ∙ ap (option_map (λ (place : ℕ × Side). place.0)) is
 
@@ -132,12 +132,12 @@ change_keeps t d row change w at among =
     ComesTo-bind (ComesTo-any (after_orders change.orders (row.timers, w.next_arming))) λ left _.
     ComesTo-ok (Keeps-then (row_set t w d _ at) (Keeps-then (rest_set t _ _ refl refl refl) (wakes_keep t change.woken _ among)))
 
--- whom the row's words hold are those held at the descriptor
+-- the goroutines that the row's words hold are those held at the descriptor
 held_there : (w : World) (d : ℕ) (row : DescriptorRow) (h : ℕ) → slice_get w.descriptors d ≡ Some row → Contains (held_of row.descriptor) h → Contains (held_at d w) h
 held_there w d row h at held =
     subst (λ gs. Contains gs h) (sym (ap (λ o. option_map_or (λ (x : DescriptorRow). held_of x.descriptor) o []) at)) held
 
--- beside the goroutine whose step it is
+-- the same, next to the goroutine of the step
 beside : (w : World) (g d : ℕ) (row : DescriptorRow) (change : Change) → slice_get w.descriptors d ≡ Some row → Wakes row.descriptor change → (h : ℕ) → Contains change.woken h
     → Contains (touched w (Step.Evict g d)).goroutines h
 beside w g d row change at so h woken = later g (held_at d w) h (held_there w d row h at (so.woken h woken))

@@ -1,4 +1,4 @@
--- What a change of a world keeps: all that isn't touched.
+-- A change of a world keeps everything that isn't touched.
 use Rattle.std.proofs.Common.{◌≡◌, ◌≢◌, ℕ, zero, suc, List, [], ◌∷◌, ◌++◌, length, Option, Some, refl, sym, ap, subst, ◌∙◌, Bool, true, false, Result}
 use Rattle.std.specs.Prelude.{Contains, slice_get, slice_set, option_map, if◌then◌else◌}
 use Rattle.nr_rev.specs.declared.answer.Answer.{Answer}
@@ -18,13 +18,13 @@ use Rattle.nr_changes.proofs.MemberLemmas.{here, later}
 abbrev pub state_of : Option DescriptorRow → Option Descriptor
 state_of row = option_map (λ (x : DescriptorRow). x.descriptor) row
 
--- what isn't touched is what it was
+-- everything that isn't touched is unchanged
 pub record Keeps (t : Touched) (w next : World) : Type 0 where
   pub goroutines : (g : ℕ) → ¬ Contains t.goroutines g → slice_get next.goroutines g ≡ slice_get w.goroutines g
   pub sockets : (s : ℕ) → t.socket ≢ Some s → slice_get next.sockets s ≡ slice_get w.sockets s
   pub descriptors : (d : ℕ) → t.descriptor ≢ Some d → state_of (slice_get next.descriptors d) ≡ state_of (slice_get w.descriptors d)
 
--- a step touches this alone
+-- a step changes only what it touches
 abbrev pub Touches : Touched → World → Result (Answer × World) Refusal → Type 0
 Touches t w o = ComesTo (λ (left : Answer × World). Keeps t w left.1) o
 
@@ -43,7 +43,7 @@ push_elsewhere [] x (suc j) other = refl
 push_elsewhere (y ∷ xs) x zero other = refl
 push_elsewhere (y ∷ xs) x (suc j) other = push_elsewhere xs x j (λ e. other (ap suc e))
 
--- the number of what is touched is no other's
+-- another number than the one touched
 differs : {d : Option ℕ} (i j : ℕ) → d ≡ Some i → d ≢ Some j → j ≢ i
 differs i j at other e = other (at ∙ ap Some (sym e))
 
@@ -68,7 +68,7 @@ pub Keeps-either : {t : Touched} {w : World} (c : Bool) (x y : Answer × World) 
 Keeps-either true x y a b = a
 Keeps-either false x y a b = b
 
--- all else of the world is new
+-- only the other parts of the world change
 pub rest_set : (t : Touched) (w next : World) → next.goroutines ≡ w.goroutines → next.sockets ≡ w.sockets → next.descriptors ≡ w.descriptors → Keeps t w next
 rest_set t w next gs ss ds =
     record {
@@ -77,7 +77,7 @@ rest_set t w next gs ss ds =
       descriptors = λ d _. ap (λ xs. state_of (slice_get xs d)) ds;
     }
 
--- a goroutine's status is new, and how many are parked
+-- a goroutine's status and the number of parked goroutines change
 pub goroutine_set : (t : Touched) (w : World) (g : ℕ) (status : Status) (waiters : ℕ) → Contains t.goroutines g → Keeps t w (record w { goroutines = slice_set w.goroutines g status; waiters = waiters })
 goroutine_set t w g status waiters at =
     record {
@@ -110,12 +110,12 @@ pub row_pushed : (t : Touched) (w : World) (row : DescriptorRow) → t.descripto
 row_pushed t w row at =
     record { goroutines = λ _ _. refl; sockets = λ _ _. refl; descriptors = λ k other. ap state_of (push_elsewhere w.descriptors row k (differs _ k at other)) }
 
--- a descriptor's timers are new, its state stays
+-- a descriptor's timers change, and its state stays
 pub timers_set : (t : Touched) (w : World) (d : ℕ) (old new : DescriptorRow) → slice_get w.descriptors d ≡ Some old → new.descriptor ≡ old.descriptor → Keeps t w (with_row d new w)
 timers_set t w d old new at same =
     record { goroutines = λ _ _. refl; sockets = λ _ _. refl; descriptors = λ k _. slice_get-set_unseen state_of w.descriptors d old new k at (ap Some same) }
 
--- those that are woken go on
+-- woken goroutines continue
 pub wakes_keep : (t : Touched) (gs : List ℕ) (w : World) → ((h : ℕ) → Contains gs h → Contains t.goroutines h) → Keeps t w (after_wakes gs w)
 wakes_keep t [] w among = Keeps-same
 wakes_keep t (g ∷ gs) w among =

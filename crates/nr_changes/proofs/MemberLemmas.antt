@@ -1,4 +1,4 @@
--- What a list of numbers in order contains, and what a filter keeps.
+-- The contents of a sorted list of numbers, and of a filtered list.
 use Rattle.std.proofs.Common.{◌≡◌, ℕ, Bool, true, false, List, [], ◌∷◌, cond, refl, sym, subst, ◌⊎◌, inl, inr, arith}
 use Rattle.std.specs.Prelude.{Contains, filter}
 use Rattle.std.specs.BTreeSet.{insert_key}

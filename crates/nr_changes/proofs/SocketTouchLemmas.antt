@@ -1,4 +1,4 @@
--- Steps of goroutines, on locks and semaphores and of sockets change nothing but what they touch.
+-- Steps of goroutines, of sockets, and on locks and semaphores change only what they touch.
 use Rattle.std.proofs.Common.{◌≡◌, ℕ, List, [], ◌∷◌, length, Option, Some, None, Result, Ok, refl, ap, ◌∙◌, subst, sym}
 use Rattle.std.specs.Prelude.{Contains, slice_get, option_and_then, if◌then◌else◌, ◌==◌, nat_lt, nat_le}
 use Rattle.std.specs.Option.{option_to_list}
@@ -41,7 +41,7 @@ exit_touches w g =
 locked : (w : World) (g s : ℕ) (status : Status) (socket : Socket) → Keeps (socket_and (Some s) (g ∷ [])) w (with_status g status (with_socket s socket w))
 locked w g s status socket = Keeps-then (socket_set _ w s socket refl) (goroutine_set _ _ g status _ (here g []))
 
--- what an operation on a lock left is put back, and the goroutine goes on
+-- the result of an operation on a lock is stored, and the goroutine continues
 left_touches : (w : World) (g s : ℕ) (operation : SocketLock → Result LockOutcome Refusal) (status : LockOutcome → Status)
     → Touches (socket_and (Some s) (g ∷ [])) w (socket_of s w >>= λ socket. operation socket.lock >>= λ left. Ok (lock_left g (status left) s socket left w))
 left_touches w g s operation status =

@@ -1,4 +1,4 @@
--- What a change of a descriptor wakes: none but whom its words held.
+-- A change of a descriptor wakes only goroutines that its words held.
 use Rattle.std.proofs.Common.{◌≡◌, ℕ, Bool, true, false, ◌&&◌, not, List, [], ◌++◌, Option, Some, refl, subst, inl, inr}
 use Rattle.std.specs.Prelude.{Contains, if◌then◌else◌, ℤ, negsuc}
 use Rattle.std.specs.Ordering.{int_eq}
@@ -17,12 +17,12 @@ use Rattle.nr_laws.proofs.AspectLemmas.{ComesTo, ComesTo-ok, ComesTo-any, ComesT
 use Rattle.nr_changes.specs.Touched.{held_by, held_of}
 use Rattle.nr_changes.proofs.MemberLemmas.{nowhere}
 
--- a change wakes none but whom the words held, and its words hold no other
+-- a change wakes only goroutines that the words held, and afterwards the words hold no others
 pub record Wakes (old : Descriptor) (change : Change) : Type 0 where
   pub woken : (g : ℕ) → Contains change.woken g → Contains (held_of old) g
   pub held : (g : ℕ) → Contains (held_of change.descriptor) g → Contains (held_of old) g
 
--- one that leaves the words as they were and wakes nobody
+-- a change that leaves the words unchanged and wakes no goroutine
 pub Wakes-none : (old : Descriptor) (change : Change) → change.woken ≡ [] → change.descriptor.words ≡ old.words → Wakes old change
 Wakes-none old change nobody same =
     record {
@@ -42,7 +42,7 @@ Wakes-then_if : (old : Descriptor) (first : Change) (test : Bool) (next : Descri
 Wakes-then_if old first true next a b = Wakes-and_then old first next a b
 Wakes-then_if old first false next a b = a
 
--- a word that is unblocked wakes whom it held, and holds nobody
+-- unblocking a word wakes the goroutine that it held, and afterwards it holds none
 wakes_held : (word : WaitWord) (ioready : Bool) → (unblock word ioready).1 ≡ held_by word
 wakes_held Ready ioready = refl
 wakes_held Nil ioready = refl
@@ -58,7 +58,7 @@ holds_nobody Wait false = refl
 holds_nobody (Held g) true = refl
 holds_nobody (Held g) false = refl
 
--- what is among these where nothing else was
+-- an empty list has no members
 among_none : {A : Type 0} (gs : List ℕ) (g : ℕ) → gs ≡ [] → Contains gs g → A
 among_none gs g none at = absurd (nowhere g (subst (λ hs. Contains hs g) none at))
 
@@ -135,13 +135,13 @@ deadline_wakes clock mode t old =
 
 -- ---- firings
 
--- the words are those of before the deadline passed
+-- expiring a side wakes only goroutines that the words held
 expire_wakes : (side : Side) (d : Descriptor) → Wakes d (expire side d)
 expire_wakes side d =
     let late = Wakes-unblocked false side (record d { deadlines = with_side side (negsuc 0) d.deadlines }) in
     record { woken = late.woken; held = late.held }
 
--- where it isn't stale
+-- a firing that isn't stale wakes only goroutines that the words held
 abbrev pub FiringWakes : Descriptor → Option Change → Type 0
 FiringWakes d change = (x : Change) → change ≡ Some x → Wakes d x
 

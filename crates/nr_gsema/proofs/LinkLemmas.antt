@@ -1,4 +1,4 @@
--- A queue that is linked through nodes, as it gets longer and shorter at either end.
+-- A queue that is linked through nodes, when a goroutine joins or leaves it at either end.
 use Rattle.std.proofs.Common.{◌≡◌, ◌≢◌, inl, inr, ℕ, zero, suc, ◌+◌, ◌-◌, ◌<◌, ◌≤◌, Bool, true, false, List, [], ◌∷◌, ◌++◌, length, Option, Some, None, refl, sym, ap, subst, ◌∙◌, arith}
 use Rattle.std.proofs.lemmas.Option.{same_Some, none-some}
 use Rattle.std.specs.Prelude.{slice_get, ◌==◌, if◌then◌else◌}
@@ -18,7 +18,7 @@ itself g queue = let a = count_front g g queue in let b : bit (g == g) ≡ 1 = a
 further : (g h : ℕ) (queue : List ℕ) → times h queue ≤ times h (g ∷ queue)
 further g h queue = let a = count_front g h queue in omega arith
 
--- the nodes of these are as they were
+-- the nodes of these goroutines are unchanged
 abbrev Agree : List GoroutineNode → List GoroutineNode → List ℕ → Type 0
 Agree nodes new [] = Unit {0}
 Agree nodes new (g ∷ queue) = (slice_get new g ≡ slice_get nodes g) × Agree nodes new queue
@@ -36,7 +36,7 @@ IsLinked-kept nodes new status previous [] first last same h = h
 IsLinked-kept nodes new status previous (g ∷ queue) first last same h =
     (h.0, (h.1.0, same.0 ∙ h.1.1, IsLinked-kept nodes new status (Some g) queue h.1.0 last same.1 h.1.2))
 
--- following each to its next gives the queue
+-- following the next ones from the first gives the queue
 pub chain-is : (n : ℕ) (nodes : List GoroutineNode) (status : Status) (previous : Option ℕ) (queue : List ℕ) (first last : Option ℕ) → IsLinked nodes status previous queue first last
     → length queue ≤ n → chain n nodes first ≡ queue
 unfolding chain
@@ -47,13 +47,13 @@ chain-is (suc n) nodes status previous (g ∷ queue) first last h short =
     ap (chain (suc n) nodes) h.0
     ∙ ap (λ (q : List ℕ). g ∷ q) (ap (λ (o : Option GoroutineNode). chain n nodes (next_in o)) h.1.1 ∙ chain-is n nodes status (Some g) queue h.1.0 last h.1.2 (omega arith))
 
--- the first is the head
+-- the first goroutine is the head
 pub first-is : (nodes : List GoroutineNode) (status : Status) (previous : Option ℕ) (queue : List ℕ) (first last : Option ℕ) → IsLinked nodes status previous queue first last
     → first ≡ slice_get queue 0
 first-is nodes status previous [] first last h = h.0
 first-is nodes status previous (g ∷ queue) first last h = h.0
 
--- who is in the queue has the status
+-- a goroutine in the queue has the queued status
 pub member : (nodes : List GoroutineNode) (status : Status) (previous : Option ℕ) (queue : List ℕ) (first last : Option ℕ) → IsLinked nodes status previous queue first last → (h : ℕ)
     → 0 < times h queue → (node : GoroutineNode) × (slice_get nodes h ≡ Some node) × (node.status ≡ status)
 member nodes status previous [] first last linked h some = absurd (omega arith)
@@ -64,7 +64,7 @@ member nodes status previous (g ∷ queue) first last linked h some = go (g == h
     go true is behind_it = (node_with status linked.1.0 previous, ap (slice_get nodes) (sym (same_number g h is)) ∙ linked.1.1, refl)
     go false is behind_it = behind_it (let a = count_front g h queue in let b : bit (g == h) ≡ 0 = ap bit is in omega arith)
 
--- the last one is in the queue
+-- the last goroutine is in the queue
 pub last_member : (nodes : List GoroutineNode) (status : Status) (previous : Option ℕ) (x : ℕ) (queue : List ℕ) (first last : Option ℕ) → IsLinked nodes status previous (x ∷ queue) first last
     → (b : ℕ) → last ≡ Some b → 0 < times b (x ∷ queue)
 last_member nodes status previous x [] first last linked b is =
@@ -76,13 +76,13 @@ last_member nodes status previous x (y ∷ queue) first last linked b is =
     let c = further x b (y ∷ queue) in
     omega arith
 
--- whoever is last has a node
+-- the last goroutine has a node
 pub last_within : (nodes : List GoroutineNode) (status : Status) (queue : List ℕ) (first last : Option ℕ) → IsLinked nodes status None queue first last → (b : ℕ) → last ≡ Some b
     → (node : GoroutineNode) × (slice_get nodes b ≡ Some node) × (node.status ≡ status)
 last_within nodes status [] first last linked b is = absurd (none-some b (sym linked.1 ∙ is))
 last_within nodes status (x ∷ queue) first last linked b is = member nodes status None (x ∷ queue) first last linked b (last_member nodes status None x queue first last linked b is)
 
--- so has whoever is first
+-- the first goroutine has a node
 pub first_within : (nodes : List GoroutineNode) (status : Status) (queue : List ℕ) (first last : Option ℕ) → IsLinked nodes status None queue first last → (f : ℕ) → first ≡ Some f
     → (node : GoroutineNode) × (slice_get nodes f ≡ Some node) × (node.status ≡ status)
 first_within nodes status [] first last linked f is = absurd (none-some f (sym linked.0 ∙ is))
@@ -130,7 +130,8 @@ linked_back nodes new status g last r previous (x ∷ (y ∷ queue)) first once 
       ),
     )
 
--- the node of the last one, whose previous is the one before it or, where it is alone, `previous`
+-- the node of the last goroutine; its previous one is the one before it or, if it is alone,
+-- `previous`
 last_node : (nodes : List GoroutineNode) (status : Status) (previous : Option ℕ) (g : ℕ) (first last : Option ℕ) (at : GoroutineNode) → slice_get nodes g ≡ Some at
     → IsLinked nodes status previous (g ∷ []) first last → at.previous ≡ previous
 last_node nodes status previous g first last at is h = ap (λ (node : GoroutineNode). node.previous) (same_Some at (node_with status h.1.0 previous) (sym is ∙ h.1.1))
@@ -223,7 +224,7 @@ linked_front nodes new status g (x ∷ queue) first last r once none h =
         at_last [] before first is l = let e : last ≡ Some is.0 = l.1 ∙ is.1 in ap (λ o. or_else o g) e ∙ sym e
         at_last (y ∷ ys) before first is l = at_last ys (Some y) l.1.0 (y, refl) l.1.2
 
--- the back of what is left of a queue
+-- the back of the rest of a queue
 abbrev pub back_left : List ℕ → Option ℕ → Option ℕ
 back_left [] last = None
 back_left (x ∷ queue) last = last
@@ -263,7 +264,7 @@ unlinked_front nodes new status g at left queue first last is r once h = go queu
           ),
         )
 
--- each has behind it whom the queue has there
+-- the goroutine after another one is the queue's
 pub next-is : (nodes : List GoroutineNode) (status : Status) (previous : Option ℕ) (queue : List ℕ) (first last : Option ℕ) → IsLinked nodes status previous queue first last
     → (h : ℕ) (node : GoroutineNode) → slice_get nodes h ≡ Some node → 0 < times h queue → node.next ≡ behind h queue
 next-is nodes status previous [] first last linked h node is some = absurd (omega arith)
@@ -276,7 +277,7 @@ next-is nodes status previous (g ∷ queue) first last linked h node is some = g
         ∙ first-is nodes status (Some g) queue linked.1.0 last linked.1.2
     go false other behind_it = behind_it (let a = count_front g h queue in let b : bit (g == h) ≡ 0 = ap bit other in omega arith)
 
--- each has before it whom the queue has there
+-- the goroutine before another one is the queue's
 pub previous-is : (nodes : List GoroutineNode) (status : Status) (previous : Option ℕ) (queue : List ℕ) (first last : Option ℕ) → IsLinked nodes status previous queue first last
     → (h : ℕ) (node : GoroutineNode) → slice_get nodes h ≡ Some node → 0 < times h queue → node.previous ≡ before h previous queue
 previous-is nodes status previous [] first last linked h node is some = absurd (omega arith)
@@ -288,7 +289,7 @@ previous-is nodes status previous (g ∷ queue) first last linked h node is some
         ap (λ (x : GoroutineNode). x.previous) (same_Some node (node_with status linked.1.0 previous) (sym is ∙ found))
     go false other behind_it = behind_it (let a = count_front g h queue in let b : bit (g == h) ≡ 0 = ap bit other in omega arith)
 
--- the last is the list's
+-- the back is the list's last
 pub last-is : (nodes : List GoroutineNode) (status : Status) (queue : List ℕ) (first last : Option ℕ) → IsLinked nodes status None queue first last → last ≡ back_of queue
 last-is nodes status [] first last h = h.1
 last-is nodes status (g ∷ queue) first last h = go g queue h.1.0 h.1.2

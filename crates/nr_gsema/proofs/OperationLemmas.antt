@@ -1,4 +1,4 @@
--- What each operation comes to, and what leads back over it.
+-- The outcome of each operation, and its undo.
 use Rattle.std.proofs.Common.{◌≡◌, ◌≢◌, ℕ, ◌+◌, ◌-◌, ◌^◌, ◌<◌, ◌≤◌, Bool, true, false, ◌&&◌, List, [], ◌∷◌, ◌++◌, length, set, take, drop, inl, inr, Option, Some, None, Ok, refl, sym, ap, ap₂, subst, ◌∙◌, arith, lit≤}
 use Rattle.std.proofs.lemmas.List.{length_push, set_comm, take_at}
 use Rattle.std.proofs.lemmas.Option.{same_Some, none-some}
@@ -55,7 +55,7 @@ spawns t new made is room after =
       light = lit≤ tt;
     }))
 
--- what a change of a status owes
+-- the undo of a change of status
 status_back : (t : GoroutineTable) (g : ℕ) (status new : Status) → slice_get t.goroutines g ≡ Some status → is_waiting new ≡ false
     → IsOutside g (with_status g new t) × (t ≡ with_status g status (with_status g new t))
 status_back t g status new at none =
@@ -94,13 +94,13 @@ moves t new g status from to found may same movable named after =
       light = subst (λ (st : Status). 2 + status_weight st ≤ 2 + status_weight from) (sym same) (omega arith);
     })
 
--- the semaphores of both sides after a change of one is taken back
+-- the semaphores of both sides after the change of one is undone
 sides_back : (side : Side) (both : Sides Semaphore) (y : Semaphore) (back : Semaphore → Semaphore) → back y ≡ of_side side both
     → with_side side (back (of_side side (with_side side y both))) (with_side side y both) ≡ both
 sides_back Read both y back e = ap (λ (x : Semaphore). record both { read = x }) e
 sides_back Write both y back e = ap (λ (x : Semaphore). record both { write = x }) e
 
--- a goroutine and a semaphore that changed and were taken back
+-- a goroutine and a semaphore after their changes are undone
 back_over : (t : GoroutineTable) (g : ℕ) (status new : Status) (s : ℕ) (side : Side) (both : Sides Semaphore) (y : Semaphore) (back : Semaphore → Semaphore) → slice_get t.goroutines g ≡ Some status
     → slice_get t.semaphores s ≡ Some both → back y ≡ of_side side both
     → t ≡ with_status g status (on_semaphore s side back (with_status g new (with_semaphore s side both y t)))
@@ -126,7 +126,7 @@ count_found t s side count is = go (slice_get t.semaphores s) refl
 acquiring_is : (status : Status) (s : ℕ) (side : Side) → acquiring_of status ≡ Ok (s, side) → status ≡ Acquiring s side
 acquiring_is status s side e = (Ends-acquiring_of status).value (s, side) e
 
--- a semaphore that was changed is there
+-- a semaphore that was changed still exists
 has_changed : (t : GoroutineTable) (g : ℕ) (new : Status) (s : ℕ) (side : Side) (both : Sides Semaphore) (y : Semaphore) (P : Semaphore → Type 0) → slice_get t.semaphores s ≡ Some both → P y
     → HasSemaphore s side P (with_status g new (with_semaphore s side both y t))
 has_changed t g new s side both y P there p =
@@ -188,7 +188,7 @@ module _ (t : GoroutineTable) (s : ℕ) (side : Side) (both : Sides Semaphore) (
   front_is : slice_get (queue_at s side t) 0 ≡ slice_get (of_side side both).queue 0
   front_is = ap (λ (o : Option (Sides Semaphore)). slice_get (queue_found side o) 0) there
 
-  -- with nobody queued the count alone changes
+  -- if the queue is empty, only the count changes
   pub nobody_leaves : (count : ℕ) → (of_side side both).count ≡ count → slice_get (queue_at s side t) 0 ≡ None → on_semaphore s side (with_count (count + 1)) t ≡ on_semaphore s side released_once t
   nobody_leaves count is none =
       let x : Semaphore = of_side side both in
@@ -220,7 +220,7 @@ module _ (t : GoroutineTable) (h : IsQueuedUp t) (g s : ℕ) (debt : Sides ℕ) 
   count_back : (of_side side both).count + 1 - 1 ≡ (of_side side both).count
   count_back = omega arith
 
-  -- undoing leads back, whoever left the queue
+  -- the undo leads back, whether or not a goroutine left the queue
   leads_back : (front : Option ℕ) → slice_get (of_side side both).queue 0 ≡ front
       → Reverses (undo.Released g s debt.read debt.write front)
       (with_status g new (tries_again s side front (with_semaphore s side both (record { count = (of_side side both).count + 1; queue = drop 1 (of_side side both).queue }) t))) t

@@ -54,14 +54,14 @@ module _ (nodes : List GoroutineNode) (semaphores : List (Sides SemaphoreHead)) 
         named = h.named;
       }
 
--- the semaphores of both sides, as they were
+-- the semaphores of both sides are unchanged
 pub both_kept : (nodes new : List GoroutineNode) (x : Sides SemaphoreHead) → ((other : Side) → queue_from new (of_side other x) ≡ queue_from nodes (of_side other x))
     → semaphores_from new x ≡ semaphores_from nodes x
 both_kept nodes new x same =
     let sides : List ℕ → List ℕ → Sides Semaphore = λ q r. record { read = record { count = x.read.count; queue = q }; write = record { count = x.write.count; queue = r } } in
     ap₂ sides (same Read) (same Write)
 
--- the semaphores of both sides, of which one is new
+-- the semaphores of both sides, one of which is new
 pub both_from : (nodes new : List GoroutineNode) (side : Side) (head : SemaphoreHead) (both : Sides SemaphoreHead) (queue : List ℕ) → queue_from new head ≡ queue
     → ((other : Side) → other ≢ side → queue_from new (of_side other both) ≡ queue_from nodes (of_side other both))
     → semaphores_from new (with_side side head both) ≡ with_side side (record { count = head.count; queue = queue }) (semaphores_from nodes both)

@@ -1,4 +1,4 @@
--- What is read of nodes and heads is the table's.
+-- Reading nodes and heads gives the table's values.
 use Rattle.std.proofs.Common.{◌≡◌, ℕ, ◌<◌, false, ◌||◌, List, [], ◌∷◌, map, Option, Some, None, refl, sym, ap, subst, ◌∙◌, arith}
 use Rattle.std.proofs.lemmas.List.{length-map}
 use Rattle.std.proofs.lemmas.Option.{same_Some, slice_get_within}
@@ -37,19 +37,19 @@ module _ {nodes : List GoroutineNode} {semaphores : List (Sides SemaphoreHead)} 
       ap (λ (u : GoroutineTable). queue_at s side u) (sym is.view) ∙ ap (queue_found side) (semaphores_at nodes semaphores s x there) ∙ ap (λ (y : Semaphore). y.queue) (of_side-from nodes side x)
       ∙ queue_is nodes semaphores (queues_from nodes semaphores) is.queues s side x there
 
-  -- the front that a head has
+  -- the front of a head is the front of the queue
   pub front_read : (s : ℕ) (side : Side) (x : Sides SemaphoreHead) → slice_get semaphores s ≡ Some x → (of_side side x).front ≡ slice_get (queue_at s side t) 0
   front_read s side x there =
       first-is nodes (Queued s side) None (queues_from nodes semaphores s side) (of_side side x).front (of_side side x).back (is.queues.linked s side x there)
       ∙ ap (λ (q : List ℕ). slice_get q 0) (sym (queue_read s side x there))
 
-  -- the back that it has
+  -- the back of a head is the back of the queue
   pub back_read : (s : ℕ) (side : Side) (x : Sides SemaphoreHead) → slice_get semaphores s ≡ Some x → (of_side side x).back ≡ back_of (queue_at s side t)
   back_read s side x there =
       last-is nodes (Queued s side) (queues_from nodes semaphores s side) (of_side side x).front (of_side side x).back (is.queues.linked s side x there)
       ∙ ap back_of (sym (queue_read s side x there))
 
-  -- whom a node names: nobody outside every queue, and in one whom the queue has there
+  -- the neighbour in a node: none outside every queue, and otherwise the queue's
   neighbour_read : (g : ℕ) (node : GoroutineNode) (named : Option ℕ) (found : List ℕ → Option ℕ) → slice_get nodes g ≡ Some node
       → (is_waiting node.status ≡ false → named ≡ None)
       → ((s : ℕ) (side : Side) (queue : List ℕ) (first last : Option ℕ) → IsLinked nodes (Queued s side) None queue first last → 0 < times g queue → named ≡ found queue)
@@ -77,19 +77,19 @@ module _ {nodes : List GoroutineNode} {semaphores : List (Sides SemaphoreHead)} 
           ∙ sym (ap (λ (o : Option Status). in_queue found o t) (at ∙ ap Some e))
       go _ e = other _ e refl
 
-  -- who is behind is whom the node names
+  -- the next goroutine in the queue is the one in the node
   pub next_read : (g : ℕ) (node : GoroutineNode) → slice_get nodes g ≡ Some node → node.next ≡ next_in_queue g t
   next_read g node there =
       neighbour_read g node node.next (behind g) there (λ none. (is.queues.alone g node there none).0)
       (λ s side queue first last l some. next-is nodes (Queued s side) None queue first last l g node there some)
 
-  -- who is before is whom the node names
+  -- the previous goroutine in the queue is the one in the node
   pub previous_read : (g : ℕ) (node : GoroutineNode) → slice_get nodes g ≡ Some node → node.previous ≡ previous_of g t
   previous_read g node there =
       neighbour_read g node node.previous (before g None) there (λ none. (is.queues.alone g node there none).1)
       (λ s side queue first last l some. previous-is nodes (Queued s side) None queue first last l g node there some)
 
-  -- the queues of a table hold just those with that queued status, each once
+  -- the queues of a table contain exactly the goroutines with that queued status, each once
   pub queued_up : IsQueuedUp t
   queued_up =
       subst IsQueuedUp is.view (record {

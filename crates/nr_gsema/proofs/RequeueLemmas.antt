@@ -1,4 +1,4 @@
--- The queues when one of them gets longer or shorter at an end.
+-- The queues when a goroutine joins or leaves one of them at an end.
 use Rattle.std.proofs.Common.{◌≡◌, ◌≢◌, inl, inr, ℕ, ◌+◌, ◌<◌, ◌≤◌, true, false, ◌&&◌, List, [], ◌∷◌, ◌++◌, length, length-set, set, map, Option, Some, None, refl, sym, ap, subst, ◌∙◌, arith}
 use Rattle.std.proofs.lemmas.Bool.{cases_eq}
 use Rattle.std.proofs.lemmas.List.{map-set}
@@ -26,7 +26,7 @@ use Rattle.nr_gsema.proofs.PlaceLemmas.{Near, Apart, place_apart, place_same, pl
 use Rattle.nr_gsema.proofs.ListLemmas.{there_is, set_map_alike}
 use Rattle.nr_gsema.proofs.QueueLemmas.{status_at, once, queue_is, AreQueues-from, both_from, both_kept}
 
--- the queues, of which one is new
+-- the queues with one of them replaced
 abbrev requeue : ℕ → Side → List ℕ → (ℕ → Side → List ℕ) → ℕ → Side → List ℕ
 requeue s side queue queues k other = if (k == s) && same_side other side then queue else queues k other
 
@@ -36,7 +36,7 @@ requeue_here s side queue queues = ap (λ t. if t then queue else queues s side)
 requeue_apart : (s : ℕ) (side : Side) (queue : List ℕ) (queues : ℕ → Side → List ℕ) (k : ℕ) (other : Side) → Apart s side k other → requeue s side queue queues k other ≡ queues k other
 requeue_apart s side queue queues k other apart = ap (λ t. if t then queue else queues k other) (place_apart s side k other apart)
 
--- what a change leaves: linked queues, g's new status, and the one semaphore as the definitions have it
+-- the result of a change: linked queues, g's new status, and the semaphore as defined
 pub record Requeues (nodes new : List GoroutineNode) (semaphores : List (Sides SemaphoreHead)) (s : ℕ) (side : Side) (both : Sides SemaphoreHead) (head : SemaphoreHead) (g : ℕ) (status : Status)
     (queue : List ℕ) : Type 0 where
   pub queues : AreQueues new (set semaphores s (with_side side head both)) (queues_from new (set semaphores s (with_side side head both)))
@@ -45,7 +45,7 @@ pub record Requeues (nodes new : List GoroutineNode) (semaphores : List (Sides S
       ≡ set (map (semaphores_from nodes) semaphores) s (with_side side (record { count = head.count; queue = queue }) (semaphores_from nodes both))
   pub size : length new ≡ length nodes
 
--- a change of one queue, and of the status of the one who joins or leaves it
+-- a change of one queue, and of the status of the goroutine that joins or leaves it
 module _ (nodes new : List GoroutineNode) (semaphores : List (Sides SemaphoreHead)) (queues : ℕ → Side → List ℕ) (s : ℕ) (side : Side) (both : Sides SemaphoreHead) (head : SemaphoreHead) (g : ℕ)
     (old at : GoroutineNode) (neighbour : Option ℕ) (change : GoroutineNode → GoroutineNode) (queue : List ℕ) (h : AreQueues nodes semaphores queues) (there : slice_get semaphores s ≡ Some both)
     (is : slice_get nodes g ≡ Some old) (r : Relinks nodes new g at neighbour change) (was_near : Near s side old.status) (near : Near s side at.status)
@@ -183,7 +183,7 @@ module _ (nodes new : List GoroutineNode) (semaphores : List (Sides SemaphoreHea
       → queue_from new (of_side other x) ≡ requeue s side queue queues k other
   queue_new = queue_is new (set semaphores s (with_side side head both)) (requeue s side queue queues) requeued
 
-  -- another queue is as it was
+  -- every other queue is unchanged
   queue_kept : (k : ℕ) (other : Side) (x y : Sides SemaphoreHead) → Apart s side k other → slice_get (set semaphores s (with_side side head both)) k ≡ Some x → slice_get semaphores k ≡ Some y
       → of_side other x ≡ of_side other y → queue_from new (of_side other y) ≡ queue_from nodes (of_side other y)
   queue_kept k other x y apart at_x at_y same =
@@ -237,7 +237,7 @@ module _ (nodes : List GoroutineNode) (semaphores : List (Sides SemaphoreHead)) 
   absent none =
       ap (times g) (sym is_queue) ∙ h.queued s side below g ∙ ap (λ o. bit (is_queued s side o)) (status_at nodes g old is) ∙ ap bit (unqueued old.status s side none)
 
-  -- nobody outside the queues is beside anyone
+  -- a goroutine outside the queues is no neighbour
   not_waiting : is_waiting old.status ≡ false → (b : ℕ) (node : GoroutineNode) → slice_get nodes b ≡ Some node → node.status ≡ Queued s side → b ≢ g
   not_waiting none b node at queued e =
       let same : node ≡ old = same_Some node old (sym at ∙ ap (slice_get nodes) e ∙ is) in
@@ -281,7 +281,7 @@ module _ (nodes : List GoroutineNode) (semaphores : List (Sides SemaphoreHead)) 
       let d = bit_true (is_queued s side (Some (Queued s side))) (g == k) (queued_here s side) in
       omega arith)
 
-  -- who is in the queue has its status
+  -- a goroutine in the queue has its status
   member_status : 0 < times g (queue_from nodes (of_side side both)) → old.status ≡ Queued s side
   member_status some =
       let found = member nodes (Queued s side) None (queue_from nodes (of_side side both)) (of_side side both).front (of_side side both).back linked_now g some in
@@ -378,7 +378,7 @@ module _ (nodes : List GoroutineNode) (semaphores : List (Sides SemaphoreHead)) 
               ends_somewhere (z ∷ zs) before next b is_b m none = ends_somewhere zs (Some z) m.1.0 z refl m.1.2 none
           by_previous (Some p) e = sym l.0
 
-  -- who is behind the front has a node
+  -- the goroutine after the front has a node
   pub next_there : (rest : List ℕ) → queue_from nodes (of_side side both) ≡ g ∷ rest → (b : ℕ) → old.next ≡ Some b → b < length nodes
   next_there rest whole b e =
       let x = of_side side both in
@@ -392,7 +392,7 @@ module _ (nodes : List GoroutineNode) (semaphores : List (Sides SemaphoreHead)) 
           let same : y ≡ b = same_Some y b (sym m.0 ∙ f) in
           subst (λ (k : ℕ). k < length nodes) same (slice_get_within nodes y _ m.1.1)
 
-  -- who is before the last has a node
+  -- the goroutine before the last one has a node
   pub previous_there : (rest : List ℕ) → queue_from nodes (of_side side both) ≡ rest ++ g ∷ [] → (b : ℕ) → old.previous ≡ Some b → b < length nodes
   previous_there rest whole b e =
       let x = of_side side both in

@@ -1,4 +1,4 @@
--- Just equal statuses are the same.
+-- `same_status` holds if and only if two statuses are equal.
 use Rattle.std.proofs.Common.{◌≡◌, ◌↔◌, ℕ, true, ◌&&◌, refl, ap, ap₂, subst, ◌∙◌}
 use Rattle.std.specs.Prelude.{◌==◌}
 use Rattle.nr_rev.specs.declared.sides.Side.{Side}

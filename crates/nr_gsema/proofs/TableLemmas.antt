@@ -1,4 +1,4 @@
--- The table that nodes and heads are, after each change of them.
+-- The table of nodes and heads after each of their changes.
 use Rattle.std.proofs.Common.{◌≡◌, ℕ, zero, suc, ◌+◌, ◌-◌, ◌<◌, false, List, [], ◌∷◌, ◌++◌, length, replicate, set, map, take, Option, Some, None, refl, sym, ap, ap₂, subst, ◌∙◌, arith}
 use Rattle.std.proofs.lemmas.List.{length-map, map-set, take-map}
 use Rattle.std.proofs.lemmas.Option.{none-some, same_Some, slice_get-map, slice_get_within}
@@ -38,7 +38,7 @@ use Rattle.nr_gsema.proofs.ListLemmas.{first_split}
 abbrev pub table_of : List GoroutineNode → List (Sides SemaphoreHead) → ℕ → GoroutineTable
 table_of nodes semaphores limit = record { goroutines = statuses nodes; semaphores = map (semaphores_from nodes) semaphores; limit = limit }
 
--- these nodes and heads are linked, and are this table
+-- these nodes and heads are linked, and their table is this one
 pub record AreTable (nodes : List GoroutineNode) (semaphores : List (Sides SemaphoreHead)) (limit : ℕ) (t : GoroutineTable) : Type 0 where
   pub queues : AreQueues nodes semaphores (queues_from nodes semaphores)
   pub view : table_of nodes semaphores limit ≡ t
@@ -49,7 +49,7 @@ pub AreTable-same : {nodes : List GoroutineNode} {semaphores : List (Sides Semap
 AreTable-same {nodes} {semaphores} {limit} {t} ys zs is a b =
     subst (λ (r : List GoroutineNode). AreTable r zs limit t) (sym a) (subst (λ (s : List (Sides SemaphoreHead)). AreTable nodes s limit t) (sym b) is)
 
--- a change of a semaphore that is there
+-- a change of a semaphore that exists
 pub on_semaphore_is : (s : ℕ) (side : Side) (change : Semaphore → Semaphore) (t : GoroutineTable) (both : Sides Semaphore) → slice_get t.semaphores s ≡ Some both
     → on_semaphore s side change t ≡ with_semaphore s side both (change (of_side side both)) t
 on_semaphore_is s side change t both is = ap (λ (o : Option (Sides Semaphore)). on_found s side change o t) is
@@ -78,7 +78,7 @@ within_of : (o : Option ℕ) (m n : ℕ) → n ≡ m → ((b : ℕ) → o ≡ So
 within_of None m n same h = tt
 within_of (Some b) m n same h = let below = h b refl in omega arith
 
--- the table after it: `written` are the nodes that the code wrote, which are as many as before
+-- the table after the change; `written` are the nodes that the code wrote, as many as before
 requeued_table : {nodes new : List GoroutineNode} {semaphores : List (Sides SemaphoreHead)} {limit s g : ℕ} {t : GoroutineTable} {side : Side} {x : Sides SemaphoreHead} {head : SemaphoreHead}
     {status : Status} {queue : List ℕ} → AreTable nodes semaphores limit t → Requeues nodes new semaphores s side x head g status queue → slice_get semaphores s ≡ Some x
     → (change : Semaphore → Semaphore) → change (record { count = (of_side side x).count; queue = queue_from nodes (of_side side x) }) ≡ record { count = head.count; queue = queue }
@@ -102,7 +102,7 @@ abbrev pub idle_node : GoroutineNode
 idle_node = record { status = Idle; next = None; previous = None }
 
 module _ {nodes : List GoroutineNode} {semaphores : List (Sides SemaphoreHead)} {limit : ℕ} {t : GoroutineTable} (is : AreTable nodes semaphores limit t) where
-  -- who is outside the queues has a node that says so
+  -- a goroutine outside the queues has a node that says so
   pub outside_node : (g : ℕ) → IsOutside g t → (old : GoroutineNode) × (slice_get nodes g ≡ Some old) × (is_waiting old.status ≡ false)
   outside_node g outside = go (slice_get (statuses nodes) g) refl
     where
@@ -115,14 +115,14 @@ module _ {nodes : List GoroutineNode} {semaphores : List (Sides SemaphoreHead)} 
           let node = status_node nodes g status found in
           (node.0, node.1, ap is_waiting node.2 ∙ same_Some (is_waiting status) false (sym (ap (option_map is_waiting) found) ∙ same))
 
-  -- a socket below the limit has the heads that are read there
+  -- a socket below the limit has the heads that are read for it
   pub head_read : (s : ℕ) (x : Sides SemaphoreHead) → s < length t.semaphores → x ≡ get_or semaphores s x → slice_get semaphores s ≡ Some x
   head_read s x within read =
       let sizes = length-map semaphores (semaphores_from nodes) in
       let same : length (map (semaphores_from nodes) semaphores) ≡ length t.semaphores = ap (λ (u : GoroutineTable). length u.semaphores) is.view in
       slice_get_read semaphores (length semaphores) s x refl (omega arith) read
 
-  -- what is said of a semaphore of the table is said of its head
+  -- a fact about a semaphore of the table holds for its head
   pub head_has : (s : ℕ) (side : Side) (P : Semaphore → Type 0) (x : Sides SemaphoreHead) → slice_get semaphores s ≡ Some x → HasSemaphore s side P t
       → P (record { count = (of_side side x).count; queue = queue_from nodes (of_side side x) })
   head_has s side P x there has =
@@ -130,7 +130,7 @@ module _ {nodes : List GoroutineNode} {semaphores : List (Sides SemaphoreHead)} 
       same_Some has.0 (semaphores_from nodes x) (sym has.1 ∙ ap (λ (u : GoroutineTable). slice_get u.semaphores s) (sym is.view) ∙ semaphores_at nodes semaphores s x there) in
       subst P (ap (of_side side) e ∙ of_side-from nodes side x) has.2
 
-  -- whoever is in a queue has a node, whose status says so
+  -- a goroutine in a queue has a node with that status
   pub member_queued : (s : ℕ) (side : Side) (x : Sides SemaphoreHead) → slice_get semaphores s ≡ Some x → (i g : ℕ) → slice_get (queue_from nodes (of_side side x)) i ≡ Some g
       → (node : GoroutineNode) × (slice_get nodes g ≡ Some node) × (node.status ≡ Queued s side)
   member_queued s side x there i g e =
@@ -160,7 +160,7 @@ module _ {nodes : List GoroutineNode} {semaphores : List (Sides SemaphoreHead)} 
       let found = last_within nodes (Queued s side) (queues_from nodes semaphores s side) (of_side side x).front (of_side side x).back (is.queues.linked s side x there) g e in
       slice_get_within nodes g found.0 found.1))
 
-  -- so have the neighbours of those at the ends
+  -- so have the neighbours of the ends
   pub next_within : (s : ℕ) (side : Side) (x : Sides SemaphoreHead) → slice_get semaphores s ≡ Some x → (g : ℕ) (old : GoroutineNode) → slice_get nodes g ≡ Some old
       → slice_get (queue_from nodes (of_side side x)) 0 ≡ Some g → (n : ℕ) → n ≡ length nodes → IfSome old.next (λ k. k < n)
   next_within s side x there g old at first n same =
@@ -173,7 +173,7 @@ module _ {nodes : List GoroutineNode} {semaphores : List (Sides SemaphoreHead)} 
       let queue = queue_from nodes (of_side side x) in
       within_of old.previous (length nodes) n same (previous_there nodes semaphores is.queues s side x there g old at (take (length queue - 1) queue) (last_split queue g last))
 
-  -- one who is in no queue goes to the back of one
+  -- a goroutine that is in no queue joins the back of one
   pub joined_back : (s : ℕ) (side : Side) (g : ℕ) (x : Sides SemaphoreHead) (q : SemaphoreHead) → slice_get semaphores s ≡ Some x → q ≡ of_side side x → IsOutside g t
       → (ys written : List GoroutineNode) (zs : List (Sides SemaphoreHead)) → (length written ≡ length nodes → ys ≡ written)
       → written ≡ with_next q.back (Some g) (set nodes g (node_with (Queued s side) None q.back))
@@ -188,7 +188,7 @@ module _ {nodes : List GoroutineNode} {semaphores : List (Sides SemaphoreHead)} 
       → AreTable ys zs limit (with_status g (Queued s side) (on_semaphore s side (with_last g) t)))
       (sym q_is) (requeued_table is (joins_back nodes semaphores is.queues s side x there g old.0 old.1 (of_side side x).count old.2) there (with_last g) refl)
 
-  -- one who is in no queue goes to the front of one, whose count is lowered
+  -- a goroutine that is in no queue joins the front of one, whose count decreases
   pub joined_front : (s : ℕ) (side : Side) (g : ℕ) (x : Sides SemaphoreHead) (q : SemaphoreHead) → slice_get semaphores s ≡ Some x → q ≡ of_side side x → IsOutside g t
       → (ys written : List GoroutineNode) (zs : List (Sides SemaphoreHead)) → (length written ≡ length nodes → ys ≡ written)
       → written ≡ with_previous q.front (Some g) (set nodes g (node_with (Queued s side) q.front None))
@@ -203,7 +203,7 @@ module _ {nodes : List GoroutineNode} {semaphores : List (Sides SemaphoreHead)} 
       → AreTable ys zs limit (with_status g (Queued s side) (on_semaphore s side (unreleased (Some g)) t)))
       (sym q_is) (requeued_table is (joins_front nodes semaphores is.queues s side x there g old.0 old.1 ((of_side side x).count - 1) old.2) there (unreleased (Some g)) refl)
 
-  -- the last one leaves a queue
+  -- the last goroutine leaves a queue
   pub left_back : (s : ℕ) (side : Side) (g : ℕ) (x : Sides SemaphoreHead) (q : SemaphoreHead) → slice_get semaphores s ≡ Some x → q ≡ of_side side x → (old : GoroutineNode)
       → slice_get nodes g ≡ Some old → back_of (queue_from nodes (of_side side x)) ≡ Some g
       → (ys written : List GoroutineNode) (zs : List (Sides SemaphoreHead)) → (length written ≡ length nodes → ys ≡ written)
@@ -220,7 +220,7 @@ module _ {nodes : List GoroutineNode} {semaphores : List (Sides SemaphoreHead)} 
       (sym q_is) (requeued_table is (leaves_back nodes semaphores is.queues s side x there g old at (of_side side x).count (Acquiring s side) (take (length queue - 1) queue) refl
       (last_split queue g last)) there without_last refl)
 
-  -- the first one leaves a queue, whose count is raised
+  -- the first goroutine leaves a queue, whose count increases
   pub left_front : (s : ℕ) (side : Side) (g : ℕ) (x : Sides SemaphoreHead) (q : SemaphoreHead) → slice_get semaphores s ≡ Some x → q ≡ of_side side x → (old : GoroutineNode)
       → slice_get nodes g ≡ Some old → slice_get (queue_from nodes (of_side side x)) 0 ≡ Some g
       → (ys written : List GoroutineNode) (zs : List (Sides SemaphoreHead)) → (length written ≡ length nodes → ys ≡ written)
@@ -270,7 +270,7 @@ module _ {nodes : List GoroutineNode} {semaphores : List (Sides SemaphoreHead)} 
             ∙ ap (on_semaphore s side (with_count count)) is.view;
       }
 
-  -- one goroutine more, idle
+  -- the table with one more goroutine, which is idle
   pub one_more : AreTable (nodes ++ idle_node ∷ []) semaphores limit (record t { goroutines = t.goroutines ++ Idle ∷ [] })
   one_more =
       let new = nodes ++ idle_node ∷ [] in
@@ -283,7 +283,7 @@ module _ {nodes : List GoroutineNode} {semaphores : List (Sides SemaphoreHead)} 
             ∙ ap (λ (u : GoroutineTable). record u { goroutines = u.goroutines ++ Idle ∷ [] }) is.view;
       }
 
-  -- the last goroutine goes, which is idle
+  -- the table without the last goroutine, which is idle
   pub last_gone : slice_get t.goroutines (length t.goroutines - 1) ≡ Some Idle
       → AreTable (take (length nodes - 1) nodes) semaphores limit (record t { goroutines = take (length t.goroutines - 1) t.goroutines })
   last_gone idle =
@@ -309,7 +309,7 @@ new_head = record { count = 0; front = None; back = None }
 abbrev pub new_heads : Sides SemaphoreHead
 new_heads = record { read = new_head; write = new_head }
 
--- with no goroutine each queue is empty
+-- without goroutines each queue is empty
 pub none_queued : (n : ℕ) → AreQueues [] (replicate n (record { read = new_head; write = new_head })) (λ s side. [])
 none_queued n =
     record {

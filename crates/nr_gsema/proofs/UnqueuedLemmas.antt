@@ -1,4 +1,4 @@
--- The queues when a status outside them or a count alone changes.
+-- The queues when only a count or a status outside the queues changes.
 use Rattle.std.proofs.Common.{◌≡◌, inl, inr, ℕ, ◌<◌, true, false, List, [], ◌∷◌, ◌++◌, length, length-set, set, map, Some, None, refl, sym, ap, subst, ◌∙◌, arith}
 use Rattle.std.proofs.lemmas.List.{map-set, map_push}
 use Rattle.std.proofs.lemmas.Option.{same_Some}
@@ -19,7 +19,7 @@ use Rattle.nr_gsema.proofs.PlaceLemmas.{unqueued}
 use Rattle.nr_gsema.proofs.ListLemmas.{map_alike}
 use Rattle.nr_gsema.proofs.QueueLemmas.{status_at, queue_is, both_from, both_kept}
 
--- a change that leaves the nodes of all who queue as they were, and nobody more queued
+-- a change that leaves the nodes of all queued goroutines unchanged, and queues no other
 pub same_queues : (nodes new : List GoroutineNode) (semaphores : List (Sides SemaphoreHead)) (queues : ℕ → Side → List ℕ) → AreQueues nodes semaphores queues
     → ((s : ℕ) (side : Side) (m : ℕ) (node : GoroutineNode) → slice_get nodes m ≡ Some node → node.status ≡ Queued s side → slice_get new m ≡ Some node)
     → ((s : ℕ) (side : Side) (m : ℕ) → is_queued s side (slice_get (statuses new) m) ≡ is_queued s side (slice_get (statuses nodes) m))
@@ -40,7 +40,7 @@ same_queues nodes new semaphores queues h kept bits alone named =
       named = named;
     }
 
--- then the semaphores are as they were
+-- then the semaphores are unchanged
 pub same_semaphores : (nodes new : List GoroutineNode) (semaphores : List (Sides SemaphoreHead)) (queues : ℕ → Side → List ℕ) → AreQueues nodes semaphores queues → AreQueues new semaphores queues
     → map (semaphores_from new) semaphores ≡ map (semaphores_from nodes) semaphores
 same_semaphores nodes new semaphores queues h k =
@@ -50,7 +50,7 @@ same_semaphores nodes new semaphores queues h k =
 pub statuses_push : (nodes : List GoroutineNode) (node : GoroutineNode) → statuses (nodes ++ node ∷ []) ≡ statuses nodes ++ node.status ∷ []
 statuses_push nodes node = map_push (λ (x : GoroutineNode). x.status) nodes node
 
--- one goroutine more, in no queue
+-- one more goroutine, which is in no queue
 pub pushed : (nodes : List GoroutineNode) (semaphores : List (Sides SemaphoreHead)) (queues : ℕ → Side → List ℕ) (node : GoroutineNode) → AreQueues nodes semaphores queues
     → is_waiting node.status ≡ false → node.next ≡ None → node.previous ≡ None → AreQueues (nodes ++ node ∷ []) semaphores queues
 pushed nodes semaphores queues node h none no_next no_previous =
@@ -68,7 +68,7 @@ pushed nodes semaphores queues node h none no_next no_previous =
       | inr last ↦ absurd (let t : true ≡ false = ap is_waiting (sym last.1) ∙ none in cc)
     ])
 
--- the last goroutine goes, which is in no queue
+-- the last goroutine is removed, which is in no queue
 pub popped : (nodes : List GoroutineNode) (semaphores : List (Sides SemaphoreHead)) (queues : ℕ → Side → List ℕ) (node : GoroutineNode) → AreQueues (nodes ++ node ∷ []) semaphores queues
     → is_waiting node.status ≡ false → AreQueues nodes semaphores queues
 popped nodes semaphores queues node h none =
@@ -83,7 +83,7 @@ popped nodes semaphores queues node h none =
     (λ m x at outside. h.alone m x (slice_get-push_kept nodes node x m at) outside)
     (λ m s side is. h.named m s side (ap (λ st. slice_get st m) (statuses_push nodes node) ∙ slice_get-push_kept (statuses nodes) node.status (Queued s side) m is))
 
--- one that is in no queue gets another status, and is in none
+-- a goroutine that is in no queue gets another status, and is still in none
 pub restated : (nodes : List GoroutineNode) (semaphores : List (Sides SemaphoreHead)) (queues : ℕ → Side → List ℕ) (g : ℕ) (old new : GoroutineNode) → AreQueues nodes semaphores queues
     → slice_get nodes g ≡ Some old → is_waiting old.status ≡ false → is_waiting new.status ≡ false → new.next ≡ old.next → new.previous ≡ old.previous → AreQueues (set nodes g new) semaphores queues
 restated nodes semaphores queues g old new h is was none same_next same_previous =
@@ -110,7 +110,7 @@ restated nodes semaphores queues g old new h is was none same_next same_previous
       | inr beyond ↦ h.named m s side (sym beyond.1 ∙ ap (λ st. slice_get st m) (sym (map-set (λ (x : GoroutineNode). x.status) nodes g new)) ∙ named)
     ])
 
--- a semaphore whose count alone changes
+-- only the count of a semaphore changes
 pub recounted : (nodes : List GoroutineNode) (semaphores : List (Sides SemaphoreHead)) (queues : ℕ → Side → List ℕ) (s : ℕ) (side : Side) (both : Sides SemaphoreHead) (head : SemaphoreHead)
     → AreQueues nodes semaphores queues → slice_get semaphores s ≡ Some both → head.front ≡ (of_side side both).front → head.back ≡ (of_side side both).back
     → AreQueues nodes (set semaphores s (with_side side head both)) queues

@@ -1,4 +1,4 @@
--- The counts of waits are right after each change of a goroutine's status.
+-- The counts of waits are correct after each change of a goroutine's status.
 use Rattle.std.proofs.Common.{◌≡◌, inl, inr, ℕ, zero, suc, ◌+◌, ◌-◌, ◌^◌, ◌<◌, ◌≤◌, Bool, true, false, ◌||◌, List, [], ◌∷◌, ◌++◌, length, length-set, set, replicate, cond, Option, Some, None, refl, sym, ap, subst, ◌∙◌, arith}
 use Rattle.std.proofs.lemmas.List.Sums.{count_by-le-length, sum_by-append}
 use Rattle.std.proofs.lemmas.Option.{same_Some, none-some}
@@ -23,14 +23,14 @@ use Rattle.nr_gsema.proofs.ListLemmas.{each_alike}
 use Rattle.nr_gsema.proofs.PlaceLemmas.{Apart, place_apart, place_cases, place_same}
 use Rattle.nr_gsema.proofs.TableLemmas.{AreTable}
 
--- what one adds to the number of those that pass a test
+-- 1 if an element passes a test, otherwise 0
 abbrev counting : Bool → ℕ
 counting b = cond b 1 0
 
 count_more : {X : Type 0} (p : X → Bool) (x : X) (xs : List X) → count_by p (x ∷ xs) ≡ counting (p x) + count_by p xs
 count_more {X} p x xs = let all = sum_by-append (λ (y : X). counting (p y)) (x ∷ []) xs in omega arith
 
--- how many pass a test, where one element becomes another
+-- the number of elements that pass a test, after one element is replaced
 count_set : {X : Type 0} (p : X → Bool) (xs : List X) (i : ℕ) (old new : X) → slice_get xs i ≡ Some old → count_by p (set xs i new) + counting (p old) ≡ count_by p xs + counting (p new)
 count_set p [] i old new at = cc
 count_set {X} p (x ∷ xs) zero old new at =
@@ -55,7 +55,7 @@ count_there p (x ∷ xs) (suc i) old at =
     let a = count_more p x xs in
     omega arith
 
--- one passes a test just where their number isn't 0
+-- an element passes a test if and only if the number of such elements isn't 0
 any_counted : {X : Type 0} (p : X → Bool) (xs : List X) → list_any p xs ≡ nat_lt 0 (count_by p xs)
 any_counted p [] = refl
 any_counted p (x ∷ xs) = go (p x) (any_counted p xs) ∙ ap (nat_lt 0) (sym (count_more p x xs))
@@ -67,7 +67,7 @@ any_counted p (x ∷ xs) = go (p x) (any_counted p xs) ∙ ap (nat_lt 0) (sym (c
         above n = grind arith
     go false rest = rest ∙ ap (nat_lt 0) (let n : count_by p xs ≡ 0 + count_by p xs = omega arith in n)
 
--- what is found at a descriptor after a change of the count of a wait: the count of that wait is changed, and no other
+-- the counts at a descriptor after a change: the count of that wait is changed, and no other
 abbrev Changed : (ℕ → ℕ) → Option (ℕ × Side) → List (Sides ℕ) → ℕ → Side → Sides ℕ → Type 0
 Changed change place counts d side both =
     (was : Sides ℕ) × (slice_get counts d ≡ Some was) × (of_side side both ≡ (if is_wait_at d side place then change (of_side side was) else of_side side was))
@@ -111,7 +111,7 @@ changed_at change (Some (e, other)) counts d side both at = go (slice_get counts
         elsewhere change e d other side counts both both found refl (λ n s. none-some both (sym none ∙ ap (slice_get counts) (sym n) ∙ found))
     go (Some x) there = in_one x there (ap (λ (q : Option (Sides ℕ)). slice_get (on_count e other change q counts) d) (sym there) ∙ at)
 
--- a count that was right is right after one left and one joined
+-- a correct count is still correct after one goroutine left and one joined
 recount : (was is : Bool) (n left_n new_n count new_count : ℕ) → left_n ≡ (if was then n - 1 else n) → new_n ≡ (if is then left_n + 1 else left_n) → n ≡ count → counting was ≤ count
     → new_count + counting was ≡ count + counting is → new_n ≡ new_count
 recount true true n left_n new_n count new_count a b c d e = omega arith
@@ -119,7 +119,7 @@ recount true false n left_n new_n count new_count a b c d e = omega arith
 recount false true n left_n new_n count new_count a b c d e = omega arith
 recount false false n left_n new_n count new_count a b c d e = omega arith
 
--- the counts are right after a goroutine got another status
+-- the counts are correct after a goroutine's status changed
 pub counts_moved : (counts : List (Sides ℕ)) (gs : List Status) (g : ℕ) (before after : Status) → AreCounts counts gs → slice_get gs g ≡ Some before
     → AreCounts (moved_between before after counts) (set gs g after)
 counts_moved counts gs g before after counted at d side both found =
@@ -129,7 +129,7 @@ counts_moved counts gs g before after counted at d side both found =
     recount (p before) (p after) (of_side side fewer.0) (of_side side more.0) (of_side side both) (count_by p gs) (count_by p (set gs g after)) fewer.2 more.2 (counted d side fewer.0 fewer.1)
     (count_there p gs g before at) (count_set p gs g before after at)
 
--- one more than the others can be counted, where goroutines are few
+-- a count can grow by one, because there are few goroutines
 fewer_than : (was : Bool) (n left_n count new_count size : ℕ) → left_n ≡ (if was then n - 1 else n) → n ≡ count → counting was ≤ count → new_count + counting was ≡ count + 1 → new_count ≤ size
     → size < 2 ^ 32 → left_n + 1 < 2 ^ 32
 fewer_than true n left_n count new_count size a b c d e f = omega arith
@@ -151,7 +151,7 @@ room_for counts gs g before after counted at few = go (wait_of after) refl
         fewer_than (p before) (of_side side fewer.0) (of_side side both) (count_by p gs) (count_by p (set gs g after)) (length gs) fewer.2 (counted d side fewer.0 fewer.1)
         (count_there p gs g before at) moves size few
 
--- one more that waits nowhere
+-- one more goroutine that isn't inside a wait
 waiting_pushed : (d : ℕ) (side : Side) (gs : List Status) (status : Status) → wait_of status ≡ None → waiting_at d side (gs ++ status ∷ []) ≡ waiting_at d side gs
 waiting_pushed d side gs status none =
     let a = sum_by-append (λ (x : Status). counting (is_wait_at d side (wait_of x))) gs (status ∷ []) in
@@ -164,7 +164,7 @@ counts_pushed counts gs status none counted d side both found = counted d side b
 pub counts_popped : (counts : List (Sides ℕ)) (gs : List Status) (status : Status) → wait_of status ≡ None → AreCounts counts (gs ++ status ∷ []) → AreCounts counts gs
 counts_popped counts gs status none counted d side both found = counted d side both found ∙ waiting_pushed d side gs status none
 
--- nobody waits
+-- the counts without goroutines are 0
 pub none_counted : (n : ℕ) → AreCounts (replicate n (twice 0)) []
 none_counted n d side both found = ap (of_side side) (each_alike n (twice 0) d both found) ∙ zero_at side
   where
@@ -172,7 +172,7 @@ none_counted n d side both found = ap (of_side side) (each_alike n (twice 0) d b
     zero_at Read = refl
     zero_at Write = refl
 
--- whether somebody waits is what the count says
+-- the count says whether a goroutine is inside the wait
 pub waited_by_count : (counts : List (Sides ℕ)) (gs : List Status) (d : ℕ) (side : Side) (count : ℕ) → AreCounts counts gs → waiting_of d side counts ≡ Some count → nat_lt 0 count ≡ is_waited d side gs
 waited_by_count counts gs d side count counted is = go (slice_get counts d) refl is
   where
@@ -181,7 +181,7 @@ waited_by_count counts gs d side count counted is = go (slice_get counts d) refl
     go (Some both) found e =
         ap (nat_lt 0) (sym (same_Some (of_side side both) count e) ∙ counted d side both found) ∙ sym (any_counted (λ (status : Status). is_wait_at d side (wait_of status)) gs)
 
--- a change of a semaphore leaves the goroutines alone
+-- a change of a semaphore leaves the goroutines' statuses unchanged
 on_semaphore_leaves : (s : ℕ) (side : Side) (change : Semaphore → Semaphore) (t : GoroutineTable) → (on_semaphore s side change t).goroutines ≡ t.goroutines
 on_semaphore_leaves s side change t = go (slice_get t.semaphores s)
   where
@@ -189,13 +189,13 @@ on_semaphore_leaves s side change t = go (slice_get t.semaphores s)
     go None = refl
     go (Some both) = refl
 
--- the statuses of the nodes that a change of a queue leaves
+-- the statuses of the nodes after a change of a queue
 pub statuses_requeued : (nodes new : List GoroutineNode) (semaphores zs : List (Sides SemaphoreHead)) (limit g s : ℕ) (after : Status) (side : Side) (change : Semaphore → Semaphore) (t : GoroutineTable)
     → AreTable nodes semaphores limit t → AreTable new zs limit (with_status g after (on_semaphore s side change t)) → statuses new ≡ set (statuses nodes) g after
 statuses_requeued nodes new semaphores zs limit g s after side change t is becomes =
     ap (λ (u : GoroutineTable). u.goroutines) becomes.view ∙ ap (λ (gs : List Status). set gs g after) (on_semaphore_leaves s side change t ∙ ap (λ (u : GoroutineTable). u.goroutines) (sym is.view))
 
--- the counts are right for the nodes that a change of a status leaves
+-- the counts are correct for the nodes after a change of status
 pub counts_kept : (counts now : List (Sides ℕ)) (nodes new : List GoroutineNode) (g : ℕ) (before after : Status) → AreCounts counts (statuses nodes) → slice_get (statuses nodes) g ≡ Some before
     → statuses new ≡ set (statuses nodes) g after → now ≡ moved_between before after counts → AreCounts now (statuses new)
 counts_kept counts now nodes new g before after counted at becomes now_is =

@@ -1,4 +1,4 @@
--- What a look at a position gives, and what an accepted recording is.
+-- The reply to a query at a position, and the meaning of an accepted recording.
 use Rattle.std.proofs.Common.{◌≡◌, ℕ, true, Some, Ok, Err, refl, ap, ◌∙◌}
 use Rattle.std.specs.Prelude.{List, slice_get, IsOk}
 use Rattle.nr_rev.specs.Cell.{bytes_of, cell, queue_of}
@@ -16,7 +16,7 @@ use Rattle.nr_command.specs.declared.reply.Reply.TheVariants as replies
 use Rattle.nr_programs.specs.Opening.{IsGoodText}
 use Rattle.nr_programs.specs.Accepted.{LeadsOnAt}
 
--- a look at the world shows what its position decides
+-- the reply to a query about the world depends only on the position
 pub shows_one : (r : Recording) (query : Query) (d e : Debugger) → is_at_world query ≡ true → d.position ≡ e.position → query_reply r d query ≡ query_reply r e query
 shows_one r (queries.Print c) d e looks same = ap (λ n. replies.Printed c (cell (world_at r n) c)) same
 shows_one r (queries.DumpBytes side s) d e looks same = ap (λ n. replies.Bytes side s (bytes_of (world_at r n) s side)) same

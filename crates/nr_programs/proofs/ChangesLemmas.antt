@@ -1,4 +1,5 @@
--- How far `changes` is: the lines that went out, those that wait, and those that steps which are left will give.
+-- The progress of `changes`: the lines that were written, those that wait, and those of the
+-- remaining steps.
 use Rattle.std.proofs.Common.{◌≡◌, ℕ, ◌+◌, ◌≤◌, Bool, true, false, ◌||◌, List, [], ◌∷◌, ◌++◌, length, drop, Option, Some, None, Ok, Err, inl, inr, refl, sym, ap, subst, ◌∙◌, arith}
 use Rattle.std.specs.Prelude.{flat_map, slice_get}
 use Rattle.std.proofs.lemmas.Grind.{flat_map-append}
@@ -56,11 +57,11 @@ flat_lines n (change ∷ changes) = ap (λ t. change_line n change ++ t) (flat_l
 texts_of_changes : (n : ℕ) (changes : List CellWithValue) → texts_of (as_lines n changes) ≡ lines_of_changes n changes
 texts_of_changes n changes = text_of_parts_is change_text (as_lines n changes) ∙ flat_lines n changes
 
--- those of lines behind which a step's are
+-- the texts of lines followed by those of a step
 texts_behind : (n : ℕ) (lines after : List ChangeLine) (changes : List CellWithValue) → after ≡ lines ++ as_lines n changes → texts_of after ≡ texts_of lines ++ lines_of_changes n changes
 texts_behind n lines after changes is = ap texts_of is ∙ texts-append lines (as_lines n changes) ∙ ap (λ t. texts_of lines ++ t) (texts_of_changes n changes)
 
--- what is left is cut in two, and the first part waits
+-- the remaining lines are split, and the first part now waits
 moved_on : (sent lines after more later rest all : List ℕ) → after ≡ lines ++ more → rest ≡ more ++ later → sent ++ (lines ++ rest) ≡ all → sent ++ (after ++ later) ≡ all
 moved_on sent lines after more later rest all waits cut is =
     ap (λ t. sent ++ (t ++ later)) waits ∙ ap (λ t. sent ++ t) (append_assoc lines more later) ∙ ap (λ t. sent ++ (lines ++ t)) (sym cut) ∙ is
@@ -70,7 +71,7 @@ pub calm_still : (a b : Bool) → b ≡ a → b ≡ (a || false)
 calm_still true b e = e
 calm_still false b e = e
 
--- a part of a text is out, so of a longer one
+-- a prefix of a text was written, so a prefix of any longer text was
 pub cut_short : (text more : List ℕ) (wanted : ExitStatus) (old new : Outgoing) (count : ℕ) → WritesPrefix old new text count → EndsPrinting (text ++ more) wanted old new StreamFailed
 cut_short text more wanted old new count part =
     let longer : WritesPrefix old new (text ++ more) count = record {
@@ -93,11 +94,11 @@ module _ (r : Recorded) where
   abbrev all_lines : List ℕ
   all_lines = change_lines 1 (empty_world r.limits) r.steps
 
-  -- those from position n on
+  -- the lines from position n on
   abbrev lines_from : ℕ → World → List ℕ
   lines_from n w = change_lines (n + 1) w (drop n r.steps)
 
-  -- the world at position n is this one, and these lines wait
+  -- the world is that of position n, and these lines wait
   pub record Progress (n : ℕ) (w : World) (lines : List ChangeLine) (old new : Outgoing) : Type 0 where
     pub sent : List ℕ
     pub out : Sends old new sent
@@ -116,11 +117,11 @@ module _ (r : Recorded) where
         fault = ap (λ x. first_fault 1 x r.steps) is;
       }
 
-  -- the step after a position, and those behind it
+  -- the steps from a position on: the next step, followed by the others
   steps_there : (n : ℕ) (s : RecordedStep) → slice_get r.steps n ≡ Some s → drop n r.steps ≡ s ∷ drop (n + 1) r.steps
   steps_there n s read = drop_more r.steps n s (slice_get_within r.steps n s read) ∙ ap (λ x. x ∷ drop (n + 1) r.steps) (get_or_from_slice_get r.steps n s s read)
 
-  -- what the lines from there are, by the fault of the step
+  -- the lines from a position on, given the fault of the step
   lines_by : (n : ℕ) (w : World) (s : RecordedStep) (fault : Option LoadFault) → slice_get r.steps n ≡ Some s → step_fault (n + 1) s.answer (outcome w s.step) ≡ fault
       → lines_from n w
       ≡ unless_fault fault (lines_of_changes (n + 1) (changes_between w (next_of w (outcome w s.step))) ++ change_lines (n + 1 + 1) (next_of w (outcome w s.step)) (drop (n + 1) r.steps))
@@ -135,7 +136,8 @@ module _ (r : Recorded) where
       ap (first_fault (n + 1) w) (steps_there n s read)
       ∙ ap (λ f. fault_or f (first_fault (n + 1 + 1) (next_of w (outcome w s.step)) (drop (n + 1) r.steps))) is
 
-  -- the lines from there, where the step has no fault: its own, and those from the next position on
+  -- the lines from a position on if the step has no fault: its own lines, followed by those from
+  -- the next position on
   lines_on : (n : ℕ) (w next : World) (s : RecordedStep) → slice_get r.steps n ≡ Some s → step_fault (n + 1) s.answer (outcome w s.step) ≡ None → next ≡ next_of w (outcome w s.step)
       → lines_from n w ≡ lines_of_changes (n + 1) (changes_between w next) ++ lines_from (n + 1) next
   lines_on n w next s read none leads =
@@ -146,7 +148,7 @@ module _ (r : Recorded) where
   fault_on n w next s read none leads =
       subst (λ x. first_fault (n + 1) w (drop n r.steps) ≡ first_fault (n + 1 + 1) x (drop (n + 1) r.steps)) (sym leads) (fault_by n w s None read none)
 
-  -- a step is made, and its lines wait too
+  -- a step was applied, and its lines wait, too
   pub stepped : (n : ℕ) (w next : World) (lines after : List ChangeLine) (old new : Outgoing) → Progress n w lines old new → StepsOn r n w lines next after → Progress (n + 1) next after old new
   stepped n w next lines after old new before step =
       record {
@@ -159,7 +161,7 @@ module _ (r : Recorded) where
         fault = sym (fault_on n w next step.recorded step.read step.faultless step.leads) ∙ before.fault;
       }
 
-  -- the lines that waited went out
+  -- the waiting lines were written
   pub flushed : (n : ℕ) (w : World) (lines : List ChangeLine) (old mid new : Outgoing) → Progress n w lines old mid → WritesAll mid new (texts_of lines) → Progress n w [] old new
   flushed n w lines old mid new before out =
       record {
@@ -170,14 +172,14 @@ module _ (r : Recorded) where
         fault = before.fault;
       }
 
-  -- what is behind the lines that went out is all that is left
+  -- the remaining lines follow those that were written
   whole : (n : ℕ) (w : World) (lines : List ChangeLine) (old new : Outgoing) (last : List ℕ) → (before : Progress n w lines old new) → before.sent ++ (texts_of lines ++ (lines_from n w ++ last)) ≡ all_lines ++ last
   whole n w lines old new last before =
       ap (λ t. before.sent ++ t) (sym (append_assoc (texts_of lines) (lines_from n w) last))
       ∙ sym (append_assoc before.sent (texts_of lines ++ lines_from n w) last)
       ∙ ap (λ t. t ++ last) before.rest
 
-  -- a write of a part of them failed
+  -- writing the waiting lines failed after a part
   pub broken : (n : ℕ) (w : World) (lines : List ChangeLine) (old mid new : Outgoing) (count : ℕ) → Progress n w lines old mid → WritesPrefix mid new (texts_of lines) count → WritesChanges (Ok r) old new StreamFailed
   broken n w lines old mid new count before part =
       let last = last_line (opened_as (Ok r)) in
@@ -187,7 +189,7 @@ module _ (r : Recorded) where
       inl (subst (λ t. EndsPrinting t wanted old new StreamFailed) (whole n w lines old mid last before)
       (behind before.sent (texts_of lines ++ more) wanted StreamFailed old mid new before.out (calm_still old.failed mid.failed before.calm) ends))
 
-  -- the lines that waited and the last one were printed, where no others are left
+  -- the waiting lines and the last line were printed, and no others remain
   ends_with : (n : ℕ) (w : World) (lines : List ChangeLine) (old mid new : Outgoing) (status : ExitStatus) → Progress n w lines old mid → lines_from n w ≡ []
       → EndsPrinting (texts_of lines ++ last_line (opened_as (Ok r))) (status_of_opened (opened_as (Ok r))) mid new status → WritesChanges (Ok r) old new status
   ends_with n w lines old mid new status before none printed =
@@ -208,7 +210,7 @@ module _ (r : Recorded) where
       (subst (λ o. EndsPrinting (texts_of lines ++ last_line o) (status_of_opened o) mid new status) (sym (ap (λ f. run_or f r) found))
       (subst (λ t. EndsPrinting (t ++ load_fault_line fault) Refused mid new status) (ap texts_of step.kept) printed))
 
-  -- all steps are made, and that is printed
+  -- all steps were applied, and the last line was printed
   pub ended : (n : ℕ) (w : World) (lines : List ChangeLine) (old mid new : Outgoing) (status : ExitStatus) → length r.steps ≤ n → Progress n w lines old mid
       → EndsPrinting (texts_of lines ++ accepted_line (length r.steps)) Done mid new status → WritesChanges (Ok r) old new status
   ended n w lines old mid new status all before printed =
@@ -223,7 +225,7 @@ module _ (r : Recorded) where
 
   -- ---- what came of a step
 
-  -- it was refused
+  -- the step was refused
   pub is_refused : (n : ℕ) (w : World) (step : Step) (reason : Refusal) (lines : List ChangeLine) → slice_get (run_of r).steps n ≡ Some step → outcome w step ≡ Err reason
       → HasFault r n w lines lines (load.Refused (n + 1) reason)
   is_refused n w step reason lines read is =
@@ -235,7 +237,7 @@ module _ (r : Recorded) where
         kept = refl;
       }
 
-  -- it answered otherwise
+  -- the step gave another answer than the recorded one
   pub is_otherwise : (n : ℕ) (w next : World) (step : Step) (given : Answer) (lines : List ChangeLine) → slice_get (run_of r).steps n ≡ Some step → outcome w step ≡ Ok (given, next)
       → Differs (recorded_at r n) given → HasFault r n w lines lines (load.OtherAnswer (n + 1))
   is_otherwise n w next step given lines read is differs =
@@ -250,7 +252,7 @@ module _ (r : Recorded) where
         kept = refl;
       }
 
-  -- it answered as is recorded
+  -- the step gave its recorded answer
   pub is_made : (n : ℕ) (w next : World) (step : Step) (given : Answer) (lines after : List ChangeLine) → slice_get (run_of r).steps n ≡ Some step → outcome w step ≡ Ok (given, next)
       → Agrees (recorded_at r n) given → after ≡ lines ++ as_lines (n + 1) (changes_between w next) → StepsOn r n w lines next after
   is_made n w next step given lines after read is agrees listed =

@@ -41,12 +41,12 @@ others_differ a b other =
 
 -- ---- one step
 
--- a step that answers as is recorded of it has no fault
+-- a step that gives its recorded answer has no fault
 pub no_fault : (n : ℕ) (recorded : Option Answer) (given : Answer) (next : World) → Agrees recorded given → step_fault n recorded (Ok (given, next)) ≡ None
 no_fault n None given next agrees = refl
 no_fault n (Some answer) given next agrees = rw (agrees answer refl, same_as_itself given) refl
 
--- one that answers otherwise has
+-- a step that gives another answer has a fault
 pub other_answer : (n : ℕ) (recorded : Option Answer) (given : Answer) (next : World) → Differs recorded given → step_fault n recorded (Ok (given, next)) ≡ Some (load.OtherAnswer n)
 other_answer n recorded given next differs = rw (differs.1, others_differ differs.0 given differs.2) refl
 
@@ -55,7 +55,7 @@ module _ (r : Recorded) where
   abbrev pub fault_from : ℕ → Option LoadFault
   fault_from n = first_fault (n + 1) (world_at (run_of r) n) (drop n r.steps)
 
-  -- what is recorded of a step of the run
+  -- the recorded step at a position of the run
   pub step_there : (n : ℕ) (step : Step) → slice_get (run_of r).steps n ≡ Some step → (s : RecordedStep) × (slice_get r.steps n ≡ Some s) × (s.step ≡ step) × (recorded_at r n ≡ s.answer)
   step_there n step read = there (slice_get r.steps n) refl (sym (slice_get-map (λ (s : RecordedStep). s.step) r.steps n) ∙ read)
     where
@@ -63,14 +63,14 @@ module _ (r : Recorded) where
       there None is e = absurd cc
       there (Some s) is e = (s, is, (let same : s.step ≡ step = cc in same), ap (option_and_then (λ (x : RecordedStep). x.answer)) is)
 
-  -- the fault from there is the step's, or the one behind it
+  -- the first fault from a position on is the step's fault or a later one
   pub fault_at : (n : ℕ) (s : RecordedStep) → slice_get r.steps n ≡ Some s
       → fault_from n ≡ fault_or (step_fault (n + 1) s.answer (outcome (world_at (run_of r) n) s.step)) (first_fault (n + 1 + 1) (next_of (world_at (run_of r) n) (outcome (world_at (run_of r) n) s.step)) (drop (n + 1) r.steps))
   fault_at n s read =
       ap (first_fault (n + 1) (world_at (run_of r) n))
       (drop_more r.steps n s (slice_get_within r.steps n s read) ∙ ap (λ x. x ∷ drop (n + 1) r.steps) (get_or_from_slice_get r.steps n s s read))
 
-  -- a step that applies and answers as is recorded is passed over
+  -- a step that applies and gives its recorded answer is skipped
   pub step_on : (n : ℕ) (step : Step) (given : Answer) (next : World) → slice_get (run_of r).steps n ≡ Some step → outcome (world_at (run_of r) n) step ≡ Ok (given, next) → Agrees (recorded_at r n) given → fault_from n ≡ fault_from (n + 1)
   step_on n step given next read applies agrees =
       let s = step_there n step read in
@@ -96,12 +96,12 @@ get_in_take (y ∷ xs) n zero x below e = absurd (omega (arith, below))
 get_in_take (y ∷ xs) zero (suc k) x below e = e
 get_in_take (y ∷ xs) (suc n) (suc k) x below e = get_in_take xs n k x (omega (arith, below)) e
 
--- what a step that applies came to
+-- the outcome of a step that applies
 came : (o : Outcome) → IsOk o → (given : Answer) × (next : World) × (o ≡ Ok (given, next))
 came (Ok (given, next)) ok = (given, next, refl)
 came (Err reason) ok = absurd (grind (arith, ok))
 
--- the first steps of a recording whose first ones apply
+-- the first steps apply if the recording of these steps is good
 good_before : (run : Recording) (k : ℕ) → IsGood (record run { steps = take k run.steps }) → (n : ℕ) (step : Step) → n < k → slice_get run.steps n ≡ Some step → IsOk (outcome (world_at run n) step)
 good_before run k good n step below read =
     let first : Recording = record run { steps = take k run.steps } in
@@ -122,7 +122,7 @@ module _ (r : Recorded) where
   within_run : (k : ℕ) → k < length (run_of r).steps → k < length r.steps
   within_run k below = omega (arith, below, steps_of_run r)
 
-  -- where a step is refused
+  -- the fault of a refused step is found
   refused_found : (k : ℕ) (reason : Refusal) → IsRefusedAt (run_of r) k reason → AnswersAgreeTo r k → fault_from r 0 ≡ Some (load.Refused (k + 1) reason)
   refused_found k reason refused agree =
       let below = within_run k (slice_get_within (run_of r).steps k refused.step refused.next) in
@@ -131,7 +131,7 @@ module _ (r : Recorded) where
       on_to k (good_before (run_of r) k refused.before) agree (omega (arith, below)) ∙ fault_at r k s.0 s.1
       ∙ ap (λ (o : Outcome). fault_or (step_fault (k + 1) s.0.answer o) (first_fault (k + 1 + 1) (next_of (world_at (run_of r) k) o) (drop (k + 1) r.steps))) is
 
-  -- what a step came to that gives an answer
+  -- the outcome of a step with an answer
   gives_so : (k : ℕ) (given : Answer) → answer_at (run_of r) k ≡ Some given → (step : Step) × (next : World) × (slice_get (run_of r).steps k ≡ Some step) × (outcome (world_at (run_of r) k) step ≡ Ok (given, next))
   gives_so k given gives = from (slice_get (run_of r).steps k) refl gives
     where
@@ -144,7 +144,7 @@ module _ (r : Recorded) where
       from None is e = absurd cc
       from (Some step) is e = let o = answers_so step (outcome (world_at (run_of r) k) step) refl e in (step, o.0, is, o.1)
 
-  -- where one answers otherwise
+  -- the fault of a step with another answer is found
   other_found : (k : ℕ) → AnswersOtherwiseAt r k → fault_from r 0 ≡ Some (load.OtherAnswer (k + 1))
   other_found k other =
       let g = gives_so k other.given other.gives in
@@ -156,7 +156,7 @@ module _ (r : Recorded) where
       ∙ ap (λ (o : Outcome). fault_or (step_fault (k + 1) s.0.answer o) (first_fault (k + 1 + 1) (next_of (world_at (run_of r) k) o) (drop (k + 1) r.steps))) is
       ∙ ap (λ f. fault_or f later) (other_answer (k + 1) s.0.answer other.given g.1 (subst (λ o. Differs o other.given) s.3 other.differs))
 
-  -- where there is none
+  -- no fault is found in a good recording
   none_found : IsGood (run_of r) → AnswersAgree r → fault_from r 0 ≡ None
   none_found good agree =
       on_to (length r.steps) (λ n step below. good n step) (λ n given below. agree n given) (omega arith)
@@ -176,13 +176,13 @@ opened_good bytes run is =
     let right = subst IsGood (sym is.run) is.good in
     ap opened_as (reading_again bytes is.recorded is.text) ∙ ap (λ f. run_or f is.recorded) (none_found is.recorded right is.answers) ∙ ap Ok is.run
 
--- a fault that isn't out of memory
+-- a fault other than lack of memory
 abbrev pub IsOwn : OpenFault → Type 0
 IsOwn (Read (read.Memory refused)) = ⊥
 IsOwn (Load (load.Memory refused)) = ⊥
 IsOwn fault = Unit {0}
 
--- a faulty one as its first fault
+-- the text of a recording with a fault opens as its first fault
 pub opened_faulty : (bytes : List ℕ) (fault : OpenFault) → IsOwn fault → IsFirstFault bytes fault → opened bytes ≡ Err fault
 opened_faulty bytes (Read (read.Memory refused)) own is = absurd own
 opened_faulty bytes (Read (read.Line n f)) own is = ap opened_as is

@@ -1,4 +1,4 @@
--- What no caller is sent, and no run writes.
+-- Conversations and runs that violate the definitions.
 use Rattle.std.proofs.Common.{◌≡◌, inl, inr, ◌∙◌, ℕ, codes, false, true, List, [], ◌∷◌, None, Ok, refl, sym, ap}
 use Rattle.std.proofs.lemmas.List.Elements.{All-head}
 use Rattle.nr_rev.specs.Run.{Recording}

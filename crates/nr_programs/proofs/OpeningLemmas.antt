@@ -1,4 +1,4 @@
--- A recording whose steps all apply, and answer as is recorded of them, has no fault.
+-- A recording whose steps all apply and give their recorded answers has no fault.
 use Rattle.std.proofs.Common.{◌≡◌, ℕ, List, refl, sym, ap, subst, ◌∙◌}
 use Rattle.nr_recording.proofs.TextLaws.{reading_again}
 use Rattle.nr_recording.specs.Faults.{memory_line}
@@ -30,14 +30,14 @@ good_text bytes recorded run text same good answers = record {
   answers = answers;
 }
 
--- bytes are a text of one recording at most
+-- bytes are a text of at most one recording
 same_recorded : (bytes : List ℕ) (r s : Recorded) → IsTextOf bytes r → IsTextOf bytes s → r ≡ s
 same_recorded bytes r s one other =
     let first = reading_again bytes r one in
     let second = reading_again bytes s other in
     cc
 
--- so of one run
+-- so they are a text of at most one run
 pub one_recording : (bytes : List ℕ) (r s : Recording) → IsGoodText bytes r → IsGoodText bytes s → r ≡ s
 one_recording bytes r s one other =
     sym one.run ∙ ap run_of (same_recorded bytes one.recorded other.recorded one.text other.text) ∙ other.run
@@ -49,7 +49,7 @@ no_step_fault bytes r s fault is text faulty =
     let good : IsGood (run_of s) = subst (λ (x : Recorded). IsGood (run_of x)) same (subst IsGood (sym is.run) is.good) in
     fault_is_bad s fault faulty (good, subst AnswersAgree same is.answers)
 
--- out of memory is all that it can report
+-- the only fault that can be reported is lack of memory
 only_memory : (bytes : List ℕ) (fault : OpenFault) (r : Recording) → IsFirstFault bytes fault → IsGoodText bytes r → fault_line fault ≡ memory_line
 only_memory bytes (Read (read.Memory refused)) r first is = refl
 only_memory bytes (Read (read.Line n fault)) r first is =
@@ -59,7 +59,7 @@ only_memory bytes (Load (load.Memory refused)) r first is = refl
 only_memory bytes (Load (load.Refused n reason)) r first is = absurd (no_step_fault bytes r first.0 (load.Refused n reason) is first.1 first.2)
 only_memory bytes (Load (load.OtherAnswer n)) r first is = absurd (no_step_fault bytes r first.0 (load.OtherAnswer n) is first.1 first.2)
 
--- so that is what is printed of it
+-- so only that fault can be printed
 pub prints_memory : (bytes : List ℕ) (fault : OpenFault) (r : Recording) (old new : Outgoing) (status : ExitStatus)
     → IsFirstFault bytes fault → IsGoodText bytes r → EndsPrinting (fault_line fault) Refused old new status → EndsPrinting memory_line Refused old new status
 prints_memory bytes fault r old new status first is prints =

@@ -39,7 +39,7 @@ starts_long a b one = omega (arith, ap length one.1, length-append a one.0)
 
 -- ---- one caller
 
--- the words that are seen go on
+-- the words that a front sees continue
 caller_grows : (c : Conversation) (d d' : FrontState) → ServesCaller c d d' → Grows d d'
 caller_grows c d d' h = lines_grow _ c.ending h.serves.ended d _ _ d' h.serves.ends
   where
@@ -51,7 +51,7 @@ caller_grows c d d' h = lines_grow _ c.ending h.serves.ended d _ _ d' h.serves.e
     lines_grow Prompt (Err (Write whole part)) ended d lines out d' e =
         turns_grow d _ _ d' (turns_more d e.front e.texts e.mid e.line e.text d' e.turns e.turn)
 
--- it is answered, and the front is in some state then
+-- the caller was answered, and the front is in this state afterwards
 record Goes (r : Recording) (c : Conversation) (s : SessionState) (d d' : FrontState) : Type 0 where
   pub answered : IsAnswered r (size_of d) d.pass_state.tag c s
   pub after : SessionState
@@ -61,7 +61,7 @@ record Goes (r : Recording) (c : Conversation) (s : SessionState) (d d' : FrontS
   pub table : d'.table ≡ d.table
   pub company : d'.pass_state.passes ≡ d.pass_state.passes
 
--- one caller, of whom these bytes were received and to whom these were sent
+-- one caller, from whom these bytes were received and to whom these were sent
 module _ (r : Recording) (c : Conversation) (s : SessionState) (d d' : FrontState) (known held : Option (List ℕ)) (moments : List Moment) (read out : List ℕ) (received : c.input.received ≡ read) (sent : c.output.sent ≡ out)
     (passes : c.input.moments ≡ moments) where
   replies_are : (failed : Bool) (met : List Met) → c.input.failed ≡ failed → replies_among r s (not failed) read met ≡ replies_among r s (not c.input.failed) c.input.received met
@@ -77,11 +77,12 @@ module _ (r : Recording) (c : Conversation) (s : SessionState) (d d' : FrontStat
       (All-weaker (IsPrompt (unread known) (unwritten held) ran (texts_among r s ran met)) (HeardOut r s met)
       (λ m p. (prompt_replies r s ran met (unread known) (unwritten held) m p ∙ ap (λ (bytes : List ℕ). replies_among r s false bytes met) (sym p.received), p.unended refl)) moments all)
 
-  -- what a caller sent ends, where neither a read nor a write failed
+  -- the caller's input ended, if neither a read nor a write failed
   abbrev Complete : Type 0
   Complete = is_err c.ending ≡ false → IsOver c.input ⊎ (has_quit (lines_of false c.input.received) ≡ true)
 
-  -- what was replied goes on, where what was sent begins the replies, and is all of them if no write failed
+  -- the replies continue, if the bytes sent are a prefix of the replies, and all of them unless a
+  -- write failed
   goes_with : (failed : Bool) (says : List (List ℕ) → List Met → Type 0) → c.input.failed ≡ failed
       → ((ran : List (List ℕ)) (met : List Met) → says ran met → StartsWith (replies_among r s (not failed) read met) out)
       → ((ran : List (List ℕ)) (met : List Met) → says ran met → c.output.failed ≡ false → out ≡ replies_among r s (not failed) read met)
@@ -117,7 +118,7 @@ module _ (r : Recording) (c : Conversation) (s : SessionState) (d d' : FrontStat
       goes_with failed (λ ran met. out ≡ replies_among r s (not failed) read met) is (λ ran met says. all_of (replies_among r s (not failed) read met) out says) (λ ran met says calm. says)
       (λ ran met says cut. absurd (true_is_false (sym cut ∙ unfailed))) complete all
 
-  -- one failed
+  -- a write failed
   abbrev CutWithin : List (List ℕ) → List Met → Type 0
   CutWithin ran met = StartsWith (replies_among r s true read met) out × EndsWithin (texts_among r s ran met) out
 
@@ -125,16 +126,16 @@ module _ (r : Recording) (c : Conversation) (s : SessionState) (d d' : FrontStat
   cut_of is failed complete part =
       goes_with false CutWithin is (λ ran met says. says.0) (λ ran met says calm. absurd (true_is_false (sym failed ∙ calm))) (λ ran met says cut. says.1) complete part
 
-  -- an end that is a failure is no good one
+  -- an ending with an error isn't a complete one
   never_complete : (stopped : LineEnd) → c.ending ≡ Err stopped → Complete
   never_complete stopped is good = absurd (true_is_false (sym (ap is_err is) ∙ good))
 
-  -- one of the lines is `quit`, or the source is at its end
+  -- one of the lines is `quit`, or the input is at its end
   complete_quit : (ended : Bool) → (ended ≡ true → IsOver c.input) → Quitted (ArePrompt (unread known) (unwritten held) moments) d (lines_of ended read) out d' → Complete
   complete_quit true at_end e good = inl (at_end refl)
   complete_quit false at_end e good = inr (ap (λ (bytes : List ℕ). has_quit (lines_of false bytes)) received ∙ ap has_quit e.split ∙ quit_among e.front e.line e.back e.quit)
 
-  -- by how it ended
+  -- the caller's result, by its ending
   goes_by : (ending : Result End LineEnd) (ended : Bool) → c.ending ≡ ending → (ended ≡ true → IsOver c.input) → IsInState r s d → c.input.failed ≡ is_read_failure ending
       → c.output.failed ≡ is_write_failure ending → Ends (ArePrompt (unread known) (unwritten held) moments) ending ended d (lines_of ended read) out d' → Goes r c s d d'
   goes_by (Ok Closed) ended is at_end here reading writing e =

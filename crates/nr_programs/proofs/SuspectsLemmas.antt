@@ -1,4 +1,5 @@
--- How far `suspects` is: the world and the notes are those of a position, and no fault was passed.
+-- The progress of `suspects`: the world and the notes are those of a position, and no fault was
+-- skipped.
 use Rattle.std.proofs.Common.{◌≡◌, ℕ, ◌+◌, ◌≤◌, List, ◌++◌, length, drop, Some, None, Ok, Err, inl, inr, refl, sym, ap, subst, ◌∙◌}
 use Rattle.std.specs.Prelude.{slice_get}
 use Rattle.std.proofs.lemmas.List.{drop_all, length-map}
@@ -47,7 +48,7 @@ module _ (r : Recorded) where
       fault_at r n s.0 s.1
       ∙ ap (λ (o : Outcome). fault_or (step_fault (n + 1) s.0.answer o) (first_fault (n + 1 + 1) (next_of (world_at (run_of r) n) o) (drop (n + 1) r.steps))) came
 
-  -- it answered otherwise
+  -- the step gave another answer than the recorded one
   pub is_otherwise : (n : ℕ) (w next : World) (step : Step) (given : Answer) → w ≡ world_at (run_of r) n → slice_get (run_of r).steps n ≡ Some step → outcome w step ≡ Ok (given, next)
       → Differs (recorded_at r n) given → IsFaultFrom r n (load.OtherAnswer (n + 1))
   is_otherwise n w next step given there read is differs =
@@ -58,7 +59,7 @@ module _ (r : Recorded) where
       ∙ ap (λ (o : Outcome). fault_or (step_fault (n + 1) s.0.answer o) (first_fault (n + 1 + 1) (next_of (world_at (run_of r) n) o) (drop (n + 1) r.steps))) came
       ∙ ap (λ f. fault_or f later) (other_answer (n + 1) s.0.answer given next (subst (λ o. Differs o given) s.3 differs))
 
-  -- it was made, and written down
+  -- the step was applied, and the notes were updated
   pub is_made : (n : ℕ) (w next : World) (step : Step) (given : Answer) (noticed : Notice) (old new : Notes) → w ≡ world_at (run_of r) n → slice_get (run_of r).steps n ≡ Some step
       → outcome w step ≡ Ok (given, next) → Agrees (recorded_at r n) given → noticed ≡ notice w step given next → AreNotes (run_of r) n old → IsNoted (n + 1) noticed old.accounts new.accounts
       → ArePeersNoted noticed old.peers new.peers
@@ -72,13 +73,13 @@ module _ (r : Recorded) where
         faultless = step_on r n step given next read came agrees;
       }
 
-  -- all steps were made
+  -- all steps were applied
   pub opens : (n : ℕ) → length r.steps ≤ n → fault_from r 0 ≡ fault_from r n → opened_as (Ok r) ≡ Ok (run_of r)
   opens n last on =
       let none : fault_from r n ≡ None = ap (first_fault (n + 1) (world_at (run_of r) n)) (drop_all n r.steps last) in
       ap (λ f. run_or f r) (on ∙ none)
 
-  -- the fault of a later position is the first one
+  -- the first fault from a later position on is the first fault of all
   pub first_of : (n : ℕ) (fault : LoadFault) → fault_from r 0 ≡ fault_from r n → IsFaultFrom r n fault → IsFaultFrom r 0 fault
   first_of n (load.Memory refused) on is = tt
   first_of n (load.Refused step reason) on is = on ∙ is

@@ -1,4 +1,4 @@
--- What the lines of a front are answered is the transcript.
+-- The replies to a front's lines are the transcript.
 use Rattle.std.proofs.Common.{◌≡◌, inl, inr, ℕ, ◌+◌, List, [], ◌∷◌, ◌++◌, length, Option, Some, None, Result, Ok, Err, refl, sym, ap, ◌∙◌, subst, append-nil, append_assoc, length-append}
 use Rattle.std.proofs.lemmas.List.{same_from_push}
 use Rattle.nr_rev.specs.Refusing.{refused_memory}
@@ -45,7 +45,8 @@ size_of d = record { room = journal_room d.table; passes = d.pass_state.passes }
 pub same_size : (d d' : FrontState) → d'.table ≡ d.table → d'.pass_state.passes ≡ d.pass_state.passes → size_of d' ≡ size_of d
 same_size d d' table passes = let room : journal_room d'.table ≡ journal_room d.table = ap journal_room table in cc
 
--- a line may be answered so, by what it meets; and the only pass of a journal meets nothing of others
+-- a line may get this reply, given what it encounters; and the only pass of a journal encounters no
+-- words of others
 pub record MayGive (r : Recording) (owed : Option Command) (asked : Result Line LineFault) (s : SessionState) (d : FrontState) (reply : Option Reply) (d' : FrontState) : Type 0 where
   pub met : Met
   pub reply_is : (answer_among r owed asked met s).0 ≡ reply
@@ -58,37 +59,37 @@ pub record MayGive (r : Recording) (owed : Option Command) (asked : Result Line 
   pub table : d'.table ≡ d.table
   pub may : MayMeet r (size_of d) owed asked met s
 
--- the command that is due is the own one that is owed
+-- the command that is due is the front's own one whose reply is owed
 due_command : (pending : Pending) (owed due : Command) → own_pending pending ≡ Some owed → pending_command pending ≡ Some due → due ≡ owed
 due_command Nothing owed due a b = cc
 due_command (Others command) owed due a b = cc
 due_command (Own command) owed due a b = cc
 
--- words end with one word, behind which there is one debugger
+-- words end with exactly one word, after which there is exactly one debugger
 one_behind : (r : Recording) (words : List ℕ) (command : Command) (a b : Debugger) → IsBehind r words command a → IsBehind r words command b → a ≡ b
 one_behind r words command a b one other =
     one.behind ∙ ap (after_words r opening) (same_from_push one.before other.before one.word other.word (sym one.last ∙ other.last)).0 ∙ sym other.behind
 
 module _ (r : Recording) (s : SessionState) (d : FrontState) (here : IsInState r s d) where
-  -- others' words were seen, and none of the own
+  -- words of others were seen, and none of the front's own
   seen_others : (words own : List ℕ) (d' : FrontState) → d'.pass_state.seen ≡ d.pass_state.seen ++ words → own ≡ [] → d'.pass_state.seen ≡ d.pass_state.seen ++ (words ++ own)
   seen_others words own d' seen none = seen ∙ ap (λ (l : List ℕ). d.pass_state.seen ++ l) (sym (ap (λ (l : List ℕ). words ++ l) none ∙ append-nil words))
 
-  -- nothing was seen
+  -- no word was seen
   seen_none : (own : List ℕ) (d' : FrontState) → d'.pass_state ≡ d.pass_state → own ≡ [] → d'.pass_state.seen ≡ d.pass_state.seen ++ ([] ++ own)
   seen_none own d' same none = seen_others [] own d' (ap (λ (x : PassState). x.seen) same ∙ sym (append-nil d.pass_state.seen)) none
 
   none_theirs : (supply : Supply) → MeetsOthers d.pass_state.tag (record { others = []; supply = supply })
   none_theirs supply = All-nil (IsOthers d.pass_state.tag)
 
-  -- nothing is owed
+  -- no reply is owed
   none_owed : owed_command d ≡ None → s.owed ≡ None
   none_owed unowed = here.owed ∙ unowed
 
   at_words : owed_command d ≡ None → s.debugger ≡ after_words r opening d.pass_state.seen
   at_words unowed = subst (λ o. IsAt r d.pass_state.seen o s.debugger) (none_owed unowed) here.at
 
-  -- the debugger behind words more
+  -- the debugger after more words
   behind_more : (words : List ℕ) → owed_command d ≡ None → after_words r s.debugger words ≡ after_words r opening (d.pass_state.seen ++ words)
   behind_more words unowed =
       ap (λ (x : Debugger). after_words r x words) (at_words unowed) ∙ sym (after_words-append r opening d.pass_state.seen words)
@@ -111,12 +112,12 @@ module _ (r : Recording) (s : SessionState) (d : FrontState) (here : IsInState r
   before_placed command d' before word p last =
       (same_from_push before (d.pass_state.seen ++ p.between) word (word_of d.pass_state.tag command) (sym last ∙ p.placed)).0
 
-  -- the debugger that the command is run by
+  -- the debugger with which the command runs
   placed_behind : (command : Command) (d' : FrontState) (debugger : Debugger) → (p : PlacesCommand command d d') → IsBehind r d'.pass_state.seen command debugger → after_words r s.debugger p.between ≡ debugger
   placed_behind command d' debugger p behind =
       behind_more p.between p.unowed ∙ ap (after_words r opening) (sym (before_placed command d' behind.before behind.word p behind.last)) ∙ sym behind.behind
 
-  -- how many words there are with it
+  -- the number of words, including the placed one
   placed_count : (command : Command) (d' : FrontState) → (p : PlacesCommand command d d') → s.placed + length p.between + 1 ≡ length d'.pass_state.seen
   placed_count command d' p =
       let both = length-append d.pass_state.seen p.between in
@@ -148,7 +149,7 @@ module _ (r : Recording) (s : SessionState) (d : FrontState) (here : IsInState r
         may = tt;
       }
 
-  -- one that was placed, and whose reply is owed
+  -- a command that was placed, and whose reply is owed
   command_owed : (command : Command) (d' : FrontState) (place : ℕ) → IsLeftOwed command d d' place → MayGive r None (Ok (Run command)) s d (Some (reply_given (Err (Placed place)))) d'
   command_owed command d' place left =
       let p = left.places in
@@ -174,7 +175,7 @@ module _ (r : Recording) (s : SessionState) (d : FrontState) (here : IsInState r
         may = subst (Searches r command) (sym same) (subst (λ (x : Command). Searches r x left.wanted.debugger) due (subst (λ (x : Recording). Searches x left.wanted.command left.wanted.debugger) is left.wanted.searches));
       }
 
-  -- others' words were seen, and then there was no memory or no room
+  -- words of others were seen, and then memory or room was missing
   refused : (asked : Result Line LineFault) (reply : Option Reply) (supply : Supply) (d' : FrontState) → (l : Learns d d') → own_word d.pass_state.tag None asked supply ≡ []
       → MayMeet r (size_of d) None asked (record { others = l.sees_others.0; supply = supply }) s
       → answer_among r None asked (record { others = l.sees_others.0; supply = supply }) s ≡ (reply, behind_others r l.sees_others.0 s) → MayGive r s.owed asked s d reply d'
@@ -220,12 +221,12 @@ module _ (r : Recording) (s : SessionState) (d : FrontState) (here : IsInState r
   executed command d' (Err (Placed place)) (inr stays) = stays_owed (Ok (Run command)) enough d' place stays refl refl
   executed command d' (Err Full) h = refused (Ok (Run command)) (Some (Fault faults.JournalFull)) no_room d' h.learns refl ((learnt d' h.learns).placed ∙ h.full) refl
 
-  -- the walker doesn't matter
+  -- the walker makes no difference
   walked : (s' : SessionState) (walker_state : WalkerState) (mid d' : FrontState) → d' ≡ with_walker_state walker_state mid → IsInState r s' mid → IsInState r s' d'
   walked s' walker_state mid d' is there =
       subst (IsInState r s') (sym is) (record { recording = there.recording; placed = there.placed; owed = there.owed; at = there.at })
 
-  -- a look that is answered
+  -- a query that is answered
   look_given : (query : Query) (d' : FrontState) (reply : Reply) → RepliesToLook query d d' reply → MayGive r None (Ok (Look query)) s d (Some reply) d'
   look_given query d' reply h =
       let l = h.catches_all.learns in
@@ -245,7 +246,7 @@ module _ (r : Recording) (s : SessionState) (d : FrontState) (here : IsInState r
         may = tt;
       }
 
-  -- a look
+  -- a query
   looked_at : (query : Query) (d' : FrontState) (given : Result Reply FrontFault) → Looks query d d' given → MayGive r s.owed (Ok (Look query)) s d (Some (reply_given given)) d'
   looked_at query d' (Ok reply) h =
       subst (λ o. MayGive r o (Ok (Look query)) s d (Some reply) d') (sym (none_owed h.catches_all.learns.unowed)) (look_given query d' reply h)
@@ -325,7 +326,7 @@ module _ (r : Recording) (s : SessionState) (d : FrontState) (here : IsInState r
   resumes d' (Err (Placed place)) h = stays_owed (Ok Resume) no_memory d' place h.stays (refl, searches_still d' place h) refl
   resumes d' (Err Full) h = absurd h
 
-  -- what is answered the same, whether a reply is owed or not
+  -- lines whose answer is the same whether a reply is owed or not
   quiet : (asked : Result Line LineFault) (reply given : Option Reply) (d' : FrontState) → ((o : Option Command) → answer_among r o asked calm s ≡ (reply, s))
       → ((o : Option Command) → own_word d.pass_state.tag o asked enough ≡ []) → ((o : Option Command) → MayMeet r (size_of d) o asked calm s) → given ≡ reply → d' ≡ d → MayGive r s.owed asked s d given d'
   quiet asked reply given d' each none may is same =

@@ -1,4 +1,4 @@
--- What is written of a recording, and what may follow it.
+-- The output for a recording, and what may follow it.
 use Rattle.std.proofs.Common.{◌≡◌, ℕ, ◌+◌, Bool, true, false, ◌||◌, List, ◌++◌, length, take, inl, inr, refl, sym, subst, ◌∙◌, length-append, arith}
 use Rattle.nr_text.proofs.StreamLemmas.{sends_then}
 use Rattle.std.proofs.Math.Seq.{take-append-add}
@@ -12,7 +12,7 @@ pub unfailed : (a b : Bool) → b ≡ (a || false) → b ≡ a
 unfailed true b e = e
 unfailed false b e = e
 
--- the whole text, and no failure
+-- the whole text was written, and no write failed
 pub wrote_all : (text : List ℕ) (wanted : ExitStatus) (old new : Outgoing) → Sends old new text → new.failed ≡ (old.failed || false) → EndsPrinting text wanted old new wanted
 wrote_all text wanted old new out calm = inl (refl, (out, unfailed old.failed new.failed calm))
 
@@ -20,7 +20,7 @@ failed_at : (a b : Bool) → b ≡ (a || true) → b ≡ true
 failed_at true b e = e
 failed_at false b e = e
 
--- a part of a text behind what was written
+-- a part of a text after what was written before
 prefix_behind : (lines text : List ℕ) (old mid new : Outgoing) (count : ℕ) → Sends old mid lines → (part : WritesPrefix mid new text count)
     → WritesPrefix old new (lines ++ text) (saturating_count (length lines + part.n))
 prefix_behind lines text old mid new count before part =
@@ -33,7 +33,7 @@ prefix_behind lines text old mid new count before part =
       failed = part.failed;
     }
 
--- a part of it, and a failure
+-- a part of the text was written, and then a write failed
 pub wrote_part : (text : List ℕ) (wanted : ExitStatus) (old new : Outgoing) → SendsPart old new text → new.failed ≡ (old.failed || true) → EndsPrinting text wanted old new StreamFailed
 wrote_part text wanted old new part failed =
     let prefix : WritesPrefix old new text (saturating_count part.0) = record {
@@ -45,7 +45,7 @@ wrote_part text wanted old new part failed =
     } in
     inr (refl, (saturating_count part.0, prefix))
 
--- a text behind what was written
+-- a text after what was written before
 pub behind : (lines text : List ℕ) (wanted status : ExitStatus) (old mid new : Outgoing) → Sends old mid lines → mid.failed ≡ (old.failed || false)
     → EndsPrinting text wanted mid new status → EndsPrinting (lines ++ text) wanted old new status
 behind lines text wanted status old mid new before calm prints =

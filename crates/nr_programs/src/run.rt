@@ -216,7 +216,7 @@ where
     print(&Accepted(film.len()), ExitStatus::Done, output)
 }
 
-/// The acceptance of a recording with this many steps.
+/// The message that a recording with this many steps was accepted.
 #[derive(Clone, Copy)]
 pub(crate) struct Accepted(pub(crate) usize);
 

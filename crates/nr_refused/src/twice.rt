@@ -78,7 +78,7 @@ pub(crate) fn refuse(rt: &HostRuntime) {
     let _printed = println!(rt; "refuse");
 }
 
-/// Has the next request for memory refused without counting it. This prepares a call that follows a refused one.
+/// Makes the next request for memory fail, without counting it. This prepares a call that follows a refused one.
 pub(crate) fn refuse_next(rt: &HostRuntime) {
     let _printed = println!(rt; "refuse the next");
 }

@@ -30,7 +30,7 @@ fn opening(alloc: Global) -> Result<Vec<Step>, AllocError> {
     Ok(steps)
 }
 
-/// Returns a film of 192 steps, which from the third on set the clock to 1, 2 and so on.
+/// Returns a film of 192 steps; the third and the following set the clock to 1, 2 and so on.
 fn ticking(alloc: Global) -> Option<Film<World>> {
     let mut steps = opening(alloc).ok()?;
     add_ticks(&mut steps, 190).ok()?;

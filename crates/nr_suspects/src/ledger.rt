@@ -9,7 +9,7 @@ use nr_rev::Memory;
 use std::alloc::Global;
 use std::marker::Model;
 
-/// How many references of each socket each goroutine took and returned.
+/// The references of each socket that each goroutine took and returned.
 #[derive(Drop)]
 pub struct Ledger {
     rows: Vec<Vec<Holding>>,

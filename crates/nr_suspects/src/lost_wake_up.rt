@@ -36,7 +36,7 @@ pub struct LostWakeUp {
     pub taken: Option<StepBy>,
 }
 
-/// The value of unused places of a list.
+/// The value in the unused places of a list.
 impl Default for LostWakeUp {
     fn default() -> LostWakeUp {
         LostWakeUp {

@@ -56,7 +56,7 @@ pub struct Sleeper {
     pub reason: Reason,
 }
 
-/// The value of unused places of a list.
+/// The value in the unused places of a list.
 impl Default for Sleeper {
     fn default() -> Sleeper {
         Sleeper {

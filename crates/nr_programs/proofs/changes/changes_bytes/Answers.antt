@@ -6,7 +6,7 @@ use Rattle.nr_recording.specs.declared.fault.ReadFault.{ReadFault}
 use Rattle.nr_programs.proofs.ChangesLemmas.{refused_to_read}
 use Rattle.nr_programs.proofs.changes.changes_bytes.Goals as goal
 
--- the text is none of a recording, or there was no memory to read it
+-- the text isn't a recording, or memory ran out while reading it
 pub returns-in-Err : goal.returns-in-Err
 returns-in-Err g c =
     let exact = subst (λ (x : Result Recorded ReadFault). IsUnlessMemory x (reading c.args.bytes.now)) c.in-Err.is c.read.ensures.exact in

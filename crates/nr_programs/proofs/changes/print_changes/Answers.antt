@@ -29,7 +29,7 @@ returns-in-Err g c =
     faulted c.args.recording.now c.loop-n.n (g.W.Worlds.world c.loop-n.world) c.in-Err.fault c.loop-n.lines.items after c.args.output.now c.loop-n.output c.end.new.output c.end.result
     c.loop-n.invariant.progress c.in-Err.ensures.fault printed
 
--- a write failed as the lines went out
+-- a write failed while the lines were written
 pub returns-in-Err-print : goal.returns-in-Err-print
 returns-in-Err-print g c =
     let r = c.args.recording.now in
@@ -44,7 +44,7 @@ returns-in-Err-print g c =
     broken r (c.loop-n.n + 1) next lines old mid new c.in-Err-print.field-0.0 further
     (subst (λ (x : List ChangeLine). Prints mid new (texts_of x) (Err c.in-Err-print.field-0)) c.as_slice-then-len-gt-LINES_AT_ONCE.ensures.value cut)
 
--- a step is made, and where its lines are many they went out
+-- a step was applied, and the lines were written if there were many
 pub loop-n-preserved : goal.loop-n-preserved
 loop-n-preserved g c =
     let r = c.args.recording.now in
@@ -72,7 +72,7 @@ loop-n-preserved g c =
       }
     ]
 
--- all steps are made
+-- all steps were applied
 pub returns : goal.returns
 returns g c =
     let r = c.args.recording.now in

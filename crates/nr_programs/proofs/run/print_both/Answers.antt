@@ -5,7 +5,7 @@ use Rattle.nr_programs.proofs.ChangesLemmas.{calm_still, cut_short}
 use Rattle.nr_programs.proofs.UpgradeLemmas.{behind}
 use Rattle.nr_programs.proofs.run.print_both.Goals as goal
 
--- the first text went out, and the last one after it
+-- the first text was written, and the last one after it
 pub returns-in-Ok : goal.returns-in-Ok
 returns-in-Ok g c =
     let old = c.args.output.now in
@@ -14,7 +14,7 @@ returns-in-Ok g c =
     let went = subst (λ (x : Result Unit Part). Prints old mid first x) c.in-Ok.is c.print.ensures in
     behind first (g.B.Text.text c.args.last.now) c.args.wanted c.print-in-Ok.result old mid c.print-in-Ok.new.output went.0 (calm_still old.failed mid.failed went.1) c.print-in-Ok.ensures
 
--- a part of it went out
+-- a part of the first text was written
 pub returns-in-Err : goal.returns-in-Err
 returns-in-Err g c =
     let old = c.args.output.now in

@@ -10,7 +10,7 @@ use Rattle.nr_suspects.specs.Suspects.{AreFound, AreNotes}
 use Rattle.nr_programs.proofs.SuspectsLemmas.{opens}
 use Rattle.nr_programs.proofs.suspects.find_suspects.Goals as goal
 
--- before the first step nothing is kept
+-- before the first step the notebook is empty
 pub loop-n-init : goal.loop-n-init
 loop-n-init g c =
     let limits = c.limits-limits.ensures.value in
@@ -24,7 +24,7 @@ loop-n-init g c =
       faultless = refl;
     }
 
--- all steps are made, and what is found is what the recording has
+-- all steps were applied, and the suspects found are the recording's
 pub returns-clause-found : goal.returns-clause-found
 returns-clause-found g c =
     let r = c.args.recording.now in

@@ -5,7 +5,7 @@ use Rattle.nr_suspects.proofs.NotebookLemmas.{has_room}
 use Rattle.nr_programs.proofs.SuspectsLemmas.{is_made, is_otherwise, is_refused}
 use Rattle.nr_programs.proofs.suspects.make_step.Goals as goal
 
--- there is room to count one more
+-- the counts can grow by one
 pub note-requires : goal.note-requires
 note-requires g c =
     let n = c.args.n in
@@ -16,13 +16,13 @@ pub returns-in-Err-clause-fault : goal.returns-in-Err-clause-fault
 returns-in-Err-clause-fault g c =
     is_refused c.args.recording.now c.args.n (g.W.Worlds.world c.args.world.now) c.in-Some.step.now c.in-Err.reason c.requires.at (sym c.in-Some.ensures.value) c.in-Err.ensures.refusal
 
--- it answered otherwise
+-- the step gave another answer than the recorded one
 pub returns-then-differs-clause-fault : goal.returns-then-differs-clause-fault
 returns-then-differs-clause-fault g c =
     is_otherwise c.args.recording.now c.args.n (g.W.Worlds.world c.args.world.now) (g.W.Worlds.world c.advance.new.world) c.in-Some.step.now c.in-Ok.made.0 c.requires.at
     (sym c.in-Some.ensures.value) c.in-Ok.ensures.step (subst (λ recorded. Differs recorded c.in-Ok.made.0) c.answer.ensures c.if-differs.ensures)
 
--- it was made
+-- the step was applied
 pub returns-clause-made : goal.returns-clause-made
 returns-clause-made g c =
     is_made c.args.recording.now c.args.n (g.W.Worlds.world c.args.world.now) (g.W.Worlds.world c.advance.new.world) c.in-Some.step.now c.in-Ok.made.0 c.in-Ok.made.1 c.args.notebook.now c.note.new.self

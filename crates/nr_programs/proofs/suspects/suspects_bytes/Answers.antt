@@ -7,13 +7,13 @@ use Rattle.nr_recording.specs.declared.fault.ReadFault.{ReadFault}
 use Rattle.nr_programs.proofs.SuspectsLemmas.{refused_to_load, refused_to_read}
 use Rattle.nr_programs.proofs.suspects.suspects_bytes.Goals as goal
 
--- the text is none of a recording, or there was no memory to read it
+-- the text isn't a recording, or memory ran out while reading it
 pub returns-in-Err : goal.returns-in-Err
 returns-in-Err g c =
     let exact = subst (λ (x : Result Recorded ReadFault). IsUnlessMemory x (reading c.args.bytes.now)) c.in-Err.is c.read.ensures.exact in
     refused_to_read c.args.bytes.now c.in-Err.fault c.args.output.now c.refuse.new.output c.refuse.result exact c.refuse.ensures
 
--- a step has a fault, or there was no memory
+-- a step has a fault, or memory ran out
 pub returns : goal.returns
 returns g c =
     refused_to_load c.args.bytes.now c.in-Ok.recording c.in-Err-find_suspects.fault c.args.output.now c.refuse-in-Err-find_suspects.new.output c.refuse-in-Err-find_suspects.result

@@ -11,7 +11,7 @@ use Rattle.nr_programs.specs.declared.run.ExitStatus.TheVariants as statuses
 use Rattle.nr_programs.proofs.UpgradeLemmas.{behind, wrote_part}
 use Rattle.nr_programs.proofs.upgrade.write_answered.Goals as goal
 
--- some lines went out, and then it is said that memory ran out
+-- some lines were written, followed by the line for lack of memory
 pub returns-in-Err-Memory : goal.returns-in-Err-Memory
 returns-in-Err-Memory g c =
     let old = c.args.output.now in
@@ -22,7 +22,7 @@ returns-in-Err-Memory g c =
     let calm = subst (λ (r : Result Unit WriteFault). mid.failed ≡ (old.failed || is_device_failure r)) refused c.write.ensures.failed in
     inr (part.0, part.1, behind (concat (take part.0 lines)) memory_line statuses.Refused _ old mid _ part.2 calm c.refuse-in-Err-Memory.ensures)
 
--- a part of the text went out
+-- a part of the text was written
 pub returns : goal.returns
 returns g c =
     let old = c.args.output.now in

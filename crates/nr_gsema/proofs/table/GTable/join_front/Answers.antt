@@ -18,7 +18,7 @@ use Rattle.nr_gsema.proofs.WaitLemmas.{counts_kept, statuses_requeued}
 use Rattle.nr_gsema.proofs.table.GTable.join_front.Goals as goal
 use Rattle.nr_gsema.proofs.table.GTable.join_front.Goals.{After-of-queue, After-with}
 
--- what is asked of the semaphore
+-- the condition on the semaphore
 abbrev Asked : ℕ → Semaphore → Type 0
 Asked g semaphore = 0 < semaphore.count
 
@@ -48,7 +48,7 @@ index_mut-requires-2 c =
     let size = c.self.inside.semaphores.ok.0 in
     omega arith
 
--- what the code leaves
+-- the table after the code
 left : (c : goal.After-with)
     → AreTable (with_items (with_item c.self.inside.nodes c.args.goroutine (node_with (Queued c.args.socket c.args.side) c.of-queue.result.front None)) c.set_previous.new.nodes).items
     (set c.self.inside.semaphores.items c.args.socket c.with.result)

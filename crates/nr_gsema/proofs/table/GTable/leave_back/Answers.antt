@@ -18,7 +18,7 @@ use Rattle.nr_gsema.proofs.WaitLemmas.{counts_kept, statuses_requeued}
 use Rattle.nr_gsema.proofs.table.GTable.leave_back.Goals as goal
 use Rattle.nr_gsema.proofs.table.GTable.leave_back.Goals.{After-of-queue, After-with}
 
--- what is asked of the semaphore
+-- the condition on the semaphore
 abbrev Asked : ℕ → Semaphore → Type 0
 Asked g semaphore = slice_get semaphore.queue (length semaphore.queue - 1) ≡ Some g
 
@@ -56,7 +56,7 @@ index_mut-requires-2 c =
     let size = c.self.inside.semaphores.ok.0 in
     omega arith
 
--- what the code leaves
+-- the table after the code
 left : (c : goal.After-with)
     → AreTable (with_items (with_item c.self.inside.nodes c.args.goroutine c.alone.result) c.set_next.new.nodes).items
     (set c.self.inside.semaphores.items c.args.socket c.with.result)

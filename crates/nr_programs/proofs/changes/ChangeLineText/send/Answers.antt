@@ -4,14 +4,14 @@ use Rattle.nr_command.specs.declared.reply.Reply.TheVariants.{Printed}
 use Rattle.nr_text.proofs.BufferedLemmas.{writes_cut, writes_then}
 use Rattle.nr_programs.proofs.changes.ChangeLineText.send.Goals as goal
 
--- the number did not go out
+-- writing the number failed
 pub returns-in_err-send_all : goal.returns-in_err-send_all
 returns-in_err-send_all g c =
     let line = c.args.self.now in
     writes_cut c.args.w.now c.send_all.new.w (decimal line.step ++ codes " ") (text_of (Printed line.change.cell line.change.value)) c.in_err-send_all.field-0.0 c.from_residual.result
     c.from_residual.ensures.0 c.in_err-send_all.ensures
 
--- the cell is behind it
+-- the cell follows the number
 pub returns : goal.returns
 returns g c =
     let line = c.args.self.now in
