@@ -14,24 +14,24 @@ use Rattle.nr_serving.specs.declared.conversations.Arrival.{Arrival}
 use Rattle.nr_serving.specs.declared.conversations.Arrival.TheVariants.{Came}
 use Rattle.nr_serving.specs.declared.fronts.Done.{Done}
 
--- one caller more
+-- one more caller
 pub serving_more : (callers : List Conversation) (a b d : FrontState) (c : Conversation) → ServesCallers callers a b → ServesCaller c b d
     → ServesCallers (callers ++ c ∷ []) a d
 serving_more [] a b d c is last = (d, subst (λ (s : FrontState). ServesCaller c s d) is last, refl)
 serving_more (one ∷ callers) a b d c (mid, first, rest) last = (mid, first, serving_more callers mid b d c rest last)
 
--- a failure is reported exactly where one of them ended with one, and so with one more
+-- the result says that there was a failure exactly if a caller's did, also with one more caller
 pub reported_more : (callers : List Conversation) (c : Conversation) (was now : Bool) → was ≡ list_any is_failure callers → now ≡ (was || is_failure c)
     → now ≡ list_any is_failure (callers ++ c ∷ [])
 reported_more callers c was now reported is =
     is ∙ ap (λ (t : Bool). t || is_failure c) reported ∙ ap (λ (t : Bool). list_any is_failure callers || t) (sym (or-false (is_failure c))) ∙ sym (list_any-append is_failure callers (c ∷ []))
 
--- one caller more came and was served
+-- one more caller came and was served
 pub came_more : (callers conversations : List Conversation) (c : Conversation) (before arrived : List Arrival) → conversations ≡ callers ++ c ∷ [] → before ≡ came callers → arrived ≡ before ++ Came ∷ []
     → arrived ≡ came (callers ++ c ∷ [])
 came_more callers conversations c before arrived is was now = now ∙ ap (λ (l : List Arrival). l ++ Came ∷ []) was ∙ sym (map-append (λ c. Came) callers (c ∷ []))
 
--- all who came were served, and this came of waiting once more
+-- all callers who came were served, and the next wait had this result
 pub ended_with : (last : Arrival) (p : Passed) → p.arrivals ≡ came p.callers → with_arrival last p ≡ record { arrivals = came p.callers ++ last ∷ []; callers = p.callers }
 ended_with last p is = ap (λ (l : List Arrival). record { arrivals = l ++ last ∷ []; callers = p.callers }) is
 
@@ -41,7 +41,7 @@ pub last_taken : {A B : Type 0} (old new : List (A × B)) (taken : Option (A × 
 last_taken old new None e = tt
 last_taken old new (Some f) e = ap (map (λ p. p.0)) e ∙ map-append (λ p. p.0) new (f ∷ [])
 
--- one front more was served
+-- one more front was served
 pub served_more : (starts : List FrontState) (ones : List (Done × Passed)) (start : FrontState) (one : Done × Passed) → AreServed starts ones → IsServed start one.0 one.1
     → AreServed (starts ++ start ∷ []) (ones ++ one ∷ [])
 served_more [] [] start one are is = (is, tt)
@@ -58,14 +58,14 @@ adds_one starts all old mid new start one whole (more, behind, are) is put = (
   subst (λ (l : List FrontState). AreServed l (more ++ one ∷ [])) (sym whole) (served_more starts more start one are is),
 )
 
--- none was left
+-- no front was left
 pub adds_none : (starts : List FrontState) (old : List (Done × Passed)) → starts ≡ [] → Adds starts old old
 adds_none starts old none = ([], sym (append-nil old), subst (λ (l : List FrontState). AreServed l []) (sym none) tt)
 
--- what is behind the first ten of some facts
+-- the facts after the first ten
 pub behind_ten : {A B C D E F G H I J R : Type 0} → A × (B × (C × (D × (E × (F × (G × (H × (I × (J × R))))))))) → R
 behind_ten (a, (b, (c, (d, (e, (f, (g, (h, (i, (j, rest)))))))))) = rest
 
--- ten facts, and others behind them
+-- ten facts, and others after them
 pub ten_before : {A B C D E F G H I J R : Type 0} → A × (B × (C × (D × (E × (F × (G × (H × (I × J)))))))) → R → A × (B × (C × (D × (E × (F × (G × (H × (I × (J × R)))))))))
 ten_before (a, (b, (c, (d, (e, (f, (g, (h, (i, j))))))))) rest = (a, (b, (c, (d, (e, (f, (g, (h, (i, (j, rest))))))))))

@@ -1,4 +1,4 @@
--- What becomes of a front that is served.
+-- The course of a front that is served.
 use Rattle.std.specs.Prelude.{Bool, ◌||◌, List, [], ◌∷◌, ◌++◌, map, is_err, if◌then◌else◌}
 use Rattle.std.specs.List.{list_any}
 use Rattle.nr_front.specs.FrontState.{FrontState}
@@ -6,27 +6,27 @@ use Rattle.nr_serving.specs.Conversations.{Conversation, Passed}
 use Rattle.nr_serving.specs.declared.conversations.Arrival.{Arrival}
 use Rattle.nr_serving.specs.declared.conversations.Arrival.TheVariants as arrivals
 
--- who came: as many callers as there were conversations
+-- the arrivals of as many callers as there were conversations
 abbrev pub came : List Conversation → List Arrival
 came callers = map (λ c. arrivals.Came) callers
 
--- serving the caller ended with a failure
+-- true if serving the caller ended with a failure
 abbrev pub is_failure : Conversation → Bool
 is_failure c = is_err c.ending
 
--- The course of a front: what passed between it and each of its callers, whether it had no more of
--- them before its time, and what the front was in the end.
+-- The course of a front: its conversations with each of its callers, whether its callers failed,
+-- and the state of the front in the end.
 pub record Course : Type 0 where
   pub callers : List Conversation
   pub cut_off : Bool
   pub last : FrontState
 
--- its callers couldn't be had any more, or a connection failed
+-- true if the front's callers failed, or a connection did
 abbrev pub has_failed : Course → Bool
 has_failed course = course.cut_off || list_any is_failure course.callers
 
--- What passed with the callers of a front that had this course: each caller who came was served, in
--- turn, and then none came any more, or the callers couldn't be had.
+-- The log of a front that had this course: each caller who came was served, in turn, and then no
+-- further caller came, or the callers failed.
 abbrev pub passed_in : Course → Passed
 passed_in course = record {
   arrivals =

@@ -1,4 +1,4 @@
--- Callers that are logged.
+-- Logged callers.
 use Rattle.std.specs.Prelude.{◌≡◌, ℕ, List, [], ◌∷◌, ◌++◌, Option}
 use Rattle.nr_text.specs.Streams.{Incoming, Outgoing}
 use Rattle.nr_text.specs.Auxiliary.Streams.{unread, unwritten}
@@ -12,15 +12,15 @@ use Rattle.nr_serving.specs.declared.conversations.Arrival.TheVariants as arriva
 use Rattle.nr_serving.specs.declared.logged.Came.{Came}
 use Rattle.nr_serving.specs.declared.logged.Came.TheVariants as came
 
--- this came of waiting once more
+-- the log with the result of one more wait
 abbrev pub with_arrival : Arrival → Passed → Passed
 with_arrival arrival p = record p { arrivals = p.arrivals ++ arrival ∷ [] }
 
--- and this passed with the caller who came
+-- the log with one more conversation
 abbrev pub with_conversation : Conversation → Passed → Passed
 with_conversation c p = record p { callers = p.callers ++ c ∷ [] }
 
--- Nothing was received from a caller who comes, and nothing sent.
+-- True if nothing was received from a caller who comes, and nothing was sent.
 abbrev pub IsNewCaller : Next Incoming Outgoing → Type 0
 IsNewCaller (nexts.Serve input output) =
     (known : Option (List ℕ)) × (held : Option (List ℕ)) × (input ≡ unread known)
@@ -28,7 +28,7 @@ IsNewCaller (nexts.Serve input output) =
 IsNewCaller nexts.Ended = Unit {0}
 IsNewCaller nexts.Failed = Unit {0}
 
--- What came of waiting once: one caller more was served by the front, or none came.
+-- The effect of one wait: the front served one more caller, or none came.
 abbrev pub WaitsOnce : Passed → Passed → FrontState → FrontState → Came → Type 0
 WaitsOnce old new d d' (came.Served ending) =
     (c : Conversation) × (new ≡ with_conversation c (with_arrival arrivals.Came old))

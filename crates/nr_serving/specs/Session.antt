@@ -1,4 +1,4 @@
--- What a session leaves that several people shared.
+-- The result of a session that several users share.
 use Rattle.std.specs.Prelude.{◌≡◌, ◌⊎◌, ℕ, zero, suc, Bool, List, [], ◌∷◌, ◌++◌, length, map, Option, IfSome}
 use Rattle.std.specs.List.{All, Contains, list_any}
 use Rattle.atomic_table.specs.Seated.{TableId}
@@ -11,17 +11,18 @@ use Rattle.nr_serving.specs.Fronts.{Course, has_failed, passed_in}
 use Rattle.nr_serving.specs.Auxiliary.Fronts.{ServesCallers}
 use Rattle.nr_serving.specs.Auxiliary.Session.{HasItsOwnWords, IsFresh, IsSeenBy}
 
--- the numbers below this one, in their order
+-- the numbers below this one, in order
 abbrev pub numbers_below : ℕ → List ℕ
 numbers_below zero = []
 numbers_below (suc n) = numbers_below n ++ n ∷ []
 
--- The word has the tag of one of these passes.
+-- True if the word has the tag of one of these passes.
 abbrev pub IsTheirs : List PassState → ℕ → Type 0
 IsTheirs pass_states word = Contains (map (λ p. p.tag) pass_states) (tag_of word)
 
--- The history of the passes that knew this in the end: each has all of its own words in it, no word
--- is anybody else's, and one of them saw it to its end. Where there was no pass it is empty.
+-- The history, given the final knowledge of the passes: it has all words of each pass's own, no
+-- word of anyone else, and one of the passes read it to its end. If there are no passes, it is
+-- empty.
 pub record IsHistory (room : ℕ) (pass_states : List PassState) (history : List ℕ) : Type 0 where
   pub own : All (HasItsOwnWords history) pass_states
   pub theirs : All (IsTheirs pass_states) history
@@ -29,20 +30,21 @@ pub record IsHistory (room : ℕ) (pass_states : List PassState) (history : List
       × IsSeenBy room history pass_state)
       ⊎ ((pass_states ≡ []) × (history ≡ []))
 
--- The course began with a fresh front.
+-- The course began with a new front.
 pub record BeginsFresh (table : TableId) (r : Recording) (fronts depth workers : ℕ)
     (course : Course) : Type 0 where
   pub start : FrontState
   pub fresh : IsFresh table r fronts depth workers start
   pub serving : ServesCallers course.callers start course.last
 
--- what the front's pass knew in the end
+-- the final knowledge of the front's pass
 abbrev pub last_pass_state : Course → PassState
 last_pass_state course = course.last.pass_state
 
--- So many fronts shared the session, each with a walker of this depth and so many workers. Their
--- tags are their numbers, from 0. What was placed is the history, unless memory ran out for it. A
--- failure is reported exactly where one of the fronts failed. This passed with their callers.
+-- This number of fronts shared the session, each with a walker of this depth and this number of
+-- workers. Their tags are their numbers, from 0. The placed words are the history, unless memory
+-- ran out for it. The result says that there was a failure exactly if one of the fronts failed.
+-- These are their logs.
 pub record IsShared (r : Recording) (room fronts depth workers : ℕ) (passed : List Passed)
     (history : Option (List ℕ)) (failed : Bool) : Type 0 where
   pub table : TableId
@@ -55,8 +57,8 @@ pub record IsShared (r : Recording) (room fronts depth workers : ℕ) (passed : 
   pub reported : failed ≡ list_any has_failed courses
   pub passed_is : passed ≡ map passed_in courses
 
--- The callers of so many fronts were opened, of each once, by its number. All of them have ended:
--- this passed with them, and nothing with anybody else.
+-- True if the callers of this number of fronts were opened, each once, by its number. All of them
+-- have ended with these logs, and nothing else was logged.
 abbrev pub Opens : ℕ → List Passed → FrontsLog → FrontsLog → Type 0
 Opens fronts passed old new =
     new ≡ record {

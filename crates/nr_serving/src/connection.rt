@@ -1,4 +1,4 @@
-//! Callers of a front, one after the other.
+//! The callers of fronts, one after the other.
 
 ghost use Rattle.std.specs.Prelude.{◌≡◌, ◌≤◌, ◌*◌, ℕ, List, [], ◌∷◌, ◌++◌, length};
 ghost use Rattle.std.specs.Io.KnownBytes.{Consumes};
@@ -9,58 +9,59 @@ ghost use Rattle.nr_serving.specs.declared.conversations.Arrival.{Arrival};
 use std::io;
 use std::io::{Read, Write};
 
-/// How many bytes `read_away` reads at once.
+/// The number of bytes that `read_away` reads at once.
 const AT_ONCE: usize = 512;
 
-/// How often it reads at most.
+/// The most reads that `read_away` makes.
 const MOST_READS: usize = 64;
 
-/// What a front does next.
+/// What a front does after waiting for a caller.
 pub enum Next<I, O> {
-    /// It serves the caller whose lines come from the one, and the replies to whom go to the other.
+    /// It serves a caller: it reads lines from the one, and writes the replies to the other.
     Serve(I, O),
-    /// No caller comes any more.
+    /// It ends, since no further caller will come.
     Ended,
-    /// Its callers can't be had: the port wasn't bound, or a caller wasn't accepted.
+    /// It ends, since its callers failed: the port wasn't bound, or a caller wasn't accepted.
     Failed,
 }
 
 /// The callers of a front, one after the other.
 pub trait Connections {
-    /// Where a caller's lines come from.
+    /// The stream from which a caller's lines are read.
     type Reader: Read + Drop + Send;
 
-    /// Where the replies to a caller go.
+    /// The stream to which the replies to a caller are written.
     type Writer: Write + Drop + Send;
 
-    /// What came of waiting so far, in order. `Conversations` can note it.
+    /// The results of all waits so far, in order. `Conversations` can log them.
     ghost arrivals: { Self → List Arrival };
 
     /// Waits for the next caller, once.
     fn next(&mut self) -> Next<Self::Reader, Self::Writer>
         ensures { arrivals self.new ≡ arrivals self.old ++ arrival_of result ∷ [] };
 
-    /// Says that no reply comes any more: the caller reads an end behind the last one. From then on a read waits for a
-    /// moment at most, and fails where nothing comes. Where this fails, nothing more is read.
+    /// Ends the replies: the caller reads an end after the last one. After this call, a read waits only briefly, and
+    /// fails if nothing comes. If this call fails, nothing more is read.
     fn end_replies(_writer: &Self::Writer) -> io::Result<()> {
         Ok(())
     }
 }
 
-/// Where the callers of each front come from.
+/// The source of each front's callers.
 pub trait Ports {
     type Callers: Connections + Drop + Send;
 
-    /// The numbers of the fronts whose callers were handed out, in order. `Fronts` can note them.
+    /// The numbers of the fronts whose callers were returned, in order. `Fronts` can log them.
     ghost opened: { Self → List ℕ };
 
-    /// The callers of the front of this number, counted from 0, none of whom has come. If they can't be had, the first `next` says so.
+    /// Returns the callers of the front with this number, counted from 0, before any of them has come. If there is an
+    /// error, the first `next` returns it.
     fn open(&mut self, front: usize) -> Self::Callers
         ensures opened { opened self.new ≡ opened self.old ++ front ∷ [] }
         ensures none { Self.Callers.arrivals result ≡ [] };
 }
 
-/// Reads on, and drops what comes, until no more does or a read fails, but no more than 64 times 512 bytes.
+/// Reads and drops bytes until no more come or a read fails, but at most 64 times 512 bytes.
 pub fn read_away<R: Read>(reader: &mut R)
     ensures { (bytes : List ℕ) × Consumes (R.remaining reader.old) (R.remaining reader.new) bytes
         × (length bytes ≤ MOST_READS * AT_ONCE) }

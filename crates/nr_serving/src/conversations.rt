@@ -1,4 +1,4 @@
-//! What passed between a front and its callers. Only proofs read it: at run time nothing is kept of it.
+//! The conversations between a front and its callers. Only proofs read them: nothing of them is kept at run time.
 
 ghost use Rattle.std.specs.Prelude.{◌≡◌, ℕ, [], ◌∷◌, ◌++◌, List};
 ghost use Rattle.std.specs.Borrow.{ftrue};
@@ -11,18 +11,18 @@ use nr_text::{Sink, Source};
 use std::io::{Read, Write};
 use std::marker::Model;
 
-/// What came of waiting for the next caller.
+/// The result of waiting for the next caller.
 #[derive(Clone, Copy, Debug, PartialEq, Eq)]
 pub enum Arrival {
     /// A caller came.
     Came,
-    /// No caller comes any more.
+    /// No further caller will come.
     Ended,
-    /// The callers can't be had.
+    /// The callers failed.
     Failed,
 }
 
-/// What passed between a front and its callers: who came, and the conversation with each, in their order.
+/// The log of a front and its callers: the results of the waits, and the conversation with each caller, in order.
 #[derive(Drop)]
 pub struct Conversations {
     pub ghost arrivals: { List DeclaredArrival } by { arrivals_code },
@@ -33,18 +33,18 @@ impl Model for Conversations {
     ghost also_owns = { λ _. ftrue };
 }
 
-// It owns nothing.
+// A log owns nothing.
 unsafe impl Send for Conversations {}
 
 impl Conversations {
-    /// Nothing yet.
+    /// Makes an empty log.
     pub fn new() -> Conversations
         ensures { (result.arrivals ≡ []) × (result.callers ≡ []) }
     {
         Conversations {}
     }
 
-    /// This came of waiting once more.
+    /// Returns the log with the result of one more wait.
     #[inline(always)]
     pub fn arrived(&self, _arrival: &Arrival) -> Conversations
         ensures { (result.arrivals ≡ self.now.arrivals ++ _arrival.now ∷ [])
@@ -53,7 +53,7 @@ impl Conversations {
         Conversations {}
     }
 
-    // One conversation more, as its streams remember it.
+    // Returns the log with one more conversation, as its streams remember it.
     #[inline(always)]
     pub(crate) fn and<I: Read, O: Write>(
         &self,
@@ -68,7 +68,7 @@ impl Conversations {
     }
 }
 
-/// The fronts of a session: the numbers of those that were opened, and what passed between each that has ended and its callers.
+/// The log of a session's fronts: the numbers of those that were opened, and the log of each that has ended.
 #[derive(Drop)]
 pub struct Fronts {
     pub ghost opened: { List ℕ } by { numbers_code },
@@ -79,18 +79,18 @@ impl Model for Fronts {
     ghost also_owns = { λ _. ftrue };
 }
 
-// It owns nothing.
+// A log owns nothing.
 unsafe impl Send for Fronts {}
 
 impl Fronts {
-    /// None yet.
+    /// Makes an empty log.
     pub fn new() -> Fronts
         ensures { (result.opened ≡ []) × (result.ended ≡ []) }
     {
         Fronts {}
     }
 
-    /// That of this number was opened.
+    /// Returns the log with one more opened front, by its number.
     #[inline(always)]
     pub fn opened(&self, _number: &usize) -> Fronts
         ensures { (result.opened ≡ self.now.opened ++ _number.now ∷ []) × (result.ended ≡ self.now.ended) }
@@ -98,7 +98,7 @@ impl Fronts {
         Fronts {}
     }
 
-    // One more has ended, with these conversations.
+    // Returns the log with one more front that has ended, and its conversations.
     #[inline(always)]
     pub(crate) fn ended(&self, _conversations: &Conversations) -> Fronts
         ensures { (result.opened ≡ self.now.opened) × (result.ended ≡ self.now.ended

@@ -1,4 +1,4 @@
-//! Serving the callers of each front, in a thread of its own.
+//! Serves the callers of each front in a thread of its own.
 
 ghost use Rattle.std.specs.Prelude.{◌≡◌, ◌+◌, ◌≤◌, ◌∷◌, ◌++◌, [], map, vec_len, vec_capacity, IfSome, IfNone};
 ghost use Rattle.std.specs.List.{All};
@@ -17,12 +17,12 @@ use std::thread::{Threads, join};
 #[derive(Drop)]
 pub(crate) struct Done {
     pub(crate) pass: Pass,
-    /// Its callers couldn't be had any more, or a read or a write failed.
+    /// Whether its callers failed, or a read or a write did.
     pub(crate) failed: bool,
 }
 
-// Serves a front's callers one after the other, until none comes any more or they can't be had. It returns: behind `u64::MAX`
-// callers no more can be had.
+// Serves a front's callers one after the other, until no further caller comes or they fail. It always returns: after
+// `u64::MAX` callers, they count as failed.
 fn serve_one<W, F, C>(
     journal: &Journal,
     mut front: Front<'_, W, F>,
@@ -63,7 +63,7 @@ where
     }
 }
 
-// Serves a front's callers, and returns what came of it beside them.
+// Serves a front's callers, and returns the front's result with them.
 fn serve_front<W, F, C>(
     journal: &Journal,
     front: Front<'_, W, F>,
@@ -83,8 +83,8 @@ where
     (done, callers)
 }
 
-/// Serves each front in a thread of its own. Where none can be started, this thread serves the front, once all others are
-/// started. What comes of them follows what is there, in their order.
+/// Serves each front in a thread of its own. If no thread can be started, the calling thread serves the front once all
+/// others are started. Appends the results, in the order of the fronts.
 pub(crate) fn serve_each<R, W, F, C>(
     rt: &R,
     journal: &Journal,
@@ -129,7 +129,7 @@ where
     done
 }
 
-// Takes the last front.
+// Removes and returns the last front.
 fn pop_front<'f, W: Worlds + Drop + Sync, F: Finder, C: Connections>(
     journal: &Journal,
     fronts: &mut Vec<(Front<'f, W, F>, LoggedCallers<C>)>,

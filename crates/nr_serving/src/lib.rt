@@ -1,4 +1,4 @@
-//! Fronts that are served in threads of their own.
+//! Serves fronts, each in a thread of its own.
 #![tactic(auto)]
 
 mod connection;

@@ -1,5 +1,5 @@
-//! Ports and callers that are logged. This file alone gets at a caller: who comes has its reader and its writer wrapped at once,
-//! and what passed is noted when it is let go.
+//! Ports and callers that are logged. Only this file has access to a caller: its reader and its writer are wrapped at
+//! once when it comes, and the conversation is logged when it leaves.
 
 ghost use Rattle.std.specs.Prelude.{◌≡◌, ◌-◌, ◌^◌, ◌≤◌, ◌∷◌, ◌++◌, [], length};
 ghost use Rattle.nr_serving.specs.Auxiliary.Fronts.{arrival_of, none_passed};
@@ -15,22 +15,22 @@ use nr_search::Finder;
 use nr_text::{Sink, Source};
 use std::marker::Model;
 
-/// What came of waiting for a caller once.
+/// The result of waiting for a caller once.
 #[derive(Clone, Copy, Debug, PartialEq, Eq)]
 pub(crate) enum Came {
-    /// One came and was served, which ended so.
+    /// A caller came and was served, with this result.
     Served(Result<End, LineEnd>),
-    /// None comes any more.
+    /// No further caller will come.
     Ended,
-    /// The callers can't be had.
+    /// The callers failed.
     Failed,
 }
 
-/// The callers of a front, one after the other. Contracts see what came of waiting for each, and the conversation with each. It has
-/// waited for as many as its connections say.
+/// The callers of a front, one after the other. Contracts see the result of each wait, and the conversation with each
+/// caller. The number of waits is the one that the connections have.
 #[derive(Drop)]
 pub(crate) struct LoggedCallers<C: Connections> {
-    /// None once no caller comes any more: a front that has ended holds no port while others go on.
+    /// `None` once no further caller comes, so that a front that has ended holds no port while others go on.
     connections: Option<C>,
     conversations: Conversations,
 }
@@ -47,7 +47,7 @@ impl<C: Connections> Model for LoggedCallers<C> {
 }
 
 impl<C: Connections + Drop> LoggedCallers<C> {
-    // Nobody has come yet.
+    // Makes the callers before any has come.
     fn new(connections: C) -> LoggedCallers<C>
         requires { C.arrivals connections ≡ [] }
         ensures { result ≡ none_passed }
@@ -58,8 +58,8 @@ impl<C: Connections + Drop> LoggedCallers<C> {
         }
     }
 
-    // Waits for the next caller, notes what came of that, and wraps the caller's reader and writer at once. Where none comes the
-    // connections are dropped.
+    // Waits for the next caller, logs the result, and wraps the caller's reader and writer at once. If no caller comes,
+    // drops the connections.
     fn next(&mut self) -> Next<Source<C::Reader>, Sink<C::Writer>>
         ensures arrived { self.new ≡ with_arrival (arrival_of result) self.old }
         ensures fresh { IsNewCaller result }
@@ -86,8 +86,8 @@ impl<C: Connections + Drop> LoggedCallers<C> {
         }
     }
 
-    // Notes what passed with a caller, and lets it go. `read_away` drops what it sends after `quit`: closing a connection with
-    // unread bytes may lose the last reply on its way.
+    // Logs the conversation with a caller, and drops the caller. `read_away` drops what the caller sends after `quit`:
+    // closing a connection with unread bytes may lose the last reply on its way.
     fn let_go(
         &mut self,
         source: Source<C::Reader>,
@@ -102,8 +102,8 @@ impl<C: Connections + Drop> LoggedCallers<C> {
         }
     }
 
-    // Waits for the next caller, and serves it by the front: answers its lines, up to the first `quit`, and sends each reply in one
-    // piece.
+    // Waits for the next caller, and serves it with the front: answers its lines, up to the first `quit`, and sends
+    // each reply in one piece.
     pub(crate) fn serve_next<W, F>(
         &mut self,
         front: &mut Front<'_, W, F>,
@@ -129,7 +129,7 @@ impl<C: Connections + Drop> LoggedCallers<C> {
         }
     }
 
-    // Gives up, after 2^64 - 1 callers: they can't be had any more.
+    // Gives up after 2^64 - 1 callers: they count as failed.
     pub(crate) fn give_up(&mut self)
         requires { 2 ^ 64 - 1 ≤ length self.old.arrivals }
         ensures { self.new ≡ with_arrival Arrival.Failed self.old }
@@ -139,8 +139,8 @@ impl<C: Connections + Drop> LoggedCallers<C> {
     }
 }
 
-/// Ports whose callers are logged. Contracts see the numbers of the fronts whose callers were opened, and what passed with those of
-/// each front that has ended. The ports say that just these were opened, since they were given here.
+/// Ports whose callers are logged. Contracts see the numbers of the fronts whose callers were opened, and the log of
+/// each front that has ended. The ports' own list has the same fronts, opened since the ports were wrapped.
 #[derive(Drop)]
 pub struct LoggedPorts<P: Ports> {
     ports: P,
@@ -159,7 +159,7 @@ impl<P: Ports> Model for LoggedPorts<P> {
 }
 
 impl<P: Ports> LoggedPorts<P> {
-    /// The ports, of which none is opened.
+    /// Wraps the ports, before any is opened.
     pub fn new(ports: P) -> LoggedPorts<P>
         ensures { result ≡ record { opened = []; ended = [] } }
     {
@@ -169,7 +169,7 @@ impl<P: Ports> LoggedPorts<P> {
         }
     }
 
-    // The callers of the front of this number.
+    // Returns the callers of the front with this number.
     pub(crate) fn open(&mut self, front: usize) -> LoggedCallers<P::Callers>
         ensures opened { self.new ≡ record self.old { opened = self.old.opened ++ front ∷ [] } }
         ensures none { result ≡ none_passed }
@@ -178,7 +178,7 @@ impl<P: Ports> LoggedPorts<P> {
         LoggedCallers::new(self.ports.open(front))
     }
 
-    // Ends the callers of a front, and notes what passed.
+    // Ends the callers of a front, and logs the conversations.
     pub(crate) fn end(&mut self, callers: LoggedCallers<P::Callers>)
         ensures { self.new ≡ record self.old { ended = self.old.ended ++ callers ∷ [] } }
     {

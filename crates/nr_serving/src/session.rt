@@ -1,4 +1,4 @@
-//! A session that several people share.
+//! A session that several users share.
 
 ghost use Rattle.std.specs.Prelude.{◌≡◌, ◌<◌, ◌≤◌, ◌+◌, ◌++◌, ◌∷◌, [], map, vec_len, vec_capacity, IfOk, IfSome, IfNone, List, OnErr, OnOk};
 ghost use Rattle.std.specs.List.{All};
@@ -22,27 +22,27 @@ use nr_snaps::Film;
 use std::alloc::Global;
 use std::thread::Threads;
 
-/// What a session leaves in the end.
+/// The result of a session.
 #[derive(Drop)]
 pub struct Ended {
-    /// The words of the commands that were placed, in their order, unless memory ran out for them.
+    /// The words of the placed commands, in order, or the error if memory ran out for them.
     pub history: Result<Vec<u64>, Memory>,
-    /// A front had no callers any more before its time, or a read or a write failed.
+    /// Whether a front's callers failed, or a read or a write did.
     pub failed: bool,
 }
 
-/// What a session is like.
+/// The dimensions of a session.
 #[derive(Clone, Copy, Debug, PartialEq, Eq)]
 pub struct Shape {
-    /// How many fronts there are.
+    /// The number of fronts.
     pub fronts: usize,
-    /// How many words the journal has room for.
+    /// The number of words that the journal has room for.
     pub room: usize,
-    /// Of how many steps each front keeps the way back.
+    /// The number of steps that each front can undo.
     pub depth: usize,
 }
 
-// Opens the next front over the film, with the next of the passes that are left.
+// Opens the next front over the film, with the next of the remaining passes.
 fn open_front<'f, W: Worlds + Drop + Sync, F: Finder + Drop>(
     alloc: Global,
     journal: &Journal,
@@ -99,7 +99,7 @@ where
     Ok(fronts)
 }
 
-// Opens the port of each front by its number, in their order.
+// Opens the port of each front by its number, in order.
 fn open_ports<'f, W: Worlds + Drop + Sync, F: Finder + Drop, P: Ports>(
     ports: &mut LoggedPorts<P>,
     fronts: Vec<Front<'f, W, F>>,
@@ -124,7 +124,7 @@ where
     opened
 }
 
-// Ends the callers of each front, in their order, and returns what came of the fronts.
+// Ends the callers of each front, in order, and returns the fronts' results.
 fn end_ports<P: Ports>(
     ports: &mut LoggedPorts<P>,
     served: Vec<(Done, LoggedCallers<P::Callers>)>,
@@ -146,7 +146,7 @@ where
     done
 }
 
-// Returns the history of the fronts that ended, and whether one failed.
+// Returns the history of the fronts that have ended, and whether one failed.
 fn finish(alloc: Global, journal: &Journal, mut done: Vec<Done>) -> Ended
     requires tables { All (λ d. d.pass.table ≡ journal.now) done.items }
     requires passes { All (λ d. d.pass.pass_state.passes ≡ vec_len done) done.items }
@@ -163,8 +163,8 @@ fn finish(alloc: Global, journal: &Journal, mut done: Vec<Done>) -> Ended
     Ended { history, failed }
 }
 
-// Lets a pass see all that those of the others had seen, and then on until there is nothing. Returns what it has seen then.
-// Lets each of the others see that too, which proves that no word among it that is new to the other is the other's own.
+// Lets a pass read all words that the others had read, and then to the end of the journal. Returns what it has read
+// then. It also lets each of the others read that, which proves that none of the words new to it are its own.
 fn collect(journal: &Journal, last: &mut Pass, mut done: Vec<Done>) -> Result<Vec<u64>, Memory>
     requires last { last.old.table ≡ journal.now }
     requires done { All (λ d. d.pass.table ≡ journal.now) done.items }
@@ -183,7 +183,7 @@ fn collect(journal: &Journal, last: &mut Pass, mut done: Vec<Done>) -> Result<Ve
     history
 }
 
-// Takes the last of the fronts that ended.
+// Removes and returns the last of the fronts that have ended.
 fn take_done(journal: &Journal, done: &mut Vec<Done>) -> Option<Done>
     requires { All (λ d. d.pass.table ≡ journal.now) done.old.items }
     ensures one { IfSome result (λ d. d.pass.table ≡ journal.now) }
@@ -195,12 +195,12 @@ fn take_done(journal: &Journal, done: &mut Vec<Done>) -> Option<Done>
     done.pop()
 }
 
-/// Opens the fronts, each with a debugger of its own over the film. Serves each in a thread of its own until its callers
-/// end, and returns the history that they placed. What passed with the callers of the ports is theirs: the ports of as many fronts
-/// as were asked for were opened, of each once, by its number from 0, and all of them have ended.
+/// Opens the fronts, each with a debugger of its own over the film. Serves each in a thread of its own until its
+/// callers end, and returns the history that they placed. The ports log the conversations: the port of each front was
+/// opened once, by its number from 0, no other was, and all of them have ended.
 ///
-/// Memory is the only error, and comes before any port is opened: no caller was sent a byte. The contract doesn't say when it
-/// comes. If memory runs out for the history, after the last caller, `Ended` says so in its place.
+/// Fails only for lack of memory, and before any port is opened: no caller was sent a byte. The contract doesn't say
+/// when memory runs out. If it runs out for the history, after the last caller, `Ended` says so instead.
 pub fn share<W, F, R, P>(
     rt: &R,
     alloc: Global,

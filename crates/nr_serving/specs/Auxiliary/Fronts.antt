@@ -1,4 +1,4 @@
--- Beside `Fronts`: what contracts and proofs cite, and no law of THEOREM.md rests on.
+-- Definitions that contracts and proofs cite beside `Fronts`. No law of THEOREM.md rests on them.
 use Rattle.std.specs.Prelude.{◌≡◌, ℕ, List, [], ◌∷◌, ◌++◌, Option}
 use Rattle.atomic_table.specs.Seated.{TableId}
 use Rattle.nr_text.specs.Auxiliary.Streams.{unread, unwritten}
@@ -13,9 +13,9 @@ use Rattle.nr_serving.specs.declared.conversations.Arrival.{Arrival}
 use Rattle.nr_serving.specs.declared.conversations.Arrival.TheVariants as arrivals
 use Rattle.nr_serving.specs.Fronts.{Course, has_failed, passed_in}
 
--- A front that was d served a caller and is d' then, over a reader and a writer that were new: what
--- was sent answers the lines of what was received, as the ending says. It reports a failure exactly
--- where a read or a write failed.
+-- A front that was d served a caller, with a new reader and writer, and is d' now: what was sent is
+-- the answer to the lines of what was received, according to the result. The result says that there
+-- was a failure exactly if a read or a write failed.
 pub record ServesCaller (c : Conversation) (d d' : FrontState) : Type 0 where
   pub remaining : Option (List ℕ)
   pub contents : Option (List ℕ)
@@ -24,29 +24,29 @@ pub record ServesCaller (c : Conversation) (d d' : FrontState) : Type 0 where
   pub read_failed : c.input.failed ≡ is_read_failure c.ending
   pub write_failed : c.output.failed ≡ is_write_failure c.ending
 
--- Callers are served one after the other: with each the front goes on where it was, and this passed
--- between it and each of them.
+-- True if the callers are served one after the other: the front continues from one to the next,
+-- with these conversations.
 abbrev pub ServesCallers : List Conversation → FrontState → FrontState → Type 0
 ServesCallers [] d d' = d' ≡ d
 ServesCallers (c ∷ callers) d d' =
     (mid : FrontState) × ServesCaller c d mid × ServesCallers callers mid d'
 
--- what came of waiting for a caller
+-- the result of waiting for a caller
 abbrev pub arrival_of : {I O : Type 0} → Next I O → Arrival
 arrival_of (nexts.Serve reader writer) = arrivals.Came
 arrival_of nexts.Ended = arrivals.Ended
 arrival_of nexts.Failed = arrivals.Failed
 
--- nobody came yet
+-- the log before any caller has come
 abbrev pub none_passed : Passed
 none_passed = record { arrivals = []; callers = [] }
 
--- A front over this journal, and its callers, none of whom has come.
+-- True of a front over this journal, and its log, before any caller has come.
 abbrev pub IsReady : TableId → FrontState × Passed → Type 0
 IsReady table f = (f.0.table ≡ table) × (f.1 ≡ none_passed)
 
--- This front was served, this is what came back, and this passed with its callers, as the streams
--- remember it. A failure is reported exactly where there was one.
+-- This front was served, with this result and these conversations with its callers, as the streams
+-- remember them. The result says that there was a failure exactly if there was one.
 pub record IsServed (start : FrontState) (done : Done) (passed : Passed) : Type 0 where
   pub course : Course
   pub passed_is : passed ≡ passed_in course
@@ -55,13 +55,13 @@ pub record IsServed (start : FrontState) (done : Done) (passed : Passed) : Type 
   pub pass : done.pass ≡ pass_of course.last
   pub same : course.last.table ≡ start.table
 
--- These fronts were served, this came back of each, and this passed with its callers.
+-- True if these fronts were served, with these results and conversations.
 abbrev pub AreServed : List FrontState → List (Done × Passed) → Type 0
 AreServed [] [] = Unit {0}
 AreServed (start ∷ starts) (one ∷ ones) = IsServed start one.0 one.1 × AreServed starts ones
 AreServed [] (one ∷ ones) = ⊥
 AreServed (start ∷ starts) [] = ⊥
 
--- What came back of them follows what was there.
+-- True if their results are appended to the earlier ones.
 abbrev pub Adds : List FrontState → List (Done × Passed) → List (Done × Passed) → Type 0
 Adds starts old new = (more : List (Done × Passed)) × (new ≡ old ++ more) × AreServed starts more

@@ -1,4 +1,4 @@
--- Beside `Session`: what contracts and proofs cite, and no law of THEOREM.md rests on.
+-- Definitions that contracts and proofs cite beside `Session`. No law of THEOREM.md rests on them.
 use Rattle.std.specs.Prelude.{◌≡◌, ℕ, Bool, List, Option, Some, None, Result, Ok, Err}
 use Rattle.std.specs.List.{list_any}
 use Rattle.std.specs.Global.{Vec}
@@ -14,15 +14,15 @@ use Rattle.nr_front.specs.Auxiliary.FrontState.{opened_front}
 use Rattle.nr_front.specs.Auxiliary.Replica.{at_start}
 use Rattle.nr_serving.specs.declared.fronts.Done.{Done}
 
--- A front of this recording, and of this journal, which is for so many fronts. It has seen no
--- word. Its walker hasn't walked, and keeps so many deltas at most; and so many workers search.
+-- True of a front over this recording and this journal, which is for this number of fronts. It has
+-- read no word. Its walker hasn't moved and has this depth; and this number of workers search.
 abbrev pub IsFresh : TableId → Recording → ℕ → ℕ → ℕ → FrontState → Type 0
 IsFresh table r fronts depth workers front_state =
     (tag : ℕ) × (every : ℕ)
     × (front_state ≡ opened_front (record { table = table; pass_state = entering fronts tag }) r
     workers (at_start every depth))
 
--- one of them failed
+-- true if one of them failed
 abbrev pub any_failed : List Done → Bool
 any_failed done = list_any (λ d. d.failed) done
 
@@ -31,12 +31,13 @@ abbrev pub words_of : Result (Vec ℕ) Memory → Option (List ℕ)
 words_of (Ok words) = Some words.items
 words_of (Err fault) = None
 
--- The history begins with what this pass has seen, and all words of the pass's own are among it.
+-- True if the history begins with what this pass has read, and contains all words of the pass's
+-- own.
 abbrev pub HasItsOwnWords : List ℕ → PassState → Type 0
 HasItsOwnWords history pass_state = Covers history pass_state.tag pass_state.seen
 
--- The pass saw words of others, until one look more found no word, or all were seen that there is
--- room for. What it had seen then is the history.
+-- The pass read words of others, until no further word was found or all were read that there is
+-- room for. What it had read then is the history.
 pub record IsSeenBy (room : ℕ) (history : List ℕ) (pass_state : PassState) : Type 0 where
   pub before : PassState
   pub after : PassState

@@ -3,7 +3,7 @@ use Rattle.std.specs.Io.KnownBytes.{Consumes}
 use Rattle.nr_serving.specs.declared.connection.TheConstants.{AT_ONCE, MOST_READS}
 use Rattle.nr_serving.proofs.connection.read_away.Given as goal
 
--- what was read so far
+-- the bytes that were read so far
 abbrev pub invariant-loop-reads : goal.invariant-loop-reads
 invariant-loop-reads g l =
     (l.reads ≤ MOST_READS)

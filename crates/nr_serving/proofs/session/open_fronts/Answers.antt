@@ -7,7 +7,7 @@ use Rattle.nr_serving.specs.Auxiliary.Session.{IsFresh}
 use Rattle.nr_serving.proofs.HistoryLemmas.{numbers_more}
 use Rattle.nr_serving.proofs.session.open_fronts.Goals as goal
 
--- one front more is fresh, and its tag is its number
+-- one more front is new, and its tag is its number
 pub loop-preserved : goal.loop-preserved
 loop-preserved g c =
     let i = c.loop.invariant in
@@ -27,7 +27,7 @@ loop-preserved g c =
 pub loop-init : goal.loop-init
 loop-init g c = search rules
 
--- the tags of all are their numbers
+-- the tags of all fronts are their numbers
 pub returns-clause-tags : goal.returns-clause-tags
 returns-clause-tags g c =
     let i = c.loop.invariant in
