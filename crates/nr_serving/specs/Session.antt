@@ -20,9 +20,8 @@ numbers_below (suc n) = numbers_below n ++ n ∷ []
 abbrev pub IsTheirs : List PassState → ℕ → Type 0
 IsTheirs pass_states word = Contains (map (λ p. p.tag) pass_states) (tag_of word)
 
--- The history, given the final knowledge of the passes: it has all words of each pass's own, no
--- word of anyone else, and one of the passes read it to its end. If there are no passes, it is
--- empty.
+-- The history, given what the passes know in the end: it has all of each pass's words and no
+-- others, and one of the passes read it to its end. Without passes it is empty.
 pub record IsHistory (room : ℕ) (pass_states : List PassState) (history : List ℕ) : Type 0 where
   pub own : All (HasItsOwnWords history) pass_states
   pub theirs : All (IsTheirs pass_states) history
@@ -41,10 +40,9 @@ pub record BeginsFresh (table : TableId) (r : Recording) (fronts depth workers :
 abbrev pub last_pass_state : Course → PassState
 last_pass_state course = course.last.pass_state
 
--- This number of fronts shared the session, each with a walker of this depth and this number of
--- workers. Their tags are their numbers, from 0. The placed words are the history, unless memory
--- ran out for it. The result says that there was a failure exactly if one of the fronts failed.
--- These are their logs.
+-- Fronts shared the session, each with a walker of this depth and this number of workers. Their
+-- tags are their numbers, from 0. The history is what was placed, unless memory ran out for it.
+-- `failed` says exactly if one of the fronts failed. These are the fronts' logs.
 pub record IsShared (r : Recording) (room fronts depth workers : ℕ) (passed : List Passed)
     (history : Option (List ℕ)) (failed : Bool) : Type 0 where
   pub table : TableId
