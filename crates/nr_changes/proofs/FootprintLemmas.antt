@@ -15,17 +15,17 @@ use Rattle.nr_changes.specs.Touched.{Touched, touched}
 use Rattle.nr_changes.proofs.CellLemmas.{IsApart, apart_stays, step_touches}
 use Rattle.nr_changes.proofs.MemberLemmas.{here_or_later, nowhere}
 
--- the goroutine that is named, if one is, is the only one of the list
+-- the named goroutine, if there is one, is the only one in the list
 abbrev IsOnlyAmong : Option ℕ → List ℕ → Type 0
 IsOnlyAmong None gs = Unit {0}
 IsOnlyAmong (Some g) gs = gs ≡ g ∷ []
 
--- the number that is named, if one is, is the number
+-- the named number, if there is one, is this number
 abbrev IsNumber : Option ℕ → Option ℕ → Type 0
 IsNumber None number = Unit {0}
 IsNumber (Some n) number = number ≡ Some n
 
--- a footprint names what is touched
+-- a footprint names only what is touched
 abbrev NamesTouched : Footprint → Touched → Type 0
 NamesTouched f t = IsOnlyAmong f.goroutine t.goroutines × IsNumber f.socket t.socket × IsNumber f.descriptor t.descriptor
 
@@ -62,7 +62,7 @@ names_touched w Step.Pop = (tt, tt, tt)
 names_touched w (Step.Fire i) = (tt, tt, tt)
 names_touched w (Step.CloseWrite g s) = (refl, refl, tt)
 
--- a number that isn't equal is another
+-- numbers that aren't equal differ
 apart : (n i : ℕ) → (n == i) ≡ false → n ≡ i → ⊥
 apart n i differs same = true≢false (sym (eq-eqb n i same) ∙ differs)
 

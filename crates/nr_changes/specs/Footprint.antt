@@ -1,4 +1,4 @@
--- Which cells a step may change, as far as its line tells without the world.
+-- Which cells a step may change, judged from its line alone.
 use Rattle.std.specs.Prelude.{ℕ, Bool, true, ◌==◌, Option, Some, None}
 use Rattle.std.specs.Option.{option_map_or}
 use Rattle.nr_rev.specs.declared.cell.Cell.{Cell}
@@ -7,7 +7,7 @@ use Rattle.nr_changes.specs.declared.footprint.Footprint.{Footprint}
 use Rattle.nr_changes.specs.declared.footprint.Owner.{Owner}
 use Rattle.nr_changes.specs.declared.footprint.Owner.TheVariants as owner
 
--- what a cell belongs to
+-- the owner of a cell
 abbrev pub owner_of : Cell → Owner
 owner_of Cell.Clock = owner.World
 owner_of Cell.Waiters = owner.World
@@ -30,24 +30,24 @@ owner_of (Cell.DescriptorSequence d) = owner.Descriptor d
 owner_of (Cell.Info d) = owner.Descriptor d
 owner_of (Cell.Shut s) = owner.Socket s
 
--- a footprint that names nothing: the step may change cells of any goroutine, socket or descriptor
+-- the footprint of a step that may change cells of any goroutine, socket or descriptor
 abbrev pub anything : Footprint
 anything = record { goroutine = None; socket = None; descriptor = None }
 
--- goroutine g alone
+-- the footprint of a step that changes no other goroutine than g
 abbrev pub of_goroutine : ℕ → Footprint
 of_goroutine g = record anything { goroutine = Some g }
 
--- socket s alone
+-- the footprint of a step that changes no other socket than s
 abbrev pub of_socket : ℕ → Footprint
 of_socket s = record anything { socket = Some s }
 
--- descriptor d alone
+-- the footprint of a step that changes no other descriptor than d
 abbrev pub of_descriptor : ℕ → Footprint
 of_descriptor d = record anything { descriptor = Some d }
 
--- the numbers that a step's line limits it to: a step that may wake a goroutine names no goroutine,
--- and one that goes on with a goroutine's earlier step names no socket or descriptor
+-- the footprint that a step's line gives: a step that may wake a goroutine names no goroutine, and
+-- a step that continues an earlier one of its goroutine names no socket or descriptor
 abbrev pub footprint : Step → Footprint
 footprint Step.Spawn = anything
 footprint (Step.Exit g) = of_goroutine g
@@ -81,17 +81,17 @@ footprint Step.Pop = anything
 footprint (Step.Fire i) = anything
 footprint (Step.CloseWrite g s) = record (of_goroutine g) { socket = Some s }
 
--- the number that a footprint names, if it names one, is this
+-- true if a footprint names this number, or names none
 abbrev pub is_or_any : Option ℕ → ℕ → Bool
 is_or_any named number = option_map_or (λ n. n == number) named true
 
--- a step of this footprint may change a cell of this owner
+-- true if a step with this footprint may change a cell of this owner
 abbrev pub admits_owner : Footprint → Owner → Bool
 admits_owner f owner.World = true
 admits_owner f (owner.Goroutine g) = is_or_any f.goroutine g
 admits_owner f (owner.Socket s) = is_or_any f.socket s
 admits_owner f (owner.Descriptor d) = is_or_any f.descriptor d
 
--- a step of this footprint may change the cell
+-- true if a step with this footprint may change the cell
 abbrev pub admits : Footprint → Cell → Bool
 admits f c = admits_owner f (owner_of c)

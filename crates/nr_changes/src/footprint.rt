@@ -1,11 +1,11 @@
-//! Which cells a step may change, as far as its line tells without the world.
+//! Which cells a step may change, judged from its line alone.
 
 ghost use Rattle.std.specs.Prelude.{◌≡◌};
 ghost use Rattle.nr_changes.specs.Footprint.{admits, anything, footprint, is_or_any, owner_of};
 
 use nr_rev::{Cell, Step};
 
-/// What a cell belongs to.
+/// The owner of a cell.
 #[derive(Clone, Copy, Debug, PartialEq, Eq)]
 pub enum Owner {
     /// The world as a whole: the clock, the count of waiters and the timers.
@@ -19,7 +19,7 @@ pub enum Owner {
 }
 
 impl Owner {
-    /// Returns what the cell belongs to.
+    /// Returns the owner of the cell.
     #[inline]
     pub fn of(cell: Cell) -> Owner
         ensures { result ≡ owner_of cell }
@@ -47,7 +47,7 @@ impl Owner {
     }
 }
 
-/// The goroutine, the socket and the descriptor that a step's line limits it to. `None` means that the line doesn't tell: the
+/// The only goroutine, socket and descriptor whose cells a step may change, judged from its line. `None` means that the
 /// step may change cells of any.
 #[derive(Clone, Copy, Debug, PartialEq, Eq)]
 pub struct Footprint {
@@ -59,7 +59,7 @@ pub struct Footprint {
     pub descriptor: Option<u32>,
 }
 
-// Returns whether the number is the one that a footprint names, or the footprint names none.
+// Returns whether a footprint names this number or none.
 #[inline(always)]
 fn is_or_any(named: Option<u32>, number: u32) -> bool
     ensures { result ≡ is_or_any named number }
@@ -70,7 +70,7 @@ fn is_or_any(named: Option<u32>, number: u32) -> bool
     }
 }
 
-// Returns the only goroutine whose status the step may change, if its line tells.
+// Returns the only goroutine whose status the step may change, or `None` if its line doesn't say.
 #[inline(always)]
 fn only_goroutine(step: &Step) -> Option<u32>
     ensures { result ≡ (footprint step.now).goroutine }
@@ -99,7 +99,7 @@ fn only_goroutine(step: &Step) -> Option<u32>
     }
 }
 
-// Returns the only socket whose cells the step may change, if its line tells.
+// Returns the only socket whose cells the step may change, or `None` if its line doesn't say.
 #[inline(always)]
 fn only_socket(step: &Step) -> Option<u32>
     ensures { result ≡ (footprint step.now).socket }
@@ -120,7 +120,7 @@ fn only_socket(step: &Step) -> Option<u32>
     }
 }
 
-// Returns the only descriptor whose cells the step may change, if its line tells.
+// Returns the only descriptor whose cells the step may change, or `None` if its line doesn't say.
 #[inline(always)]
 fn only_descriptor(step: &Step) -> Option<u32>
     ensures { result ≡ (footprint step.now).descriptor }
@@ -137,8 +137,8 @@ fn only_descriptor(step: &Step) -> Option<u32>
 }
 
 impl Footprint {
-    /// Returns what the step's line limits it to. A step that may wake a goroutine is limited to no goroutine. A step that
-    /// goes on with an earlier one of its goroutine names no socket or descriptor, so its line doesn't limit it to one.
+    /// Returns the footprint that the step's line gives. A step that may wake a goroutine names no goroutine. A step
+    /// that continues an earlier one of its goroutine names no socket or descriptor.
     #[inline]
     pub fn of(step: &Step) -> Footprint
         ensures { result ≡ footprint step.now }
@@ -150,7 +150,7 @@ impl Footprint {
         }
     }
 
-    /// Returns the footprint that limits a step in no way.
+    /// Returns the footprint of a step that may change any cell.
     #[inline]
     pub fn anything() -> Footprint
         ensures { result ≡ anything }
@@ -162,8 +162,8 @@ impl Footprint {
         }
     }
 
-    /// Returns whether a step of this footprint may change the cell: whether it names the cell's owner, or no owner of that
-    /// sort. If not, the cell keeps its value: `laws::steps_change_nothing_outside_their_footprint`.
+    /// Returns whether a step with this footprint may change the cell: whether the footprint names the cell's owner, or
+    /// no owner of that sort. If not, the cell keeps its value (`laws::steps_change_nothing_outside_their_footprint`).
     #[inline]
     pub fn admits(self, cell: Cell) -> bool
         ensures { result ≡ admits self cell }

@@ -20,7 +20,7 @@ pub fn steps_change_what_they_touch_alone()
         → cell next c ≡ cell w c }
 {}
 
-/// A step that its line limits to one goroutine, socket or descriptor changes no cell of another one, in any world.
+/// A step changes no cell that its footprint doesn't admit, in any world.
 pub fn steps_change_nothing_outside_their_footprint()
     ensures { (w : World) (step : Step) (answer : Answer) (next : World) (c : Cell)
         → outcome w step ≡ Ok (answer, next) → admits (footprint step) c ≡ false

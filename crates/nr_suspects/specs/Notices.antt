@@ -123,7 +123,7 @@ abbrev pub notice_of_opening : ℕ → Answer → Notice
 notice_of_opening s (Number d) = Opened d s
 notice_of_opening s _ = Nothing
 
--- the notice that a socket with so much room for writing was opened; the answer is the socket's
+-- the notice that a socket with this much room for writing was opened; the answer is the socket's
 -- number
 abbrev pub notice_of_socket : ℕ → Answer → Notice
 notice_of_socket capacity (Number s) = SocketOpened s capacity

@@ -8,7 +8,7 @@ use Rattle.nr_suspects.specs.declared.notice.Notice.TheVariants.{SocketOpened, P
 use Rattle.nr_suspects.specs.declared.peer.Peer.{Peer}
 use Rattle.nr_suspects.specs.Notices.{notice_at}
 
--- the other end of a socket that was opened with so much room for writing
+-- the other end of a socket that was opened with this much room for writing
 abbrev pub open_peer : ℕ → Peer
 open_peer capacity = record { capacity = capacity; is_closed = false }
 

@@ -34,7 +34,7 @@ abbrev pub reason_to_read : ℕ → Bool → Option Reason
 reason_to_read bytes is_closed =
     if nat_lt 0 bytes then Some why.Bytes else (if is_closed then Some why.End else None)
 
--- why a write wouldn't be answered `Again`: the write side is shut, or so much room is left
+-- why a write wouldn't be answered `Again`: the write side is shut, or this much room is left
 abbrev pub reason_to_write : Bool → ℕ → Option Reason
 reason_to_write is_shut room =
     if is_shut then Some why.Shut else (if nat_lt 0 room then Some why.Room else None)

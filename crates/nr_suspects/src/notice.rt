@@ -73,7 +73,7 @@ pub enum Notice {
         goroutine: u32,
         socket: u32,
     },
-    /// The socket was opened with so much room for writing.
+    /// The socket was opened with this much room for writing.
     SocketOpened {
         socket: u32,
         capacity: u32,
@@ -218,7 +218,7 @@ fn notice_of_opening(socket: u32, answer: Answer) -> Notice
     }
 }
 
-// Returns the notice that a socket with so much room for writing was opened.
+// Returns the notice that a socket with this much room for writing was opened.
 fn notice_of_socket(capacity: u32, answer: Answer) -> Notice
     ensures { result ≡ notice_of_socket capacity answer }
 {

@@ -15,7 +15,7 @@ pub struct Peer {
 }
 
 impl Peer {
-    // Returns the other end of a socket that was opened with so much room for writing.
+    // Returns the other end of a socket that was opened with this much room for writing.
     fn open(capacity: u32) -> Peer
         ensures { result ≡ open_peer capacity }
     {
