@@ -1,4 +1,4 @@
--- The way back goes on from where it is.
+-- Undoing goes on from where it is.
 use Rattle.std.proofs.Common.{◌≡◌, sym, subst}
 use Rattle.nr_machine.specs.declared.delta.WorldUndo.{WorldUndo}
 use Rattle.nr_machine.specs.Auxiliary.Changing.{Then}
@@ -6,7 +6,7 @@ use Rattle.nr_machine.specs.Delta.{UndoBack}
 use Rattle.nr_machine.specs.DeltaLaws.{LeadsToOne}
 use Rattle.nr_machine.specs.World.{WorldParts}
 
--- what is left after the first of two ways back, which leads to one state
+-- the second of two undos, after the first, which leads to one state
 pub then_next : {S : Type 0} (first next : S → S → Type 0) → LeadsToOne first → (new mid : S) → (old : S) × Then first next new old → first new mid
     → (old : S) × next mid old
 then_next {S} first next one new mid both made =

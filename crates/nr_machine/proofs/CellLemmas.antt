@@ -1,4 +1,4 @@
--- The values of cells: what the parts have is what the world has.
+-- The values of cells: the parts and the represented world have the same.
 use Rattle.std.proofs.Common.{◌≡◌, ℕ, ◌<◌, ◌≤◌, Bool, List, length, Option, Some, None, refl, sym, ap, ◌∙◌, arith}
 use Rattle.std.proofs.lemmas.Option.{same_Some, slice_get_past}
 use Rattle.std.specs.Prelude.{option_map, slice_get}
@@ -34,17 +34,17 @@ value_by m d f None at =
 value_by m d f (Some x) at =
     sym (ap (λ (o : Option DescriptorRow). value_or_absent (λ row. f row.descriptor) o) (row_at m.core.descriptors.items m.core.timers.entries d x at))
 
--- a cell of a descriptor shows what the parts have
+-- a cell of a descriptor has the parts' value
 pub descriptor_value_is : (m : WorldParts) (d : ℕ) (f : Descriptor → CellValue) → value_or_absent f (slice_get m.core.descriptors.items d) ≡ descriptor_value d (meant m) f
 descriptor_value_is m d f = value_by m d f (slice_get m.core.descriptors.items d) refl
 
 -- ---- sockets
 
--- a cell of a socket that isn't there shows nothing
+-- a cell of a socket that doesn't exist has no value
 pub socket_absent : (m : WorldParts) (s : ℕ) (f : Socket → CellValue) → slice_get m.core.locks.items s ≡ None → Absent ≡ socket_value s (meant m) f
 socket_absent m s f at = sym (ap (λ (o : Option Socket). value_or_absent f o) (socket_past m.core.locks.items m.core.goroutines.semaphores m.socks s at))
 
--- that of one that is there shows what its lock and the rest have
+-- a cell of a socket that exists has the value of its lock and of its other parts
 pub socket_value_is : (m : WorldParts) (s : ℕ) (f : Socket → CellValue) (lock : Lock) → slice_get m.core.locks.items s ≡ Some lock
     → f (socket_of lock (rest_at m.core.goroutines.semaphores m.socks s)) ≡ socket_value s (meant m) f
 socket_value_is m s f lock at = sym (ap (λ (o : Option Socket). value_or_absent f o) (socket_at m.core.locks.items m.core.goroutines.semaphores m.socks s lock at))
@@ -58,14 +58,14 @@ count_of m s side count (Some both) there is =
     same_Some count (of_side side both).count is ∙ ap (λ (x : Sides Semaphore). (of_side side x).count) (sym (semaphores_at m.core.goroutines.semaphores m.socks s both there))
 
 module _ (m : WorldParts) (s : ℕ) (side : Side) where
-  -- the count of a semaphore that is there
+  -- the count of an existing semaphore
   pub count_value_is : (count : ℕ) → s < length m.core.locks.items → Some count ≡ count_at s side m.core.goroutines
       → Number count ≡ socket_value s (meant m) (λ x. Number (of_side side x.semaphores).count)
   count_value_is count below is =
       let lock = get_within m.core.locks.items s below in
       ap Number (count_of m s side count (slice_get m.core.goroutines.semaphores s) refl is) ∙ socket_value_is m s (λ x. Number (of_side side x.semaphores).count) lock.0 lock.1
 
-  -- it is there
+  -- the semaphore exists
   pub count_there : IsWorld m → s < length m.core.locks.items → None ≡ count_at s side m.core.goroutines → ⊥
   count_there h below is =
       let many = length-sockets_of m.core.locks.items m.core.goroutines.semaphores m.socks in
@@ -75,7 +75,7 @@ module _ (m : WorldParts) (s : ℕ) (side : Side) where
       let found : None ≡ Some (of_side side both.0).count = is ∙ ap (λ (o : Option (Sides Semaphore)). option_map (λ (x : Sides Semaphore). (of_side side x).count) o) both.1 in
       cc
 
-  -- how many bytes a buffer holds
+  -- the number of bytes in a buffer
   pub length_value_is : (sock : SockParts) (n : ℕ) → s < length m.core.locks.items → slice_get m.socks s ≡ Some sock → n ≡ length (viewed_bytes side sock.opened)
       → Number n ≡ socket_value s (meant m) (λ x. Number (length (of_side side x.buffers).bytes))
   length_value_is sock n below at is =
@@ -84,7 +84,7 @@ module _ (m : WorldParts) (s : ℕ) (side : Side) where
       ∙ ap (λ (bytes : List ℕ). length bytes) (sym (viewed side (rest_at m.core.goroutines.semaphores m.socks s).sock)))
       ∙ socket_value_is m s (λ x. Number (length (of_side side x.buffers).bytes)) lock.0 lock.1
 
-  -- none of a socket that isn't there
+  -- no value for a socket that doesn't exist
   pub nothing_past : (f : Socket → CellValue) → length m.core.locks.items ≤ s → Absent ≡ socket_value s (meant m) f
   nothing_past f past = socket_absent m s f (slice_get_past m.core.locks.items s past)
 
@@ -94,7 +94,7 @@ shut_viewed : (o : Option OpenSock) → is_shut o ≡ (buffers_in o).shut
 shut_viewed None = refl
 shut_viewed (Some opened) = refl
 
--- whether a write side that is there is shut
+-- whether an existing write side is shut
 pub shut_value_is : (m : WorldParts) (s : ℕ) (sock : SockParts) (shut : Bool) → s < length m.core.locks.items → slice_get m.socks s ≡ Some sock → shut ≡ is_shut sock.opened
     → Number (bit shut) ≡ socket_value s (meant m) (λ x. Number (bit x.shut))
 shut_value_is m s sock shut below at is =

@@ -1,4 +1,4 @@
--- Changes of the core that change nothing.
+-- Operations on the core that change nothing.
 use Rattle.std.proofs.Common.{◌≡◌, ℕ, List, Some, None, refl, sym, ap, ◌∙◌, lit≤}
 use Rattle.std.proofs.lemmas.List.{set-set}
 use Rattle.std.specs.Prelude.{slice_get}
@@ -9,12 +9,12 @@ use Rattle.nr_machine.specs.declared.world_core.Core.{Core}
 use Rattle.nr_machine.specs.Auxiliary.Changing.{CanMove, MovesOn, with_descriptor, with_lock, with_status}
 use Rattle.nr_machine.proofs.ListLemmas.{set_nowhere, set_same}
 
--- a status written over itself
+-- a status overwritten by itself
 pub status_same : (core : Core) (g : ℕ) (status : Status) → slice_get core.goroutines.goroutines g ≡ Some status → with_status g status core ≡ core
 status_same core g status at =
     ap (λ (xs : List Status). record core { goroutines = record core.goroutines { goroutines = xs } }) (set_same core.goroutines.goroutines g status at)
 
--- no move is one to the status that there is
+-- moving to the current status is no move
 pub stays : (core : Core) (g : ℕ) (from to : Status) → CanMove core g from to → from ≡ to → MovesOn core g to None core
 stays core g from to can same =
     record {
@@ -34,7 +34,7 @@ pub descriptor_nowhere : (core : Core) (d : ℕ) (x : Descriptor) → slice_get 
 descriptor_nowhere core d x at =
     ap (λ (xs : List Descriptor). record core { descriptors = record core.descriptors { items = xs } }) (sym (set_nowhere core.descriptors.items d x at))
 
--- a descriptor that is changed leads back where it is what it was
+-- restoring a changed descriptor undoes the change
 pub described_back : (core new : Core) (d : ℕ) (x before : Descriptor) → slice_get core.descriptors.items d ≡ Some before → new ≡ with_descriptor d x core
     → core ≡ with_descriptor d before new
 described_back core new d x before at is =

@@ -1,4 +1,4 @@
--- A descriptor that is looked up in the parts, one that is changed alone, and the list of the free ones.
+-- Looking up a descriptor in the parts, changing one alone, and the list of the free ones.
 use Rattle.std.proofs.Common.{◌≡◌, ℕ, Bool, true, false, List, [], Option, Some, None, Result, Ok, Err, refl, sym, ap, subst, ◌∙◌, lit≤}
 use Rattle.std.proofs.lemmas.Option.{same_Some}
 use Rattle.std.specs.Prelude.{option_and_then, option_map, slice_get}
@@ -36,7 +36,7 @@ use Rattle.nr_machine.specs.World.{WorldParts, meant}
 use Rattle.nr_machine.proofs.FitsLemmas.{IsTiedAs, counted_fits, descriptor_fits, descriptor_tied, retied}
 use Rattle.nr_machine.proofs.RowsLemmas.{descriptor_set, row_at, row_past, row_with}
 
--- ---- who a word waits for is inside
+-- ---- the goroutine that a word waits for is inside
 
 parked_inside : (status : Option Status) (place : ℕ × Side) → option_and_then parked_of status ≡ Some place → option_and_then wait_of status ≡ Some place
 parked_inside (Some (Parked d side)) place is = is
@@ -48,7 +48,7 @@ awaiting_inside (Some (Parking d side)) place is = is
 awaiting_inside (Some (Swapping d side)) place is = is
 awaiting_inside _ place is = cc
 
--- where nobody is inside, a word waits for nobody
+-- if no goroutine is inside, a word waits for none
 pub unawaited : (w : World) (d : ℕ) (side : Side) (row : DescriptorRow) → WellFormed w → slice_get w.descriptors d ≡ Some row → is_waited d side w.goroutines ≡ false
     → is_awaited (of_side side row.descriptor.words) ≡ false
 unawaited w d side row h at nobody = by (of_side side row.descriptor.words) refl
@@ -67,7 +67,7 @@ unawaited w d side row h at nobody = by (of_side side row.descriptor.words) refl
 
 -- ---- a descriptor of the parts
 
--- a row that is found is there
+-- a row that is found exists
 pub row_found : (o : Option DescriptorRow) (row : DescriptorRow) → found_or o NoSuchDescriptor ≡ Ok row → o ≡ Some row
 row_found None row is = absurd cc
 row_found (Some r) row is = cc
@@ -77,7 +77,7 @@ opened_by : (free : Bool) (o : Option DescriptorRow) (row : DescriptorRow) → (
 opened_by true o row is = absurd cc
 opened_by false o row is = (refl, row_found o row is)
 
--- an open descriptor is there, and isn't free
+-- an open descriptor exists and isn't free
 pub opened_row : (w : World) (d : ℕ) (row : DescriptorRow) → open_row_of d w ≡ Ok row → (is_free_number d w.free ≡ false) × (slice_get w.descriptors d ≡ Some row)
 opened_row w d row is = opened_by (is_free_number d w.free) (slice_get w.descriptors d) row is
 
@@ -92,11 +92,11 @@ module _ (m : WorldParts) (d : ℕ) (x : Descriptor) where
   pub found_there : find_row d (meant m) ≡ Ok (row_with m d x) → slice_get m.core.descriptors.items d ≡ Some x
   found_there is = there_by (slice_get m.core.descriptors.items d) refl (row_found (slice_get (meant m).descriptors d) (row_with m d x) is)
 
-  -- so is one that is open
+  -- so is an open descriptor
   pub opened_there : open_row_of d (meant m) ≡ Ok (row_with m d x) → slice_get m.core.descriptors.items d ≡ Some x
   opened_there is = there_by (slice_get m.core.descriptors.items d) refl (opened_row (meant m) d (row_with m d x) is).1
 
--- ---- a descriptor that is changed alone
+-- ---- a descriptor changes alone
 
 pub described_means : (m : WorldParts) (d : ℕ) (before after : Descriptor)
     → meant (record m { core = changing.with_descriptor d after m.core }) ≡ with_descriptor d (row_with m d before) after (meant m)
@@ -120,15 +120,15 @@ described_made m d o before after left answer undo new parts describes = (
   ),
 )
 
--- ---- what an operation leaves
+-- ---- the result of an operation
 
--- an operation that asks nothing of timers and wakes nobody leaves the descriptor that it makes
+-- an operation that gives no orders and wakes no goroutine leaves the descriptor that it makes
 pub quiet_leaves : (r : Result Descriptor Refusal) (answer : DescAnswer) (after : Descriptor) → ◌≡◌ {A = desc_op.Outcome} (r >>= λ y. Ok (Done, quiet y)) (Ok (desc_op.left answer after))
     → r ≡ Ok after
 quiet_leaves (Ok y) answer after is = ap (λ (o : desc_op.Outcome). ◌>>=◌ {B = Descriptor} o (λ made. Ok made.1.descriptor)) is
 quiet_leaves (Err e) answer after is = absurd cc
 
--- ---- the free ones
+-- ---- the free numbers
 
 -- the core with these free numbers
 abbrev pub with_free : List ℕ → Core → Core

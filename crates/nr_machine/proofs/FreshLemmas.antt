@@ -33,7 +33,7 @@ empty_fits limits range queued timers =
       timers_room = refl;
     }
 
--- a core that is the empty one fits, if its queues and its timers do
+-- a core equal to the empty one fits if its queues and its timers do
 pub fresh_fits : (limits : Limits) (core : Core) → core ≡ empty_core limits → AreInRange limits → IsQueuedUp core.goroutines → IsTimers core.timers → CoreFits core
 fresh_fits limits core is range queued timers =
     subst CoreFits (sym is)
@@ -66,7 +66,7 @@ empty_parts_fit limits core =
       unarmed = λ d past. refl;
     }
 
--- so a core and buffers that are those of the empty world are a packed world
+-- so a core and buffers equal to those of the empty world are a packed world
 pub empty_is_world : (limits : Limits) (core : Core) (socks : List SockParts) → core ≡ empty_core limits → CoreFits core
     → socks ≡ replicate limits.sockets (never_opened limits.buffer) → IsWorld (record { core = core; socks = socks })
 empty_is_world limits core socks is fits closed =

@@ -1,4 +1,4 @@
--- What a list has after a write, and at its ends.
+-- A list after a write, and at its ends.
 use Rattle.std.proofs.Common.{◌≡◌, ℕ, zero, suc, ◌-◌, ◌<◌, List, [], ◌∷◌, ◌++◌, length, set, take, Some, None, refl, sym, ap, ◌∙◌, arith}
 use Rattle.std.proofs.Math.Seq.{take-append_seam}
 use Rattle.std.proofs.lemmas.List.{length-append, set-get_or}
@@ -9,13 +9,13 @@ use Rattle.std.specs.Prelude.{slice_get}
 pub set_same : {A : Type 0} (xs : List A) (i : ℕ) (x : A) → slice_get xs i ≡ Some x → set xs i x ≡ xs
 set_same {A} xs i x at = ap (λ (y : A). set xs i y) (sym (get_or_from_slice_get xs i x x at)) ∙ set-get_or xs i x
 
--- where no place is, nothing is written
+-- writing outside of the list changes nothing
 pub set_nowhere : {A : Type 0} (xs : List A) (i : ℕ) (x : A) → slice_get xs i ≡ None → set xs i x ≡ xs
 set_nowhere [] i x at = refl
 set_nowhere (y ∷ xs) zero x at = cc
 set_nowhere {A} (y ∷ xs) (suc i) x at = ap (λ (ys : List A). y ∷ ys) (set_nowhere xs i x at)
 
--- there is something at each place below the length
+-- each place below the length has an item
 pub get_within : {A : Type 0} (xs : List A) (i : ℕ) → i < length xs → (x : A) × (slice_get xs i ≡ Some x)
 get_within [] i h = absurd (omega arith)
 get_within (x ∷ xs) zero h = (x, refl)

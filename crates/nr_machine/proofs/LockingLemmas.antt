@@ -1,4 +1,4 @@
--- The steps on a socket's lock: what the parts come to is what the machine comes to.
+-- The steps on a socket's lock: the parts and the machine have the same outcome.
 use Rattle.std.proofs.Common.{◌≡◌, [], ℕ, ◌+◌, ◌<◌, true, false, length, Option, Some, None, Ok, Err, refl, sym, ap, subst, ◌∙◌, arith, cond}
 use Rattle.std.proofs.lemmas.Bool.Decides.{nat_tests}
 use Rattle.std.proofs.lemmas.Option.{slice_get_within}
@@ -38,7 +38,7 @@ use Rattle.nr_machine.specs.World.{WorldParts, meant}
 use Rattle.nr_machine.proofs.FitsLemmas.{lock_fits, lock_tied, retied, status_fits, status_tied, tied_then}
 use Rattle.nr_machine.proofs.SocketsLemmas.{length-sockets_of, lock_set, socket_at, socket_past, socket_with}
 
--- the parts with another lock of socket s and another status of goroutine g mean a world with these
+-- parts with another lock of socket s and another status of goroutine g represent a world with these
 pub locked_means : (m : WorldParts) (g s : ℕ) (status : Status) (before after : Lock)
     → meant (record m { core = changing.with_status g status (with_lock s after m.core) })
     ≡ with_status g status (with_socket s (record (socket_with m s before) { lock = after }) (meant m))
@@ -56,12 +56,12 @@ module _ (m : WorldParts) (g s : ℕ) (op : LockOp) where
   pub locking_refused : (e : Refusal) → lock_outcome s op m.core ≡ Err e → locking g s op (meant m) ≡ Err e
   locking_refused e refused = by_lock (slice_get m.core.locks.items s) e refl refused
 
-  -- and one that it carries out leads there
+  -- an operation that it carries out leads there
   pub locking_leads : (before after : Lock) (answer : LockAnswer) → slice_get m.core.locks.items s ≡ Some before → lock_op.StepTo before op answer after
       → locking g s op (meant m) ≡ Ok (lock_left g (status_left s op (lock_op.left answer after)) s (socket_with m s before) (lock_op.left answer after) (meant m))
   locking_leads before after answer at leads = rw (socket_at m.core.locks.items m.core.goroutines.semaphores m.socks s before at, leads) refl
 
--- the status after an operation on a lock is none of those that only the table gives
+-- the status after an operation on a lock is none of those that only the table sets
 owing_movable : (s : ℕ) (owed : Sides ℕ) → is_movable (owing s owed) ≡ true
 owing_movable s owed = elim (owed.read + owed.write == 0) as (λ b. is_movable (cond b Idle (Owing s owed.read owed.write)) ≡ true) [ true ↦ refl | false ↦ refl ]
 
@@ -76,7 +76,7 @@ left_movable s Decref left = refl
 left_movable s (RwLock side) left = locker_movable s side left.answer
 left_movable s (RwUnlock side) left = owing_movable s left.owed
 
--- the socket that it names is that of the lock
+-- the socket that the status names is that of the lock
 module _ (n s : ℕ) (below : nat_lt s n ≡ true) where
   owing_named : (owed : Sides ℕ) → names_within n (socket_named (owing s owed)) ≡ true
   owing_named owed = elim (owed.read + owed.write == 0) as (λ b. names_within n (socket_named (cond b Idle (Owing s owed.read owed.write))) ≡ true) [ true ↦ refl | false ↦ below ]
@@ -92,7 +92,7 @@ module _ (n s : ℕ) (below : nat_lt s n ≡ true) where
   left_named (RwLock side) left = locker_named side left.answer
   left_named (RwUnlock side) left = owing_named left.owed
 
--- a lock that is there is one of a socket below the limit
+-- an existing lock belongs to a socket below the limit
 lock_below : (m : WorldParts) (s : ℕ) (lock : Lock) → IsWorld m → slice_get m.core.locks.items s ≡ Some lock → nat_lt s (length m.core.goroutines.semaphores) ≡ true
 lock_below m s lock h at =
     let within : s < length m.core.locks.items = slice_get_within m.core.locks.items s lock at in
@@ -102,7 +102,7 @@ lock_below m s lock h at =
     let below : s < length m.core.goroutines.semaphores = omega (arith, within, many, most, room) in
     grind (arith, nat_tests)
 
--- the goroutine may go on to where the operation leads
+-- the goroutine may move to the status after the operation
 pub lock_moves : (m : WorldParts) (g s : ℕ) (from : Status) (op : LockOp) (before after : Lock) (answer : LockAnswer) (undo : LockUndo) (mid : Core)
     → IsWorld m → status_of g (meant m) ≡ Ok from → is_movable from ≡ true → Locks m.core s op before after answer undo mid
     → CanMove mid g from (status_left s op (lock_op.left answer after))
@@ -117,7 +117,7 @@ lock_moves m g s from op before after answer undo mid h there movable locks =
     })
 
 module _ (old : WorldParts) (g s : ℕ) (op : LockOp) (answer : LockAnswer) (undo : LockUndo) (moved : Option GDelta) (mid new : Core) where
-  -- a lock and a status that are changed so make the step
+  -- changing a lock and a status in this way is the step
   pub locking_made : (before after : Lock) → PartsFit old → Locks old.core s op before after answer undo mid
       → MovesOn mid g (status_left s op (lock_op.left answer after)) moved new
       → Made (locking g s op (meant old)) [] MOST_WORDS old answer.answer (Locked undo moved) (record old { core = new })

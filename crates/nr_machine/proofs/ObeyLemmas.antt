@@ -1,4 +1,4 @@
--- Timers that obey orders: what they come to is what the machine says of orders.
+-- Timers that follow orders: their outcome is what the machine says of orders.
 use Rattle.std.proofs.Common.{◌≡◌, ◌≢◌, ℕ, ◌+◌, ◌-◌, ◌^◌, ◌<◌, Bool, true, false, List, [], ◌∷◌, ◌++◌, map, Option, Some, None, Result, Ok, Err, inl, inr, refl, sym, ap, ◌∙◌, arith}
 use Rattle.std.proofs.lemmas.Bool.Decides.{nat_tests}
 use Rattle.std.specs.Prelude.{if◌then◌else◌, nat_lt, option_to_list}
@@ -26,11 +26,11 @@ use Rattle.nr_machine.specs.Continuing.{Obeyed, orders_outcome}
 abbrev pub seen : ℕ → State → Sides (Option Timer) × ℕ
 seen d t = (timers_of t.entries d, t.next)
 
--- what orders come to
+-- the outcome of orders
 abbrev Left : Type 0
 Left = Result (Sides (Option Timer) × ℕ) Refusal
 
--- the timers of one descriptor became others, and no firing
+-- the timers of one descriptor changed, and no firing did
 pub record ChangesTimers (d : ℕ) (old new : State) : Type 0 where
   pub others : (k : ℕ) → k ≢ d → timers_of new.entries k ≡ timers_of old.entries k
   pub firings : new.firings ≡ old.firings
@@ -41,7 +41,7 @@ pub record ChangesTimers (d : ℕ) (old new : State) : Type 0 where
 below_last : (n : ℕ) → n < 2 ^ 64 - 1 → nat_lt n (2 ^ 64 - 1) ≡ true
 below_last n h = grind (arith, nat_tests)
 
--- an order that is obeyed
+-- an order that is carried out
 order_leads : (d : ℕ) (old new : State) (order : TimerOrder) → TimersStep old (timers_op d order) tt new → after_order order (seen d old) ≡ Ok (seen d new)
 order_leads d old new (Arm side due function sequence) step =
     let next : new.next ≡ old.next + 1 = ap (λ (t : State). t.next) step.1.rest in
@@ -91,7 +91,7 @@ order_refused d old order e below (inl reason) =
     ap (λ (r : Left). r >>= after_orders []) (reason_refuses d old order e below reason)
 order_refused d old order e below (inr none) = absurd none.2
 
--- ---- several
+-- ---- several orders
 
 pub orders_lead : (d : ℕ) (orders : List TimerOrder) (old new : State) → TimersMade (map (timers_op d) orders) old new → after_orders orders (seen d old) ≡ Ok (seen d new)
 orders_lead d [] old new made = ap (λ (t : State). Ok (seen d t)) (sym made)
@@ -124,7 +124,7 @@ orders_append (x ∷ xs) ys before =
 
 -- ---- in the core
 
--- the second of two sides' orders is refused, after the first was obeyed
+-- the second of two sides' orders is refused, after the first was carried out
 pub second_refused : (d : ℕ) (read write : Option TimerOrder) (old mid : Core) (e : Refusal) → Obeyed old d (option_to_list read) mid → orders_outcome d (option_to_list write) mid ≡ Err e
     → orders_outcome d (option_to_list read ++ option_to_list write) old ≡ Err e
 second_refused d read write old mid e first refused =
@@ -132,7 +132,7 @@ second_refused d read write old mid e first refused =
     ∙ ap (λ (r : Left). r >>= after_orders (option_to_list write)) (orders_lead d (option_to_list read) old.timers mid.timers first.timers)
     ∙ refused
 
--- and what the first left is as it was
+-- the timers of the first order are restored
 pub timers_again : (delta : Option TimersDelta) (new a b : Core) → IfAny TimersBack delta new a → IfAny TimersBack delta new b → a ≡ b
 timers_again None new a b x y = x ∙ sym y
 timers_again (Some delta) new a b x y =

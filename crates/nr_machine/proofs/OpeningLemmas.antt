@@ -1,4 +1,4 @@
--- A descriptor is opened: that of the first free number, or a new one.
+-- A descriptor is opened: the one with the first free number, or a new one.
 use Rattle.std.proofs.Common.{◌≡◌, ℕ, suc, ◌<◌, ◌≤◌, true, false, List, [], ◌∷◌, ◌++◌, length, drop, Some, None, Ok, Err, ⊎_elim, refl, sym, ap, ◌∙◌, arith, lit≤, length-append}
 use Rattle.std.proofs.Math.Seq.{set-append_seam}
 use Rattle.std.proofs.lemmas.Bool.Decides.{nat_tests}
@@ -33,26 +33,26 @@ use Rattle.nr_machine.proofs.ListLemmas.{without_last}
 use Rattle.nr_machine.proofs.RowsLemmas.{length-rows_of, row_push, row_with}
 use Rattle.nr_machine.proofs.SocketsLemmas.{socket_at, socket_past}
 
--- ---- which socket and which number
+-- ---- the socket and the number
 
 -- there is no such socket
 pub opening_nowhere : (m : WorldParts) (g s : ℕ) → idle g (meant m) ≡ Ok tt → length m.core.locks.items ≤ s → pollopen g s (meant m) ≡ Err NoSuchSocket
 opening_nowhere m g s is_idle past =
     rw (is_idle, socket_past m.core.locks.items m.core.goroutines.semaphores m.socks s (slice_get_past m.core.locks.items s past)) refl
 
--- of an idle goroutine, for a socket that is there
+-- an idle goroutine, and an existing socket
 pub opening_is : (m : WorldParts) (g s : ℕ) → idle g (meant m) ≡ Ok tt → s < length m.core.locks.items
     → pollopen g s (meant m) ≡ opening_of s m.core.free.items (meant m)
 opening_is m g s is_idle within =
     ⊎_elim (λ found. rw (is_idle, socket_at m.core.locks.items m.core.goroutines.semaphores m.socks s found.0 found.2) refl) (λ past. absurd (let most = past.0 in omega arith))
     (slice_get_cases m.core.locks.items s).1
 
--- none is free
+-- no number is free
 pub none_free : (free : List ℕ) → slice_get free 0 ≡ None → free ≡ []
 none_free [] is = refl
 none_free (d ∷ free) is = cc
 
--- the first free one
+-- the first free number
 first_free : (free : List ℕ) (d : ℕ) → slice_get free 0 ≡ Some d → free ≡ d ∷ drop 1 free
 first_free [] d is = cc
 first_free (e ∷ free) d is = let same : e ≡ d = cc in ap (λ (n : ℕ). n ∷ free) same
@@ -76,7 +76,7 @@ opening_last : (s : ℕ) (w : World) (rows : List DescriptorRow) (row : Descript
     ≡ Ok (Number (length rows), record w { descriptors = rows ++ record row { descriptor = after } ∷ [] })
 opening_last s w rows row after opens = rw (slice_get-seam rows row, opens, set-append_seam rows row [] (record row { descriptor = after })) refl
 
--- the core with a descriptor more
+-- the core with one more descriptor
 abbrev pub with_last : Descriptor → Core → Core
 with_last x core = record core { descriptors = record core.descriptors { items = core.descriptors.items ++ x ∷ [] } }
 
@@ -104,7 +104,7 @@ opening_leads m s after parts fewer opens =
     taken_is ∙ opening_last s (meant m) rows new_row after opens
     ∙ (λ i. Ok (Number (made i), record (meant m) { descriptors = pushed i }))
 
--- a descriptor that was never opened is
+-- a descriptor before its first opening
 pub opening_made : (m : WorldParts) (s : ℕ) (after : Descriptor) (answer : DescAnswer) → IsWorld m → length m.core.descriptors.items < m.core.limits.descriptors
     → desc_op.StepTo never_opened (op.Open s) answer after → DescFits after
     → Made (opening_of s [] (meant m)) [] MOST_WORDS m (Number (length m.core.descriptors.items)) undo.Made (record m { core = with_last after m.core })

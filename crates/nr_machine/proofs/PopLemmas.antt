@@ -1,4 +1,4 @@
--- The first timer goes off: the heap's first entry is the least one of all rows, and its row is there.
+-- The first timer goes off: the heap's first entry is the least one of all rows, and its row exists.
 use Rattle.std.proofs.Common.{◌≡◌, ℕ, ◌*◌, ◌<◌, ◌≤◌, Bool, true, false, List, [], ◌∷◌, ◌++◌, length, map, Option, Some, None, Result, Ok, Err, inl, inr, ⊎_elim, refl, sym, ap, subst, ◌∙◌, arith, eq-eqb}
 use Rattle.std.proofs.lemmas.Bool.Decides.{nat_tests}
 use Rattle.std.proofs.lemmas.Option.{none-some, slice_get_cases, slice_get_within}
@@ -40,7 +40,7 @@ use Rattle.nr_machine.proofs.RowsLemmas.{row_at, timer_set, timers_are}
 
 -- ---- the least entry
 
--- where a heap has the timers of descriptors, the least of these is at place 0
+-- if a heap has the timers of descriptors, the least of these is at place 0
 abbrev pub FirstIsLeast : Type 0
 FirstIsLeast = (t : State) (timers : List (Sides (Option Timer))) → IsTimers t → AreTimers t.entries timers → slice_get t.entries 0 ≡ least_of (entries_from 0 timers)
 
@@ -63,7 +63,7 @@ pop_first first w = do
 pop_is : FirstIsLeast → (m : WorldParts) → PartsFit m → pop (meant m) ≡ pop_first (slice_get m.core.timers.entries 0) (meant m)
 pop_is law m h = ap (λ (first : Option Entry). pop_first first (meant m)) (least_is law m h)
 
--- ---- why it doesn't apply
+-- ---- the reasons why pop doesn't apply
 
 refused_by : {A : Type 0} (due room : Bool) (rest : Result A Refusal) (e : Refusal)
     → (if due then (if room then None else Some FiringsFull) else Some NoTimerDue) ≡ Some e
@@ -88,7 +88,7 @@ pub pop_refused : FirstIsLeast → (m : WorldParts) (e : Refusal) → PartsFit m
 pop_refused law m e h (inl why) = pop_is law m h ∙ refused_first m.core.timers.entries m.core.timers (meant m) e refl refl (sym h.core.timers_room) why
 pop_refused law m e h (inr takes) = absurd takes.2
 
--- ---- what it comes to
+-- ---- the outcome
 
 self_is : (d : ℕ) (side : Side) → (d == d) && same_side side side ≡ true
 self_is d Read = ap (λ (b : Bool). b && true) (eq-eqb d d refl)

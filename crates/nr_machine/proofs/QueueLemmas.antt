@@ -1,4 +1,4 @@
--- What is read of a socket: its bytes, and its queues.
+-- Reading a socket: its bytes, and its queues.
 use Rattle.std.proofs.Common.{◌≡◌, ◌⊎◌, inl, inr, ℕ, zero, suc, ◌+◌, ◌<◌, ◌≤◌, add-one, Bool, true, false, List, [], ◌∷◌, ◌++◌, get_or, length, take, Option, Some, None, refl, sym, ap, subst, ◌∙◌, arith, unwrap_or}
 use Rattle.std.proofs.Math.Seq.{take-length}
 use Rattle.std.proofs.lemmas.List.{length-append}
@@ -30,18 +30,18 @@ use Rattle.nr_machine.specs.World.{WorldParts, meant}
 use Rattle.nr_machine.proofs.ListLemmas.{get_within}
 use Rattle.nr_machine.proofs.SocketsLemmas.{sock_at, socket_at, socket_past}
 
--- the bytes of a side, as the socket shows them
+-- the bytes of a side, as the socket has them
 pub viewed : (side : Side) (o : Option OpenSock) → (of_side side (buffers_in o).buffers).bytes ≡ viewed_bytes side o
 viewed Read None = refl
 viewed Write None = refl
 viewed side (Some opened) = refl
 
--- the buffers that are read at an index of these
+-- the buffers read at an index of these
 pub sock_read : (m : WorldParts) (s : ℕ) (socks : List SockParts) (sock : SockParts) → socks ≡ m.socks → s < length socks → sock ≡ get_or socks s sock → slice_get m.socks s ≡ Some sock
 sock_read m s socks sock are within read = subst (λ xs. slice_get xs s ≡ Some sock) are (slice_get_read socks (length socks) s sock refl within read)
 
 module _ (m : WorldParts) (s : ℕ) (side : Side) where
-  -- there are no bytes of no socket
+  -- a socket that doesn't exist has no bytes
   pub no_bytes : length m.core.locks.items ≤ s → bytes_of (meant m) s side ≡ None
   no_bytes past =
       ap (λ (o : Option Socket). option_map (λ (socket : Socket). (of_side side socket.buffers).bytes) o)
@@ -69,7 +69,7 @@ module _ (m : WorldParts) (s : ℕ) (side : Side) where
     bytes_here sock at =
         bytes_seen ∙ ap (λ (o : Option OpenSock). Some (viewed_bytes side o)) (sock_at m.core.goroutines.semaphores m.socks s sock at)
 
-    -- a buffer whose copy takes memory has bytes
+    -- a buffer whose copy takes memory isn't empty
     pub bytes_some : (sock : SockParts) → slice_get m.socks s ≡ Some sock → 0 < length (viewed_bytes side sock.opened) → HasItems (bytes_of (meant m) s side)
     bytes_some sock at some = subst (λ (o : Option (List ℕ)). HasItems o) (sym (bytes_here sock at)) some
 
@@ -78,7 +78,7 @@ module _ (m : WorldParts) (s : ℕ) (side : Side) where
 front_of_more : (g h : ℕ) (q : List ℕ) (b : Bool) → (h == g) ≡ b → count_by (λ x. x == g) (h ∷ q) ≡ bit b + count_by (λ x. x == g) q
 front_of_more g h q b is = count_front h g q ∙ ap (λ (x : Bool). bit x + count_by (λ y. y == g) q) is
 
--- one that is in a queue is counted
+-- a goroutine in a queue is counted
 counted_at : (q : List ℕ) (n g : ℕ) → slice_get q n ≡ Some g → 0 < count_by (λ x. x == g) q
 counted_at [] n g at = absurd cc
 counted_at (h ∷ q) zero g at =
@@ -90,7 +90,7 @@ counted_at (h ∷ q) (suc n) g at =
     let more = front_of_more g h q (h == g) refl in
     omega (arith, rest, more)
 
--- who is behind one that is there once is at the next place
+-- the goroutine after one that is in the queue once is at the next place
 behind_at : (q : List ℕ) (n g : ℕ) → slice_get q n ≡ Some g → count_by (λ x. x == g) q ≤ 1 → behind g q ≡ slice_get q (suc n)
 behind_at [] n g at once = absurd cc
 behind_at (h ∷ q) zero g at once = ap (λ (b : Bool). if b then slice_get q 0 else behind g q) (eq-eqb h g (same_Some h g at))
@@ -110,7 +110,7 @@ same_sides Read Write e = cc
 same_sides Write Read e = cc
 same_sides Write Write e = refl
 
--- one that is counted as queued has that status
+-- a goroutine that is counted as queued has that status
 queued_status : (s : ℕ) (side : Side) (o : Option Status) → 0 < bit (is_queued s side o) → o ≡ Some (Queued s side)
 queued_status s side None some = absurd (omega (arith, some))
 queued_status s side (Some (Queued k other)) some = by ((s == k) && same_side side other) refl some
@@ -141,7 +141,7 @@ module _ (t : GoroutineTable) (h : IsQueuedUp t) (s : ℕ) (side : Side) (n g : 
   by_found None there at = absurd cc
   by_found (Some both) there at = behind_in both there at
 
-  -- the link of one in a queue leads to the next
+  -- the link of a goroutine in a queue leads to the next
   pub next_at : slice_get (queue_at s side t) n ≡ Some g → next_in_queue g t ≡ slice_get (queue_at s side t) (suc n)
   next_at at = by_found (slice_get t.semaphores s) refl at
 
@@ -153,13 +153,13 @@ queue_known Write None = refl
 queue_known side (Some both) = refl
 
 module _ (m : WorldParts) (s : ℕ) (side : Side) where
-  -- there is no queue of no socket
+  -- a socket that doesn't exist has no queue
   pub no_queue : length m.core.locks.items ≤ s → queue_of (meant m) s side ≡ None
   no_queue past =
       ap (λ (o : Option Socket). option_map (λ (socket : Socket). (of_side side socket.semaphores).queue) o)
       (socket_past m.core.locks.items m.core.goroutines.semaphores m.socks s (slice_get_past m.core.locks.items s past))
 
-  -- that of a socket is the table's
+  -- the queue of a socket is the table's
   pub queue_here : s < length m.core.locks.items → queue_of (meant m) s side ≡ Some (queue_at s side m.core.goroutines)
   queue_here below =
       let lock = get_within m.core.locks.items s below in
@@ -168,26 +168,26 @@ module _ (m : WorldParts) (s : ℕ) (side : Side) where
       ∙ ap (λ (both : Sides Semaphore). Some (of_side side both).queue) (sym (unwrap_or-slice_get m.core.goroutines.semaphores s (twice new_semaphore)))
       ∙ ap (λ (q : List ℕ). Some q) (queue_known side (slice_get m.core.goroutines.semaphores s))
 
-  -- a semaphore whose queue takes memory to copy has somebody queued
+  -- a semaphore whose queue takes memory to copy has a queued goroutine
   pub queue_some : s < length m.core.locks.items → 0 < length (queue_at s side m.core.goroutines) → HasItems (queue_of (meant m) s side)
   queue_some below some = subst (λ (o : Option (List ℕ)). HasItems o) (sym (queue_here below)) some
 
--- ---- those that were found so far
+-- ---- the goroutines found so far
 
 take_one_more : (q : List ℕ) (n g : ℕ) → slice_get q n ≡ Some g → take n q ++ g ∷ [] ≡ take (suc n) q
 take_one_more [] n g at = absurd cc
 take_one_more (h ∷ q) zero g at = ap (λ (x : ℕ). x ∷ []) (sym (same_Some h g at))
 take_one_more (h ∷ q) (suc n) g at = ap (λ (xs : List ℕ). h ∷ xs) (take_one_more q n g at)
 
--- these are the first of a queue, and next is who comes then
+-- these are the first of a queue, and `next` comes after them
 abbrev pub Walked : List ℕ → List ℕ → Option ℕ → Type 0
 Walked q items next = (items ≡ take (length items) q) × (next ≡ slice_get q (length items)) × (length items ≤ length q)
 
--- where somebody is next there are some
+-- if there is a next one, the queue isn't empty
 pub walk_goes : (q items : List ℕ) (next : Option ℕ) (g : ℕ) → Walked q items next → next ≡ Some g → length items < length q
 walk_goes q items next g walked is = slice_get_within q (length items) g (sym walked.1 ∙ is)
 
--- one more
+-- one more goroutine
 pub walk_more : (q items more : List ℕ) (next after : Option ℕ) (g : ℕ) → Walked q items next → next ≡ Some g → more ≡ items ++ g ∷ [] → after ≡ slice_get q (suc (length items)) → Walked q more after
 walk_more q items more next after g walked is pushed goes =
     let at : slice_get q (length items) ≡ Some g = sym walked.1 ∙ is in
@@ -198,7 +198,7 @@ walk_more q items more next after g walked is pushed goes =
       omega (arith, many, within),
     )
 
--- where nobody is next these are all
+-- if there is no next one, these are all
 pub walk_ends : (q items : List ℕ) (next : Option ℕ) → Walked q items next → next ≡ None → items ≡ q
 walk_ends q items next walked is = by (slice_get_cases q (length items)).1
   where

@@ -1,4 +1,4 @@
--- A side is made ready for the next wait, where nothing hinders one and nobody is inside.
+-- A side is reset for the next wait, if nothing forbids a wait and no goroutine is inside one.
 use Rattle.std.proofs.Common.{◌≡◌, ℕ, false, [], Option, Ok, Err, refl, sym, ap, subst, ◌∙◌}
 use Rattle.std.proofs.lemmas.Option.{same_Some}
 use Rattle.nr_rev.specs.declared.answer.Answer.TheVariants.{Code}
@@ -28,12 +28,13 @@ use Rattle.nr_machine.specs.World.{WorldParts, meant}
 use Rattle.nr_machine.proofs.DescriptorLemmas.{described_made, opened_row, opened_there, unawaited}
 use Rattle.nr_machine.proofs.RowsLemmas.{row_with}
 
--- the descriptor that an operation leaves
+-- the descriptor after an operation
 abbrev pub left_of : Descriptor → desc_op.Outcome → Descriptor
 left_of x (Ok made) = made.1.descriptor
 left_of x (Err e) = x
 
--- what has been tested of goroutine g and descriptor d: nothing hinders a wait of its side, and nobody is inside one
+-- the tested facts about goroutine g and descriptor d: nothing forbids a wait of its side, and no goroutine is inside
+-- one
 pub record Resettable (m : WorldParts) (g d : ℕ) (side : Side) (x : Descriptor) : Type 0 where
   pub is_idle : idle g (meant m) ≡ Ok tt
   pub found : open_row_of d (meant m) ≡ Ok (row_with m d x)

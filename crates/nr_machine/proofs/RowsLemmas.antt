@@ -1,4 +1,4 @@
--- The rows of descriptors and their timers: what becomes of them where one changes, and where one is opened for the first time.
+-- The rows of descriptors and their timers, when one changes and when one is opened for the first time.
 use Rattle.std.proofs.Common.{◌≡◌, ◌≢◌, ℕ, zero, suc, ◌+◌, ◌≤◌, List, [], ◌∷◌, ◌++◌, length, map, set, Option, Some, None, refl, sym, ap, ◌∙◌, arith}
 use Rattle.std.specs.Prelude.{slice_get, slice_index_or}
 use Rattle.nr_rev.specs.declared.descriptor.Descriptor.{Descriptor}
@@ -27,7 +27,7 @@ pub row_at : (descriptors : List Descriptor) (entries : List Entry) (d : ℕ) (x
     → slice_get (rows_of descriptors entries) d ≡ Some (row_of x (timers_of entries d))
 row_at descriptors entries d x at = numbered_at row_of 0 d d descriptors (timers_of entries) x (omega arith) at
 
--- there is none of one that wasn't
+-- a descriptor that wasn't made has no row
 pub row_past : (descriptors : List Descriptor) (entries : List Entry) (d : ℕ) → slice_get descriptors d ≡ None
     → slice_get (rows_of descriptors entries) d ≡ None
 row_past descriptors entries d at = numbered_past row_of 0 d descriptors (timers_of entries) at
@@ -35,17 +35,17 @@ row_past descriptors entries d at = numbered_past row_of 0 d descriptors (timers
 pub length-rows_of : (descriptors : List Descriptor) (entries : List Entry) → length (rows_of descriptors entries) ≡ length descriptors
 length-rows_of descriptors entries = length-numbered row_of 0 descriptors (timers_of entries)
 
--- descriptor d is another, with timers of its own that are others: each other descriptor has those that it had
+-- descriptor d and its timers change; each other descriptor keeps its timers
 pub row_set : (descriptors : List Descriptor) (old new : List Entry) (d : ℕ) (x : Descriptor) → ((k : ℕ) → k ≢ d → timers_of new k ≡ timers_of old k)
     → rows_of (set descriptors d x) new ≡ set (rows_of descriptors old) d (row_of x (timers_of new d))
 row_set descriptors old new d x others = numbered_set row_of 0 d d descriptors x (timers_of old) (timers_of new) (omega arith) others
 
--- descriptor d is another, and no timer
+-- descriptor d changes, and no timer does
 pub descriptor_set : (descriptors : List Descriptor) (entries : List Entry) (d : ℕ) (x : Descriptor)
     → rows_of (set descriptors d x) entries ≡ set (rows_of descriptors entries) d (row_of x (timers_of entries d))
 descriptor_set descriptors entries d x = row_set descriptors entries entries d x (λ k apart. refl)
 
--- the timer of descriptor d's side is another, or none
+-- the timer of descriptor d's side changes, or is removed
 pub timer_set : (descriptors : List Descriptor) (old new : List Entry) (d : ℕ) (side : Side) (timer : Option Timer) (x : Descriptor)
     → slice_get descriptors d ≡ Some x → SetsTimer d side timer old new
     → rows_of descriptors new ≡ set (rows_of descriptors old) d (row_of x (with_side side timer (timers_of old d)))
@@ -54,7 +54,7 @@ timer_set descriptors old new d side timer x at sets =
     ∙ row_set descriptors old new d x sets.others
     ∙ ap (λ (timers : Sides (Option Timer)). set (rows_of descriptors old) d (row_of x timers)) sets.here
 
--- a descriptor more, for which no timer is armed
+-- one more descriptor, with no armed timer
 pub row_push : (descriptors : List Descriptor) (entries : List Entry) (x : Descriptor) → timers_of entries (length descriptors) ≡ twice None
     → rows_of (descriptors ++ x ∷ []) entries ≡ rows_of descriptors entries ++ row_of x (twice None) ∷ []
 row_push descriptors entries x unarmed =

@@ -13,7 +13,7 @@ use Rattle.nr_machine.specs.World.{WorldParts}
 use Rattle.nr_rev.specs.declared.limits.Limits.{Limits}
 use Rattle.nr_machine.specs.declared.world_core.Core.{Core}
 
--- each has the limit; from the first one on those are closed that come before this one or have no lock
+-- each has the limit; the sockets from the first one on that come before this one or have no lock are closed
 pub record AreReset (buffer first socket locks : ℕ) (socks : List SockParts) : Type 0 where
   pub limit : HaveLimit buffer socks
   pub closed : (s : ℕ) (sock : SockParts) → slice_get socks s ≡ Some sock → first ≤ s → (s < socket) ⊎ (locks ≤ s) → sock.opened ≡ None
@@ -28,7 +28,7 @@ reset-init buffer first locks socks limit closed =
       ];
     }
 
--- one socket more
+-- one more socket
 pub reset-next : (buffer first socket locks : ℕ) (socks : List SockParts) (old : SockParts) → slice_get socks socket ≡ Some old → AreReset buffer first socket locks socks
     → AreReset buffer first (socket + 1) locks (slice_set socks socket (never_opened old.limit))
 reset-next buffer first socket locks socks old there reset =
@@ -63,7 +63,7 @@ same_sock : (sock : SockParts) (buffer : ℕ) → sock.limit ≡ buffer → sock
 same_sock sock buffer limit opened =
     subst (λ b. sock ≡ record { limit = b; opened = None }) limit (subst (λ o. sock ≡ record { limit = sock.limit; opened = o }) opened refl)
 
--- when none is left that has a lock, all from the first one on are closed
+-- when no socket with a lock is left, all from the first one on are closed
 pub reset-all : (buffer first socket locks : ℕ) (socks : List SockParts) → locks ≤ socket → first ≤ length socks → AreReset buffer first socket locks socks
     → socks ≡ take first socks ++ replicate (length socks - first) (never_opened buffer)
 reset-all buffer first socket locks socks reached within reset =
@@ -87,7 +87,7 @@ reset-all buffer first socket locks socks reached within reset =
 pub parts_are : (a b : Core) (xs ys : List SockParts) → a ≡ b → xs ≡ ys → ◌≡◌ {A = WorldParts} (record { core = a; socks = xs }) (record { core = b; socks = ys })
 parts_are a b xs ys core socks = rw (core, socks) refl
 
--- what lies behind a place is the same, and so is what lies in it
+-- the lists are the same from a place on, and so is the item at the place
 pub same_at : (i : ℕ) (xs ys : List SockParts) (x : SockParts) → drop i xs ≡ drop i ys → i < length ys → x ≡ get_or xs i x → slice_get ys i ≡ Some x
 same_at i xs ys x same within read =
     let here : i + 0 ≡ i = omega arith in
@@ -95,13 +95,13 @@ same_at i xs ys x same within read =
     ap (λ k. get_or xs k x) (sym here) ∙ sym (get_or-drop i xs 0 x) ∙ ap (λ zs. get_or zs 0 x) same ∙ get_or-drop i ys 0 x ∙ ap (λ k. get_or ys k x) here in
     slice_get_read ys (length ys) i x refl within (read ∙ there)
 
--- what is in a list is in a longer one
+-- an item of a list is in a longer one
 pub slice_get-before : {X : Type 0} (xs ys : List X) (s : ℕ) (x : X) → slice_get xs s ≡ Some x → slice_get (xs ++ ys) s ≡ Some x
 slice_get-before [] ys s x at = cc
 slice_get-before (y ∷ xs) ys zero x at = at
 slice_get-before (y ∷ xs) ys (suc s) x at = slice_get-before xs ys s x at
 
--- what is in a list that was written over another is in the first, or behind it in the other
+-- an item of a list that was written over another is in the first, or after it in the other
 pub slice_get-written : {X : Type 0} (xs ys : List X) (s : ℕ) (x : X) → slice_get (xs ++ drop (length xs) ys) s ≡ Some x
     → (slice_get xs s ≡ Some x) ⊎ ((length xs ≤ s) × (slice_get ys s ≡ Some x))
 slice_get-written [] ys s x at = inr (omega arith, at)
@@ -112,12 +112,12 @@ slice_get-written (y ∷ xs) (z ∷ ys) (suc s) x at = elim (slice_get-written x
   | inr behind ↦ let far = behind.0 in inr (omega (arith, far), behind.1)
 ]
 
--- the sockets of a snapshot that are at rest, the closed ones behind them, and that its limits are those of a world
+-- the snapshot's sockets, the closed ones after them, and its limits, which are those of a world
 pub record IsOpened (world snapshot : WorldParts) (opened rest : List SockParts) : Type 0 where
   pub socks : snapshot.socks ≡ opened ++ rest
   pub limits : snapshot.core.limits ≡ world.core.limits
 
--- both are views, and of the snapshot's the sockets at rest are these
+-- both are views, and these are the snapshot's sockets
 pub is_opened : (seen world_seen world snapshot : WorldParts) (kept opened rest : List SockParts) → seen ≡ snapshot → world_seen ≡ world → seen.socks ≡ kept ++ rest → kept ≡ opened
     → world_seen.core.limits ≡ seen.core.limits → IsOpened world snapshot opened rest
 is_opened seen world_seen world snapshot kept opened rest is world_is socks same limits =
@@ -126,14 +126,14 @@ is_opened seen world_seen world snapshot kept opened rest is world_is socks same
       limits = ap (λ (m : WorldParts). m.core.limits) (sym is) ∙ sym limits ∙ ap (λ (m : WorldParts). m.core.limits) world_is;
     }
 
--- a world whose first sockets are at rest, and another with the same limits
+-- a world whose first sockets are snapshots, and another with the same limits
 module _ (world snapshot : WorldParts) (opened rest : List SockParts) (there : PartsFit world) (kept : PartsFit snapshot) (of : IsOpened world snapshot opened rest) where
-  -- they have the limit of the other's
+  -- the snapshots have the limit of the other's sockets
   pub opened_limit : HaveLimit world.core.limits.buffer opened
   opened_limit s sock at =
       (kept.socks s sock (subst (λ xs. slice_get xs s ≡ Some sock) (sym of.socks) (slice_get-before opened rest s sock at))).limit ∙ ap (λ (l : Limits). l.buffer) of.limits
 
-  -- and are no more than the other has
+  -- there are no more of them than the other has
   pub opened_within : length opened ≤ length world.socks
   opened_within =
       let many = length-append opened rest in
@@ -155,7 +155,7 @@ module _ (world snapshot : WorldParts) (opened rest : List SockParts) (there : P
     | inr behind ↦ (there.socks s sock behind.1).limit
   ]
 
-  -- and behind them those without a lock are closed
+  -- after them, the sockets without a lock are closed
   pub written_closed : AreClosedFrom (length opened) (length world.core.locks.items) (opened ++ drop (length opened) world.socks)
   written_closed s sock at from none = elim (slice_get-written opened world.socks s sock at) [
     | inl first ↦ let within = slice_get_within opened s sock first in absurd (omega (arith, within, from))

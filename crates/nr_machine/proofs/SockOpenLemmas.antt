@@ -1,4 +1,4 @@
--- The step that opens a socket: what the parts come to is what the machine comes to.
+-- The step that opens a socket: the parts and the machine have the same outcome.
 use Rattle.std.proofs.Common.{◌≡◌, inl, inr, ℕ, ◌+◌, ◌-◌, ◌/◌, ◌<◌, ◌≤◌, true, false, List, [], ◌∷◌, ◌++◌, get_or, length, set, Option, Some, None, Ok, Err, refl, sym, ap, subst, ◌∙◌, arith, length-set}
 use Rattle.std.proofs.lemmas.Bool.Decides.{nat_tests}
 use Rattle.std.proofs.lemmas.List.{length-append}
@@ -46,11 +46,11 @@ use Rattle.nr_machine.proofs.ListLemmas.{get_within, without_last}
 use Rattle.nr_machine.proofs.SocketsLemmas.{length-sockets_of, semaphores_at, socket_push}
 use Rattle.nr_machine.proofs.TransferLemmas.{sock_back, with_sock}
 
--- the core with a lock more
+-- the core with one more lock
 abbrev pub with_lock_more : Core → Core
 with_lock_more core = record core { locks = record core.locks { items = core.locks.items ++ open_lock ∷ [] } }
 
--- the parts with a socket more, whose buffers are these
+-- the parts with one more socket, which has these buffers
 abbrev pub with_opening : SockParts → WorldParts → WorldParts
 with_opening after m =
     record m { core = with_lock_more m.core; socks = set m.socks (length m.core.locks.items) after }
@@ -79,7 +79,7 @@ module _ (m : WorldParts) (h : IsWorld m) where
   many : length (meant m).sockets ≡ n
   many = length-sockets_of m.core.locks.items m.core.goroutines.semaphores m.socks
 
-  -- where there is no room for a socket, it is refused
+  -- if there is no room for a socket, the step is refused
   pub opening_full : (step : Step) → IsOpening step → m.core.limits.sockets ≤ n → outcome (meant m) step ≡ Err TableFull
   opening_full (SockOpen rc wc) is full = no_room (meant m) rc wc (let same = many in grind (arith, nat_tests))
   opening_full _ is full = absurd is
@@ -110,7 +110,7 @@ module _ (m : WorldParts) (h : IsWorld m) where
     takes_none None rc wc some = omega (arith, some)
     takes_none (Some opened) rc wc some = omega (arith, some)
 
-    -- what is refused of the buffers is refused
+    -- a reason of the buffers is a reason of the step
     pub opening_refused : (step : Step) (e : Refusal) → IsOpening step → Refuses sock.sock_reason sock.TakesMemory before step e → parts_reason m step ≡ Some e
     opening_refused (SockOpen rc wc) e is (inl why) =
         ap refusal_of (at_buffers rc wc ∙ ap (lifted_opening (meant m)) (refused_for (sock.outcome before (SockOpen rc wc)) e why))
@@ -121,7 +121,7 @@ module _ (m : WorldParts) (h : IsWorld m) where
       semaphores_there : (both : Sides Semaphore) × (slice_get m.core.goroutines.semaphores n ≡ Some both)
       semaphores_there = get_within m.core.goroutines.semaphores n (let sockets = h.parts.core.semaphores in omega (arith, sockets, room))
 
-      -- the parts with one more mean a world with one more
+      -- the parts with one more socket represent a world with one more
       opening_means : meant (with_opening after m) ≡ record (meant m) { sockets = (meant m).sockets ++ put_back after.opened (new_socket 0 0) ∷ [] }
       opening_means =
           let new : (rest_at m.core.goroutines.semaphores m.socks n).semaphores ≡ twice new_semaphore =
@@ -194,7 +194,7 @@ module _ (m : WorldParts) (h : IsWorld m) where
           ),
         )
 
-    -- what the buffers make is made
+    -- what the buffers make is a step
     pub opening_made : (step : Step) (answer : Answer) (delta : SockDelta) (after : SockParts) (k : ℕ) (core : Core) → IsOpening step → sock.StepTo before step answer after
         → sock_delta.LeadsBack delta after before → sock_delta.delta_weight delta ≤ 3 + (bytes_left step answer + 7) / 8 → k ≡ n → core ≡ with_lock_more m.core
         → Made (outcome (meant m) step) (asked_of m step) (MOST_WORDS + (bytes_left step (Number k) + 7) / 8) m (Number k) (Opened delta)

@@ -1,4 +1,4 @@
--- The steps of the clock and of timers: what the parts come to is what the machine comes to.
+-- The steps of the clock and of timers: the parts and the machine have the same outcome.
 use Rattle.std.proofs.Common.{◌≡◌, false, [], ℤ, refl, lit≤}
 use Rattle.std.specs.Prelude.{int_lt}
 use Rattle.nr_rev.specs.declared.answer.Answer.TheVariants.{Done}
@@ -10,7 +10,7 @@ use Rattle.nr_machine.specs.Auxiliary.Made.{Made}
 use Rattle.nr_machine.specs.World.{WorldParts, meant}
 use Rattle.nr_machine.proofs.FitsLemmas.{counted_fits, retied}
 
--- the clock goes on
+-- the clock advances
 pub tick_made : (m : WorldParts) (t : ℤ) → IsWorld m → int_lt t m.core.clock ≡ false
     → Made (tick t (meant m)) [] MOST_WORDS m Done (Clock m.core.clock) (record m { core = record m.core { clock = t } })
 tick_made m t h later = (

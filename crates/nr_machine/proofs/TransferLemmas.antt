@@ -1,4 +1,4 @@
--- The steps at the buffers of a socket: what the parts come to is what the machine comes to.
+-- The steps on the buffers of a socket: the parts and the machine have the same outcome.
 use Rattle.std.proofs.Common.{◌≡◌, inl, inr, ℕ, ◌+◌, ◌/◌, ◌<◌, ◌≤◌, Bool, true, false, List, [], get_or, length, set, Option, Some, None, Result, Ok, Err, refl, sym, ap, subst, ◌∙◌, arith, length-set, set-set}
 use Rattle.std.proofs.lemmas.Option.{same_Some, slice_get_past, slice_get_read, slice_get_within}
 use Rattle.std.specs.Prelude.{IfErr, IfOk, OnErr, slice_get}
@@ -42,7 +42,7 @@ use Rattle.nr_machine.proofs.SocketsLemmas.{length-sockets_of, sock_at, sock_set
 goes_on : {r : Result (Unit {0}) Refusal} (x : Outcome) → r ≡ Ok tt → (r >> x) ≡ x
 goes_on x is = ap (λ r. r >> x) is
 
--- where the socket is there, its buffers decide
+-- if the socket exists, its buffers decide
 transfer_leads : (w : World) (s : ℕ) (socket : Socket) (step : Step) → IsTransfer s w step → IsThere s socket w → outcome w step ≡ lifted s socket w (sock.outcome (sock_of socket w) step)
 transfer_leads w s socket (Arrive t bytes) is there = rw (is) (arrive_agrees s bytes socket w there)
 transfer_leads w s socket (PeerClose t) is there = rw (is) (peerclose_agrees s socket w there)
@@ -52,7 +52,7 @@ transfer_leads w s socket (Drain t n) is there = rw (is) (drain_agrees s n socke
 transfer_leads w s socket (CloseWrite g t) is there = rw (is.0) (closewrite_agrees g s socket w there ∙ goes_on _ is.1)
 transfer_leads w s socket _ is there = absurd is
 
--- where it isn't, there is no such socket
+-- if it doesn't, the step is refused
 transfer_nowhere : (w : World) (s : ℕ) (step : Step) → IsTransfer s w step → slice_get w.sockets s ≡ None → outcome w step ≡ Err NoSuchSocket
 transfer_nowhere w s (Arrive t bytes) is none = rw (is, none) refl
 transfer_nowhere w s (PeerClose t) is none = rw (is, none) refl
@@ -62,7 +62,7 @@ transfer_nowhere w s (Drain t n) is none = rw (is, none) refl
 transfer_nowhere w s (CloseWrite g t) is none = rw (is.0, is.1, none) refl
 transfer_nowhere w s _ is none = absurd is
 
--- they ask nothing of the timers
+-- these steps make no requests to the timers
 pub asks_nothing : (m : WorldParts) (s : ℕ) (step : Step) → IsTransfer s (meant m) step → asked_of m step ≡ []
 asks_nothing m s (Arrive t bytes) is = refl
 asks_nothing m s (PeerClose t) is = refl
@@ -95,14 +95,14 @@ put_means : (lock : Lock) (rest : SocketRest) (o : Option OpenSock) → is_opene
 put_means lock rest None is = cc
 put_means lock rest (Some opened) is = refl
 
--- they mean a world with these
+-- parts with other buffers represent a world with these
 sock_means : (m : WorldParts) (s : ℕ) (lock : Lock) (after : SockParts) → slice_get m.core.locks.items s ≡ Some lock → s < length m.socks → is_opened after.opened ≡ true
     → meant (with_sock s after m) ≡ with_socket s (put_back after.opened (socket_with m s lock)) (meant m)
 sock_means m s lock after locked within is =
     ap (λ (sockets : List Socket). record (meant m) { sockets = sockets }) (sock_set m.core.locks.items m.core.goroutines.semaphores m.socks s lock after locked within)
     ∙ ap (λ (socket : Socket). with_socket s socket (meant m)) (put_means lock (rest_at m.core.goroutines.semaphores m.socks s) after.opened is)
 
--- and they fit
+-- parts with other buffers fit
 sock_fits : (m : WorldParts) (s : ℕ) (before after : SockParts) → PartsFit m → slice_get m.socks s ≡ Some before → SockFits m.core s after → PartsFit (with_sock s after m)
 sock_fits m s before after h at fits =
     record {
@@ -137,14 +137,14 @@ sock_below m s h below =
     let made = h.parts.socks_made in
     omega (arith, below, many, most, made)
 
--- the buffers of a socket that is there, read at its index
+-- the buffers of an existing socket, read at its index
 pub sock_found : (m : WorldParts) (s n : ℕ) (sock : SockParts) → IsWorld m → n ≡ length m.core.locks.items → s < n → sock ≡ get_or m.socks s sock
     → (s < length m.core.locks.items) × (slice_get m.socks s ≡ Some sock)
 sock_found m s n sock h len within read =
     let below : s < length m.core.locks.items = omega (arith, len, within) in
     (below, slice_get_read m.socks (length m.socks) s sock refl (sock_below m s h below) read)
 
--- buffers that are the same leave the parts as they are
+-- unchanged buffers leave the parts as they are
 pub sock_same : (m : WorldParts) (s : ℕ) (before after : SockParts) → slice_get m.socks s ≡ Some before → after ≡ before → with_sock s after m ≡ m
 sock_same m s before after at same =
     ap (λ (t : SockParts). with_sock s t m) same ∙ ap (λ (socks : List SockParts). record m { socks = socks }) (set_same m.socks s before at)
@@ -152,7 +152,7 @@ sock_same m s before after at same =
 -- ---- the whole
 
 module _ (m : WorldParts) (s : ℕ) (step : Step) (h : IsWorld m) (is : IsTransfer s (meant m) step) where
-  -- where there is no such socket, the step is refused
+  -- if the socket doesn't exist, the step is refused
   pub no_socket : length m.core.locks.items ≤ s → outcome (meant m) step ≡ Err NoSuchSocket
   no_socket past =
       transfer_nowhere (meant m) s step is
@@ -165,7 +165,7 @@ module _ (m : WorldParts) (s : ℕ) (step : Step) (h : IsWorld m) (is : IsTransf
     abbrev seen : Socket
     seen = socket_with m s lock_there.0
 
-    -- else the buffers decide
+    -- otherwise its buffers decide
     at_buffers : outcome (meant m) step ≡ lifted s seen (meant m) (sock.outcome before step)
     at_buffers =
         transfer_leads (meant m) s seen step is (socket_at m.core.locks.items m.core.goroutines.semaphores m.socks s lock_there.0 lock_there.1)
@@ -178,7 +178,7 @@ module _ (m : WorldParts) (s : ℕ) (step : Step) (h : IsWorld m) (is : IsTransf
     no_reason (Ok left) why = refl
     no_reason (Err reason) why = cc
 
-    -- what is refused of the buffers is refused, and memory is taken for bytes that leave
+    -- a reason of the buffers is a reason of the step, and memory is taken for bytes that leave
     pub transfer_refused : (keeps : Bool) (e : Refusal) → keeps ≡ true → Refuses sock.sock_reason sock.TakesMemory before step e
         → Refuses parts_reason (λ (k : WorldParts) (op : Step). (keeps ≡ true) × TakesMemory k op) m step e
     transfer_refused keeps e is_kept (inl why) = inl (ap refusal_of (buffers_refused e why))
@@ -202,7 +202,7 @@ module _ (m : WorldParts) (s : ℕ) (step : Step) (h : IsWorld m) (is : IsTransf
       stays : (after.limit ≡ before.limit) × (is_opened after.opened ≡ true)
       stays = (leaves_open before step).value (answer, after) leads
 
-      -- what the buffers make is made
+      -- what the buffers make is a step
       pub transfer_advanced : Advanced (outcome (meant m) step) (asked_of m step) m answer (with_sock s after m)
       transfer_advanced =
           let was : SockFits m.core s before = h.parts.socks s before at in
@@ -218,12 +218,12 @@ module _ (m : WorldParts) (s : ℕ) (step : Step) (h : IsWorld m) (is : IsTransf
             timers = subst (λ asked. TimersMade asked m.core.timers m.core.timers) (sym (asks_nothing m s step is)) refl;
           }
 
-      -- and the delta of the buffers leads back
+      -- the delta of the buffers leads back
       pub transfer_undoes : (delta : SockDelta) → sock_delta.LeadsBack delta after before → sock_delta.delta_weight delta ≤ 3 + (bytes_left step answer + 7) / 8
           → LeadsBackWithin (MOST_WORDS + (bytes_left step answer + 7) / 8) (with_sock s after m) m (Sock s delta)
       transfer_undoes delta back light = (sock_back m s delta before after at back, omega (arith, light))
 
-    -- what the buffers come to where no way back is kept
+    -- the outcome of the buffers if no delta is kept
     pub transfer_advances : {Place : Type 0} (keeps : Bool) (holds : Place → WorldUndo → Type 0) (place : Place) → keeps ≡ false → (after : SockParts) (r : Result Answer Refusal)
         → IfOk r (λ answer. sock.StepTo before step answer after) → IfErr r (λ e. sock.sock_reason before step ≡ Some e) → OnErr r (after ≡ before)
         → MakesStep keeps holds place step m r (with_sock s after m)

@@ -1,4 +1,4 @@
--- The steps of a wait: what the parts come to is what the machine comes to.
+-- The steps of a wait: the parts and the machine have the same outcome.
 use Rattle.std.proofs.Common.{◌≡◌, ℕ, ◌+◌, ◌^◌, ◌<◌, Bool, true, false, List, [], length, Option, Some, None, Result, Ok, Err, refl, sym, ap, subst, ◌∙◌, arith}
 use Rattle.std.proofs.lemmas.Option.{slice_get_within}
 use Rattle.std.specs.Prelude.{slice_get}
@@ -47,7 +47,7 @@ use Rattle.nr_machine.proofs.RowsLemmas.{descriptor_set, row_at, row_past, row_w
 
 -- ---- the kinds, as operations on a word
 
--- the rest of a step that goes by a descriptor's row
+-- the rest of a step on a descriptor's row
 by_row : {A : Type 0} (r : Result DescriptorRow Refusal) (f h : DescriptorRow → Result A Refusal) → ((row : DescriptorRow) → r ≡ Ok row → f row ≡ h row) → (r >>= f) ≡ (r >>= h)
 by_row (Ok row) f h same = same row refl
 by_row (Err e) f h same = refl
@@ -74,7 +74,7 @@ module _ (w : World) (g d : ℕ) (side : Side) where
   swap_by row word.Wait = refl
   swap_by row (word.Held h) = refl
 
-  -- blockswap takes the word up
+  -- blockswap consumes the word
   pub blockswap_is : status_of g w ≡ Ok (Swapping d side) → blockswap g w ≡ waiting g d (op.Swap side) w
   blockswap_is at = rw at (by_row (find_row d w) _ _ λ row found. swap_by row (of_side side row.descriptor.words))
 
@@ -107,14 +107,14 @@ module _ (m : WorldParts) (g d : ℕ) (o : DescOp) where
   pub waiting_refused : (e : Refusal) → desc_outcome d o m.core ≡ Err e → waiting g d o (meant m) ≡ Err e
   waiting_refused e refused = by_descriptor (slice_get m.core.descriptors.items d) e refl refused
 
-  -- and one that it carries out leads there
+  -- an operation that it carries out leads there
   pub waiting_leads : (before after : Descriptor) (answer : DescAnswer) → slice_get m.core.descriptors.items d ≡ Some before → desc_op_auxiliary.StepTo before o answer after
       → waiting g d o (meant m)
       ≡ Ok (answer.answer, with_parked (parks o answer.answer) (with_status g (status_after d o answer.answer) (with_descriptor d (row_with m d before) after (meant m))))
   waiting_leads before after answer at leads =
       rw (row_at m.core.descriptors.items m.core.timers.entries d before at, leads.defined) refl
 
--- after such an operation a goroutine may be where it then is
+-- after such an operation, a goroutine may have this status
 after_movable : (d : ℕ) (o : DescOp) (answer : Answer) → is_movable (status_after d o answer) ≡ true
 after_movable d (op.Arm side) Answer.Wait = refl
 after_movable d (op.Arm side) _ = refl
@@ -146,7 +146,7 @@ wait_moves m g d from o before after answer undo mid h there movable describes =
       queued = h.parts.core.queued;
     })
 
--- a status that is changed alone
+-- a status changes alone
 pub moved_made : (old : WorldParts) (g : ℕ) (to : Status) (answer : Answer) (delta : GDelta) (new : Core) → PartsFit old → Moves old.core g to delta new
     → Made (Ok (answer, with_status g to (meant old))) [] MOST_WORDS old answer (Goroutine delta) (record old { core = new })
 moved_made old g to answer delta new parts moves =
@@ -165,7 +165,7 @@ moved_made old g to answer delta new parts moves =
       ),
     )
 
--- one waiter more, or none
+-- one more waiter, or none
 park_means : (m : WorldParts) (core : Core) (parked : Bool) → meant (record m { core = core_parked parked core }) ≡ with_parked parked (meant (record m { core = core }))
 park_means m core true = refl
 park_means m core false = refl
@@ -190,7 +190,7 @@ described_means m g d to before after =
     ap (λ (rows : List DescriptorRow). record (with_status g to (meant m)) { descriptors = rows }) (descriptor_set m.core.descriptors.items m.core.timers.entries d after)
 
 module _ (old : WorldParts) (g d : ℕ) (o : DescOp) (answer : DescAnswer) (undo : DescUndo) (delta : GDelta) (mid moved new : Core) where
-  -- a descriptor and a status that are changed so make the step
+  -- changing a descriptor and a status in this way is the step
   pub waiting_made : (before after : Descriptor) → PartsFit old → Describes old.core d o before after answer undo mid → Moves mid g (status_after d o answer.answer) delta moved
       → new ≡ core_parked (parks o answer.answer) moved → ParkBack (parks o answer.answer) new moved
       → Made (waiting g d o (meant old)) [] MOST_WORDS old answer.answer (Waited undo delta (parks o answer.answer)) (record old { core = new })
@@ -221,16 +221,16 @@ module _ (old : WorldParts) (g d : ℕ) (o : DescOp) (answer : DescAnswer) (undo
         ),
       )
 
--- ---- how many may wait
+-- ---- the number of goroutines that may wait
 
--- so that one more has a number
+-- the number of waiters plus one has 64 bits
 pub one_more_waits : (m : WorldParts) → IsWorld m → m.core.waiters + 1 < 2 ^ 64
 one_more_waits m h =
     let most = waiters_within (meant m) h.meaning in
     let range = h.parts.core.in_range.descriptors_most in
     omega (arith, most, range)
 
--- goroutines that were made have numbers below the most that there may be
+-- goroutines that were made have numbers below the greatest number of them
 pub below_most : (m : WorldParts) (g : ℕ) (status : Status) → IsWorld m → status_of g (meant m) ≡ Ok status → g < MOST_GOROUTINES
 below_most m g status h there =
     let within : g < length m.core.goroutines.goroutines = slice_get_within m.core.goroutines.goroutines g status ((Ends-status_of g (meant m)).value status there) in

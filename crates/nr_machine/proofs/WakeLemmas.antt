@@ -1,4 +1,4 @@
--- Goroutines that are woken: who they are, and that what they come to is what the machine says of wakes.
+-- Goroutines that are woken: which they are, and that their outcome is what the machine says of wakes.
 use Rattle.std.proofs.Common.{◌≡◌, ℕ, ◌+◌, ◌-◌, ◌<◌, ◌≤◌, List, ◌++◌, length, get_or, set, Option, Some, None, inl, inr, refl, sym, ap, subst, ◌∙◌, arith, length-append}
 use Rattle.std.proofs.lemmas.List.Sums.{get_or-le-sum_by}
 use Rattle.std.proofs.lemmas.Option.{get_or_from_slice_get, slice_get_within}
@@ -35,7 +35,7 @@ use Rattle.nr_machine.specs.Rows.{row_of}
 use Rattle.nr_machine.specs.World.{WorldParts, meant}
 use Rattle.nr_machine.proofs.RowsLemmas.{row_at}
 
--- ---- who is woken was held by the word of the side
+-- ---- the word of a side held the goroutine that is woken
 
 let_go_held : (before after : WaitWord) (g : ℕ) → let_go before after ≡ Some g → before ≡ Held g
 let_go_held (Held h) (Held k) g is = absurd cc
@@ -50,7 +50,7 @@ sides_held : (old new : Sides WaitWord) (side : Side) (g : ℕ) → of_side side
 sides_held old new Read g is = let_go_held old.read new.read g is
 sides_held old new Write g is = let_go_held old.write new.write g is
 
--- whoever an operation wakes was held by the word of its side
+-- an operation wakes only a goroutine that the word of its side held
 woken_held : (o : DescOp) (old new : Descriptor) (side : Side) (g : ℕ) → of_side side (woken_by o old new) ≡ Some g → of_side side old.words ≡ Held g
 woken_held (op.SetDeadline clock mode t) old new side g is = sides_held old.words new.words side g is
 woken_held op.Evict old new side g is = sides_held old.words new.words side g is
@@ -75,7 +75,7 @@ sides_counted old new =
     let both = length-append (option_to_list (let_go old.read new.read)) (option_to_list (let_go old.write new.write)) in
     omega (arith, read, write, both)
 
--- they are no more than its words held
+-- they are no more than the words held
 woken_counted : (o : DescOp) (old new : Descriptor) → length (listed (woken_by o old new)) ≤ bit (is_held old.words.read) + bit (is_held old.words.write)
 woken_counted (op.SetDeadline clock mode t) old new = sides_counted old.words new.words
 woken_counted op.Evict old new = sides_counted old.words new.words
@@ -90,7 +90,7 @@ module _ (m : WorldParts) (d : ℕ) (x : Descriptor) (h : IsWorld m) (there : sl
   found : slice_get (meant m).descriptors d ≡ Some row
   found = row_at m.core.descriptors.items m.core.timers.entries d x there
 
-  -- whom a word of a packed world holds is parked there
+  -- a goroutine that a word of a packed world holds is parked there
   held_parked : (side : Side) (g : ℕ) → of_side side x.words ≡ Held g → slice_get m.core.goroutines.goroutines g ≡ Some (Parked d side)
   held_parked side g is =
       parked_at m.core.goroutines.goroutines g d side
@@ -107,7 +107,7 @@ module _ (m : WorldParts) (d : ℕ) (x : Descriptor) (h : IsWorld m) (there : sl
       let counted = h.meaning.words.counted in
       omega (arith, one, counted)
 
-  -- so whoever an operation on a descriptor wakes can be woken
+  -- so the goroutines that an operation on a descriptor wakes can be woken
   pub can_wake : (o : DescOp) (after : Descriptor) (answer : DescAnswer) (core : Core) → StepTo x o answer after → core.goroutines ≡ m.core.goroutines → core.waiters ≡ m.core.waiters
       → CanWake d answer.woken core
   can_wake o after answer core step goroutines waiters =
@@ -125,7 +125,7 @@ module _ (m : WorldParts) (d : ℕ) (x : Descriptor) (h : IsWorld m) (there : sl
 
 -- ---- one after the other
 
--- whoever there is, is parked at d's side and counted
+-- the goroutine, if any, is parked at d's side and counted
 abbrev pub Waits : ℕ → Side → Core → ℕ → Type 0
 Waits d side core g = (slice_get core.goroutines.goroutines g ≡ Some (Parked d side)) × (0 < core.waiters)
 
@@ -173,7 +173,7 @@ wakes_append : (read write : Option ℕ) (w : World) → after_wakes (option_to_
 wakes_append None write w = refl
 wakes_append (Some g) write w = refl
 
--- those who are woken, reading first
+-- the woken goroutines, reading first
 pub both_mean : (m : WorldParts) (d : ℕ) (both : Sides (Option ℕ)) (core : Core) → CanWake d both core
     → meant (record m { core = woken_both d both core }) ≡ after_wakes (listed both) (meant (record m { core = core }))
 both_mean m d both core can =

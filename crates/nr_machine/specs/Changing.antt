@@ -1,4 +1,4 @@
--- What the changes of the core come to, and the way back over each.
+-- The outcomes of changes of the core, and their undos.
 use Rattle.std.specs.Prelude.{ℕ, slice_get}
 use Rattle.nr_rev.specs.declared.refusal.Refusal.TheVariants.{NoSuchDescriptor}
 use Rattle.nr_rev.specs.Refusing.{◌>>=◌, found_or}
@@ -6,7 +6,7 @@ use Rattle.nr_desc.specs.Op as desc_op
 use Rattle.nr_desc.specs.declared.op.DescOp.{DescOp}
 use Rattle.nr_machine.specs.declared.world_core.Core.{Core}
 
--- what the operation is refused for: reason 5 where there is no such descriptor
+-- the outcome of an operation on a descriptor; reason 5 if there is no such descriptor
 abbrev pub desc_outcome : ℕ → DescOp → Core → desc_op.Outcome
 desc_outcome d op core =
     found_or (slice_get core.descriptors.items d) NoSuchDescriptor

@@ -1,4 +1,4 @@
--- The way back over a step: the undos of its changes, from the last to the first.
+-- The deltas of steps: the undos of their changes, from the last to the first.
 use Rattle.std.specs.Prelude.{◌≡◌, ℕ, ◌+◌, ◌-◌, ◌<◌, Bool, true, false, ◌∷◌, length, take, drop, slice_get, slice_set, Option, Some}
 use Rattle.nr_rev.specs.Weight.{bool_weight, number_weight, option_weight, sides_weight, time_weight, variant_weight}
 use Rattle.nr_rev.specs.declared.sides.Sides.{Sides}
@@ -21,12 +21,12 @@ use Rattle.nr_machine.specs.World.{WorldParts}
 
 -- ---- of the core
 
--- back over one waiter more
+-- undoes one more waiter
 abbrev pub ParkBack : Bool → Core → Core → Type 0
 ParkBack true new old = (0 < new.waiters) × (old ≡ record new { waiters = new.waiters - 1 })
 ParkBack false new old = old ≡ new
 
--- back over a descriptor more, the last
+-- undoes one more descriptor, the last
 abbrev pub MadeBack : Core → Core → Type 0
 MadeBack new old =
     old ≡ record new {
@@ -34,7 +34,7 @@ MadeBack new old =
           { items = take (length new.descriptors.items - 1) new.descriptors.items };
     }
 
--- back over a lock more, the last
+-- undoes one more lock, the last
 abbrev pub AddBack : Core → Core → Type 0
 AddBack new old =
     old ≡ record new {
@@ -42,31 +42,31 @@ AddBack new old =
           { items = take (length new.locks.items - 1) new.locks.items };
     }
 
--- back over the taking of a descriptor from the front of the free ones
+-- undoes taking a descriptor from the front of the free ones
 abbrev pub TakeBack : ℕ → Core → Core → Type 0
 TakeBack d new old =
     (length new.free.items < new.free.room)
     × (old ≡ record new { free = record new.free { items = d ∷ new.free.items } })
 
--- back over a descriptor that was put at the front of the free ones
+-- undoes putting a descriptor at the front of the free ones
 abbrev pub GiveBack : Core → Core → Type 0
 GiveBack new old = old ≡ record new { free = record new.free { items = drop 1 new.free.items } }
 
--- back over orders to the timers of both sides, reading first
+-- undoes orders to the timers of both sides, reading first
 abbrev pub ObeyBack : Sides (Option TimersDelta) → Core → Core → Type 0
 ObeyBack both = Then (IfAny TimersBack both.write) (IfAny TimersBack both.read)
 
--- back over the waking of those who were woken, reading first
+-- undoes waking these goroutines, reading first
 abbrev pub WokenBack : Sides (Option ℕ) → Core → Core → Type 0
 WokenBack both = Then (IfAny WakeBack both.write) (IfAny WakeBack both.read)
 
 -- ---- of the whole
 
--- back over a change of the core alone
+-- undoes a change of the core only
 abbrev pub OfCore : (Core → Core → Type 0) → WorldParts → WorldParts → Type 0
 OfCore back new old = back new.core old.core × (old.socks ≡ new.socks)
 
--- back over a change of the buffers of socket s
+-- undoes a change of the buffers of socket s
 pub record SockBack (s : ℕ) (delta : SockDelta) (new old : WorldParts) : Type 0 where
   pub before : SockParts
   pub after : SockParts
@@ -74,12 +74,12 @@ pub record SockBack (s : ℕ) (delta : SockDelta) (new old : WorldParts) : Type 
   pub back : sock.LeadsBack delta after before
   pub rest : old ≡ record new { socks = slice_set new.socks s before }
 
--- back over the opening of the socket that was opened last
+-- undoes opening the socket that was opened last
 abbrev pub OpenedBack : SockDelta → WorldParts → WorldParts → Type 0
 OpenedBack delta new old =
     Then (OfCore AddBack) (SockBack (length new.core.locks.items - 1) delta) new old
 
--- an undo leads from the new parts back to the old ones
+-- true if an undo leads from the new parts back to the old ones
 abbrev pub UndoBack : WorldUndo → WorldParts → WorldParts → Type 0
 UndoBack Still = OfCore Same
 UndoBack (Goroutine delta) = OfCore (GoroutineBack delta)
@@ -97,21 +97,21 @@ UndoBack (Timers delta) = OfCore (TimersBack delta)
 UndoBack (Changed desc both woken) =
     OfCore (Then (WokenBack woken) (Then (DescBack desc) (ObeyBack both)))
 
--- a delta leads from the new parts back to the old ones
+-- true if a delta leads from the new parts back to the old ones
 abbrev pub WorldBack : WorldDelta → WorldParts → WorldParts → Type 0
 WorldBack delta = UndoBack delta.undo
 
 -- ---- weights
 
--- a lock as it was, and its socket
+-- the weight of a lock's old value, and of its socket
 abbrev pub lock_weight : LockUndo → ℕ
 lock_weight undo = number_weight undo.socket + lock.delta_weight undo.before
 
--- a descriptor as it was, and its number
+-- the weight of a descriptor's old value, and of its number
 abbrev pub desc_weight : DescUndo → ℕ
 desc_weight undo = number_weight undo.descriptor + desc.delta_weight undo.before
 
--- how many words an undo holds
+-- the number of words in an undo
 abbrev pub undo_weight : WorldUndo → ℕ
 undo_weight Still = variant_weight
 undo_weight (Goroutine delta) = variant_weight + goroutine.delta_weight delta
@@ -131,6 +131,6 @@ undo_weight (Changed desc both woken) =
     variant_weight + desc_weight desc + sides_weight (option_weight timers.delta_weight) both
     + sides_weight (option_weight number_weight) woken
 
--- how many words a delta holds
+-- the number of words in a delta
 abbrev pub delta_weight : WorldDelta → ℕ
 delta_weight delta = undo_weight delta.undo

@@ -1,4 +1,4 @@
--- That each way back leads to one world.
+-- Each undo leads back to one world.
 use Rattle.std.proofs.Common.{◌≡◌, ℕ, ◌-◌, length, Bool, true, false, Option, Some, None, sym, ap, subst, ◌∙◌}
 use Rattle.std.proofs.lemmas.Option.{same_Some}
 use Rattle.std.specs.Prelude.{slice_set}
@@ -26,11 +26,11 @@ use Rattle.nr_machine.specs.Auxiliary.Changing.{DescBack, GoroutineBack, IfAny, 
 use Rattle.nr_machine.specs.Delta.{AddBack, GiveBack, MadeBack, ObeyBack, OfCore, ParkBack, SockBack, TakeBack, UndoBack, WokenBack, WorldBack}
 use Rattle.nr_machine.specs.World.{WorldParts}
 
--- a way back leads to one state
+-- true if undoing leads to only one state
 abbrev pub LeadsToOne : {S : Type 0} → (S → S → Type 0) → Type 0
 LeadsToOne {S} back = (new a b : S) → back new a → back new b → a ≡ b
 
--- one after another
+-- two undos, one after another
 then_one : {S : Type 0} (first next : S → S → Type 0) → LeadsToOne first → LeadsToOne next
     → LeadsToOne (Then first next)
 then_one {S} first next one two new a b x y =

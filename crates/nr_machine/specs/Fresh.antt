@@ -8,7 +8,7 @@ use Rattle.nr_sockbuf.specs.Sock.{never_opened}
 use Rattle.nr_machine.specs.declared.world_core.Core.{Core}
 use Rattle.nr_machine.specs.World.{WorldParts}
 
--- the core before the first step: goroutine 0 is idle, and there is nothing else
+-- the core before the first step: goroutine 0 is idle, and nothing else exists
 abbrev pub empty_core : Limits → Core
 empty_core limits =
     record {
@@ -26,7 +26,7 @@ empty_core limits =
       waiters = 0;
     }
 
--- the whole: the core, and the buffers of each socket, none of which is opened
+-- the whole world: the core, and the buffers of each socket, none of which is open
 abbrev pub empty_parts : Limits → WorldParts
 empty_parts limits =
     record {

@@ -1,4 +1,4 @@
--- What goroutines and semaphores alone do, as steps.
+-- Operations on goroutines and semaphores only, as steps.
 use Rattle.std.specs.Prelude.{Err}
 use Rattle.nr_rev.specs.declared.refusal.Refusal.TheVariants.{NotThere}
 use Rattle.nr_rev.specs.Step.{Outcome, acquire, exit, release, spawn}
@@ -6,12 +6,12 @@ use Rattle.nr_rev.specs.World.{World}
 use Rattle.nr_gsema.specs.declared.operation.GOperation.{GOperation}
 use Rattle.nr_gsema.specs.declared.operation.GOperation.TheVariants as op
 
--- an operation that is a step
+-- true if the operation is a step
 abbrev pub IsStep : GOperation → Type 0
 IsStep (op.Move g from to) = ⊥
 IsStep _ = Unit {0}
 
--- which step that is
+-- the outcome of that step
 abbrev pub goroutine_outcome : GOperation → World → Outcome
 goroutine_outcome op.Spawn w = spawn w
 goroutine_outcome (op.Exit g) w = exit g w

@@ -1,4 +1,4 @@
--- What an operation on a socket's lock comes to.
+-- The outcome of an operation on a socket's lock.
 use Rattle.std.specs.Prelude.{ℕ, Ok}
 use Rattle.nr_rev.specs.declared.lock.LockOutcome.{LockOutcome}
 use Rattle.nr_rev.specs.declared.status.Status.{Status}
@@ -18,7 +18,7 @@ status_left s Decref left = Idle
 status_left s (RwLock side) left = locker s side left.answer
 status_left s (RwUnlock side) left = owing s left.owed
 
--- the operation, of a goroutine that may try it
+-- the outcome of the operation, by a goroutine that may try it
 abbrev pub locking : ℕ → ℕ → LockOp → World → Outcome
 locking g s op w = do
   socket ← socket_of s w

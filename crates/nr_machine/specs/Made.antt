@@ -1,4 +1,4 @@
--- What a step is made of: its outcome, the way back, and what stays tied.
+-- Steps of a packed world: their outcomes and their undos.
 use Rattle.std.specs.Prelude.{Option}
 use Rattle.nr_rev.specs.declared.refusal.Refusal.{Refusal}
 use Rattle.nr_rev.specs.declared.step.Step.{Step}
@@ -6,10 +6,10 @@ use Rattle.nr_rev.specs.Step.{outcome}
 use Rattle.nr_rev.specs.Worlds.{LosesBytes, refusal_of}
 use Rattle.nr_machine.specs.World.{WorldParts, meant}
 
--- why a step does not apply
+-- the reason why a step does not apply
 abbrev pub parts_reason : WorldParts → Step → Option Refusal
 parts_reason m step = refusal_of (outcome (meant m) step)
 
--- a step takes memory where bytes leave a buffer
+-- true if a step takes memory: bytes leave a buffer
 abbrev pub TakesMemory : WorldParts → Step → Type 0
 TakesMemory m step = LosesBytes (meant m) step

@@ -1,10 +1,10 @@
--- A thing with a number, looked up.
+-- Looking up a numbered item.
 use Rattle.std.proofs.Common.{◌≡◌, ℕ, zero, suc, ◌+◌, List, [], ◌∷◌, Some, ap, ◌∙◌, arith}
 use Rattle.std.specs.Prelude.{slice_get}
 use Rattle.nr_machine.specs.Numbered.{numbered}
 
 module _ {A B C : Type 0} (make : A → B → C) where
-  -- what is there is there, made whole
+  -- the item at a place, combined with the value of its number
   pub numbered_at : (k i n : ℕ) (xs : List A) (beside : ℕ → B) (x : A) → n ≡ k + i
       → slice_get xs i ≡ Some x
       → slice_get (numbered make k xs beside) i ≡ Some (make x (beside n))

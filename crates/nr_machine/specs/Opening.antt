@@ -1,4 +1,4 @@
--- What the opening of a descriptor comes to, once its number is taken.
+-- The outcome of opening a descriptor, once its number is taken.
 use Rattle.std.specs.Prelude.{ℕ, List, Ok}
 use Rattle.nr_rev.specs.declared.answer.Answer.TheVariants.{Number}
 use Rattle.nr_rev.specs.Descriptor.{opened_for}
@@ -13,7 +13,7 @@ opening s d w = do
   descriptor ← opened_for s row.descriptor
   Ok (Number d, with_descriptor d row descriptor w)
 
--- a number is taken of these free ones, or a new one, and its descriptor is opened for socket s
+-- takes a number, one of these free ones or a new one, and opens its descriptor for socket s
 abbrev pub opening_of : ℕ → List ℕ → World → Outcome
 opening_of s free w = do
   (d, next) ← taken free w

@@ -1,5 +1,5 @@
--- What a machine owes whose steps can be undone, of a packed world: the laws that `Reversible`
--- asks of it.
+-- The contract of a machine whose steps can be undone, for a packed world: the laws that
+-- `Reversible` requires.
 use Rattle.std.proofs.Common.{◌≡◌, ◌≤◌, List, [], ◌∷◌, Some, None, Ok, Err, sym, ap, subst, ◌∙◌, lit≤}
 use Rattle.nr_rev.specs.declared.answer.Answer.{Answer}
 use Rattle.nr_rev.specs.declared.refusal.Refusal.{Refusal}
@@ -26,7 +26,7 @@ pub refused_has_no_step : (old : WorldParts) (step : Step) (e : Refusal) (answer
 refused_has_no_step old step e answer new reason is =
     absurd (let none : Some e ≡ None = sym reason ∙ ap refusal_of is.leads in cc)
 
--- operations lead to one state of the timers
+-- operations on the timers have one result
 TimersMade-unique : (asked : List TimersOp) (old new other : State) → TimersMade asked old new
     → TimersMade asked old other → new ≡ other
 TimersMade-unique [] old new other x y = x ∙ sym y
@@ -50,12 +50,12 @@ steps_unique old step a b new other p q =
 pub weight_is_within : (step : Step) → MOST_WORDS ≤ MOST_WORDS
 weight_is_within step = lit≤ tt
 
--- what an outcome is refused for
+-- the reason of an outcome that is refused
 refused_for : (o : Outcome) (e : Refusal) → refusal_of o ≡ Some e → ◌≡◌ {A = Outcome} o (Err e)
 refused_for (Ok left) e is = cc
 refused_for (Err reason) e is = cc
 
--- being out of memory is no reason
+-- running out of memory is not a reason
 pub memory_is_no_reason : (m : WorldParts) (step : Step) → IsWorld m
     → parts_reason m step ≡ Some out_of_memory → ⊥
 memory_is_no_reason m step h is =

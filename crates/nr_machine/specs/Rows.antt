@@ -1,4 +1,4 @@
--- The rows that descriptors and timers mean.
+-- The rows that descriptors and timers represent.
 use Rattle.std.specs.Prelude.{List, Option}
 use Rattle.nr_rev.specs.declared.descriptor.Descriptor.{Descriptor}
 use Rattle.nr_rev.specs.declared.descriptor.DescriptorRow.{DescriptorRow}
@@ -12,6 +12,6 @@ use Rattle.nr_machine.specs.Numbered.{numbered}
 abbrev pub row_of : Descriptor → Sides (Option Timer) → DescriptorRow
 row_of descriptor timers = record { descriptor = descriptor; timers = timers }
 
--- a row for each descriptor, with the timers that the entries have for its number
+-- the row of each descriptor, with the timers that the entries have for its number
 abbrev pub rows_of : List Descriptor → List Entry → List DescriptorRow
 rows_of descriptors entries = numbered row_of 0 descriptors (timers_of entries)

@@ -1,13 +1,13 @@
--- What holds of the buffers of sockets as a world is restored.
+-- Facts about the buffers of sockets while a world is restored.
 use Rattle.std.specs.Prelude.{◌≡◌, ℕ, ◌≤◌, List, slice_get, Some, None}
 use Rattle.nr_sockbuf.specs.Sock.{SockParts}
 
--- the buffers of each socket have this limit
+-- true if the buffers of each socket have this limit
 abbrev pub HaveLimit : ℕ → List SockParts → Type 0
 HaveLimit limit socks =
     (s : ℕ) (sock : SockParts) → slice_get socks s ≡ Some sock → sock.limit ≡ limit
 
--- the sockets from number `first` on that have no lock are not open: there are so many locks
+-- true if the sockets from `first` on that have no lock, given the number of locks, aren't open
 abbrev pub AreClosedFrom : ℕ → ℕ → List SockParts → Type 0
 AreClosedFrom first locks socks =
     (s : ℕ) (sock : SockParts) → slice_get socks s ≡ Some sock → first ≤ s → locks ≤ s

@@ -1,4 +1,4 @@
--- The sockets that locks, semaphores and buffers mean.
+-- The sockets that locks, semaphores and buffers represent.
 use Rattle.std.specs.Prelude.{ℕ, List, slice_index_or, Option, Some, None}
 use Rattle.nr_rev.specs.declared.lock.Lock.{Lock}
 use Rattle.nr_rev.specs.declared.sides.Sides.{Sides}
@@ -8,17 +8,17 @@ use Rattle.nr_rev.specs.Socket.{Socket}
 use Rattle.nr_sockbuf.specs.Sock.{OpenSock, SockParts, never_opened, new_opened}
 use Rattle.nr_machine.specs.Numbered.{numbered}
 
--- what a socket has beside its lock
+-- the parts of a socket other than its lock
 pub record SocketRest : Type 0 where
   pub semaphores : Sides Semaphore
   pub sock : Option OpenSock
 
--- the buffers, or empty ones where none are open
+-- the buffers, or empty ones if none are open
 abbrev pub buffers_in : Option OpenSock → OpenSock
 buffers_in (Some opened) = opened
 buffers_in None = new_opened 0 0
 
--- a socket of its lock and the rest
+-- a socket from its lock and its other parts
 abbrev pub socket_of : Lock → SocketRest → Socket
 socket_of lock rest =
     record {
@@ -29,7 +29,7 @@ socket_of lock rest =
       shut = (buffers_in rest.sock).shut;
     }
 
--- what socket s has beside its lock: new semaphores and no buffers where there are none
+-- the parts of socket s other than its lock: new semaphores and no buffers if there are none
 abbrev pub rest_at : List (Sides Semaphore) → List SockParts → ℕ → SocketRest
 rest_at semaphores socks s =
     record {

@@ -1,23 +1,23 @@
--- The steps at the buffers of a socket.
+-- The steps on the buffers of a socket.
 use Rattle.std.specs.Prelude.{◌≡◌, ℕ, Ok}
 use Rattle.nr_rev.specs.declared.step.Step.{Step}
 use Rattle.nr_rev.specs.declared.step.Step.TheVariants.{SockOpen, Arrive, PeerClose, SysRead, SysWrite, Drain, CloseWrite}
 use Rattle.nr_rev.specs.Step.{idle}
 use Rattle.nr_rev.specs.World.{World}
 
--- this step opens a socket
+-- true if the step opens a socket
 abbrev pub IsOpening : Step → Type 0
 IsOpening (SockOpen rc wc) = Unit {0}
 IsOpening _ = ⊥
 
--- this step is at the buffers of socket s, by goroutine g
+-- true if the step is on the buffers of socket s, by goroutine g
 abbrev pub IsTransferOf : ℕ → ℕ → Step → Type 0
 IsTransferOf g s (SysRead h t n) = (h ≡ g) × (t ≡ s)
 IsTransferOf g s (SysWrite h t bytes) = (h ≡ g) × (t ≡ s)
 IsTransferOf g s (CloseWrite h t) = (h ≡ g) × (t ≡ s)
 IsTransferOf g s _ = ⊥
 
--- this step is at the buffers of socket s, and the goroutine that it is of, if any, is idle
+-- true if the step is on the buffers of socket s, and its goroutine, if any, is idle
 abbrev pub IsTransfer : ℕ → World → Step → Type 0
 IsTransfer s w (Arrive t bytes) = t ≡ s
 IsTransfer s w (PeerClose t) = t ≡ s

@@ -1,4 +1,4 @@
--- A packed world, and the world that it means.
+-- A packed world, and the world that it represents.
 use Rattle.std.specs.Prelude.{List}
 use Rattle.nr_rev.specs.World.{World}
 use Rattle.nr_sockbuf.specs.Sock.{SockParts}
@@ -11,7 +11,7 @@ pub record WorldParts : Type 0 where
   pub core : Core
   pub socks : List SockParts
 
--- the world that these parts mean
+-- the world that these parts represent
 abbrev pub meant : WorldParts → World
 meant m =
     record {

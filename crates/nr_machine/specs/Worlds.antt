@@ -1,4 +1,4 @@
--- That a packed world is a world of the machine.
+-- A packed world is a world of the machine.
 use Rattle.std.specs.Prelude.{◌≡◌, Ok}
 use Rattle.nr_rev.specs.declared.answer.Answer.{Answer}
 use Rattle.nr_rev.specs.declared.step.Step.{Step}
@@ -20,16 +20,16 @@ pub reasons_are : (old : WorldParts) (step : Step)
     → parts_reason old step ≡ refusal_of (outcome (meant old) step)
 reasons_are old step = λ _. parts_reason old step
 
--- a step that takes memory is one by which bytes leave a buffer
+-- a step that takes memory is one at which bytes leave a buffer
 pub memory_is_for_bytes : (old : WorldParts) (step : Step) → TakesMemory old step
     → LosesBytes (meant old) step
 memory_is_for_bytes old step loses = loses
 
--- as many bytes leave as of the machine
+-- as many bytes leave as in the machine
 pub bytes_out_are : (step : Step) (answer : Answer)
     → bytes_left step answer ≡ bytes_left step answer
 bytes_out_are step answer = λ _. bytes_left step answer
 
--- a packed world means a well-formed one
+-- a packed world represents a well-formed one
 pub means_well_formed : (state : WorldParts) → IsWorld state → WellFormed (meant state)
 means_well_formed state h = h.meaning

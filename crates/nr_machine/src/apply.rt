@@ -1,4 +1,4 @@
-//! Steps applied and undone.
+//! Applies and undoes steps.
 
 ghost use Rattle.nr_rev.specs.Auxiliary.Step.{IsTimely};
 ghost use Rattle.nr_machine.specs.Fits.{IsWorld};
@@ -9,7 +9,7 @@ use crate::world::World;
 use nr_rev::{Answer, Keeper, Refusal, Reversible, Step};
 
 impl World {
-    /// Makes a step of changes of the parts, or changes nothing and says why it does not apply.
+    /// Applies a step as changes of the parts, or changes nothing and returns the reason why it does not apply.
     #[inline(always)]
     #[tactic(auto, using(crate::proofs::MadeLemmas::makes_step))]
     pub(crate) fn make<K: Keeper<WorldUndo>>(
@@ -99,8 +99,8 @@ impl World {
     }
 }
 
-/// A step is made of changes of the parts, each with what leads back over it; undoing it leads back over these, from the
-/// last to the first.
+/// A step consists of changes of the parts, each with its undo. Undoing the step undoes the changes, from the last to
+/// the first.
 impl Reversible for World {
     ghost use Rattle.nr_rev.specs.Worlds.{bytes_left};
     ghost use Rattle.nr_machine.specs.declared.delta.TheConstants.{MOST_WORDS};

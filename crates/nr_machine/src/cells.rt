@@ -1,4 +1,4 @@
-//! The values of the cells that are more than one number of the core.
+//! The values of cells that aren't a single number of the core.
 
 ghost use Rattle.std.specs.Prelude.{◌≡◌, length, slice_get};
 ghost use Rattle.nr_rev.specs.Cell.{cell, descriptor_value, socket_value};
@@ -16,22 +16,22 @@ use nr_rev::{CellValue, Side};
 use nr_timers::laws::entries_are_the_descriptors;
 
 impl World {
-    /// How many timers are armed.
+    /// Returns the number of armed timers.
     pub(crate) fn timers_value(&self) -> CellValue
         requires { IsWorld self.now }
         ensures { result ≡ cell (meant self.now) cell.Timers }
     {
-        // A law, which does nothing: there are as many entries as descriptors have timers.
+        // A law without effect: there are as many entries as descriptors have timers.
         entries_are_the_descriptors();
         CellValue::Number(self.core.timers.len() as u64)
     }
 
-    /// When the first of them is due.
+    /// Returns the due time of the first timer.
     pub(crate) fn least_value(&self) -> CellValue
         requires { IsWorld self.now }
         ensures { result ≡ cell (meant self.now) cell.Least }
     {
-        // A law, which does nothing: the heap's first entry is the least of all descriptors' timers.
+        // A law without effect: the heap's first entry is the least of all descriptors' timers.
         entries_are_the_descriptors();
         match self.core.timers.least() {
             None => CellValue::Absent,
@@ -39,7 +39,7 @@ impl World {
         }
     }
 
-    /// Where a goroutine is.
+    /// Returns the status of a goroutine.
     pub(crate) fn goroutine_value(&self, goroutine: u32) -> CellValue
         ensures { result ≡ cell (meant self.now) (cell.Goroutine goroutine) }
     {
@@ -49,7 +49,7 @@ impl World {
         }
     }
 
-    /// The number of a socket's lock word.
+    /// Returns the number of a socket's lock word.
     #[tactic(auto, using(crate::proofs::CellLemmas::socket_absent, crate::proofs::CellLemmas::socket_value_is))]
     pub(crate) fn lock_value(&self, socket: u32) -> CellValue
         ensures { result
@@ -61,7 +61,7 @@ impl World {
         }
     }
 
-    /// The count of a socket's semaphore.
+    /// Returns the count of a socket's semaphore.
     pub(crate) fn count_value(&self, socket: u32, side: Side) -> CellValue
         requires { IsWorld self.now }
         ensures { result
@@ -77,7 +77,7 @@ impl World {
         }
     }
 
-    /// How many bytes a socket's buffer holds.
+    /// Returns the number of bytes in a socket's buffer.
     pub(crate) fn length_value(&self, socket: u32, side: Side) -> CellValue
         requires { IsWorld self.now }
         ensures { result
@@ -90,7 +90,7 @@ impl World {
         CellValue::Number(u64::from(self.socks[socket as usize].len(side)))
     }
 
-    /// Whether a socket's write side is shut.
+    /// Returns whether a socket's write side is shut.
     pub(crate) fn shut_value(&self, socket: u32) -> CellValue
         requires { IsWorld self.now }
         ensures { result ≡ socket_value socket (meant self.now) (λ x. value.Number (bit x.shut)) }
@@ -101,7 +101,7 @@ impl World {
         CellValue::Number(u64::from(self.socks[socket as usize].shut()))
     }
 
-    /// The wait word of a descriptor's side.
+    /// Returns the wait word of a descriptor's side.
     #[tactic(auto, using(crate::proofs::CellLemmas::descriptor_value_is))]
     pub(crate) fn word_value(&self, descriptor: u32, side: Side) -> CellValue
         ensures { result
@@ -114,7 +114,7 @@ impl World {
         }
     }
 
-    /// The deadline of a descriptor's side.
+    /// Returns the deadline of a descriptor's side.
     #[tactic(auto, using(crate::proofs::CellLemmas::descriptor_value_is))]
     pub(crate) fn deadline_value(&self, descriptor: u32, side: Side) -> CellValue
         ensures { result
@@ -127,7 +127,7 @@ impl World {
         }
     }
 
-    /// The sequence of a descriptor's side.
+    /// Returns the sequence of a descriptor's side.
     #[tactic(auto, using(crate::proofs::CellLemmas::descriptor_value_is))]
     pub(crate) fn sequence_value(&self, descriptor: u32, side: Side) -> CellValue
         ensures { result
@@ -140,7 +140,7 @@ impl World {
         }
     }
 
-    /// The tag of a descriptor.
+    /// Returns the tag of a descriptor.
     #[tactic(auto, using(crate::proofs::CellLemmas::descriptor_value_is))]
     pub(crate) fn fdseq_value(&self, descriptor: u32) -> CellValue
         ensures { result
@@ -152,7 +152,7 @@ impl World {
         }
     }
 
-    /// The summary of a descriptor.
+    /// Returns the summary of a descriptor.
     #[tactic(auto, using(crate::proofs::CellLemmas::descriptor_value_is))]
     pub(crate) fn summary_value(&self, descriptor: u32) -> CellValue
         ensures { result
@@ -164,7 +164,7 @@ impl World {
         }
     }
 
-    /// A descriptor that was made.
+    /// Returns a descriptor that was made.
     fn desc(&self, descriptor: u32) -> Option<Desc>
         ensures { result ≡ slice_get self.now.core.descriptors.items descriptor }
     {

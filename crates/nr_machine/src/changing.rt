@@ -1,4 +1,4 @@
-//! The changes of the core, each with what undoes it.
+//! The changes of the core, each with its undo.
 
 ghost use Rattle.std.specs.Prelude.{◌≡◌, ℕ, ◌+◌, ◌-◌, ◌^◌, ◌<◌, ◌++◌, ◌∷◌, [], length, slice_get, Some, Err, IfOk, IfErr, OnErr};
 ghost use Rattle.nr_desc.specs.Desc.{DescFits};
@@ -22,7 +22,7 @@ use nr_lock::{LockAnswer, LockOp, LockWord};
 use nr_rev::{Refusal, Reversible, Side, Status};
 
 impl Core {
-    /// A goroutine goes from one status to another.
+    /// Changes a goroutine's status from one to another.
     #[inline(always)]
     pub(crate) fn move_to(&mut self, goroutine: u32, from: Status, to: Status) -> GDelta
         requires { CanMove self.old goroutine from to }
@@ -39,7 +39,7 @@ impl Core {
         }
     }
 
-    /// A goroutine goes from one status to another, or stays where the two are the same.
+    /// Changes a goroutine's status from one to another, or does nothing if the two are the same.
     #[inline(always)]
     #[tactic(auto, using(crate::proofs::ChangingLemmas::stays))]
     pub(crate) fn move_on(&mut self, goroutine: u32, from: Status, to: Status) -> Option<GDelta>
@@ -52,7 +52,7 @@ impl Core {
         Some(self.move_to(goroutine, from, to))
     }
 
-    /// An operation on the lock of a socket.
+    /// Applies an operation to the lock of a socket.
     #[inline(always)]
     pub(crate) fn lock(
         &mut self,
@@ -72,7 +72,7 @@ impl Core {
         Ok((answer, LockUndo { socket, before }))
     }
 
-    /// A lock as it was. A step leaves each lock there, so the branch without one is never taken; `LockBack` sets nothing
+    /// Restores a lock. Steps never remove a lock, so the branch without one is never taken; `LockBack` sets nothing
     /// there either, which spares each caller a premise.
     #[inline(always)]
     #[tactic(auto, using(crate::proofs::ChangingLemmas::lock_nowhere))]
@@ -87,7 +87,7 @@ impl Core {
         let _ = self.locks.replace(socket as usize, word);
     }
 
-    /// An operation on a descriptor that orders nothing of its timers and wakes nobody.
+    /// Applies an operation to a descriptor that gives its timers no orders and wakes no goroutine.
     #[inline(always)]
     pub(crate) fn describe(
         &mut self,
@@ -107,7 +107,7 @@ impl Core {
         Ok((answer, DescUndo { descriptor, before }))
     }
 
-    /// A descriptor is another.
+    /// Replaces a descriptor.
     #[inline(always)]
     pub(crate) fn set_descriptor(&mut self, descriptor: u32, desc: Desc)
         ensures { self.new ≡ with_descriptor descriptor desc self.old }
@@ -115,8 +115,8 @@ impl Core {
         let _ = self.descriptors.replace(descriptor as usize, desc);
     }
 
-    /// A descriptor as it was. A step leaves each descriptor there, so the branch without one is never taken; `DescBack` sets
-    /// nothing there either, which spares each caller a premise.
+    /// Restores a descriptor. Steps never remove a descriptor, so the branch without one is never taken; `DescBack`
+    /// sets nothing there either, which spares each caller a premise.
     #[inline(always)]
     #[tactic(auto, using(crate::proofs::ChangingLemmas::descriptor_nowhere))]
     pub(crate) fn undescribe(&mut self, undo: DescUndo)
@@ -130,7 +130,7 @@ impl Core {
         self.set_descriptor(descriptor, desc);
     }
 
-    /// One more lock, of a socket that has just been opened.
+    /// Adds the lock of a newly opened socket.
     #[inline(always)]
     pub(crate) fn add_lock(&mut self)
         requires { length self.old.locks.items < self.old.locks.room }
@@ -140,7 +140,7 @@ impl Core {
         self.locks.push(LockWord::open());
     }
 
-    /// A goroutine that a word held goes on.
+    /// Wakes a goroutine that a word held.
     #[inline(always)]
     pub(crate) fn wake(&mut self, goroutine: u32, descriptor: u32, side: Side)
         requires there { slice_get self.old.goroutines.goroutines goroutine
@@ -157,7 +157,7 @@ impl Core {
         self.waiters -= 1;
     }
 
-    /// A goroutine that was woken is parked again.
+    /// Parks a goroutine again that was woken.
     #[inline(always)]
     pub(crate) fn unwake(&mut self, goroutine: u32)
         requires { (old : Parts) × WakeBack goroutine self.old old }
@@ -174,7 +174,7 @@ impl Core {
         self.waiters += 1;
     }
 
-    /// One waiter more, where one parked.
+    /// Adds a waiter, if a goroutine parked.
     #[inline(always)]
     pub(crate) fn park(&mut self, parked: bool)
         requires { self.old.waiters + 1 < 2 ^ 64 }

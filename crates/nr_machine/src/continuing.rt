@@ -1,4 +1,5 @@
-//! What steps that change a descriptor with its timers have in common: its timers obey, and those who are woken go on.
+//! The common part of steps that change a descriptor with its timers: its timers follow orders, and goroutines are
+//! woken.
 
 ghost use Rattle.std.specs.Prelude.{◌≡◌, ◌∷◌, [], ◌<◌, ◌≤◌, length, slice_get, option_to_list, Some, Ok, Err, IfSome, IfErr, OnErr, OnOk};
 ghost use Rattle.nr_rev.specs.Step as step;
@@ -28,7 +29,8 @@ use nr_rev::{Answer, Keeper, Refusal, Reversible, Side, Sides, TimerOrder};
 use nr_timers::{TimersDelta, TimersOp};
 
 impl World {
-    /// An operation on a descriptor, which has been read: its timers obey, and those that its words held go on.
+    /// Applies an operation to a descriptor that has been read: its timers follow the orders, and the goroutines that
+    /// its words held are woken.
     #[inline(always)]
     pub(crate) fn change<K: Keeper<WorldUndo>>(
         &mut self,
@@ -62,8 +64,8 @@ impl World {
         }
     }
 
-    /// An operation that a firing runs on a descriptor, which has been read. It orders nothing: the firing leaves, and those
-    /// that the descriptor's words held go on.
+    /// Applies the operation of a firing to a descriptor that has been read. It gives no orders: the firing is removed,
+    /// and the goroutines that the descriptor's words held are woken.
     #[inline(always)]
     pub(crate) fn change_by_firing<K: Keeper<WorldUndo>>(
         &mut self,
@@ -99,7 +101,7 @@ impl World {
 }
 
 impl Core {
-    /// A firing leaves.
+    /// Removes a firing.
     #[inline(always)]
     fn take_firing(&mut self, place: u32) -> TimersDelta
         requires timers { IsTimers self.old.timers }
@@ -112,7 +114,8 @@ impl Core {
         }
     }
 
-    /// The orders to both sides' timers are obeyed, reading first, or none is. Where nothing is ordered, the heap isn't asked.
+    /// Carries out the orders to both sides' timers, reading first, or none of them. Without orders, it doesn't touch
+    /// the heap.
     #[inline(always)]
     fn obey(
         &mut self,
@@ -135,7 +138,7 @@ impl Core {
         self.obey_both(descriptor, orders, deltas)
     }
 
-    /// Orders to both sides' timers are obeyed, of which at least one asks for something.
+    /// Carries out orders to both sides' timers, at least one of which isn't empty.
     #[inline(always)]
     fn obey_both(
         &mut self,
@@ -161,7 +164,7 @@ impl Core {
         }
     }
 
-    /// An order to the timer of a side is obeyed, if there is one.
+    /// Carries out an order to the timer of a side, if there is one.
     #[inline(always)]
     fn obey_one(
         &mut self,
@@ -186,7 +189,7 @@ impl Core {
         Ok(())
     }
 
-    /// The goroutines that are woken go on, reading first.
+    /// Wakes these goroutines, reading first.
     #[inline(always)]
     pub(crate) fn wake_both(&mut self, descriptor: u32, woken: Sides<Option<u32>>)
         requires { CanWake descriptor woken self.old }
@@ -198,7 +201,7 @@ impl Core {
         self.wake_any(woken.write, descriptor, Side::Write);
     }
 
-    /// Whoever is woken of a side goes on, if one is.
+    /// Wakes the goroutine of a side, if there is one.
     #[inline(always)]
     fn wake_any(&mut self, woken: Option<u32>, descriptor: u32, side: Side)
         requires there { IfSome woken (λ g. (slice_get self.old.goroutines.goroutines g
@@ -214,7 +217,7 @@ impl Core {
     }
 }
 
-/// An order to the timer of a descriptor.
+/// Returns the operation for an order to the timer of a descriptor.
 #[inline(always)]
 fn ordered(descriptor: u32, order: TimerOrder) -> TimersOp
     ensures { result ≡ timers_op descriptor order }

@@ -1,4 +1,4 @@
-//! The way back over a step.
+//! The deltas of steps.
 
 use nr_desc::DescDelta;
 use nr_gsema::GDelta;
@@ -7,28 +7,28 @@ use nr_rev::{Keeper, Sides};
 use nr_sockbuf::SockDelta;
 use nr_timers::TimersDelta;
 
-/// The most words that a delta holds, beside the bytes that left a buffer.
+/// The most words in a delta, besides the bytes that left a buffer.
 pub(crate) const MOST_WORDS: u32 = 40;
 
-/// What leads back over a step: what it changed of the parts, as it was, and nothing else.
+/// The delta of a step: the old values of the parts that it changed, and nothing else.
 #[derive(Drop)]
 pub struct WorldDelta {
     pub(crate) undo: WorldUndo,
 }
 
-/// What a step changed, as it was.
+/// The old values of what a step changed.
 #[derive(Drop)]
 pub(crate) enum WorldUndo {
     /// Nothing changed.
     Still,
-    /// Goroutines, or a semaphore.
+    /// Goroutines, or a semaphore, changed.
     Goroutine(GDelta),
-    /// A lock, and the status of the goroutine that had to do with it, where that is another.
+    /// A lock changed, and so did the status of the goroutine that used it, unless that is the same.
     Locked {
         lock: LockUndo,
         moved: Option<GDelta>,
     },
-    /// The buffers of a socket.
+    /// The buffers of a socket changed.
     Sock {
         socket: u32,
         delta: SockDelta,
@@ -37,23 +37,24 @@ pub(crate) enum WorldUndo {
     Opened(SockDelta),
     /// A descriptor was opened for the first time.
     Made,
-    /// A descriptor that was free was opened.
+    /// A free descriptor was opened.
     Reopened(DescUndo),
     /// A descriptor was closed.
     Closed(DescUndo),
-    /// A descriptor.
+    /// A descriptor changed.
     Described(DescUndo),
-    /// A descriptor, and the status of the goroutine inside its wait; where it parked, there is one waiter more.
+    /// A descriptor changed, and so did the status of the goroutine inside its wait. If it parked, there is one more
+    /// waiter.
     Waited {
         desc: DescUndo,
         moved: GDelta,
         parked: bool,
     },
-    /// It was this time.
+    /// The clock was at this time.
     Clock(i64),
-    /// Timers.
+    /// Timers changed.
     Timers(TimersDelta),
-    /// A descriptor with its timers; these goroutines were woken.
+    /// A descriptor changed with its timers, and these goroutines were woken.
     Changed {
         desc: DescUndo,
         timers: Sides<Option<TimersDelta>>,
@@ -61,21 +62,21 @@ pub(crate) enum WorldUndo {
     },
 }
 
-/// A lock as it was.
+/// The old value of a lock.
 #[derive(Clone, Copy)]
 pub(crate) struct LockUndo {
     pub(crate) socket: u32,
     pub(crate) before: LockDelta,
 }
 
-/// A descriptor as it was.
+/// The old value of a descriptor.
 #[derive(Clone, Copy)]
 pub(crate) struct DescUndo {
     pub(crate) descriptor: u32,
     pub(crate) before: DescDelta,
 }
 
-/// One that puts nothing back.
+/// A delta that restores nothing.
 impl Default for WorldDelta {
     fn default() -> Self {
         WorldDelta {
@@ -84,7 +85,7 @@ impl Default for WorldDelta {
     }
 }
 
-/// An undo is a place for an undo.
+/// An undo is a place in which an undo is kept.
 impl Keeper<WorldUndo> for WorldUndo {
     ghost use Rattle.std.specs.Prelude.{◌≡◌, true};
 

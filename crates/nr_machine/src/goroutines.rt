@@ -13,7 +13,7 @@ use nr_gsema::GOperation;
 use nr_rev::{Answer, Keeper, Refusal, Reversible};
 
 impl World {
-    /// What goroutines and semaphores alone do.
+    /// Applies an operation that changes only goroutines and semaphores.
     #[inline(always)]
     pub(crate) fn goroutine<K: Keeper<WorldUndo>>(
         &mut self,

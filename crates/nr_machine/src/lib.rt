@@ -1,4 +1,4 @@
-//! A packed world: one machine of lock words, descriptors, goroutines linked in queues, rings and a timer heap.
+//! A packed world: a machine of lock words, descriptors, goroutines linked in queues, ring buffers and a timer heap.
 #![tactic(auto)]
 
 mod apply;

@@ -100,7 +100,8 @@ impl World {
         self.lock(goroutine, Status::Idle, socket, LockOp::RwUnlock(side), way)
     }
 
-    /// An operation on a socket's lock, of a goroutine that may try it and goes on to where that leads.
+    /// Applies an operation to a socket's lock, by a goroutine that may try it, and changes the goroutine's status
+    /// accordingly.
     #[inline(always)]
     fn lock<K: Keeper<WorldUndo>>(
         &mut self,
@@ -123,7 +124,7 @@ impl World {
     }
 }
 
-/// The status of a goroutine after an operation on a socket's lock.
+/// Returns the status of a goroutine after an operation on a socket's lock.
 #[inline(always)]
 fn status_left(socket: u32, op: LockOp, left: LockAnswer) -> Status
     ensures { (lock : Lock) → result ≡ status_left socket op (left_of left lock) }

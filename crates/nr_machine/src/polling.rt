@@ -1,4 +1,4 @@
-//! The steps that open a descriptor, evict and close it, and bring it events: Go's `poll_runtime_pollOpen`,
+//! The steps that open, evict and close a descriptor, and that bring it events: Go's `poll_runtime_pollOpen`,
 //! `poll_runtime_pollUnblock`, `poll_runtime_pollClose` and `netpollready`.
 
 ghost use Rattle.std.specs.Prelude.{◌≡◌, [], slice_get, Some};
@@ -37,7 +37,7 @@ impl World {
         }
     }
 
-    /// The descriptor whose number is the first of the free ones is opened again.
+    /// Opens the descriptor with the first free number again.
     #[inline(always)]
     fn reopen<K: Keeper<WorldUndo>>(
         &mut self,
@@ -57,7 +57,7 @@ impl World {
         Ok(Answer::Number(descriptor))
     }
 
-    /// A descriptor that was never opened before is opened.
+    /// Opens a descriptor that was never opened before.
     #[inline(always)]
     fn open_new<K: Keeper<WorldUndo>>(
         &mut self,

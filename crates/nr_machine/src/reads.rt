@@ -1,4 +1,4 @@
-//! What steps read of a world, with the reasons where it isn't there.
+//! The lookups of steps, with the reasons for which they fail.
 
 ghost use Rattle.std.specs.Prelude.{◌≡◌};
 ghost use Rattle.nr_rev.specs.Step as step;
@@ -13,7 +13,7 @@ use nr_desc::Desc;
 use nr_rev::{Refusal, Side, Status};
 
 impl World {
-    /// The status of a goroutine that was made and isn't gone.
+    /// Returns the status of a goroutine that was made and hasn't ended.
     #[inline(always)]
     pub(crate) fn status_of(&self, goroutine: u32) -> Result<Status, Refusal>
         ensures { result ≡ step.status_of goroutine (meant self.now) }
@@ -24,7 +24,7 @@ impl World {
         }
     }
 
-    /// Whether a goroutine is idle.
+    /// Checks that a goroutine is idle.
     #[inline(always)]
     pub(crate) fn idle(&self, goroutine: u32) -> Result<(), Refusal>
         ensures { result ≡ step.idle goroutine (meant self.now) }
@@ -35,7 +35,7 @@ impl World {
         }
     }
 
-    /// A descriptor that was made.
+    /// Returns a descriptor that was made.
     #[inline(always)]
     #[tactic(auto, using(crate::proofs::RowsLemmas::row_at, crate::proofs::RowsLemmas::row_past))]
     pub(crate) fn desc_of(&self, descriptor: u32) -> Result<Desc, Refusal>
@@ -48,7 +48,7 @@ impl World {
             .ok_or(Refusal::NoSuchDescriptor)
     }
 
-    /// A descriptor that is open.
+    /// Returns a descriptor that is open.
     #[inline(always)]
     pub(crate) fn open_desc_of(&self, descriptor: u32) -> Result<Desc, Refusal>
         ensures { Gives (λ x. row_of x (timers_of self.now.core.timers.entries descriptor)) result
@@ -60,7 +60,7 @@ impl World {
         self.desc_of(descriptor)
     }
 
-    /// Whether a descriptor is one of the free ones.
+    /// Returns whether a descriptor is one of the free ones.
     #[inline(always)]
     pub(crate) fn is_free(&self, descriptor: u32) -> bool
         ensures { result ≡ is_free_number descriptor (meant self.now).free }
@@ -72,7 +72,7 @@ impl World {
             .any(|free| descriptor == *free)
     }
 
-    /// Whether a goroutine is inside a wait of the descriptor and side.
+    /// Returns whether a goroutine is inside a wait of the descriptor and side.
     #[inline(always)]
     pub(crate) fn is_waited(&self, descriptor: u32, side: Side) -> bool
         ensures { result ≡ is_waited descriptor side (meant self.now).goroutines }

@@ -1,4 +1,4 @@
-//! A packed world at rest.
+//! Snapshots of packed worlds.
 
 ghost use Rattle.std.specs.Prelude.{◌≡◌, ◌-◌, ◌≤◌, ◌++◌, length, take, drop, replicate, IfOk};
 ghost use Rattle.nr_sockbuf.specs.Sock.{never_opened};
@@ -11,15 +11,15 @@ use nr_sockbuf::{Sock, SockSnapshot};
 use std::alloc::Global;
 use std::marker::Model;
 
-/// A packed world at rest, seen in contracts as the world is: the core, and the bytes in the buffers. Of the sockets behind
-/// the last one that was opened it has the number alone.
+/// A snapshot of a packed world; contracts see it as they see the world: the core, and the bytes in the buffers. Of the
+/// sockets after the last opened one, it stores only the number.
 #[derive(Drop)]
 pub struct WorldSnapshot {
     pub(crate) alloc: Global,
     pub(crate) core: Core,
-    /// How many sockets there are.
+    /// The number of sockets.
     pub(crate) sockets: usize,
-    /// The first of them, up to the last one that was opened.
+    /// The sockets up to the last opened one.
     pub(crate) opened: Vec<SockSnapshot>,
 }
 
@@ -36,7 +36,7 @@ impl Model for WorldSnapshot {
     } };
 }
 
-/// How many sockets there are up to the last one that was opened.
+/// Returns the number of sockets up to the last opened one.
 pub(crate) fn count_opened(socks: &[Sock], buffer: u32) -> usize
     ensures within { result ≤ length socks.now }
     ensures behind { socks.now ≡ take result socks.now
@@ -49,8 +49,8 @@ pub(crate) fn count_opened(socks: &[Sock], buffer: u32) -> usize
     count
 }
 
-/// The buffers of these sockets at rest, whatever `last` holds. Where it holds the same bytes of a socket's side, they are
-/// shared.
+/// Returns snapshots of these sockets' buffers, whatever `last` holds. If `last` has the same bytes for a socket's
+/// side, they are shared.
 pub(crate) fn snapshots(
     alloc: Global,
     socks: &[Sock],
@@ -65,7 +65,7 @@ pub(crate) fn snapshots(
     Ok(snapshots)
 }
 
-/// So many sockets: first these, and behind them some that were never opened.
+/// Returns the buffers of a number of sockets: those of the snapshots first, and then sockets that were never opened.
 pub(crate) fn restored_socks(
     alloc: Global,
     opened: &[SockSnapshot],
@@ -87,7 +87,7 @@ pub(crate) fn restored_socks(
 }
 
 impl World {
-    /// The buffers of the first sockets become those at rest.
+    /// Restores the buffers of the first sockets from their snapshots.
     pub(crate) fn restore_opened(&mut self, opened: &[SockSnapshot])
         requires count { length opened.now ≤ length self.old.socks }
         requires limit { HaveLimit self.old.core.limits.buffer self.old.socks }
@@ -101,7 +101,7 @@ impl World {
         }
     }
 
-    /// The sockets from number `first` on become such as were never opened. Those that have no lock are that already.
+    /// Resets the sockets from number `first` on to ones that were never opened. Those without a lock are that already.
     pub(crate) fn reset_from(&mut self, first: usize)
         requires first { first ≤ length self.old.socks }
         requires locks { self.old.core.locks.room ≡ length self.old.socks }

@@ -1,4 +1,4 @@
-//! The steps of the clock and of timers: time goes on, a timer that is due goes off, a firing is run.
+//! The steps of the clock and of timers: the clock advances, a due timer goes off, a firing is run.
 
 ghost use Rattle.std.specs.Prelude.{◌∷◌, []};
 ghost use Rattle.nr_rev.specs.Step as step;
@@ -40,7 +40,7 @@ impl World {
         requires { IsWorld self.old }
         ensures { Makes K.holds way.new (step.pop (meant self.old)) (timers.Pop self.old.core.clock ∷ []) self.old result self.new }
     {
-        // A law, which does nothing: the heap's first entry is the least of all descriptors' timers.
+        // A law without effect: the heap's first entry is the least of all descriptors' timers.
         entries_are_the_descriptors();
         let now = self.core.clock;
         let (_, delta) = self.core.timers.apply(&TimersOp::Pop { now })?;

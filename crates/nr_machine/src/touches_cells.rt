@@ -1,4 +1,4 @@
-//! What a step touches, before it is made.
+//! The parts of a world that a step will touch.
 
 ghost use Rattle.std.specs.Prelude.{◌≡◌, ◌<◌, ◌≤◌, [], ◌∷◌, ◌++◌, length, slice_get};
 ghost use Rattle.nr_changes.specs.Touched.{descriptor_at, front_for, held_at, held_by, next_descriptor, released_by, socket_at, touched_by_firing};
@@ -10,10 +10,10 @@ use arrayvec::ArrayVec;
 use nr_changes::{MOST_TOUCHED, Touched, TouchesCells};
 use nr_rev::{Side, Status, Step, WaitWord};
 
-/// Goroutines by number.
+/// The numbers of goroutines.
 type Numbers = ArrayVec<u32, MOST_TOUCHED>;
 
-// A list of one goroutine.
+// Returns a list of one goroutine.
 fn one(goroutine: u32) -> Numbers
     ensures { result.items ≡ goroutine ∷ [] }
 {
@@ -22,7 +22,7 @@ fn one(goroutine: u32) -> Numbers
     numbers
 }
 
-// The goroutine that a word holds is put behind the others.
+// Appends the goroutine that a word holds, if it holds one.
 fn push_held(numbers: &mut Numbers, word: WaitWord)
     requires { length numbers.old.items < 3 }
     ensures { numbers.new.items ≡ numbers.old.items ++ held_by word }
@@ -33,7 +33,7 @@ fn push_held(numbers: &mut Numbers, word: WaitWord)
 }
 
 impl World {
-    // The socket at whose semaphore a goroutine is.
+    // Returns the socket that a goroutine's status names, if it is one of a lock or a semaphore.
     fn socket_at(&self, goroutine: u32) -> Option<u32>
         ensures { result ≡ socket_at goroutine (meant self.now) }
     {
@@ -46,7 +46,7 @@ impl World {
         }
     }
 
-    // The descriptor of whose wait a goroutine is inside.
+    // Returns the descriptor whose wait a goroutine is inside.
     fn descriptor_at(&self, goroutine: u32) -> Option<u32>
         ensures { result ≡ descriptor_at goroutine (meant self.now) }
     {
@@ -54,7 +54,7 @@ impl World {
         Some(descriptor)
     }
 
-    // The front of the queue that the next release of a goroutine with this status is for.
+    // Returns the front of the queue of the next semaphore that a goroutine with this status releases.
     fn front_for(&self, status: Status) -> Option<u32>
         requires { IsWorld self.now }
         ensures { result ≡ front_for status (meant self.now) }
@@ -69,7 +69,7 @@ impl World {
         self.core.goroutines.front_of(socket, side)
     }
 
-    // A goroutine, and the one that its release lets try again.
+    // Returns a goroutine, and the one that tries again after its release.
     fn with_released(&self, goroutine: u32) -> Numbers
         requires { IsWorld self.now }
         ensures { result.items ≡ goroutine ∷ released_by goroutine (meant self.now) }
@@ -83,7 +83,7 @@ impl World {
         numbers
     }
 
-    // The goroutines that the words of a descriptor hold are put behind another one.
+    // Appends the goroutines that the words of a descriptor hold.
     fn with_held(&self, mut numbers: Numbers, descriptor: u32) -> Numbers
         requires { length numbers.items ≤ 1 }
         ensures { result.items ≡ numbers.items ++ held_at descriptor (meant self.now) }
@@ -95,7 +95,7 @@ impl World {
         numbers
     }
 
-    // The number that the next descriptor opened gets.
+    // Returns the number of the next descriptor to be opened.
     fn next_descriptor(&self) -> u32
         requires { IsWorld self.now }
         ensures { result ≡ next_descriptor (meant self.now) }
@@ -106,7 +106,7 @@ impl World {
         }
     }
 
-    // What a firing touches.
+    // Returns what a firing touches.
     fn touched_by_firing(&self, place: u32) -> Touched
         ensures { result ≡ touched_by_firing
             (slice_get (meant self.now).firings place) (meant self.now) }

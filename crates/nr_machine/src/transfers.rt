@@ -1,4 +1,4 @@
-//! The steps that open sockets, and move bytes into their buffers and out of them.
+//! The steps that open sockets, and that move bytes into their buffers and out of them.
 
 ghost use Rattle.nr_machine.specs.Fits.{IsWorld};
 ghost use Rattle.nr_machine.specs.Auxiliary.Made.{MakesStep};
@@ -31,7 +31,7 @@ impl World {
         Ok(Answer::Number(opened as u32))
     }
 
-    /// What one socket's buffers do.
+    /// Applies a step to the buffers of one socket.
     #[inline(always)]
     pub(crate) fn transfer<K: Keeper<WorldUndo>>(
         &mut self,
@@ -55,7 +55,7 @@ impl World {
         sock.advance(step)
     }
 
-    /// What one socket's buffers do for a goroutine that has to be idle.
+    /// Applies a step to the buffers of one socket, by a goroutine that must be idle.
     #[inline(always)]
     pub(crate) fn transfer_of<K: Keeper<WorldUndo>>(
         &mut self,

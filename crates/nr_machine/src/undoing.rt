@@ -1,4 +1,4 @@
-//! Steps undone: what a step changed of the parts, from the last change to the first.
+//! Undoes steps: restores the parts that a step changed, from the last change to the first.
 
 ghost use Rattle.nr_machine.specs.Auxiliary.Changing.{DescBack, GoroutineBack, IfAny, LockBack, Then, TimersBack, WakeBack};
 ghost use Rattle.nr_machine.specs.Delta.{GiveBack, ObeyBack, OpenedBack, ParkBack, SockBack, TakeBack, UndoBack, WokenBack};
@@ -14,7 +14,7 @@ use nr_sockbuf::SockDelta;
 use nr_timers::TimersDelta;
 
 impl Core {
-    /// The status of a goroutine is as it was, where it changed at all.
+    /// Restores the status of a goroutine, if it changed.
     #[inline(always)]
     fn unmove(&mut self, moved: Option<GDelta>)
         requires { (old : Parts) × IfAny GoroutineBack moved self.old old }
@@ -25,7 +25,7 @@ impl Core {
         }
     }
 
-    /// A lock is as it was, and so is the status of the goroutine that had to do with it.
+    /// Restores a lock, and the status of the goroutine that used it.
     #[inline(always)]
     fn unlock_moved(&mut self, lock: LockUndo, moved: Option<GDelta>)
         requires { (old : Parts) × Then (IfAny GoroutineBack moved) (LockBack lock) self.old old }
@@ -35,7 +35,7 @@ impl Core {
         self.unlock(lock);
     }
 
-    /// There is one waiter less, where one parked.
+    /// Removes a waiter, if a goroutine parked.
     #[inline(always)]
     fn unpark(&mut self, parked: bool)
         requires { (old : Parts) × ParkBack parked self.old old }
@@ -46,7 +46,7 @@ impl Core {
         }
     }
 
-    /// A descriptor is as it was, and so is the goroutine inside its wait.
+    /// Restores a descriptor, and the goroutine inside its wait.
     #[inline(always)]
     fn unwait(&mut self, desc: DescUndo, moved: GDelta, parked: bool)
         requires { (old : Parts)
@@ -59,7 +59,7 @@ impl Core {
         self.undescribe(desc);
     }
 
-    /// The descriptor that was opened is the first of the free ones again.
+    /// Makes the opened descriptor the first free one again.
     #[inline(always)]
     fn free_again(&mut self, desc: DescUndo)
         requires { (old : Parts) × Then (DescBack desc) (TakeBack desc.descriptor) self.old old }
@@ -70,7 +70,7 @@ impl Core {
         self.free.insert(0, descriptor);
     }
 
-    /// The descriptor that was closed is open again.
+    /// Opens the closed descriptor again.
     #[inline(always)]
     fn unclose(&mut self, desc: DescUndo)
         ensures { Then GiveBack (DescBack desc) self.old self.new }
@@ -79,7 +79,7 @@ impl Core {
         self.undescribe(desc);
     }
 
-    /// The timer of a side is as it was, where it changed.
+    /// Restores the timer of a side, if it changed.
     #[inline(always)]
     pub(crate) fn unorder(&mut self, order: Option<TimersDelta>)
         requires { (old : Parts) × IfAny TimersBack order self.old old }
@@ -90,7 +90,7 @@ impl Core {
         }
     }
 
-    /// The timers of both sides are as they were, where they changed.
+    /// Restores the timers of both sides, if they changed.
     #[inline(always)]
     fn unobey(&mut self, orders: Sides<Option<TimersDelta>>)
         requires { (old : Parts) × ObeyBack orders self.old old }
@@ -100,7 +100,7 @@ impl Core {
         self.unorder(orders.read);
     }
 
-    /// Who was woken of a side is parked again, where somebody was.
+    /// Parks the goroutine of a side again, if one was woken.
     #[inline(always)]
     fn unwake_any(&mut self, woken: Option<u32>)
         requires { (old : Parts) × IfAny WakeBack woken self.old old }
@@ -111,7 +111,7 @@ impl Core {
         }
     }
 
-    /// The goroutines that were woken of both sides are parked again.
+    /// Parks the woken goroutines of both sides again.
     #[inline(always)]
     fn unwake_both(&mut self, woken: Sides<Option<u32>>)
         requires { (old : Parts) × WokenBack woken self.old old }
@@ -121,7 +121,7 @@ impl Core {
         self.unwake_any(woken.read);
     }
 
-    /// The descriptor, its timers and those whom it woke are as they were.
+    /// Restores the descriptor, its timers and the goroutines that it woke.
     #[inline(always)]
     fn unchange(
         &mut self,
@@ -141,7 +141,7 @@ impl Core {
 }
 
 impl World {
-    /// The buffers of a socket are as they were.
+    /// Restores the buffers of a socket.
     #[inline(always)]
     fn untransfer(&mut self, socket: usize, delta: &SockDelta)
         requires { (old : WorldParts) × SockBack socket delta.now self.old old }
@@ -151,7 +151,7 @@ impl World {
         sock.lead_back(&delta.undo);
     }
 
-    /// The socket that was opened last isn't.
+    /// Removes the socket that was opened last.
     #[inline(always)]
     fn unopen(&mut self, delta: &SockDelta)
         requires { (old : WorldParts) × OpenedBack delta.now self.old old }
@@ -162,7 +162,7 @@ impl World {
         self.untransfer(socket, delta);
     }
 
-    /// Leads back over the step whose undo this is, and leaves the undo as it is.
+    /// Undoes the step that this undo is for, and leaves the undo as it is.
     #[inline(always)]
     pub(crate) fn lead_back(&mut self, undo: &WorldUndo)
         requires { (old : WorldParts) × UndoBack undo.now self.old old }

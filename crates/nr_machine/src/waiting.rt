@@ -169,7 +169,7 @@ impl World {
         Ok(self.go_on(Answer::Code(code), goroutine, from, to, way))
     }
 
-    /// An operation on the word of a wait, of the goroutine inside it, which goes on to where that leads.
+    /// Applies an operation to the word of a wait, by the goroutine inside it, and changes its status accordingly.
     #[inline(always)]
     fn wait<K: Keeper<WorldUndo>>(
         &mut self,
@@ -198,7 +198,7 @@ impl World {
         Ok(answer)
     }
 
-    /// A goroutine goes on inside a wait or out of it, and nothing else changes.
+    /// Changes the status of a goroutine inside a wait, or lets it leave the wait, and changes nothing else.
     #[inline(always)]
     fn go_on<K: Keeper<WorldUndo>>(
         &mut self,
@@ -222,7 +222,7 @@ impl World {
     }
 }
 
-/// Where a goroutine is after an operation on the word of its wait, by the answer.
+/// Returns the status of a goroutine after an operation on the word of its wait, by the answer.
 #[inline(always)]
 fn status_after(descriptor: u32, op: &DescOp, answer: Answer) -> Status
     ensures { result ≡ status_after descriptor op.now answer }
@@ -256,7 +256,7 @@ fn status_after(descriptor: u32, op: &DescOp, answer: Answer) -> Status
     }
 }
 
-/// Whether it is parked then.
+/// Returns whether the goroutine is parked then.
 #[inline(always)]
 fn parks(op: &DescOp, answer: Answer) -> bool
     ensures { result ≡ parks op.now answer }

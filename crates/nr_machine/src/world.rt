@@ -9,8 +9,8 @@ use nr_timers::Timers;
 use std::alloc::Global;
 use std::marker::Model;
 
-/// A world in five packed parts, all room of which is made at once. Seen in contracts as the core, and the buffers of all
-/// sockets below the limit; `meant` says which world that is.
+/// A world in five packed parts, which takes all its memory when it is made. Contracts see it as the core, and the
+/// buffers of all sockets below the limit; `meant` gives the world that it represents.
 #[derive(Drop)]
 pub struct World {
     pub(crate) alloc: Global,
@@ -27,14 +27,14 @@ impl Model for World {
 }
 
 impl World {
-    /// The goroutines with the semaphores' queues, to be read: who is before whom.
+    /// Returns the goroutines with the semaphores' queues, for reading: their order.
     pub fn goroutines(&self) -> &GTable
         ensures { result.now ≡ self.now.core.goroutines }
     {
         &self.core.goroutines
     }
 
-    /// The timers and firings, to be read: which entry is at which place of the heap.
+    /// Returns the timers and firings, for reading: the place of each entry in the heap.
     pub fn timers(&self) -> &Timers
         ensures { result.now ≡ self.now.core.timers }
     {

@@ -1,4 +1,4 @@
-//! The core: all parts of a packed world but the buffers of its sockets.
+//! The core: all parts of a packed world except the buffers of its sockets.
 
 use nr_desc::Desc;
 use nr_gsema::GTable;
@@ -10,20 +10,20 @@ use std::alloc::Global;
 /// Goroutines, locks, descriptors, timers and counts. `changing` has a method for each change that can be undone.
 #[derive(Drop)]
 pub(crate) struct Core {
-    /// How many there may be of each.
+    /// The most of each.
     pub(crate) limits: Limits,
     /// The statuses of goroutines, and the semaphores of all sockets below the limit.
     pub(crate) goroutines: GTable,
-    /// The lock of each socket that was opened, by its number.
+    /// The lock of each opened socket, by its number.
     pub(crate) locks: RoomedList<LockWord>,
     /// Each descriptor that was ever opened, by its number.
     pub(crate) descriptors: RoomedList<Desc>,
-    /// The numbers of closed descriptors, the one closed last first.
+    /// The numbers of closed descriptors, the last closed first.
     pub(crate) free: RoomedList<u32>,
     /// Armed timers and firings.
     pub(crate) timers: Timers,
-    /// Now.
+    /// The current time.
     pub(crate) clock: i64,
-    /// How many wait words hold a goroutine.
+    /// The number of wait words that hold a goroutine.
     pub(crate) waiters: u64,
 }

@@ -1,4 +1,4 @@
-//! Packed worlds made, copied and read.
+//! Makes, copies and reads packed worlds.
 
 ghost use Rattle.std.specs.Prelude.{◌≡◌, ◌<◌, IfOk, OnErr, length, replicate};
 ghost use Rattle.nr_rev.specs.Cell.{bytes_of, queue_of};
@@ -25,7 +25,7 @@ use nr_timers::Timers;
 use std::alloc::Global;
 
 impl Core {
-    /// The core before the first step: goroutine 0 is idle, and there is nothing else.
+    /// Makes the core before the first step: goroutine 0 is idle, and nothing else exists.
     fn with_room(alloc: Global, limits: Limits) -> Result<Core, Memory>
         requires { AreInRange limits }
         ensures fits { IfOk result CoreFits }
@@ -52,7 +52,7 @@ impl Core {
         })
     }
 
-    /// An equal one, in room of its own.
+    /// Returns an equal core with memory of its own.
     fn try_copy(&self, alloc: Global) -> Result<Core, Memory>
         ensures { IfOk result (λ core. core ≡ self.now) }
     {
@@ -68,7 +68,7 @@ impl Core {
         })
     }
 
-    /// Becomes an equal one of another with the same limits, in the room that it has. It takes no memory.
+    /// Becomes equal to another core with the same limits, within its own memory. It takes no memory.
     fn copy_from(&mut self, other: &Core)
         requires fits { CoreFits self.old }
         requires other { CoreFits other.now }
@@ -85,7 +85,7 @@ impl Core {
     }
 }
 
-/// The buffers of so many sockets, none of which is opened.
+/// Returns the buffers of this number of sockets, none of which is open.
 fn closed_socks(alloc: Global, sockets: u32, buffer: u32) -> Result<Vec<Sock>, Memory>
     ensures { IfOk result (λ socks. socks.items ≡ replicate sockets (never_opened buffer)) }
 {
@@ -96,7 +96,7 @@ fn closed_socks(alloc: Global, sockets: u32, buffer: u32) -> Result<Vec<Sock>, M
     Ok(socks)
 }
 
-/// Equal buffers, in room of their own.
+/// Returns equal buffers with memory of their own.
 fn copied_socks(alloc: Global, socks: &[Sock]) -> Result<Vec<Sock>, Memory>
     ensures { IfOk result (λ copies. copies.items ≡ socks.now) }
 {
@@ -108,7 +108,7 @@ fn copied_socks(alloc: Global, socks: &[Sock]) -> Result<Vec<Sock>, Memory>
 }
 
 impl World {
-    /// Those queued, from the front to the back. Where nobody is, no memory is taken.
+    /// Returns the queued goroutines, from front to back. It takes no memory if the queue is empty.
     fn queued(&self, socket: u32, side: Side) -> Result<Vec<u32>, Memory>
         ensures ok { IfOk result (λ items. items.items ≡ queue_at socket side self.now.core.goroutines) }
         ensures some { OnErr result (0 < length (queue_at socket side self.now.core.goroutines)) }

@@ -1,4 +1,4 @@
--- Beside `Changing`: what contracts and proofs cite, and no law of THEOREM.md rests on.
+-- Definitions that contracts and proofs cite beside `Changing`. No law of THEOREM.md rests on them.
 use Rattle.std.specs.Prelude.{◌≡◌, ℕ, ◌+◌, ◌-◌, ◌^◌, ◌<◌, ◌≤◌, true, length, slice_get, slice_set, Option, Some, None, Result}
 use Rattle.nr_rev.specs.declared.descriptor.Descriptor.{Descriptor}
 use Rattle.nr_rev.specs.declared.lock.Lock.{Lock}
@@ -45,7 +45,7 @@ with_descriptor d x core =
     record core
     { descriptors = record core.descriptors { items = slice_set core.descriptors.items d x } }
 
--- the core with one waiter less, who goes on from d's side
+-- the core with one waiter less, who continues from d's side
 abbrev pub woken : ℕ → ℕ → Side → Core → Core
 woken g d side core = record (with_status g (Swapping d side) core) { waiters = core.waiters - 1 }
 
@@ -53,9 +53,9 @@ woken g d side core = record (with_status g (Swapping d side) core) { waiters = 
 abbrev pub parked : ℕ → ℕ → Side → Core → Core
 parked g d side core = record (with_status g (Parked d side) core) { waiters = core.waiters + 1 }
 
--- ---- the way back
+-- ---- undoing
 
--- one way back, and then another
+-- undoes one change, and then another
 abbrev pub Then : {S : Type 0} → (S → S → Type 0) → (S → S → Type 0) → S → S → Type 0
 Then {S} first next new old = (mid : S) × first new mid × next mid old
 
@@ -63,31 +63,31 @@ Then {S} first next new old = (mid : S) × first new mid × next mid old
 abbrev pub Same : Core → Core → Type 0
 Same new old = old ≡ new
 
--- back over what there was, if there was any
+-- undoes a change, if there was one
 abbrev pub IfAny : {A : Type 0} → (A → Core → Core → Type 0) → Option A → Core → Core → Type 0
 IfAny back None = Same
 IfAny back (Some a) = back a
 
--- back over a change of goroutines and semaphores
+-- undoes a change of goroutines and semaphores
 abbrev pub GoroutineBack : GDelta → Core → Core → Type 0
 GoroutineBack delta new old =
     goroutine.LeadsBack delta new.goroutines old.goroutines
     × (old ≡ record new { goroutines = old.goroutines })
 
--- back over a change of a lock
+-- undoes a change of a lock
 abbrev pub LockBack : LockUndo → Core → Core → Type 0
 LockBack undo new old = old ≡ with_lock undo.socket undo.before.before new
 
--- back over a change of a descriptor
+-- undoes a change of a descriptor
 abbrev pub DescBack : DescUndo → Core → Core → Type 0
 DescBack undo new old = old ≡ with_descriptor undo.descriptor undo.before.before new
 
--- back over a change of timers
+-- undoes a change of timers
 abbrev pub TimersBack : TimersDelta → Core → Core → Type 0
 TimersBack delta new old =
     timers.TimersBack delta new.timers old.timers × (old ≡ record new { timers = old.timers })
 
--- back over a wake: who goes on from some side was parked there
+-- undoes a wake: a goroutine that continues from a side was parked there
 pub record WakeBack (g : ℕ) (new old : Core) : Type 0 where
   pub d : ℕ
   pub side : Side
@@ -96,9 +96,9 @@ pub record WakeBack (g : ℕ) (new old : Core) : Type 0 where
   pub few : new.waiters + 1 < 2 ^ 64
   pub rest : old ≡ parked g d side new
 
--- ---- what operations come to
+-- ---- the results of operations
 
--- socket s's lock was one, and is another by the operation
+-- socket s had the first lock, and has the second after the operation
 pub record Locks (old : Core) (s : ℕ) (op : LockOp) (before after : Lock) (answer : LockAnswer)
     (undo : LockUndo) (new : Core) : Type 0 where
   pub there : slice_get old.locks.items s ≡ Some before
@@ -107,17 +107,17 @@ pub record Locks (old : Core) (s : ℕ) (op : LockOp) (before after : Lock) (ans
   pub fits : LockFits after
   pub back : LockBack undo new old
 
--- some lock was, and some is
+-- socket s had some lock, and has another
 abbrev pub LocksSome : Core → ℕ → LockOp → LockAnswer × LockUndo → Core → Type 0
 LocksSome old s op (answer, undo) new =
     (before : Lock) × (after : Lock) × Locks old s op before after answer undo new
 
--- what the operation comes to: reason 4 where there is no such lock
+-- the outcome of the operation; reason 4 if the socket has no lock
 abbrev pub lock_outcome : ℕ → LockOp → Core → Result LockOutcome Refusal
 lock_outcome s op core =
     found_or (slice_get core.locks.items s) NoSuchSocket >>= λ lock. lock_op.outcome lock op
 
--- descriptor d was one, and is another by the operation
+-- descriptor d was the first, and is the second after the operation
 pub record Describes (old : Core) (d : ℕ) (op : DescOp) (before after : Descriptor)
     (answer : DescAnswer) (undo : DescUndo) (new : Core) : Type 0 where
   pub there : slice_get old.descriptors.items d ≡ Some before
@@ -126,20 +126,20 @@ pub record Describes (old : Core) (d : ℕ) (op : DescOp) (before after : Descri
   pub fits : DescFits after
   pub back : DescBack undo new old
 
--- some descriptor was, and some is
+-- descriptor d was one, and is another
 abbrev pub DescribesSome : Core → ℕ → DescOp → DescAnswer × DescUndo → Core → Type 0
 DescribesSome old d op (answer, undo) new =
     (before : Descriptor) × (after : Descriptor)
     × Describes old d op before after answer undo new
 
--- goroutine g goes on to a status, and what leads back is light
+-- goroutine g moves to a status, and the delta is light
 pub record Moves (old : Core) (g : ℕ) (to : Status) (delta : GDelta) (new : Core) : Type 0 where
   pub rest : new ≡ with_status g to old
   pub queued : IsQueuedUp new.goroutines
   pub back : GoroutineBack delta new old
   pub light : goroutine.delta_weight delta ≤ 6
 
--- goroutine g goes to a status, or stays where it has that one
+-- goroutine g moves to a status, or has it already
 pub record MovesOn (old : Core) (g : ℕ) (to : Status) (delta : Option GDelta) (new : Core) : Type 0
   where
     pub rest : new ≡ with_status g to old
@@ -147,7 +147,7 @@ pub record MovesOn (old : Core) (g : ℕ) (to : Status) (delta : Option GDelta) 
     pub back : IfAny GoroutineBack delta new old
     pub light : option_weight goroutine.delta_weight delta ≤ 7
 
--- goroutine g has this status, and may have that one
+-- goroutine g has the first status, and may move to the second
 pub record CanMove (core : Core) (g : ℕ) (from to : Status) : Type 0 where
   pub there : slice_get core.goroutines.goroutines g ≡ Some from
   pub from_movable : step.is_movable from ≡ true

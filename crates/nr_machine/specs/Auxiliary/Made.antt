@@ -1,4 +1,4 @@
--- Beside `Made`: what contracts and proofs cite, and no law of THEOREM.md rests on.
+-- Definitions that contracts and proofs cite beside `Made`. No law of THEOREM.md rests on them.
 use Rattle.std.specs.Prelude.{◌≡◌, ℕ, ◌+◌, ◌/◌, ◌≤◌, Bool, true, List, Result, Ok, Err}
 use Rattle.nr_rev.specs.declared.answer.Answer.{Answer}
 use Rattle.nr_rev.specs.declared.refusal.Refusal.{Refusal}
@@ -16,34 +16,34 @@ use Rattle.nr_machine.specs.Fits.{PartsFit}
 use Rattle.nr_machine.specs.World.{WorldParts, meant}
 use Rattle.nr_machine.specs.Made.{TakesMemory, parts_reason}
 
--- The new parts mean the definition's next world and still fit together. The timers are exactly
--- what the asked operations leave.
+-- The new parts represent the definition's next world and still fit together. The timers are
+-- exactly those that the requested operations make.
 pub record Advanced (due : Outcome) (asked : List TimersOp) (old : WorldParts) (answer : Answer)
     (new : WorldParts) : Type 0 where
   pub leads : due ≡ Ok (answer, meant new)
   pub parts : PartsFit new
   pub timers : TimersMade asked old.core.timers new.core.timers
 
--- an undo leads back from the new parts to the old ones, and holds at most so many words
+-- true if an undo leads from the new parts to the old ones, and holds at most this many words
 abbrev pub LeadsBackWithin : ℕ → WorldParts → WorldParts → WorldUndo → Type 0
 LeadsBackWithin most new old undo = UndoBack undo new old × (undo_weight undo ≤ most)
 
--- the new parts are the definition's, and the undo leads back
+-- true if the new parts are the definition's, and the undo leads back
 abbrev pub Made : Outcome → List TimersOp → ℕ → WorldParts → Answer → WorldUndo → WorldParts
     → Type 0
 Made due asked most old answer undo new =
     Advanced due asked old answer new × LeadsBackWithin most new old undo
 
--- what a step comes to is made, with an undo that the place holds if it keeps any; or the step has
--- the machine's reason and changes nothing
+-- true if a step's outcome is made, with an undo in the place if the place keeps any; or if the
+-- step has the machine's reason and changes nothing
 abbrev pub Makes : {Place : Type 0} → (Place → WorldUndo → Type 0) → Place → Outcome
     → List TimersOp → WorldParts → Result Answer Refusal → WorldParts → Type 0
 Makes {Place} holds place due asked old (Ok answer) new =
     (undo : WorldUndo) × holds place undo × Made due asked MOST_WORDS old answer undo new
 Makes {Place} holds place due asked old (Err e) new = (due ≡ Err e) × (new ≡ old)
 
--- A whole step is made, and the place holds an undo of it where it keeps one. Or the step has its
--- reason; or it is out of memory, where bytes are to be kept.
+-- True if a whole step is made, with an undo in the place if the place keeps any; or if the step
+-- has its reason; or if memory ran out for bytes to keep.
 abbrev pub MakesStep : {Place : Type 0} → Bool → (Place → WorldUndo → Type 0) → Place → Step
     → WorldParts → Result Answer Refusal → WorldParts → Type 0
 MakesStep {Place} keeps holds place step old (Ok answer) new =

@@ -8,7 +8,7 @@ use Rattle.nr_machine.specs.World.{WorldParts}
 use Rattle.nr_machine.proofs.SnapshotLemmas.{AreReset, parts_are, reset-all, reset-next}
 use Rattle.nr_machine.proofs.world.World.reset_from.Goals as goal
 
--- one socket more is closed
+-- one more socket is closed
 pub loop-socket-preserved : goal.loop-socket-preserved
 loop-socket-preserved c =
     let i = c.loop-socket.invariant in
@@ -29,7 +29,7 @@ loop-socket-preserved c =
           (reset-next before.core.limits.buffer c.args.first socket (length before.core.locks.items) socks old there i.reset);
     }
 
--- all from the first one on are closed
+-- all sockets from the first one on are closed
 pub returns : goal.returns
 returns c =
     let i = c.loop-socket.invariant in

@@ -5,7 +5,7 @@ use Rattle.nr_machine.specs.World.{WorldParts}
 use Rattle.nr_machine.proofs.SnapshotLemmas.{same_at}
 use Rattle.nr_machine.proofs.world.World.restore_opened.Goals as goal
 
--- the socket is as it was, and has the limit of the one at rest
+-- the socket is that of the snapshot, and has its limit
 pub restore-requires : goal.restore-requires
 restore-requires c =
     let i = c.loop-socket.invariant in

@@ -8,7 +8,7 @@ use Rattle.nr_machine.proofs.worlds.WorldWorlds.restore.Goals as goal
 pub restore_opened-requires-clause-limit : goal.restore_opened-requires-clause-limit
 restore_opened-requires-clause-limit c = λ s sock at. (c.requires.well_formed.parts.socks s sock at).limit
 
--- those at rest are sockets of the snapshot's world, which has the same limits
+-- the snapshot's sockets are sockets of its world, which has the same limits
 pub restore_opened-requires-clause-kept : goal.restore_opened-requires-clause-kept
 restore_opened-requires-clause-kept c =
     let inside = c.snapshot.inside in
@@ -35,7 +35,7 @@ reset_from-requires-clause-limit c =
     subst (λ (m : WorldParts). HaveLimit m.core.limits.buffer m.socks) (sym c.restore_opened.ensures)
     (written_limit c.args.self.now c.args.snapshot.now c.deref.result.now rest c.requires.well_formed.parts c.requires.kept.parts of)
 
--- behind those at rest the sockets without a lock are closed
+-- after the snapshot's sockets, those without a lock are closed
 pub reset_from-requires-clause-closed : goal.reset_from-requires-clause-closed
 reset_from-requires-clause-closed c =
     let inside = c.snapshot.inside in
