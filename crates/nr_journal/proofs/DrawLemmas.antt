@@ -1,4 +1,4 @@
--- A seat is cut in two, and draws a tag.
+-- A seat is split in two, and takes a tag.
 use Rattle.std.proofs.Common.{◌≡◌, ◌≢◌, ℕ, zero, ◌+◌, ◌<◌, List, [], ◌∷◌, ◌++◌, get_or, set, refl, sym, ap, ◌∙◌, subst, ⊎_elim, arith}
 use mathlib.Core.Option.{some, none}
 use lib.ListN.{get_elem?}
@@ -18,7 +18,7 @@ use Rattle.nr_journal.specs.Auxiliary.Rule.{IsDrawn, AreDrawn, AreFew, AreTaken,
 use Rattle.nr_journal.specs.Step.{Seat, Draws, DrawsFrom}
 use Rattle.nr_journal.proofs.RuleLemmas.{each_set, apart_set, taken_set, set_there, Rule, Picks, allowed, snoc_view, drawn_by}
 
--- a seat outside is cut in two
+-- a seat is split in two
 pub twins : (purpose : Purpose) (id : ℕ) (tried passes : ℕ) → Splits (Rule purpose) id (Outside tried passes) (Outside tried passes) (Outside tried passes)
 twins purpose id tried passes s k at =
     let old : set s.views id (Outside tried passes) ≡ s.views = set_again s.views id (Outside tried passes) at in
@@ -38,7 +38,7 @@ bit_drawn tags t = bit_at_or tags (2 ^ t) t ∙ one_max (bit_at tags t) (bit_at 
     one_max : (y x : ℕ) → x ≡ 1 → y < 2 → max y x ≡ 1
     one_max y x e l = omega arith
 
--- a bit that is set now and isn't the one that was drawn was set before
+-- a bit that is set now and isn't the one just taken was set before
 pub was_drawn : (tags t tag : ℕ) → tag ≢ t → IsDrawn (bit_or tags (2 ^ t)) tag → IsDrawn tags tag
 was_drawn tags t tag other drawn = let o = bit_at_or tags (2 ^ t) tag in let z = bit_at-pow_other t tag other in
     let x : ℕ = bit_at tags tag in let y : ℕ = bit_at (2 ^ t) tag in let z' : y ≡ 0 = z in let m : max x y ≡ 1 = sym o ∙ drawn in of_max x y z' m
@@ -98,7 +98,7 @@ module _ (purpose : Purpose) where
       up : (j : ℕ) → IsDrawn k.tags j → IsDrawn (bit_or k.tags (2 ^ tried)) j
       up j d = bit_kept k.tags (2 ^ tried) j d
 
-      -- the own bit and all below
+      -- the pass's own bit and all below
       all_up : AreDrawn (bit_or k.tags (2 ^ tried)) (tried + 1)
       all_up tag below = dite (ℕ_discrete tag tried)
           (λ (same : tag ≡ tried). subst (IsDrawn (bit_or k.tags (2 ^ tried))) (sym same) (bit_drawn k.tags tried))

@@ -1,4 +1,4 @@
--- A journal that draws all tags at once, and gives the passes that are left.
+-- A journal that makes all passes at once, and hands them out.
 use Rattle.std.proofs.Common.{◌≡◌, ◌≢◌, ◌⊎◌, inl, inr, true, ℕ, zero, suc, ◌+◌, ◌<◌, ◌≤◌, List, [], ◌∷◌, ◌++◌, length, replicate, set, add-one, refl, sym, ap, ◌∙◌, subst, ⊎_elim, arith}
 use Rattle.std.proofs.lemmas.List.Elements.{All-nil, All-weaker}
 use Rattle.std.proofs.lemmas.Nat.Bits.{bit_at-zero}
@@ -53,7 +53,7 @@ module _ (purpose : Purpose) (words : List ℕ) (views : List View) (k : Kept pu
     (k.log, refl),
   )
 
-  -- nobody else has the tag that is given
+  -- nothing else has the tag that is handed out
   nobody : (j : ℕ) (v : View) (tag : ℕ) → get_elem? others j ≡ some v → HasTag v tag → next ≡ tag → ⊥
   nobody j v tag e has is = ⊎_elim
       (λ (t : (j ≡ id) × (left ≡ v)). let own : HasTag left tag = subst (λ (u : View). HasTag u tag) (sym t.1) has in (let later : next + 1 ≤ tag = own.0 in omega (arith, later, is)))
@@ -127,7 +127,7 @@ begins_drawn words passes tags row is drawn few = record {
     one_tag zero (suc j) tag v w a b h i = absurd (some-ne-none w (sym b))
     one_tag (suc i) j tag v w a b h l = absurd (some-ne-none v (sym a))
 
--- no tag is drawn
+-- no tag is taken
 pub none_drawn : (tag : ℕ) → IsDrawn 0 tag → ⊥
 none_drawn tag drawn = let z : zero ≡ 1 = sym (bit_at-zero tag) ∙ drawn in omega arith
 

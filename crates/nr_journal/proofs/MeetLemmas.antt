@@ -16,14 +16,14 @@ use Rattle.nr_journal.specs.Step.{Seat, Compares, ComparesFrom}
 use Rattle.nr_journal.proofs.RowLemmas.{All-left}
 use Rattle.nr_journal.proofs.RuleLemmas.{are_alike, kept_view, Rule, allowed, snoc_view, stays}
 
--- a note of what a thread inside has seen
+-- a note of what a pass has read
 pub notes : (purpose : Purpose) (id : ℕ) (pass_state : PassState) → Splits (Rule purpose) id (Within pass_state) (Within pass_state) (Note pass_state.seen)
 notes purpose id pass_state s k at =
     let old : set s.views id (Within pass_state) ≡ s.views = set_again s.views id (Within pass_state) at in
     let c = (k.each_view id (Within pass_state) at).2 in
     subst (λ (vs : List View). Kept purpose s.words (vs ++ Note pass_state.seen ∷ [])) (sym old) (snoc_view purpose s.words s.views (Note pass_state.seen) k (c.0, c.1) (λ tag has. has))
 
--- a thread inside takes in a note
+-- a pass takes in a note
 pub learns : (purpose : Purpose) (id other : ℕ) (pass_state : PassState) (learned : List ℕ) → Joins (Rule purpose) id (Within pass_state) other (Note learned) (Within (informed pass_state learned)) Spent
 learns purpose id other pass_state learned s k at apart there =
     let theirs : get_elem? s.views other ≡ some (Note learned) = sym (set_else s.views id other (Within (informed pass_state learned)) apart) ∙ there in
@@ -35,7 +35,7 @@ learns purpose id other pass_state learned s k at apart there =
     ((λ tag has. absurd has), (λ tag has. absurd has))
 
 module _ (purpose : Purpose) where
-  -- each word that was seen has the tag of one of the passes that there may be
+  -- each word that was read has the tag of one of the passes that there may be
   pub all_below : (words : List ℕ) (views : List View) (k : Kept purpose words views) (pass_state : PassState) → pass_state.passes ≡ purpose.passes → StartsWith k.log pass_state.seen
       → All (HasTagBelow pass_state.passes) pass_state.seen
   all_below words views k pass_state most begins =

@@ -1,4 +1,4 @@
--- What keeps the rule, whichever step is made.
+-- The rule holds after each step.
 use Rattle.std.proofs.Common.{false, ◌≡◌, ◌≢◌, ℕ, zero, suc, ◌+◌, ◌%◌, ◌<◌, ◌≤◌, List, [], ◌∷◌, ◌++◌, length, get_or, set, replicate, refl, sym, ap, ◌∙◌, subst, ⊎_elim, arith, add-one, append_assoc}
 use Rattle.std.proofs.lemmas.List.{set-get_or, append-nil}
 use Rattle.std.specs.List.{All}
@@ -27,7 +27,7 @@ each_set P views id w others mine j v e = ⊎_elim
     (λ (t : (j ≢ id) × (get_elem? views j ≡ some v)). others j v t.0 t.1)
     (at_set views id j w v e)
 
--- what holds of a view after a change of one held of a view there before
+-- a property of a view after a change of one is one of a view before
 pub had : (P : View → Type 0) (views : List View) (id : ℕ) (v w : View) → get_elem? views id ≡ some v → (P w → P v)
     → (j : ℕ) (u : View) → get_elem? (set views id w) j ≡ some u → P u → (t : View) × (get_elem? views j ≡ some t) × P t
 had P views id v w at same j u e holds = ⊎_elim
@@ -41,7 +41,7 @@ apart_set views id v w at same apart i j tag a b ea eb ha hb =
     let y = had (λ u. HasTag u tag) views id v w at (same tag) j b eb hb in
     apart i j tag x.0 y.0 x.1 y.1 x.2 y.2
 
--- two views have the same tag, or none
+-- true if two views have the same tag, or none
 abbrev pub AreAlike : View → View → Type 0
 AreAlike v w = ((tag : ℕ) → HasTag w tag → HasTag v tag) × ((tag : ℕ) → HasTag v tag → HasTag w tag)
 
@@ -53,7 +53,7 @@ set_there [] i v w e = absurd (some-ne-none v (sym e))
 set_there (x ∷ xs) zero v w e = refl
 set_there (x ∷ xs) (suc i) v w e = set_there xs i v w e
 
--- who has taken a tag still has it after a change of one view
+-- a view that has a tag still has it after a change of one view
 pub taken_set : (tags : ℕ) (views : List View) (id : ℕ) (v w : View) → get_elem? views id ≡ some v → ((tag : ℕ) → HasTag v tag → HasTag w tag) → AreTaken tags views → AreTaken tags (set views id w)
 taken_set tags views id v w at has_it taken tag drawn = let o = taken tag drawn in dite (ℕ_discrete o.0 id)
     (λ (same : o.0 ≡ id).
@@ -64,7 +64,7 @@ taken_set tags views id v w at has_it taken tag drawn = let o = taken tag drawn 
 pub is_word : (v : ℕ) → HasOpcode v → v ≡ 0 → ⊥
 is_word v code z = let e : v % 256 ≡ 0 = ap (λ (n : ℕ). n % 256) z in let p : 1 ≤ v % 256 = code.0 in omega arith
 
--- who has a tag has drawn it
+-- the bit of a view's tag is set
 pub drawn_by : (most tags : ℕ) (log : List ℕ) (v : View) (tag : ℕ) → HasTag v tag → Fits most tags log v → IsDrawn tags tag
 drawn_by most tags log (Outside tried passes) tag has fits = absurd has
 drawn_by most tags log (Keeping next passes) tag has fits = fits.1 tag has.1

@@ -1,2 +1,2 @@
--- Auxiliary definitions. Each file goes on with that of its name, which has what the laws rest on.
+-- Auxiliary definitions. Each file continues the file of its name, which holds what laws rest on.
 pub mod Rule

@@ -1,4 +1,4 @@
--- What the rule comes to.
+-- Consequences of the rule.
 use Rattle.std.specs.Prelude.{◌≡◌, ℕ, ◌+◌, ◌<◌, List, [], ◌∷◌, length, slice_index}
 use mathlib.Core.Option.{some}
 use lib.ListN.{get_elem?}
@@ -12,21 +12,21 @@ use Rattle.nr_journal.specs.declared.view.View.TheVariants.{Within}
 use Rattle.nr_journal.specs.Rule.{tag_of}
 use Rattle.nr_journal.specs.Auxiliary.Rule.{Kept, first_view}
 
--- where the word behind all that a pass has seen is 0, the log is exactly what it has seen
+-- if the word after all that a pass has read is 0, the log is exactly what it has read
 abbrev pub EmptyLookSeesAll : Type 0
 EmptyLookSeesAll = (purpose : Purpose) (id : ℕ) (pass_state : PassState) (words : List ℕ)
     (views : List View) → (k : Kept purpose words views)
     → get_elem? views id ≡ some (Within pass_state)
     → slice_index words (length pass_state.seen + 1) ≡ 0 → k.log ≡ pass_state.seen
 
--- the only pass that a journal may have has seen all words
+-- the only pass that a journal may have has read all words
 abbrev pub AnOnlyPassSeesAll : Type 0
 AnOnlyPassSeesAll = (purpose : Purpose) (id : ℕ) (pass_state : PassState) (words : List ℕ)
     (views : List View) → (k : Kept purpose words views)
     → get_elem? views id ≡ some (Within pass_state)
     → pass_state.passes ≡ 1 → k.log ≡ pass_state.seen
 
--- each word of the log is, at its index, among the words that the pass with its tag has seen
+-- each word of the log is, at its index, among the words that the pass with its tag has read
 abbrev pub EachWordHasItsPass : Type 0
 EachWordHasItsPass = (purpose : Purpose) (words : List ℕ) (views : List View)
     → (k : Kept purpose words views) → (place : ℕ) → place < length k.log
@@ -34,8 +34,8 @@ EachWordHasItsPass = (purpose : Purpose) (words : List ℕ) (views : List View)
     × (pass_state.tag ≡ tag_of (slice_index k.log place)) × (place < length pass_state.seen)
     × (slice_index pass_state.seen place ≡ slice_index k.log place)
 
--- A pass is what it knows, an index and a tag, a seat what it knows and two numbers of tags, and a
--- journal its table and a number of words. What is known takes no bytes.
+-- A pass consists of its knowledge, an index and a tag; a seat of its knowledge and two numbers of
+-- tags; and a journal of its table and a number of words. Knowledge takes no bytes.
 pub record NothingIsHidden : Type 0 where
   pub pass : (one other : pass_parts.Inside)
       → one.seat ≡ other.seat → one.place ≡ other.place → one.tag ≡ other.tag → one ≡ other
@@ -45,7 +45,7 @@ pub record NothingIsHidden : Type 0 where
   pub journal : (one other : journal_parts.Inside)
       → one.table ≡ other.table → one.words ≡ other.words → one ≡ other
 
--- while nothing is known but what is known at first, no word is written
+-- while all knowledge is the first knowledge, no word is written
 abbrev pub BeginsEmpty : Type 0
 BeginsEmpty = (purpose : Purpose) (words : List ℕ)
     → (k : Kept purpose words (first_view purpose ∷ [])) → k.log ≡ []

@@ -1,4 +1,4 @@
--- What a contract sees of a pass, and what a call does to it.
+-- The abstract value of a pass, and the effects of calls on it.
 use Rattle.std.specs.Prelude.{◌≡◌, ◌≢◌, ◌<◌, ◌≤◌, ◌+◌, ◌⊎◌, ℕ, List, [], ◌++◌, length}
 use Rattle.std.specs.List.{All}
 use Rattle.atomic_table.specs.Seated.{TableId}
@@ -10,12 +10,12 @@ use Rattle.nr_journal.specs.declared.pass.Offered.TheVariants.{Placed, Lost, Ful
 use Rattle.nr_journal.specs.Rule.{IsOthers, StartsWith}
 use Rattle.nr_journal.specs.Auxiliary.Rule.{entering, having_seen, HasOpcode}
 
--- what contracts see of a pass: its journal, and what it knows
+-- the abstract value of a pass: its journal, and what it knows
 pub record Entered : Type 0 where
   pub table : TableId
   pub pass_state : PassState
 
--- what a pass knows, by its view; no pass has another sort of view
+-- the knowledge of a pass, by its view; a pass has no other sort of view
 abbrev pub pass_state_of : View → PassState
 pass_state_of (Outside _ _) = entering 0 0
 pass_state_of (Keeping _ _) = entering 0 0
@@ -23,7 +23,7 @@ pass_state_of (Within pass_state) = pass_state
 pass_state_of (Note _) = entering 0 0
 pass_state_of Spent = entering 0 0
 
--- what became of a word that was offered to a journal with so much room, and of what the pass knew
+-- the result of offering a word to a journal with this room, and the knowledge before and after
 abbrev pub WasOffered : ℕ → ℕ → PassState → PassState → Offered → Type 0
 WasOffered word room before after Placed =
     (after ≡ having_seen before word) × (length before.seen < room)
@@ -32,20 +32,20 @@ WasOffered word room before after (Lost v) =
     × IsOthers before.tag v × (before.passes ≢ 1)
 WasOffered word room before after Full = (after ≡ before) × (length before.seen ≡ room)
 
--- of two lists the shorter begins the longer
+-- true if the shorter of two lists begins the longer
 abbrev pub AreInLine : List ℕ → List ℕ → Type 0
 AreInLine xs ys =
     (length xs ≤ length ys → StartsWith ys xs) × (length ys ≤ length xs → StartsWith xs ys)
 
--- Nothing was placed: any words that were seen beyond those before are others', and there is none
--- where the journal has one pass. What it learnt of is as it was.
+-- True if nothing was placed: any words that were newly read are those of others, and there are
+-- none if the journal has one pass. What the pass has learned of is the same.
 abbrev pub SeesOthers : PassState → PassState → Type 0
 SeesOthers before after = (added : List ℕ) × (after.seen ≡ before.seen ++ added)
     × All (IsOthers before.tag) added × (after.tag ≡ before.tag) × (after.learned ≡ before.learned)
     × (after.passes ≡ before.passes) × (before.passes ≡ 1 → added ≡ [])
 
--- one look more found no word, and then all that it learnt of is among what was seen; or all words
--- are seen
+-- true if a last look found no word, so that all that the pass has learned of is among what it has
+-- read; or if all words are read
 abbrev pub CatchesUp : ℕ → PassState → PassState → Type 0
 CatchesUp room before after =
     ((after.looks ≡ before.looks + 1) × StartsWith after.seen before.learned)

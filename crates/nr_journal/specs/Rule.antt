@@ -1,4 +1,4 @@
--- The rule of a journal. Word 0 of its table has the tag bits, and the words behind it are the
+-- The invariant of a journal. Word 0 of its table has the tag bits, and the words after it are the
 -- journal.
 use Rattle.std.specs.Prelude.{◌≡◌, ◌≢◌, ℕ, ◌-◌, ◌/◌, ◌%◌, List, ◌++◌}
 use Rattle.std.specs.List.{All}
@@ -9,18 +9,18 @@ use Rattle.nr_journal.specs.declared.rule.TheConstants.{BYTE_VALUES}
 abbrev pub tag_of : ℕ → ℕ
 tag_of word = word / BYTE_VALUES % BYTE_VALUES
 
--- a word of another pass than the one with this tag
+-- true if the word is that of another pass than the one with this tag
 abbrev pub IsOthers : ℕ → ℕ → Type 0
 IsOthers tag word = tag_of word ≢ tag
 
--- the second list is a prefix of the first
+-- true if the second list is a prefix of the first
 abbrev pub StartsWith : List ℕ → List ℕ → Type 0
 StartsWith log seen = (rest : List ℕ) × (log ≡ seen ++ rest)
 
--- the log begins with the words seen, and every word with the tag is among them
+-- true if the log begins with the words read, and every word with the tag is among them
 abbrev pub Covers : List ℕ → ℕ → List ℕ → Type 0
 Covers log tag seen = (rest : List ℕ) × (log ≡ seen ++ rest) × All (IsOthers tag) rest
 
--- how many words a journal has room for: its table has the word of the tag bits beside
+-- the number of words that a journal has room for: its table also has the word of the tag bits
 abbrev pub journal_room : TableId → ℕ
 journal_room table = table.words - 1

@@ -1,4 +1,4 @@
--- What whoever makes a step on a journal's table learns: what is known after it, by what was found.
+-- The knowledge after a step on a journal's table, depending on what the step found.
 use Rattle.std.specs.Prelude.{◌≡◌, ◌≢◌, ℕ, ◌+◌, ◌-◌, List, [], slice_index}
 use Rattle.std.specs.List.{All}
 use Rattle.std.specs.Int.{bit_at}
@@ -9,18 +9,18 @@ use Rattle.nr_journal.specs.declared.view.View.TheVariants.{Outside, Keeping, Wi
 use Rattle.nr_journal.specs.Rule.{IsOthers, StartsWith}
 use Rattle.nr_journal.specs.Auxiliary.Rule.{HasOpcode, HasTagBelow, entering, informed, looked, having_seen}
 
--- a seat of the table, with no slots: what is known is its first component
+-- a seat of the table, without slots: its knowledge is its first component
 abbrev pub Seat : Type 0
 Seat = Me (Unit {0}) View
 
--- the word behind all that was seen is another's, so the journal has more than one pass
+-- the word after all that was read is another pass's, so the journal has more than one pass
 abbrev pub Found : PassState → ℕ → Seat → Type 0
 Found pass_state found after =
     (after ≡ (Within (having_seen pass_state found), [])) × HasOpcode found
     × IsOthers pass_state.tag found × (pass_state.passes ≢ 1)
 
--- the word behind all that was seen is 0, so there is no more than what was seen and learnt of, or
--- it is another's
+-- the word after all that was read is 0, so there is no more than what was read and learned of, or
+-- it is another pass's
 abbrev pub LookedFrom : View → ℕ → Seat → Type 0
 LookedFrom (Within pass_state) found after =
     (found ≡ 0 → (after ≡ (Within (looked pass_state), []))
@@ -32,7 +32,7 @@ LookedFrom _ found after = Unit {0}
 abbrev pub Looked : Step (Unit {0}) → Seat → ℕ → Seat → Type 0
 Looked step before found after = LookedFrom before.0 found after
 
--- the word behind all that was seen was 0 and is the own word now, or it is another's
+-- the word after all that was read was 0 and is the pass's own now, or it is another pass's
 abbrev pub OffersFrom : ℕ → View → ℕ → Seat → Type 0
 OffersFrom word (Within pass_state) found after =
     (found ≡ 0 → after ≡ (Within (having_seen pass_state word), []))
@@ -43,7 +43,7 @@ OffersFrom word _ found after = Unit {0}
 abbrev pub Offers : Step (Unit {0}) → Seat → ℕ → Seat → Type 0
 Offers step before found after = OffersFrom step.second before.0 found after
 
--- the bit of the next tag was clear, and the tag is the own one now, or it was set
+-- the bit of the next tag was clear, and the tag is the pass's own now, or the bit was set
 abbrev pub DrawsFrom : View → ℕ → Seat → Type 0
 DrawsFrom (Outside tried passes) found after =
     (bit_at found tried ≡ 0 → after ≡ (Within (entering passes tried), []))
@@ -54,17 +54,17 @@ DrawsFrom _ found after = Unit {0}
 abbrev pub Draws : Step (Unit {0}) → Seat → ℕ → Seat → Type 0
 Draws step before found after = DrawsFrom before.0 found after
 
--- a word that was seen is still there
+-- a word that was read is still there
 abbrev pub RereadsFrom : ℕ → View → ℕ → Seat → Type 0
 RereadsFrom word (Within pass_state) found after =
     (after ≡ (Within pass_state, [])) × (found ≡ slice_index pass_state.seen (word - 1))
 RereadsFrom word _ found after = Unit {0}
 
--- a look at one's own place again, as a step of the table
+-- reading a word again, as a step of the table
 abbrev pub Rereads : Step (Unit {0}) → Seat → ℕ → Seat → Type 0
 Rereads step before found after = RereadsFrom step.word before.0 found after
 
--- what was seen and what was learnt of are prefixes of one list, and each word seen has the tag of
+-- what was read and what was learned of are prefixes of one list, and each word read has the tag of
 -- one of the passes that there may be
 abbrev pub ComparesFrom : View → Seat → Type 0
 ComparesFrom (Within pass_state) after = (after ≡ (Within pass_state, []))
@@ -72,11 +72,11 @@ ComparesFrom (Within pass_state) after = (after ≡ (Within pass_state, []))
     × All (HasTagBelow pass_state.passes) pass_state.seen
 ComparesFrom _ after = Unit {0}
 
--- a comparison with what another pass has seen, as a step of the table
+-- a comparison with what another pass has read, as a step of the table
 abbrev pub Compares : Step (Unit {0}) → Seat → ℕ → Seat → Type 0
 Compares step before found after = ComparesFrom before.0 after
 
--- the passes that are left when the next was given; nobody else gives one
+-- the remaining passes after the next was handed out; only they hand one out
 abbrev pub left_of : View → View
 left_of (Outside tried passes) = Outside tried passes
 left_of (Keeping next passes) = Keeping (next + 1) passes
@@ -84,7 +84,7 @@ left_of (Within pass_state) = Within pass_state
 left_of (Note seen) = Note seen
 left_of Spent = Spent
 
--- the next of the passes that are left
+-- the next of the remaining passes
 abbrev pub given_by : View → View
 given_by (Outside _ _) = Spent
 given_by (Keeping next passes) = Within (entering passes next)
@@ -92,7 +92,7 @@ given_by (Within _) = Spent
 given_by (Note _) = Spent
 given_by Spent = Spent
 
--- a note of what a pass has seen
+-- a note of what a pass has read
 abbrev pub note_of : View → View
 note_of (Outside _ _) = Note []
 note_of (Keeping _ _) = Note []
@@ -108,7 +108,7 @@ note_words (Within _) = []
 note_words (Note seen) = seen
 note_words Spent = []
 
--- what a pass knows that takes in a note; anyone else learns nothing
+-- the knowledge of a pass that takes in a note; nothing else learns from one
 abbrev pub learned_from : View → View → View
 learned_from (Outside tried passes) note = Outside tried passes
 learned_from (Keeping next passes) note = Keeping next passes

@@ -20,9 +20,9 @@ use std::alloc::Global;
 use std::cmp::Ordering;
 use std::marker::Model;
 
-/// Words in one order, each written once, which so many passes as it is made for place and read from as many threads
-/// without a lock. Contracts see which journal it is; a seat or a pass is used with the journal that it was made by and no
-/// other. No call waits.
+/// A list of words in one order, each written once. Its passes, up to a fixed number, place and read words from as many
+/// threads without a lock. Contracts see the identity of the journal; a seat or a pass is only used with the journal
+/// that made it. No call waits.
 #[derive(Drop)]
 pub struct Journal {
     alloc: Global,
@@ -45,9 +45,9 @@ impl Model for Journal {
 }
 
 impl Journal {
-    /// An empty journal with room for so many words, for up to `MOST_PASSES` passes, and its first seat.
+    /// Makes an empty journal with room for `words` words, for up to `MOST_PASSES` passes, and its first seat.
     ///
-    /// Memory is the only error; then nothing is left behind.
+    /// Fails only for lack of memory; nothing remains allocated then.
     #[tactic(auto, using(crate::proofs::RuleLemmas::begins_for))]
     pub fn new(alloc: Global, words: usize) -> Result<(Journal, Seat), Memory>
         requires { (1 ≤ words) × (words ≤ MOST_WORDS) }
@@ -74,10 +74,10 @@ impl Journal {
         Ok((journal, first))
     }
 
-    /// An empty journal with room for so many words, and all the passes that it ever has, so many. Their tags are the numbers
-    /// below.
+    /// Makes an empty journal with room for `words` words, and its `passes` passes. There will be no others. Their tags
+    /// are the numbers below `passes`.
     ///
-    /// Memory is the only error; then nothing is left behind.
+    /// Fails only for lack of memory; nothing remains allocated then.
     #[tactic(auto, using(crate::proofs::GiveLemmas::begins_drawn))]
     pub fn of_passes(alloc: Global, words: usize, passes: u32) -> Result<(Journal, Passes), Memory>
         requires words { (1 ≤ words) × (words ≤ MOST_WORDS) }
@@ -106,10 +106,10 @@ impl Journal {
         Ok((journal, left))
     }
 
-    /// An empty journal with room for so many words, and the only pass that it ever has, whose tag is 0. So whatever the
-    /// pass sees it has placed.
+    /// Makes an empty journal with room for `words` words, and its only pass, which has tag 0. So the pass has placed
+    /// every word that it reads.
     ///
-    /// Memory is the only error; then nothing is left behind.
+    /// Fails only for lack of memory; nothing remains allocated then.
     pub fn alone(alloc: Global, words: usize) -> Result<(Journal, Pass), Memory>
         requires { (1 ≤ words) × (words ≤ MOST_WORDS) }
         ensures { IfOk result (λ r. (journal_room r.0 ≡ words) × (r.1.table ≡ r.0)
@@ -120,7 +120,7 @@ impl Journal {
         Ok((journal, pass))
     }
 
-    /// Takes the next of the passes that are left. It has seen nothing yet.
+    /// Takes the next of the remaining passes, which has read nothing yet.
     pub fn take(&self, passes: &mut Passes) -> Pass
         requires table { passes.old.table ≡ self.now }
         requires next { passes.old.next < passes.old.passes }
@@ -136,7 +136,7 @@ impl Journal {
         pass
     }
 
-    /// A second seat of this journal, which knows as much as the first.
+    /// Makes a second seat of this journal, which knows as much as the first.
     pub fn split(&self, seat: &mut Seat) -> Seat
         requires { seat.old.table ≡ self.now }
         ensures same { seat.new ≡ seat.old }
@@ -149,9 +149,9 @@ impl Journal {
         }
     }
 
-    /// Draws the first tag that no pass has, and makes a pass with it that has seen nothing yet.
+    /// Takes the first free tag, and makes a pass with it that has read nothing yet.
     ///
-    /// `NoTag` only where each tag that the journal has was seen to be drawn; then the seat comes back and knows so.
+    /// Fails with `NoTag` only if each tag of the journal was seen to be taken; the returned seat knows that.
     pub fn enter(&self, seat: Seat) -> Result<Pass, (Seat, NoTag)>
         requires { seat.table ≡ self.now }
         ensures ok { IfOk result (λ p. (p.table ≡ seat.table) × (p.pass_state ≡ entering seat.passes p.pass_state.tag)
@@ -186,15 +186,15 @@ impl Journal {
         Err((back, NoTag))
     }
 
-    /// The word behind those that the pass has seen, which is another's and is seen now. None where there was none yet,
-    /// which is an empty look and is counted, or where all words were seen.
+    /// Reads the word after those that the pass has read. It is the word of another pass. Returns `None` if there is
+    /// none yet, which counts as an empty look, or if all words are read.
     pub fn next(&self, pass: &mut Pass) -> Option<u64>
         requires { pass.old.table ≡ self.now }
         ensures table { pass.new.table ≡ pass.old.table }
         ensures room { IfSome result (λ v. length pass.old.pass_state.seen < journal_room self.now) }
         ensures some { IfSome result (λ v. (pass.new.pass_state ≡ having_seen pass.old.pass_state v)
             × HasOpcode v × IsOthers pass.old.pass_state.tag v × (pass.old.pass_state.passes ≢ 1)) }
-        // a body that doesn't look can't know that it learnt of no more than it has seen
+        // a body that doesn't read the journal can't prove that the pass has learned of no more than it has read
         ensures none { IfNone result (
             ((pass.new.pass_state ≡ looked pass.old.pass_state)
             × StartsWith pass.old.pass_state.seen pass.old.pass_state.learned)
@@ -215,8 +215,8 @@ impl Journal {
         Some(found)
     }
 
-    /// Places the word behind all that the pass has seen, or returns the word of another that is there. Either is seen now.
-    /// The word has to have an opcode from 1 to `GREATEST_OPCODE` and the pass's tag.
+    /// Places the word after all that the pass has read, or returns the word that another pass has placed there. The
+    /// pass has read that word now. The word must have an opcode from 1 to `GREATEST_OPCODE` and the pass's tag.
     pub fn offer(&self, pass: &mut Pass, word: u64) -> Offered
         requires table { pass.old.table ≡ self.now }
         requires word { HasOpcode word × (tag_of word ≡ pass.old.pass_state.tag) }
@@ -238,8 +238,8 @@ impl Journal {
         }
     }
 
-    /// How the first pass's count of words seen compares with the second's. Of what they have seen the shorter begins the
-    /// longer. From now on an empty look of either shows that it has seen what the other had seen when they met.
+    /// Compares how many words the two passes have read. The shorter list of words begins the longer one. After this,
+    /// an empty look of either pass shows that it has read what the other had read when they met.
     pub fn meet(&self, one: &mut Pass, other: &mut Pass) -> Ordering
         requires { (one.old.table ≡ self.now) × (other.old.table ≡ self.now) }
         ensures tables { (one.new.table ≡ one.old.table) × (other.new.table ≡ other.old.table) }
@@ -256,7 +256,8 @@ impl Journal {
         one.place.cmp(&other.place)
     }
 
-    /// Lets the passes meet, and then the first look until it finds nothing: it has seen all that the other had seen.
+    /// Lets the passes meet, and then lets the first read until it finds nothing: it has read all that the other had
+    /// read.
     pub fn see_all_of(&self, one: &mut Pass, other: &mut Pass)
         requires { (one.old.table ≡ self.now) × (other.old.table ≡ self.now) }
         ensures tables { (one.new.table ≡ one.old.table) × (other.new.table ≡ other.old.table) }
@@ -271,10 +272,10 @@ impl Journal {
         self.compare(one);
     }
 
-    /// Looks until no word is found, or all words are seen, and then returns the words seen, in order, read again. Each has the
-    /// tag of one of the passes that the journal may have.
+    /// Reads until no further word is found, or all words are read; then returns the words in order, read again. Each
+    /// has the tag of one of the passes that the journal may have.
     ///
-    /// Memory is the only error; it comes behind the looks, so the pass may have seen more words.
+    /// Fails only for lack of memory, after reading, so the pass may have read more words.
     pub fn finish(&self, pass: &mut Pass) -> Result<Vec<u64>, Memory>
         requires { pass.old.table ≡ self.now }
         ensures table { pass.new.table ≡ pass.old.table }
@@ -292,7 +293,7 @@ impl Journal {
         Ok(words)
     }
 
-    // Looks until no word is found.
+    // Reads until no further word is found.
     fn catch_up(&self, pass: &mut Pass)
         requires { pass.old.table ≡ self.now }
         ensures table { pass.new.table ≡ pass.old.table }
@@ -302,7 +303,7 @@ impl Journal {
         while let Some(_) = self.next(pass) {}
     }
 
-    // Reads a word that was seen.
+    // Reads a word again.
     fn reread(&self, pass: &mut Pass, at: usize) -> u64
         requires table { pass.old.table ≡ self.now }
         requires seen { at < length pass.old.pass_state.seen }
@@ -312,7 +313,7 @@ impl Journal {
         self.table.shared.load::<Reread>(&mut pass.seat, at + 1)
     }
 
-    // Lets the pass know what another has seen.
+    // Tells the pass what another has read.
     fn learn(&self, pass: &mut Pass, from: &mut Pass)
         requires { (pass.old.table ≡ self.now) × (from.old.table ≡ self.now) }
         ensures from { from.new ≡ from.old }
@@ -325,7 +326,7 @@ impl Journal {
         shared.join_seat::<Learn>(&mut pass.seat, note);
     }
 
-    // What was seen and what was learnt of are compared.
+    // Compares what the pass has read with what it has learned of.
     fn compare(&self, pass: &mut Pass)
         requires { pass.old.table ≡ self.now }
         ensures same { pass.new ≡ pass.old }
@@ -336,7 +337,7 @@ impl Journal {
     }
 }
 
-// The bits of so many tags, from tag 0 on.
+// Returns the bits of this many tags, from tag 0 on.
 fn tag_bits(passes: u32) -> u64
     requires { passes ≤ MOST_PASSES }
     ensures drawn { AreDrawn result passes }

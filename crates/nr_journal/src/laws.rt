@@ -1,37 +1,38 @@
-//! What the rule comes to: laws that hold at every moment.
+//! Consequences of the rule: laws that hold at every moment.
 
 ghost use Rattle.std.specs.Prelude.{◌≡◌};
 ghost use Rattle.nr_journal.specs.Laws.{AnOnlyPassSeesAll, BeginsEmpty, EachWordHasItsPass, EmptyLookSeesAll, NothingIsHidden};
 ghost use Rattle.nr_journal.specs.declared.rule.TheConstants.{GREATEST_OPCODE, MOST_PASSES, MOST_WORDS};
 
-/// A journal begins with no word, as long as there is only its first seat, which has tried no tag, or no pass was taken.
+/// A journal begins without words: it has none while only its first seat exists, which has tried no tag, or while no
+/// pass was taken.
 pub fn begins_empty()
     ensures { BeginsEmpty }
 {}
 
-/// Where a pass looks and finds no word, the journal has just the words that it has seen.
+/// If a pass looks and finds no word, the journal has exactly the words that the pass has read.
 pub fn empty_look_sees_all()
     ensures { EmptyLookSeesAll }
 {}
 
-/// Where a journal may have one pass, that has seen all words there are.
+/// If a journal may have only one pass, that pass has read all words.
 pub fn an_only_pass_sees_all()
     ensures { AnOnlyPassSeesAll }
 {}
 
-/// No word comes from nowhere: the pass whose tag it has is there and has seen it, at its index. And a pass sees a word
-/// of its own tag only by an offer that placed it.
+/// No word comes from nowhere: a pass with its tag exists and has read it, at its index. A pass reads a word with its
+/// own tag only through the offer that placed it.
 pub fn each_word_has_its_pass()
     ensures { EachWordHasItsPass }
 {}
 
-/// A pass, a seat and a journal have nothing at run time that contracts don't see of them, so no call can go by it.
+/// A pass, a seat and a journal have no state at run time that contracts don't see, so no call can depend on such a
+/// state.
 pub fn nothing_is_hidden()
     ensures { NothingIsHidden }
 {}
 
-/// The greatest opcode of a word of the journal, how many passes enter a journal at most, and how many words it has at
-/// most.
+/// The greatest opcode of a word of the journal, the most passes that enter a journal, and the most words that it has.
 pub fn the_numbers()
     ensures opcode { GREATEST_OPCODE ≡ 12 }
     ensures passes { MOST_PASSES ≡ 64 }

@@ -1,4 +1,4 @@
-//! What a thread steps with that is inside a journal.
+//! Passes, with which a thread inside a journal makes its steps.
 
 ghost use Rattle.std.specs.Prelude.{◌≡◌, length};
 
@@ -6,13 +6,13 @@ use crate::view::View;
 use atomic_table::Seat;
 use std::marker::Model;
 
-/// The right to place words with one tag in a journal, and how far its words were read. It belongs to the journal that
-/// made it, and each call of that journal is given it. Contracts see which journal, the tag, the words that it has seen,
-/// how often it found no word, and what it learnt that another pass had seen.
+/// The right to place words with one tag in a journal, and the number of words read. It is used only with the journal
+/// that made it. Contracts see which journal that is, the tag, the words that the pass has read, how often it found no
+/// word, and the words that it learned another pass had read.
 #[derive(Drop)]
 pub struct Pass {
     pub(crate) seat: Seat<(), View>,
-    // How many words it has seen.
+    // The number of words that the pass has read.
     pub(crate) place: usize,
     pub(crate) tag: u8,
 }
@@ -31,26 +31,26 @@ impl Model for Pass {
         × (p.tag ≡ (pass_state_of p.seat.me.0).tag) × (p.place < p.seat.table_id.words) };
 }
 
-/// What became of a word that was offered.
+/// The result of offering a word.
 #[derive(Clone, Copy, Debug, PartialEq, Eq)]
 pub enum Offered {
-    /// It is in the journal, and the pass has seen it.
+    /// The word is in the journal, and the pass has read it.
     Placed,
-    /// This word of another pass is at that index, and the pass has seen it.
+    /// This word of another pass is at that index, and the pass has read it.
     Lost(u64),
-    /// The pass has seen all words that the journal has room for. Nothing changed.
+    /// The pass has read all words that the journal has room for. Nothing changed.
     Full,
 }
 
 impl Pass {
-    /// The tag that is this pass's alone, below `MOST_PASSES`.
+    /// Returns the pass's tag, which no other pass has. It is below `MOST_PASSES`.
     pub fn tag(&self) -> u8
         ensures { result ≡ self.now.pass_state.tag }
     {
         self.tag
     }
 
-    /// How many words were seen.
+    /// Returns the number of words read.
     pub fn seen(&self) -> usize
         ensures { result ≡ length self.now.pass_state.seen }
     {

@@ -1,10 +1,10 @@
-//! The passes of a journal that draws all tags at once.
+//! The passes of a journal that makes all of them at once.
 
 use crate::view::View;
 use std::marker::Model;
 
-/// The passes that are left of a journal which draws all tags at once. They belong to the journal that made them. Contracts see which
-/// journal, the tag of the next pass, and how many passes the journal has.
+/// The remaining passes of a journal that makes all of them at once. They are used only with the journal that made
+/// them. Contracts see which journal that is, the tag of the next pass, and the number of passes of the journal.
 #[derive(Drop)]
 pub struct Passes {
     pub(crate) seat: atomic_table::Seat<(), View>,

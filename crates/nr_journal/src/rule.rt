@@ -1,4 +1,4 @@
-//! The rule that a journal keeps at every moment, and the numbers in it.
+//! The invariant of a journal, and the numbers in it.
 
 use crate::view::View;
 use atomic_table::TableRule;
@@ -6,27 +6,27 @@ use atomic_table::TableRule;
 /// The greatest opcode of a word. The least is 1, so no word is 0.
 pub const GREATEST_OPCODE: u64 = 12;
 
-/// A word's lowest byte is its opcode and the next one its tag: how many values a byte has.
+/// The number of values of a byte: a word's lowest byte is its opcode, and the next byte its tag.
 pub const BYTE_VALUES: u64 = 256;
 
-/// The most passes that a journal may be made for.
+/// The most passes that a journal can be made for.
 pub const MOST_PASSES: u32 = 64;
 
-/// The most words that a journal may be made for.
+/// The most words that a journal can be made for.
 pub const MOST_WORDS: usize = 1_000_000;
 
-/// What a journal's table is made for.
+/// The dimensions of a journal's table.
 #[derive(Clone, Copy, Debug, PartialEq, Eq)]
 pub struct Purpose {
-    /// How many words the journal has room for.
+    /// The number of words that the journal has room for.
     pub words: usize,
-    /// How many passes it has at most. Their tags are the numbers below.
+    /// The most passes of the journal. Their tags are the numbers below.
     pub passes: u32,
-    /// Whether all tags are drawn from the start, and left to give.
+    /// Whether all tags are taken from the start, for passes that are handed out.
     pub drawn: bool,
 }
 
-/// What holds of a journal's words and of all that is known of them, whichever threads take which steps.
+/// The invariant of a journal's words and of all that is known about them, whichever threads make which steps.
 pub struct InOneOrder;
 
 impl TableRule<(), View, Purpose> for InOneOrder {

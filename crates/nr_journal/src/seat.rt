@@ -1,10 +1,10 @@
-//! What a thread steps with that is outside a journal.
+//! Seats, with which a thread outside of a journal makes its steps.
 
 use crate::view::View;
 use std::marker::Model;
 
-/// The right to enter a journal once. It belongs to the journal that made it. Contracts see which journal, how many
-/// tags, from 0 on, it has seen drawn, and how many passes the journal has at most.
+/// The right to enter a journal once. It is used only with the journal that made it. Contracts see which journal that
+/// is, how many tags, from 0 on, it has seen to be taken, and the most passes of the journal.
 #[derive(Drop)]
 pub struct Seat {
     pub(crate) seat: atomic_table::Seat<(), View>,
@@ -31,6 +31,6 @@ impl Model for Seat {
         × (s.tried ≤ s.passes) × (s.passes ≤ MOST_PASSES) };
 }
 
-/// No tag is left: each of those that the journal has was drawn.
+/// No tag is free: each tag of the journal is taken.
 #[derive(Clone, Copy, Debug, PartialEq, Eq)]
 pub struct NoTag;

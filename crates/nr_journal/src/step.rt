@@ -1,9 +1,9 @@
-//! The steps on a journal's table, and what whoever makes one learns.
+//! The steps on a journal's table, and what the thread that makes a step learns.
 
 use crate::view::View;
 use atomic_table::{Join, Play, Split};
 
-/// A pass reads the word behind those that it has seen.
+/// A pass reads the word after those that it has read.
 pub(crate) struct Look;
 
 impl Play<(), View> for Look {
@@ -12,7 +12,7 @@ impl Play<(), View> for Look {
     ghost then = { Looked };
 }
 
-/// A pass puts a word of its own where that word is 0.
+/// A pass places a word of its own if the word there is 0.
 pub(crate) struct Offer;
 
 impl Play<(), View> for Offer {
@@ -30,7 +30,7 @@ impl Play<(), View> for Draw {
     ghost then = { Draws };
 }
 
-/// A pass reads a word again that it has seen.
+/// A pass reads a word again that it has read.
 pub(crate) struct Reread;
 
 impl Play<(), View> for Reread {
@@ -39,7 +39,7 @@ impl Play<(), View> for Reread {
     ghost then = { Rereads };
 }
 
-/// A pass compares what it has seen with what it learnt of.
+/// A pass compares what it has read with what it has learned of.
 pub(crate) struct Compare;
 
 impl Play<(), View> for Compare {
@@ -48,7 +48,7 @@ impl Play<(), View> for Compare {
     ghost then = { Compares };
 }
 
-/// A second seat knows as much.
+/// A second seat is made, which knows as much.
 pub(crate) struct Twin;
 
 impl Split<View> for Twin {
@@ -57,7 +57,7 @@ impl Split<View> for Twin {
     ghost right = { λ v. v };
 }
 
-/// The next of the passes that are left is given.
+/// The next of the remaining passes is handed out.
 pub(crate) struct Give;
 
 impl Split<View> for Give {
@@ -68,7 +68,7 @@ impl Split<View> for Give {
     ghost right = { given_by };
 }
 
-/// A note is written of what a pass has seen.
+/// A note of what a pass has read is written.
 pub(crate) struct Tell;
 
 impl Split<View> for Tell {

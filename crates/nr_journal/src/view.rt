@@ -1,40 +1,40 @@
-//! What is known of the journal: plain data that exists in proofs alone.
+//! Knowledge about a journal, as plain data that exists in proofs only.
 
 use std::collections::LinkedList;
 
-/// What a pass knows. No value of it is made.
+/// The knowledge of a pass. No value of this type is made.
 pub struct PassState {
-    /// The tag that is the pass's alone.
+    /// The pass's tag, which no other pass has.
     pub tag: u64,
-    /// The words that it has seen, its own among them, in the journal's order.
+    /// The words that the pass has read, including its own, in the journal's order.
     pub seen: LinkedList<u64>,
-    /// How often it looked for the next word and there was none.
+    /// How often the pass looked for the next word and found none.
     pub looks: u64,
-    /// The words that another pass had seen when the two met last.
+    /// The words that another pass had read when the two last met.
     pub learned: LinkedList<u64>,
-    /// At most so many passes its journal ever has.
+    /// The most passes that its journal ever has.
     pub passes: u64,
 }
 
-/// What is known by whoever steps on the journal. No value of it is made.
+/// The knowledge of whatever makes steps on the journal. No value of this type is made.
 pub enum View {
-    /// A seat's.
+    /// The knowledge of a seat.
     Outside {
-        /// So many tags, from 0 on, are drawn.
+        /// The number of tags, from 0 on, that are known to be taken.
         tried: u64,
-        /// At most so many passes the journal ever has.
+        /// The most passes that the journal ever has.
         passes: u64,
     },
-    /// That of the passes that are left of a journal which draws all tags at once.
+    /// The knowledge of the remaining passes of a journal that makes all of them at once.
     Keeping {
-        /// The tags from this one on are left to give.
+        /// The tags from this one on are those of remaining passes.
         next: u64,
-        /// So many passes the journal has.
+        /// The number of passes of the journal.
         passes: u64,
     },
-    /// A pass's.
+    /// The knowledge of a pass.
     Within(PassState),
-    /// For the way from one pass to another: words that were seen.
+    /// A note from one pass to another: words that were read.
     Note(LinkedList<u64>),
     /// A note that was taken in.
     Spent,
