@@ -104,7 +104,7 @@ impl Reply {
     }
 }
 
-/// The text: one line, or in a list one for each item behind the first.
+/// The text: one line, or for a list, a line for the number of items and one for each.
 impl Text for Reply {
     ghost text = { text_of };
 

@@ -102,7 +102,7 @@ begins purpose words is = record {
     none_drawn : AreTaken 0 (newcomer purpose.passes ∷ [])
     none_drawn tag drawn = absurd (none_set tag drawn)
 
--- the journal at the start, for so many passes
+-- the journal at the start, for this number of passes
 pub begins_for : (words passes : ℕ) (row : List ℕ) → row ≡ replicate (words + 1) 0 → Kept (record { words = words; passes = passes; drawn = false }) row (newcomer passes ∷ [])
 begins_for words passes row is = begins (record { words = words; passes = passes; drawn = false }) row is
 
@@ -168,7 +168,7 @@ module _ (purpose : Purpose) where
   abbrev pub Rule : State (Unit {0}) View → Type 0
   Rule s = Kept purpose s.words s.views
 
-  -- a new view for the seat id, with which the rule is kept where the word i becomes n
+  -- a new view for the seat id, with which the rule holds after word i becomes n
   abbrev pub Picks : List ℕ → List View → ℕ → ℕ → ℕ → (Seat → Type 0) → Type 0
   Picks words views id i n then = (w : View) × Kept purpose (set words i n) (set views id w) × then (w, [])
 
