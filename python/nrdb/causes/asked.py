@@ -47,14 +47,14 @@ class Asked:
         return self._before.get(call.first)
 
     def begin_of(self, call: Call) -> Call:
-        """The first Read of the io.ReadFull that a Read belongs to: each asks for what the one before left. The Read
-        itself if it is the first, or alone."""
+        """The first Read of the io.ReadFull that a Read belongs to: each Read asks for what the previous one left. The
+        Read itself if it is the first, or alone."""
         while (before := self.before(call)) and self.is_next(before, call):
             call = before
         return call
 
     def is_next(self, before: Call, call: Call) -> bool:
-        """Whether a Read asks for exactly what the Read before left."""
+        """Whether a Read asks for exactly the bytes that the previous Read left."""
         asked, rest = self.of(before), self.of(call)
         return asked is not None and rest is not None and bool(before.moved) and rest == asked - (before.moved or 0) > 0
 

@@ -36,15 +36,16 @@ class Form(NamedTuple):
     giving: set[Call]
 
     def has_at(self, line: Call) -> bool:
-        """Whether a call at this line has taken and not yet given back: it does so later, or in a deferred function."""
+        """Whether a call at this line has taken something and not yet given it back: it gives it back later, or in a
+        deferred function."""
         deferred = any(one.function != self.function for one in self.giving)
         is_behind = any(one.line < line.line for one in self.taking)
         return is_behind and (deferred or any(line.line < one.line for one in self.giving))
 
 
 class Balance(NamedTuple):
-    """What a goroutine did at a channel by calls from one place: what it takes (PUT for a semaphore), how often it took
-    and gave back at which lines, whether a call in progress has a value, and whether it waits to take or to give
+    """A goroutine's use of a channel by calls from one place: what it takes (PUT for a semaphore), the lines at which
+    it took and gave back and how often, whether a call in progress has a value, and whether it waits to take or to give
     back."""
 
     name: Name
@@ -58,7 +59,7 @@ class Balance(NamedTuple):
 
     @property
     def missing(self) -> int:
-        """The number of values that it took and hasn't given back by calls that ended."""
+        """The number of values that finished calls took and didn't give back."""
         return self.taken.total() - self.given.total() - (self.has_one or self.is_giving)
 
     @property
@@ -152,7 +153,7 @@ def takes_of(recording: Recording, uses: list[Use]) -> tuple[str, set[str]]:
 
 
 def first_of(recording: Recording, uses: list[Use], function: str) -> str:
-    """Whether most goroutines first put a value in a function, or took one."""
+    """PUT or TOOK, whichever most goroutines did first in a function."""
     inside = [use for use in uses if place_in(function, program_frames(recording.lines.stacks[use.stack]))]
     first: dict[int, str] = {}
     for use in sorted(inside, key=BEGIN):

@@ -12,8 +12,8 @@ MOST_BALANCES = 3  # the most sentences
 
 
 def kept_says(recording: Recording, balances: list[Balance]) -> list[str]:
-    """The goroutines whose calls kept what they took, and the lines that only they passed, of those that one `go`
-    statement started."""
+    """Sentences about the goroutines whose calls kept what they took, and the lines that only they passed among the
+    goroutines of one `go` statement."""
     kept = [one for one in balances if one.missing > 0]
     if not kept:
         return []
@@ -32,7 +32,7 @@ def kept_says(recording: Recording, balances: list[Balance]) -> list[str]:
 
 
 def excess_says(balances: list[Balance]) -> list[str]:
-    """The goroutines whose calls gave back more than they took."""
+    """A sentence about the goroutines whose calls gave back more than they took; none if no calls did."""
     found = [one for one in balances if one.missing < 0]
     return [f"Calls gave back more than they took: {balances_words(found)}."] if found else []
 

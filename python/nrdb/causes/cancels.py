@@ -37,7 +37,8 @@ class Found(NamedTuple):
 
 
 class Cancel(NamedTuple):
-    """A goroutine found a channel closed: by which use, or by which timers, one of which closed it."""
+    """A goroutine that found a channel closed, with the use by which it found that, and the timers one of which closed
+    the channel."""
 
     goroutine: int
     use: Use
@@ -49,8 +50,8 @@ class Cancel(NamedTuple):
 
 
 def cancel_before(index: Index, step: int) -> Optional[Cancel]:
-    """Why the goroutine of a step made it: a function that it is in found a channel closed, and the goroutine did
-    nothing at a socket since."""
+    """Why a goroutine made a step: a function that it is in found a channel closed, and the goroutine has used no
+    socket since."""
     recording = index.recording
     lines, goroutine = recording.lines, recording.step(step).argument("g")
     goid = lines.goid_of(goroutine, step)
@@ -109,8 +110,7 @@ def limits_of(recording: Recording, use: Use, goid: int) -> list[Timer]:
 
 
 def limits_before(recording: Recording, time: int, goid: int) -> list[Timer]:
-    """The timers of contexts that went off just before a time, the last one first; if this goroutine has some, only
-    those."""
+    """The timers of contexts that went off just before a time, latest first; only this goroutine's if it has some."""
     timers = [
         timer for timer in recording.lines.timers.get(0, ())
         if has(recording.lines.stacks[timer.stack], OF_A_LIMIT) and timer.due <= time < timer.due + LATE
@@ -159,8 +159,8 @@ def limit_says(index: Index, timers: list[Timer]) -> str:
 
 
 def is_of_a_rest(recording: Recording, timer: Timer) -> bool:
-    """Whether a timer may be the rest of a limit after a redirect: the same goroutine made an earlier timer there that
-    is due at nearly the same time. Timers of two requests are as far apart when due as when made."""
+    """Whether a timer may be what was left of a limit after a redirect: the same goroutine made an earlier timer there
+    that is due at nearly the same time. The timers of two separate requests are as far apart when due as when made."""
     return any(
         (one.goid, one.stack) == (timer.goid, timer.stack) and 2 * abs(one.due - timer.due) < timer.time - one.time
         for one in recording.lines.timers.get(0, ())

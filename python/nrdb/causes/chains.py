@@ -15,7 +15,7 @@ MOST_LINKS = 4
 
 
 def chain_says(index: Index, call: Call, need: Need, position: int) -> list[str]:
-    """The sentences about the goroutines of the chain, from the one that a failed call needed."""
+    """The sentences about the goroutines of the chain, starting with the one that a failed call needed."""
     waiters = waiters_during(index, position)
     needs, told = Needs(index, waiters, position), list(need.says)
     says, seen, by = list[str](), {Name(call.goroutine)}, need.by
@@ -38,7 +38,8 @@ def is_elsewhere(index: Index, call: Call, waiter: Waiter, need: Need) -> bool:
 
 
 def is_still_so(index: Index, waiter: Waiter, position: int) -> bool:
-    """Whether nothing happened at the channels of a wait since a step, so that the same goroutines are needed."""
+    """Whether nothing has happened at the channels of a wait since a step, so that the same goroutines are still
+    needed."""
     lines, objects = index.recording.lines, waiter.wait.objects if waiter.wait else ()
     return not any(
         use.what == GIVES.get(at.use) and use.last > position for at in objects for use in lines.uses.get(at.object, ())
@@ -46,7 +47,8 @@ def is_still_so(index: Index, waiter: Waiter, position: int) -> bool:
 
 
 def link_says(index: Index, waiter: Waiter, need: Need, is_back: bool, told: list[str]) -> list[str]:
-    """The sentences about one goroutine. If it waits for the failed call's own goroutine, only the rest of them."""
+    """The sentences about one goroutine. If it waits for the failed call's own goroutine, only the remaining
+    sentences."""
     more = [*need.says, *need.more] if not (is_back and waiter.call) else need.more
     place = place_in(waiter.stack)
     is_told = bool(place) and any(place in line for line in told)

@@ -1,5 +1,5 @@
-"""Selects that another goroutine would end later, because it is in a function before a line that closes a channel, or
-cancels a context, of a case. From the program's source."""
+"""Selects that another goroutine would end later: it is in a function, before a line that closes the channel or cancels
+the context of a case. Derived from the program's source."""
 
 import re
 from typing import Iterable, Iterator, Optional

@@ -22,8 +22,8 @@ MOST = 2
 
 
 class Waking(NamedTuple):
-    """A function that changes what a Wait's loop tests: its line, the field, the line that wakes a waiter, if there is
-    one, and whether it waits itself."""
+    """A function that changes what a Wait's loop tests: its line, the field, the line that wakes a waiter (if any), and
+    whether the function itself waits."""
 
     function: str
     changes: int

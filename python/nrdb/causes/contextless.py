@@ -1,5 +1,5 @@
 """Requests of net/http that carry no context, made in a function that has one, while a goroutine waits for the
-response. From the program's source."""
+response. Derived from the program's source."""
 
 import re
 

@@ -1,4 +1,4 @@
-"""Bodies of net/http that end before their Content-Length: a Read of the rest that met the end of the stream."""
+"""Bodies of net/http that end before their Content-Length: a Read of the rest met the end of the stream."""
 
 import re
 from typing import Iterator

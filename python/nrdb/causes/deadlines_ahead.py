@@ -12,8 +12,8 @@ from .words import name_of, place_of_step
 
 
 class Setting(NamedTuple):
-    """A `setdeadline` of a descriptor: its step, its goroutine, its sides, and how far ahead: 0 for none, below 0 for
-    the past."""
+    """A `setdeadline` of a descriptor: its step, its goroutine, its sides, and how far ahead the deadline is (0: no
+    deadline, negative: in the past)."""
 
     step: int
     goroutine: int
@@ -52,6 +52,6 @@ def until_words(index: Index, call: Call) -> str:
 
 
 def setting_says(index: Index, setting: Setting) -> str:
-    """The line that set a deadline, and how far ahead."""
+    """The line that set a deadline, and how far ahead the deadline was."""
     at = place_of_step(index.recording, setting.step, setting.goroutine)
     return f"Its deadline was set{at}, {duration(setting.time)} ahead, and hasn't passed."

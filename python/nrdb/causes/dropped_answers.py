@@ -53,9 +53,9 @@ def dropped_answer(index: Index, wait: Waiting, hands: Mapping[int, list[Hand]])
 
 
 def hands_of(recording: Recording, wait: Waiting, waiters: Mapping[Name, Waiter]) -> list[Hand]:
-    """The goroutines that wait to read and put values into channels from which others took them at the waiter's line,
-    or that are in the function in which another does so. If no goroutine has done so, the ones in a function whose
-    source does so."""
+    """The goroutines that wait to read and that put values into channels from which others took them at the waiter's
+    line, or that are in a function in which another goroutine does so. If no goroutine has done so, those in a function
+    whose source does so."""
     readers = {name: waiter for name, waiter in waiters.items() if waiter.call and waiter.call.name == "Read"}
     lines, own = recording.lines, wait.stack.own()
     taken = {
@@ -107,8 +107,8 @@ def by_source(recording: Recording, wait: Waiting, readers: Mapping[Name, Waiter
 
 
 def request_of(index: Index, wait: Waiting, socket: int) -> Optional[Call]:
-    """The last Write of a goroutine at a socket before it waits; else that of the goroutine to which it passed its
-    request."""
+    """The last Write of a goroutine at a socket before it waits; else the first Write of a goroutine to which it passed
+    its request."""
     calls = [] if wait.name.is_goid else index.by_goroutine.get(wait.name.number, [])
     writes = [one for one in calls if one.name == "Write" and one.socket == socket and one.moved and one.last]
     own = next((one for one in reversed(writes) if one.first <= wait.first), None)

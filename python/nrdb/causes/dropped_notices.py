@@ -1,5 +1,5 @@
 """Values that are dropped if no goroutine waits for them: for a goroutine that waits at a channel, the lines that put a
-value there in a select with a `default`. From the program's source."""
+value there in a select with a `default`. Derived from the program's source."""
 
 import re
 from typing import Optional
@@ -55,7 +55,7 @@ def is_near(place: str, other: str) -> bool:
 
 
 def names_at(recording: Recording, call: Call) -> list[str]:
-    """The channels from which the line of a call takes values; for a select those of its cases."""
+    """The channels from which the line of a call takes values; for a select, the channels of its cases."""
     taken = TAKES.search(text_at(recording, call))
     if taken:
         return [taken[1]]

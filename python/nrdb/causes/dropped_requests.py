@@ -1,5 +1,5 @@
-"""Requests that went through a channel to a goroutine that took them and goes on to the next without an answer, while
-the goroutine that sent the request waits at another channel."""
+"""Requests that a goroutine took from a channel and didn't answer before it went on to the next, while the goroutine
+that sent the request waits at another channel."""
 
 from typing import Mapping, NamedTuple, Optional
 
@@ -27,7 +27,7 @@ class Taken(NamedTuple):
 
 
 def dropped_request(recording: Recording, wait: Waiting, waiters: Mapping[Name, Waiter]) -> Optional[Need]:
-    """The need of a goroutine whose request another took without an answer; None if unknown."""
+    """The need of a goroutine whose request another took and didn't answer; None if unknown."""
     if not wait.objects or any(at.use != FOR_VALUE for at in wait.objects):
         return None
     request = put_before(recording, wait)
@@ -70,7 +70,8 @@ def has_answer(recording: Recording, wait: Waiting, request: Use) -> bool:
 
 
 def taker_of(recording: Recording, wait: Waiting, request: Use, waiters: Mapping[Name, Waiter]) -> Optional[Taken]:
-    """The goroutine that took a request, if all were taken, and all takers have ended or wait for the next one."""
+    """The goroutine that took a request, if all requests were taken and each taker has ended or waits for the next
+    one."""
     lines, number = recording.lines, request.object
     uses = lines.uses[number]
     put, took = (sum(use.often for use in uses if use.what == what) for what in (PUT, TOOK))
@@ -95,8 +96,8 @@ def is_free(recording: Recording, use: Use, number: int, waiters: Mapping[Name, 
 
 
 def answer_line(recording: Recording, wait: Waiting, taker: Waiter) -> int:
-    """The line, after the wait, of a function that a goroutine is in, or of a literal in it, that puts a value into a
-    channel of the name that the other waits at; 0 if none does."""
+    """The line that puts a value into a channel with the name of the one that the other goroutine waits at: after the
+    taker's wait, in a function that the taker is in or in a literal of it; 0 if there is none."""
     own = wait.stack.own()
     numbers = [giving.number for giving in givings_at(recording, wait)]
     for call in taker.stack.calls:

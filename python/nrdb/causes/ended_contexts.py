@@ -1,5 +1,5 @@
 """Requests of net/http's client that weren't sent because their contexts had ended; and contexts of handlers that
-goroutines use after the handlers returned. From the program's source."""
+goroutines use after the handlers returned. Derived from the program's source."""
 
 import re
 from typing import Iterator, NamedTuple, Optional
@@ -88,12 +88,12 @@ def kept_by_a_handler(recording: Recording, stack: Stack) -> list[str]:
 
 
 def causes_of_ended(index: Index) -> list[Cause]:
-    """The causes."""
+    """The requests that weren't sent because their contexts had ended, as causes."""
     return [cause for one in ended_before(index) if (cause := cause_of(index, one))]
 
 
 def cause_of(index: Index, ended: EndedBefore) -> Optional[Cause]:
-    """The cause, at the call before it; None if there is none."""
+    """The cause for such a request, attached to the last call before it; None if there is no call before it."""
     near = next(back(index.book.calls, ended.use.last), None)
     looks = [f"goto {ended.use.last}", "info goroutines"]
     return Cause(near, ended.says(index.recording), [ended.use.last], looks) if near else None

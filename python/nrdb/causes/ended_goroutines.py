@@ -19,7 +19,7 @@ MOST_LEAVES = 2
 
 
 class Passed(NamedTuple):
-    """A goroutine was in a stack: after which step, when, and the index of that among the goroutine's calls."""
+    """A stack that a goroutine was in, with the step after which it was there and the time."""
 
     step: int
     time: int
@@ -33,13 +33,13 @@ def goid_of(recording: Recording, name: Name) -> int:
 
 @lru_cache(maxsize=1024)
 def last_stack(index: Index, name: Name) -> Optional[Stack]:
-    """The last known stack of a goroutine, without those of deferred functions."""
+    """The last known stack of a goroutine, leaving out those of deferred functions."""
     last = max(passed_by(index, name), key=lambda one: (one.step, one.time), default=None)
     return last.stack if last else None
 
 
 def passed_by(index: Index, name: Name) -> Iterator[Passed]:
-    """The stacks of a goroutine with a line of the program."""
+    """The stacks of a goroutine that have a line of the program."""
     recording, goid = index.recording, goid_of(index.recording, name)
     lines, calls = recording.lines, index.by_goroutine.get(name.number, []) if not name.is_goid else []
     found = [Passed(call.first, time_of(recording, call.first), lines.of(call.first)) for call in calls[-3:]]
@@ -60,7 +60,7 @@ def time_of(recording: Recording, step: int) -> int:
 
 
 def ended_where(index: Index, name: Name, known: Optional[Stack] = None) -> str:
-    """The last place of a goroutine that ended, if it isn't the known line: `, last known at a.go:15 in parse, from
+    """The last place of a goroutine that ended, unless it is the known line: `, last known at a.go:15 in parse, from
     whose loop only a.go:18 leads`; empty if unknown."""
     stack = last_stack(index, name)
     own = [call for call in stack.calls if call.of == OF_THE_PROGRAM and WRAPPED not in call.function] if stack else []

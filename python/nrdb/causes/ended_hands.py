@@ -1,6 +1,6 @@
-"""Goroutines that put values for others into the others' own channels, and have ended, while one waits for such a
-value. Clients of many RPC protocols have a goroutine that passes the answers on, and servers have workers that send
-their results so."""
+"""Goroutines that put values for others into the others' own channels and have ended, while another goroutine waits for
+such a value. Clients of many RPC protocols have a goroutine that passes the answers on, and servers have workers that
+send their results this way."""
 
 from functools import lru_cache
 from typing import NamedTuple, Optional, Sequence
@@ -21,7 +21,7 @@ MOST_NAMED = 4
 
 
 class EndedHand(NamedTuple):
-    """A goroutine that ended, the last value that it put for another, and the line of that."""
+    """A goroutine that ended, the last value that it put for another, and the line at which it put it."""
 
     name: Name
     use: Use
@@ -62,7 +62,7 @@ def hands_at(index: Index, line: Call) -> tuple[EndedHand, ...]:
 
 
 def says_of(index: Index, hands: Sequence[EndedHand]) -> list[str]:
-    """The sentences: the lines at which they put values for others, and what each did last."""
+    """Sentences about the lines at which these goroutines put values for others, and about what each did last."""
     last, recording = hands[-1], index.recording
     if len(hands) > 1:
         names = of_names([hand.name for hand in hands[:MOST_NAMED]])

@@ -25,7 +25,7 @@ OF_A_LINE = {
 
 
 def end_says(index: Index, call: Call, other: int, position: int) -> list[str]:
-    """The sentence; none for Go's own code alone."""
+    """Sentences about what a Read looks for; none if it is by Go's own code alone."""
     if call.name != "Read" or is_of_go(index.recording, call):
         return []
     functions = {one.function for one in index.recording.lines.of(call.first).calls}

@@ -17,7 +17,7 @@ from .sizes import are_known, moved_at, size_of
 from .unaccepted import is_dialed
 from .words import place_of, told
 
-MOST_ASKED = 65_536  # bytes that a Read counts as at most
+MOST_ASKED = 65_536  # the most bytes that a Read counts
 FEW_ASKED = 256  # bytes that a Read may ask for at once, as for a header
 FEWEST = 2  # earlier exchanges that show a habit
 READ_FULL = "io.ReadAtLeast"
@@ -63,8 +63,8 @@ def is_client(index: Index, goroutine: int, socket: int) -> bool:
 
 
 def unasked(index: Index, call: Call) -> list[str]:
-    """Says, for a Read that waits, that its goroutine wrote no request before, although it did before each of its
-    answers."""
+    """Says, for a Read that waits, that its goroutine wrote no request before it, although it wrote one before each
+    earlier answer."""
     found = exchanges_of(index, call.goroutine, call.socket, call.first)
     *before, last = found or [Exchange([], [])]
     if not is_client(index, call.goroutine, call.socket):
@@ -84,8 +84,8 @@ def unasked(index: Index, call: Call) -> list[str]:
 
 
 def unanswered(index: Index, call: Call, other: int, position: int) -> list[str]:
-    """Says, for a Read that waits for an answer, that the request was read by a goroutine that answered earlier ones,
-    and that then read on, or did something else, without a Write."""
+    """Says, for a Read that waits for an answer, that a goroutine which had answered earlier requests read this one,
+    and then read on or did something else without a Write."""
     wrote = index.last_use(call.socket, call.first, ("Write",))
     if wrote is None or wrote.goroutine != call.goroutine or not wrote.moved:
         return []
@@ -131,9 +131,9 @@ def unended(index: Index, wrote: Call, read: Call, now: Call) -> list[str]:
 
 
 def perhaps_why(index: Index, call: Call, now: Call) -> str:
-    """Why a goroutine that looks for the end of a line perhaps reads on. It is about the answer if its function writes
-    through a buffer, or, if that isn't known, if requests in as many Writes were answered before; else about the
-    request."""
+    """Why a goroutine that looks for the end of a line perhaps reads on. The reason is about the answer if the
+    goroutine's function writes through a buffer, or, if that isn't known, if requests of as many Writes were answered
+    before; else it is about the request."""
     line = line_reader_of(index, now)
     if not line:
         return ""

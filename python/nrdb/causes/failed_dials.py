@@ -69,8 +69,8 @@ def refused_words(recording: Recording, failed: FailedDial) -> str:
 
 
 def ended_says(recording: Recording, failed: FailedDial) -> list[str]:
-    """Says, for a dial that failed, who had cancelled its context and where; or that a sync.Once made it, which doesn't
-    run again."""
+    """Says, for a dial that failed, which goroutine had cancelled its context and where; or that a sync.Once made it,
+    which doesn't run again."""
     lines = recording.lines
     closes = [use for use in lines.uses.get(failed.context, ()) if use.what == CLOSED and use.begin <= failed.time]
     stack = lines.stacks[closes[0].stack] if failed.context and closes else None

@@ -63,7 +63,8 @@ def cause_of(index: Index, call: Call, deep: int = 0) -> Cause:
 
 
 def of_timeout(index: Index, call: Call, begins: str) -> Cause:
-    """Who set the deadline and when, what succeeded under it before, and what the call waited for."""
+    """The cause of a timeout: which goroutine set the deadline and when, what succeeded under it before, and what the
+    call waited for."""
     recording = index.recording
     step = recording.step(call.cause)
     side = "r" if call.name in READING else "w"
@@ -101,8 +102,8 @@ def of_timeout(index: Index, call: Call, begins: str) -> Cause:
 
 
 def is_of_a_server(stack: Stack) -> bool:
-    """Whether a server of net/http itself set a deadline: the innermost function outside the connection's methods did.
-    A handler may set one too, by its http.ResponseController, and the server is below each handler."""
+    """Whether a server of net/http itself set a deadline: the innermost function outside the connection's methods is
+    the server's. A handler may also set one, by its http.ResponseController, with the server below it in the stack."""
     outside = (one.function for one in stack.calls if not one.function.startswith(OF_CONNECTIONS))
     return next(outside, "").startswith(OF_A_SERVER)
 
@@ -118,14 +119,15 @@ def between(index: Index, call: Call) -> str:
 
 
 def under(well: list[Call], late: list[Call], name: str) -> str:
-    """What happened under a deadline before a call timed out by it; nothing if the deadline was this call's own."""
+    """What happened under a deadline before it timed out a call; nothing if the deadline was this call's own."""
     did = [f"{counted(len(well), name)} went well under it"] if well else []
     did += [f"{counted(len(late), name)} had timed out by it before"] if late else []
     return f"; {' and '.join(did)}, and nobody has moved it since." if did else "."
 
 
 def of_close(index: Index, call: Call, begins: str, deep: int) -> Cause:
-    """Who closed the descriptor, or the write side, and whether the call was in progress then."""
+    """The cause of a call that a close ended: which goroutine closed the descriptor or its write side, and whether the
+    call was in progress then."""
     recording = index.recording
     by = index.at(call.cause)
     goroutine = recording.step(call.cause).argument("g")
@@ -147,8 +149,8 @@ def of_close(index: Index, call: Call, begins: str, deep: int) -> Cause:
 
 
 def context_says(index: Index, call: Call, by: Optional[Call]) -> list[str]:
-    """Says, for a descriptor that was closed because a request's context had ended or a channel was closed, who did
-    that, or which limit had passed; and what the goroutine did that served the request."""
+    """Says, for a descriptor that was closed because a request's context had ended or a channel was closed, which
+    goroutine did that or which limit had passed, and what the goroutine that served the request did."""
     request = next((one for one in cancelled_requests(index) if by and one.closed.first == by.first), None)
     cancel = None if request else cancel_before(index, call.cause)
     if request is None and cancel is None:
@@ -164,7 +166,7 @@ def context_says(index: Index, call: Call, by: Optional[Call]) -> list[str]:
 
 
 def served_says(index: Index, call: Call, step: int) -> list[str]:
-    """Sentences on the goroutine that served the request on a call's connection: what it did at a step. Empty if
+    """Sentences about what the goroutine that served the request on a call's connection did at a step. Empty if
     unknown."""
     server, served = server_of(index, call.socket, step), under_way(index, call, step)
     chain = chain_says(index, call, Need([served], server), step) if server else []
@@ -172,7 +174,7 @@ def served_says(index: Index, call: Call, step: int) -> list[str]:
 
 
 def of_the_other_end(index: Index, call: Call, begins: str, deep: int) -> Cause:
-    """Who closed the other end, if the recording has it."""
+    """The cause of a call whose other end was closed: which goroutine closed it, if the recording has it."""
     recording, other = index.recording, index.other_end(call.socket)
     looks = [f"goto {call.last}", f"calls sock {call.socket}"]
     by = None if other is None else index.closing(other, call.last, call.outcome is not Outcome.EOF)
@@ -252,5 +254,5 @@ def why(index: Index, by: Optional[Call], deep: int) -> Before:
 
 
 def is_of_a_file(index: Index, call: Call) -> bool:
-    """Whether a call is one of a file, not of a connection."""
+    """Whether a call is on a file rather than on a connection."""
     return any(one.function.startswith(OF_A_FILE) for one in index.recording.lines.of(call.first).calls)

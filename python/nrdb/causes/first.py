@@ -1,5 +1,5 @@
 """The first output for a program that failed: each of the program's failed calls with its cause, and what all hanging
-goroutines wait for; if there is neither, what may be wrong; with the line to type next."""
+goroutines wait for; if there is neither, what may be wrong. The last line is the command to type next."""
 
 from collections import defaultdict
 from typing import Callable, Hashable, Union
@@ -35,7 +35,7 @@ CAUSE, INDENT, NEXT = "cause:  ", "        ", "next:   "
 
 
 def first_words(recording: Recording, name: str) -> list[str]:
-    """The lines, complete except for what `plain` does; none if there is nothing to say."""
+    """The lines, before `plain` has been applied; none if there is nothing to say."""
     failed = failures_of(recording)
     graph = graph_at(recording, recording.length)
     hangs = hangs_of(graph, bool(failed))
@@ -144,10 +144,9 @@ def left_by(graph: WaitGraph, call: Call) -> list[str]:
 
 
 def hangs_of(graph: WaitGraph, has_failures: bool) -> list[Hang]:
-    """The hangs of the first output. A read or a select that no goroutine waits for may have nothing to do: it is
-    listed only if nothing else is, and not for a program that ended by itself, whose only hang of this kind is a mutex
-    that was left locked. If the main goroutine hangs, only that hang is listed, because the program ends when it
-    does."""
+    """The hangs of the first output. A hang that no goroutine waits for, such as a read or a select, may have nothing to
+    do: it is listed only if nothing else is, and, for a program that ended by itself, only if it is at a mutex that was
+    left locked. If the main goroutine hangs, only that hang is listed, because the program ends when it does."""
     hangs = [hang for hang in graph.shown if not hang.is_quiet]
     if graph.has_ended:
         hangs = [hang for hang in hangs if not hang.root.is_of_go or hang.is_deadlock]
@@ -219,8 +218,8 @@ def late_reads(index: Index) -> list[Call]:
 
 
 def opening_words(recording: Recording) -> list[str]:
-    """The opening text of a session: the first failed call, else the first hang, and the line to type next. What no
-    goroutine waits for is only counted, if it may have nothing to do or the program ended by itself."""
+    """The opening text of a session: the first failed call, else the first hang, and the line to type next. A hang that
+    no goroutine waits for is only counted if it may have nothing to do or if the program ended by itself."""
     failed = failures_of(recording)
     graph = graph_at(recording, recording.length)
     hangs = hangs_of(graph, True)
@@ -251,8 +250,8 @@ def quiet_words(hangs: list[Hang]) -> list[str]:
 
 
 def hang_lines(graph: WaitGraph, hang: Hang, shown: set[int]) -> list[str]:
-    """A hang's sentences, the source after the line at which a goroutine stopped that could have gone on, unless it was
-    shown, and the goroutines that wait."""
+    """A hang's sentences; the source after the line at which a goroutine stopped that could have gone on, unless it was
+    shown before; and the goroutines that wait."""
     stopped = 0 if hang.is_deadlock else hang.needs[0].stopped
     source = (
         text_after(graph.recording, stopped) if not any(alike(graph.recording, stopped, one) for one in shown) else []
@@ -273,7 +272,7 @@ def paragraph(says: list[str]) -> list[str]:
 
 
 def is_telling(recording: Recording, call: Call) -> bool:
-    """Whether a failed call is worth printing: not of Go's own code alone, not a listener's end, and not at a
+    """Whether a failed call is worth printing: it isn't by Go's own code alone, isn't a listener's end, and isn't at a
     descriptor that was known to be closed."""
     if is_of_go(recording, call) or call.name not in READING + WRITING:
         return False
@@ -281,7 +280,7 @@ def is_telling(recording: Recording, call: Call) -> bool:
 
 
 def once(recording: Recording, causes: list[Cause], counts: list[int]) -> list[Cause]:
-    """One cause for those with the same lines, with the number of calls."""
+    """The causes, with those of the same lines merged into one that gives their number."""
     kept: dict[object, Cause] = {}
     many: dict[object, int] = {}
     at: Callable[[int], object] = recording.lines.words

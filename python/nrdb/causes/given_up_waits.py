@@ -51,7 +51,7 @@ def is_given_up(recording: Recording, wait: Waiting) -> bool:
 
 
 def is_stuck(recording: Recording, at: At) -> bool:
-    """Whether a channel with room is full at the end, for a wait for room, or empty, for a wait for a value."""
+    """Whether a channel with room is full at the end (for a wait for room) or empty (for a wait for a value)."""
     known, uses = recording.lines.objects.get(at.object), recording.lines.uses.get(at.object, ())
     put, took = (sum(use.often for use in uses if use.what == what) for what in (PUT, TOOK))
     if known is None or known.room <= 0 or not put or not recording.lines.made:

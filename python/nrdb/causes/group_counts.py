@@ -66,15 +66,15 @@ def places_of(recording: Recording, uses: list[Use]) -> str:
 
 
 def started_by(recording: Recording, count: Count) -> set[int]:
-    """The goroutines that were started by those that added, after the first Add."""
+    """The goroutines that the ones which called Add started after the first Add."""
     adders, begin = {use.goid for use in count.added}, min(use.begin for use in count.added)
     goroutines = recording.lines.goroutines
     return {goid for goid, known in goroutines.items() if known.maker in adders and known.begin >= begin}
 
 
 def kinds_at(recording: Recording, count: Count) -> list[Kind]:
-    """The go statements whose goroutines should call Done: those of which one did, or, if none has, the one after the
-    line that added."""
+    """The `go` statements whose goroutines should call Done: those with a goroutine that did, or, if there are none,
+    the one after the line that added."""
     found, goroutines = dict[Call, Kind](), recording.lines.goroutines
     for goid in sorted(started_by(recording, count)):
         made = goroutines[goid].made

@@ -20,7 +20,7 @@ from .words import short
 LITERAL = re.compile(r"\.(?:func\d+|gowrap\d+|deferwrap\d+)(?:\..*)?\Z")
 ADD = re.compile(r"([\w.\[\]]+)\.Add\(")
 WAIT, DONE = re.compile(r"([\w.\[\]]+)\.Wait\(\)"), re.compile(r"(defer )?(?:func\(\) \{ )?([\w.\[\]]+)\.Done\(\)")
-MOST_MEMBERS = 50  # the most to examine
+MOST_MEMBERS = 50  # the most goroutines to examine
 STARTED_BY_GROUP = "sync.(*WaitGroup).Go"
 
 
@@ -39,14 +39,15 @@ def outermost(function: str) -> str:
 
 
 class Groups:
-    """The goroutines for which those that wait for a WaitGroup wait. `stacks` are those of all that wait or sleep."""
+    """The goroutines that the waiters of WaitGroups wait for. `stacks` has the stacks of all goroutines that wait or
+    sleep."""
 
     def __init__(self, index: Index, waits: Waits, stacks: list[tuple[Name, Stack]], position: int) -> None:
         self._index, self._recording, self._waits = index, index.recording, waits
         self._stacks, self._position = stacks, position
         self._members: dict[
             tuple[Call, ...], list[Member]
-        ] = {}  # those of goroutines that wait, by the calls of the program
+        ] = {}  # the members, by the program's calls in which a goroutine waits
 
     def of(self, waiter: Waiter, waiters: Container[Name], does: Callable[[Name], str]) -> Optional[Need]:
         """The need of a goroutine that waits for a WaitGroup; None if there is none."""
@@ -121,8 +122,8 @@ class Groups:
         return [count_says(self._recording, count), *ended] if count and ended else []
 
     def _in_order(self, members: list[Member], count: Optional[Count]) -> list[Member]:
-        """The goroutines that may call Done, those that haven't yet first. If the goroutines that called Add started
-        some of them afterwards, the others are left out."""
+        """The goroutines that may call Done, starting with those that haven't yet. If the goroutines that called Add
+        started some of them afterwards, the others are left out."""
         if count is None:
             return members
         started = started_by(self._recording, count)
@@ -135,7 +136,7 @@ class Groups:
         return member.name.number if member.name.is_goid else self._recording.lines.goid_of(member.name.number)
 
     def _has_done(self, member: Member, count: Count) -> bool:
-        """Whether a goroutine has called Done, where each calls it only once."""
+        """Whether a goroutine has called Done, if each goroutine calls it only once."""
         return count.is_once and self._goid(member) in count.done_by
 
     def _by_source(self, waiter: Waiter) -> list[Member]:
@@ -161,7 +162,7 @@ class Groups:
 
     def _started(self, waiter: Waiter) -> list[Member]:
         """Goroutines that wait or sleep and were started by a function that the waiter is in, or by the function around
-        that literal; then those of another literal of it; then those that a WaitGroup started."""
+        that literal; then those that another literal of that function started; then those that a WaitGroup started."""
         inside = {call.function for call in waiter.stack.calls if call.of == OF_THE_PROGRAM}
         outer = set(map(outermost, inside))
         made = [(name, stack.made) for name, stack in self._stacks if stack.made]
@@ -170,7 +171,7 @@ class Groups:
         return [Member(name, at) for name, at in near or others]
 
     def _how(self, waiter: Waiter, member: Member) -> str:
-        """The line at which a goroutine calls Done; else that the waiter started it, if known, or the line that did."""
+        """Says at which line a goroutine calls Done; else that the waiter started it, if known, or which line did."""
         if member.number:
             return f"which calls Done at {member.line.file}:{member.number}{self._when(member)}"
         lines = self._recording.lines
@@ -179,7 +180,7 @@ class Groups:
         return "which it started" if known and known.maker == starter > 0 else f"started at {member.line.place()}"
 
     def _when(self, member: Member) -> str:
-        """Whether a goroutine's call of Done is its last, after any loop and all other work."""
+        """`as it ends`, if a goroutine's call of Done is its last, after any loop and all other work; else empty."""
         done = [one for number, one in found_in(self._recording, member.line, DONE) if number == member.number]
         is_last = is_last_line(self._recording, member.line, member.number)
         return " as it ends" if is_last or any(one[1] for one in done) else ""

@@ -50,7 +50,7 @@ def functions_of(stack: Stack) -> set[str]:
 
 
 def written_for(index: Index, wait: Waiting, socket: int) -> Optional[Call]:
-    """The first Write at a socket by a goroutine that took what the waiter had put into a channel, after it did so."""
+    """The first Write at a socket by a goroutine that had taken what the waiter put into a channel."""
     put = put_before(index.recording, wait)
     if put is None:
         return None

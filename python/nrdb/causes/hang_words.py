@@ -33,8 +33,8 @@ VERBS = {
     "reads": "read",
 }
 SEVERAL = {"{by}, which calls": "{by}, which call", "as it ends": "as they end", "what it reads": "what they read"}
-MOST_LINES = 20  # lines of a tree
-MOST_BESIDE = 3  # sentences about goroutines that wait for a root
+MOST_LINES = 20  # the most lines of a tree
+MOST_BESIDE = 3  # the most sentences about goroutines that wait for a root
 MOST_LOOSE = 4  # the most goroutines to name that may hold mutexes for one another
 INDENT = "  "
 
@@ -79,14 +79,14 @@ def of_waiters(graph: WaitGraph, hang: Hang) -> list[str]:
 
 
 def ahead_says(graph: WaitGraph, hang: Hang) -> list[list[str]]:
-    """For each root the deadline that its call still has."""
+    """For each root, the deadline that its call still has."""
     index = index_of(graph.recording)
     found = (deadline_ahead(index, root.call, graph.position) if root.call else None for root in hang.roots)
     return [[setting_says(index, one)] if one else [] for one in found]
 
 
 def beside_words(graph: WaitGraph, hang: Hang) -> list[str]:
-    """Sentences on the other roots that wait for the same ended goroutine, one for each group that waits alike."""
+    """Sentences about the other roots that wait for the same ended goroutine, one for each group that waits alike."""
     alike: dict[object, list[Waiter]] = defaultdict(list)
     for waiter in hang.beside:
         alike[kind_of(graph.recording, waiter)].append(waiter)
@@ -100,7 +100,7 @@ def beside_words(graph: WaitGraph, hang: Hang) -> list[str]:
 
 def unread_words(graph: WaitGraph, hang: Hang) -> list[str]:
     """Sentences about bytes that a goroutine of a hang wrote and no goroutine reads; none if its root waits for room,
-    which says so."""
+    because the root's sentence says so already."""
     call, index, names = hang.root.call, index_of(graph.recording), {waiter.name for waiter in waiters_of(hang)}
     if any(root.call and root.call.name == "Write" for root in hang.roots) or (call and call.is_asking):
         return []
@@ -115,8 +115,8 @@ def wants_value(waiter: Waiter) -> bool:
 
 
 def reader_words(index: Index, names: set[Name], position: int) -> list[str]:
-    """Says that the goroutine has ended that read at a socket to which one of these goroutines, which wait for values,
-    wrote last."""
+    """Says that the only reader of a socket has ended, if the last Write to the socket is by one of these goroutines,
+    which wait for values."""
     for gone in gone_readers(index, position):
         wrote = index.last_use(gone.read.socket, position, ("Write",))
         if wrote and Name(wrote.goroutine) in names:
@@ -181,7 +181,7 @@ def waits(waiter: Waiter) -> str:
 
 
 def deadlock_words(graph: WaitGraph, hang: Hang) -> str:
-    """Says that goroutines wait for one another; if one of the calls has a deadline, until when."""
+    """Says that goroutines wait for one another, and until when if one of the calls has a deadline."""
     many = NUMBERS.get(len(hang.roots), str(len(hang.roots)))
     what = "calls" if all(root.call for root in hang.roots) else "goroutines"
     is_perhaps = hang.certainty == Certainty.PERHAPS
@@ -236,7 +236,7 @@ def waiter_words(recording: Recording, waiter: Waiter) -> str:
 
 
 def tree_lines(graph: WaitGraph, hang: Hang) -> list[str]:
-    """The goroutines that wait for a root, a line for those that wait alike, up to the greatest number of lines."""
+    """The goroutines that wait for a root, one line for those that wait alike, up to the greatest number of lines."""
     lines = [line for branch in hang.branches for line in branch_lines(graph.recording, branch, 1)]
     left = len(lines) - MOST_LINES
     return [*lines[:MOST_LINES], *([f"{INDENT}and {counted(left, 'line')} more"] if left > 0 else [])]

@@ -1,5 +1,5 @@
 """Answers that a handler of net/http wrote and its server holds back until the handler returns or calls Flush, while a
-goroutine waits for them. From the program's source."""
+goroutine waits for them. Derived from the program's source."""
 
 import re
 from typing import Iterator, Optional
@@ -79,8 +79,8 @@ def came_since(index: Index, server: Name, socket: int, position: int) -> list[s
 
 
 def flushed_in_vain(recording: Recording, stack: Stack) -> str:
-    """The line of a stack's function with a ResponseWriter that flushes before the goroutine's line, outside loops;
-    empty if there is none."""
+    """The line that flushes, before the goroutine's line and outside loops, in a function of the stack that has a
+    ResponseWriter; empty if there is none."""
     for call in stack.calls:
         lines = source_of(recording, call.file) if call.of == OF_THE_PROGRAM else None
         within = range_of(lines, call) if lines else None
@@ -108,8 +108,9 @@ def unflushed(recording: Recording, stack: Stack) -> Iterator[tuple[str, bool]]:
 
 
 def writes_of(lines: Lines, call: LineCall, within: range, is_innermost: bool) -> Iterator[tuple[str, bool]]:
-    """The lines of a function that write to its ResponseWriter, the last one before the goroutine's line first. That
-    line itself counts if no function of the program is called there, which may produce what is to be written."""
+    """The lines of a function that write to its ResponseWriter, starting with the last one before the goroutine's line.
+    The goroutine's line itself counts only if it calls no function of the program, since such a function may produce
+    what is to be written."""
     named = next((match[1] for number in within if (match := WRITER.search(code_at(lines, number)))), None)
     if named is None:
         return

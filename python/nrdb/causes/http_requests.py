@@ -51,7 +51,7 @@ class CancelledRequest(NamedTuple):
         return any(call.function.startswith(BY_A_TIMER) for call in self.stack.calls[-1:])
 
     def places(self, recording: Recording) -> tuple[str, ...]:
-        """The lines that it names: of the request, of its cancelling, and of its deadline."""
+        """The lines of the request, of its cancellation, and of its deadline."""
         of_timer = [recording.lines.stacks[self.timer.stack]] if self.timer else []
         return tuple(map(place_in, (self.request.stack, self.stack, *of_timer)))
 
@@ -113,7 +113,7 @@ def cancelled_requests(index: Index) -> tuple[CancelledRequest, ...]:
 
 
 def is_by_context(stack: Stack) -> bool:
-    """Whether a round trip asks why its context ended: it does so only after it waited for that."""
+    """Whether a round trip asks why its context ended, which it does only after it waited for that."""
     functions = [call.function for call in stack.calls[:3]]
     return CAUSE_OF_END in functions and ROUND_TRIP in functions
 
@@ -139,9 +139,9 @@ def cancelled(index: Index, every: list[Request], ended: Use, close: Use) -> Ite
 
 
 def timer_of(recording: Recording, request: Request, close: Use) -> Optional[Timer]:
-    """The timer of the deadline that ended a request's context: that of its client's Timeout, the last that its
-    goroutine made for a client at the same line before the request was handed over; else the only one of the program's
-    contexts that was due by then. None if uncertain."""
+    """The timer of the deadline that ended a request's context: the timer of its client's Timeout, which is the last
+    one that its goroutine made for a client at the same line before it handed the request over; else the only timer of
+    the program's contexts that was due by then. None if uncertain."""
     stacks = recording.lines.stacks
     timers = [
         timer for some in recording.lines.timers.values() for timer in some

@@ -15,8 +15,8 @@ LISTENS = "net.(*netFD).listen"
 
 
 def idle_listeners(index: Index, position: int) -> list[str]:
-    """Sentences about them for a goroutine that waits at a connection that no goroutine has accepted; none if no such
-    goroutines exist."""
+    """Sentences about such listeners, for a goroutine that waits at a connection that no goroutine has accepted; none
+    if there are no such listeners."""
     listeners = [
         socket for socket in index.by_socket if is_listener(index, socket) and not closed(index, socket, position)
     ]

@@ -54,8 +54,8 @@ class Index:
         self._under_way: dict[tuple[int, int], list[Call]] = {}
 
     def by_goid(self, goid: int) -> list[Call]:
-        """The calls of the goroutine with this number of Go's, if the goroutine still has its number in the recording
-        at the end."""
+        """The calls of the goroutine with this goid, if the goroutine still has its number in the recording at the
+        end."""
         lines = self.recording.lines
         number = lines.number_of(goid)
         calls = self.by_goroutine.get(number, []) if number >= 0 else []
@@ -87,7 +87,7 @@ class Index:
         return self._under_way[socket, step]
 
     def last_use(self, socket: int, until: int, names: Iterable[str] = MOVING) -> Optional[Call]:
-        """The call of these names on a socket that began last, up to a step."""
+        """The last call with one of these names that began on a socket up to a step."""
         return next((one for one in back(self.by_socket.get(socket, ()), until) if one.name in names), None)
 
     def before(self, call: Call) -> Optional[Call]:
@@ -111,13 +111,13 @@ class Index:
         return any(one.function in ACCEPTS for one in self.recording.lines.of(call.first).calls)
 
     def moved(self, socket: int, name: str, until: int) -> int:
-        """The number of bytes that the calls of a name, which ended up to a step, moved at a socket."""
+        """The number of bytes that the calls with a name moved at a socket, among those that ended up to a step."""
         calls = self.by_socket.get(socket, ())
         return sum(one.moved or 0 for one in calls if one.name == name and 0 < one.last <= until)
 
     def under_its_deadline(self, call: Call) -> list[Call]:
         """The calls of the same side that ended between the step that set a call's deadline and the call, in the order
-        of their first steps. It doesn't go over all calls, because a side may have as many timeouts as calls."""
+        of their first steps. This doesn't scan all calls, because a side may have as many timeouts as calls."""
         side = call.socket, call.name
         if side not in self._ended:
             calls = (one for one in self.by_socket[call.socket] if one.name == call.name and one.last)

@@ -38,7 +38,7 @@ def joined(graph: WaitGraph, order: list[Topic]) -> list[Topic]:
 def because_of(graph: WaitGraph, hang: Hang, cause: Optional[Cause]) -> str:
     """The sentence that joins a hang to a failed call; empty if they are unrelated, or the reason of the hang isn't
     known."""
-    is_write = hang.root.call is not None and hang.root.call.name in WRITING  # (which says who doesn't read)
+    is_write = hang.root.call is not None and hang.root.call.name in WRITING  # (says which goroutine doesn't read)
     if cause is None or hang.is_quiet or hang.is_of_go or not (hang.has_reason or hang.is_deadlock or is_write):
         return ""
     call, waiters = cause.call, {waiter.name: waiter for waiter in waiters_of(hang)}

@@ -103,13 +103,14 @@ def gives_on_most_ways(recording: Recording, balances: Iterable[Balance]) -> boo
 
 
 def gives_back(recording: Recording, given: Iterable[Call]) -> Optional[Test]:
-    """Whether a statement gives something back, by the statements that did so; None if their text isn't known."""
+    """A test whether a statement gives something back, made from the statements that did so; None if their text isn't
+    known."""
     patterns = {pattern for line in given if (pattern := pattern_of(text_at(recording, line)))}
     return has("|".join(sorted(patterns))) if patterns else None
 
 
 def pattern_of(text: str) -> str:
-    """A pattern for statements that do the same at a channel, or by the function that they call; empty if this one does
+    """A pattern for statements that do the same at a channel or call the same function; empty if this statement does
     neither."""
     code = LITERAL.sub("", text.strip())
     if found := SEND.search(code):
@@ -121,7 +122,7 @@ def pattern_of(text: str) -> str:
 
 
 def value_of(text: str, form: str) -> Test:
-    """Whether a statement passes on the value that another one takes."""
+    """A test whether a statement passes on the value that another statement takes."""
     found = TAKEN.match(text)
     hands_on = has(form.format(name=found[1])) if found else nothing
     return lambda statement: hands_on(USES.sub("(", statement))
@@ -137,7 +138,8 @@ def ways_of(recording: Recording, line: Call, text: str, ends: Test, keeps: Test
 
 
 def ways_past_close(recording: Recording, stacks: Iterable[Stack]) -> list[str]:
-    """The paths of the functions that made requests on which the response's body isn't closed, by their stacks."""
+    """The paths on which the functions that made requests don't close the response's body, found by the stacks of the
+    requests."""
     says = dict[str, None]()
     for stack in stacks:
         for call in stack.calls:

@@ -1,5 +1,5 @@
-"""Answers of an http.Server that its WriteTimeout cut, if only Go's own code wrote: the handler that ran when the limit
-passed."""
+"""Answers of an http.Server that were cut by its WriteTimeout, if only Go's own code wrote, and the handler that ran
+when the limit passed."""
 
 from typing import Iterator
 

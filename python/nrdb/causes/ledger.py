@@ -39,7 +39,7 @@ class Ledger:
                         self._locked[at.object].append(wait)
 
     def given(self, at: At) -> Iterator[Given]:
-        """What goroutines did at a channel that ends a wait there, the last one first."""
+        """The goroutines' uses of a channel that end a wait there, latest first."""
         what = GIVES.get(at.use, "")
         uses = (use for use in self._lines.uses.get(at.object, ()) if use.what == what)
         for use in sorted(uses, key=END, reverse=True):

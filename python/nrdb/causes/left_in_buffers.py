@@ -1,5 +1,5 @@
-"""Requests that are still in a buffer: a goroutine waits for an answer, wrote nothing since its last one, and is in a
-function that writes into a bufio.Writer without flushing it. From the program's source."""
+"""Requests that are still in a buffer: a goroutine waits for an answer, has written nothing since its last one, and is
+in a function that writes into a bufio.Writer without flushing it. Derived from the program's source."""
 
 import re
 from functools import lru_cache

@@ -35,7 +35,7 @@ class Leak(NamedTuple):
 
 
 def left_locked(recording: Recording, lock: Call) -> list[str]:
-    """Sentences about functions that may have left the mutex locked that a goroutine waits for in the call `lock`."""
+    """Sentences about functions that may have left locked the mutex that a goroutine waits for in the call `lock`."""
     lines, name = source_of(recording, lock.file), LOCK.search(text_at(recording, lock))
     if not lines or not name:
         return []
@@ -53,8 +53,8 @@ def left_locked(recording: Recording, lock: Call) -> list[str]:
 
 
 def returns_locked(recording: Recording, lock: Call) -> list[str]:
-    """Sentences about the function that locked a mutex in a call and left it locked: the line at which it returns
-    without an Unlock, or that it has none."""
+    """Sentences about the function that locked a mutex in a call and left it locked: which line returns without an
+    Unlock, or that the function has no Unlock."""
     lines, name = source_of(recording, lock.file), LOCK.search(text_at(recording, lock))
     own = next((one for one in functions_of(lines, lock) if lock.line in one.within), None) if lines else None
     field = field_of(own, name[1]) if own and name else None
@@ -80,8 +80,8 @@ def functions_of(lines: Lines, near: Call) -> Iterator[Function]:
 
 
 def field_of(function: Function, name: str) -> Optional[str]:
-    """The mutex that an expression names: that of the receiver's field, or one of the package; None if it is another
-    variable's."""
+    """The mutex that an expression names: a field of the receiver, or, in a function without receiver, a variable of
+    the package; None for other variables."""
     first, dot, rest = name.partition(".")
     if function.receiver:
         return f".{rest}" if dot and first == function.receiver else None
@@ -89,8 +89,8 @@ def field_of(function: Function, name: str) -> Optional[str]:
 
 
 def leaks_of(lines: Lines, functions: list[Function], field: str) -> list[Leak]:
-    """The functions that return with the mutex locked. A function that never unlocks it locks it for its callers if
-    another one only unlocks it."""
+    """The functions that return with the mutex locked. A function that never unlocks it is taken to lock it for its
+    callers if another function only unlocks it."""
     helps = any(has(UNLOCK, lines, one, field) and not has(LOCK, lines, one, field) for one in functions)
     return [
         leak
@@ -148,6 +148,6 @@ def has(pattern: "re.Pattern[str]", lines: Lines, function: Function, field: str
 
 
 def is_of(pattern: "re.Pattern[str]", text: str, function: Function, field: str) -> bool:
-    """Whether a line does only that."""
+    """Whether a line only locks, or only unlocks, the mutex in question."""
     found = pattern.search(text)
     return found is not None and text.strip() == found[0] and field_of(function, found[1]) == field

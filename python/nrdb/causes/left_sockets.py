@@ -1,5 +1,5 @@
-"""Connections that a function dialed or accepted and left open on one of its paths, so that the other end waits: from
-where their goroutine is since, and from the program's source."""
+"""Connections that a function dialed or accepted and left open on one of its paths, so that the other end waits.
+Derived from where their goroutine has been since, and from the program's source."""
 
 import re
 from typing import Optional
@@ -22,8 +22,8 @@ TO_OTHERS = r"\breturn\b.*\b{name}\b|[=({{,:]\s*{name}\b\s*[,)}};]|[=:] *{name}$
 
 
 def left_socket(index: Index, socket: int, position: int) -> list[str]:
-    """Sentences about a socket at whose other end a goroutine waits: it is open, though the function that opened it has
-    returned, and the path that doesn't close it. None if unknown."""
+    """Sentences about a socket at whose other end a goroutine waits: the socket is open though the function that opened
+    it has returned, and this path of the function doesn't close it. None if unknown."""
     opened = next((one for one in index.by_socket.get(socket, ()) if one.name == OPEN), None)
     if opened is None or index.closing(socket, position, whole=True):
         return []
@@ -104,7 +104,7 @@ def only_uses(recording: Recording, file: str, function: str, place: int) -> boo
 
 
 def stack_at(index: Index, goroutine: int, position: int) -> Optional[Stack]:
-    """The stack of a goroutine at a position, in a call or a wait, else that of its last call."""
+    """The stack of a goroutine's call or wait at a position; else the stack of its last call."""
     call, wait = index.inside(goroutine, position), waits_of(index.recording).at(Name(goroutine), position)
     if wait:
         return wait.stack

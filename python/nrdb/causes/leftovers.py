@@ -33,7 +33,7 @@ class Place(NamedTuple):
 
 
 def leftovers_of(recording: Recording) -> list[Cause]:
-    """All findings at the end of a recording, each sort in the order of its steps, without those of Go's own code
+    """All findings at the end of a recording, each sort in the order of its steps, without those about Go's own code
     alone."""
     index = index_of(recording)
     found = [
@@ -85,7 +85,7 @@ def never_read(index: Index) -> Iterator[Cause]:
 
 
 def first_beyond(index: Index, socket: int, count: int) -> Optional[Call]:
-    """The first Write at a socket with which more than this number of bytes were written."""
+    """The first Write at a socket that brought the number of bytes written there above this one."""
     together = 0
     for call in index.by_socket[socket]:
         together += size_of(index, call) if call.name == "Write" else 0
@@ -126,7 +126,7 @@ def serves_on(recording: Recording, last: Call) -> list[str]:
 
 
 def early_ends(index: Index) -> Iterator[Cause]:
-    """Reads of the program that met the end of a stream, because the other end closed, instead of an answer."""
+    """Reads of the program that met the end of a stream instead of an answer, because the other end closed."""
     for call in index.book.calls:
         other = index.other_end(call.socket)
         if call.outcome is not Outcome.EOF or other is None or is_of_go(index.recording, call):

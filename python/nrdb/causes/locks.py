@@ -1,5 +1,5 @@
-"""The mutexes that a goroutine perhaps holds in a call, from the program's source: a recording has no step at which a
-free mutex is locked."""
+"""The mutexes that a goroutine perhaps holds in a call. They come from the program's source, because a recording has no
+step for the locking of a free mutex."""
 
 import os
 import re

@@ -1,5 +1,5 @@
-"""Channels without room whose maker has returned: a goroutine waits for a receiver, and the function that made the
-channel, as recorded, returns by these lines of the program's source."""
+"""Unbuffered channels whose maker has returned: a goroutine waits for a receiver, and the function that the recording
+shows to have made the channel returns by these lines of the program's source."""
 
 import re
 
@@ -60,7 +60,7 @@ def returns_says(index: Index, line: Call) -> str:
 
 
 def is_filled_by_maker(recording: Recording, at: At) -> bool:
-    """Whether the function that made a channel put in all its values, as into a bucket of tokens."""
+    """Whether the function that made a channel put in all its values, as for a token bucket."""
     lines = recording.lines
     made = lines.made.get(at.object)
     own = lines.stacks[made.stack].own() if made else None

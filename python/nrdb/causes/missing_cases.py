@@ -15,7 +15,7 @@ from .words import place_in
 
 
 class Lacking(NamedTuple):
-    """A channel was closed that another goroutine waited for: how it was closed, and that wait."""
+    """A closed channel that another goroutine waited for: how it was closed, and that wait."""
 
     closed: Use
     wait: Waiting
@@ -48,8 +48,8 @@ def group_wait_of(branch: Branch) -> Optional[Waiting]:
 
 
 def shutdown_of(recording: Recording, wait: Waiting) -> Optional[Waiting]:
-    """The first wait of a Shutdown, which tests repeatedly, if a goroutine serves a request of net/http; the last one
-    if that doesn't end."""
+    """The first wait of a Shutdown, if a goroutine serves a request of net/http. Shutdown polls, so a wait that doesn't
+    end is preferred."""
     if not has(wait.stack, SERVE):
         return None
     every = (one for some in waits_of(recording).of.values() for one in some if one.kind == ALL_REQUESTS)

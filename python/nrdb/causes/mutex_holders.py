@@ -70,8 +70,8 @@ class MutexHolders:
         return self._of_holder(wait, others[0], others[1:]) if others else self._of_nobody(wait)
 
     def _holders(self, wait: Waiting) -> Iterator[Holder]:
-        """The goroutines that a goroutine waits for: the writer, or the readers for which a writer waits that already
-        has the mutex; and the goroutine itself if it is among them."""
+        """The holders that a goroutine waits for: the writer; or, if the goroutine is a writer that already has the
+        mutex, the readers that it waits for. The goroutine itself is among them if it also holds the mutex."""
         held = [one for at in wait.objects for one in (self._recording.lines.held or {}).get(at.object, ())]
         writers = [self._holder(one) for one in held if one.how != READ]
         readers = [self._holder(one) for one in held if one.how == READ]
@@ -124,8 +124,8 @@ class MutexHolders:
         return Need([f"{str(holder.name).capitalize()} {holder.how}{holder.locked}{others}{doing}."], is_odd=True)
 
     def _left_locked(self, holder: Holder, now: Stack) -> Optional[Need]:
-        """Says, from the holder's line now, that it has left the function that locked, which unlocks the mutex on other
-        paths."""
+        """The need if the holder's current line shows that it has left the function that locked the mutex and that
+        unlocks it on other paths; else None."""
         call = holder.call
         if call is None or not now.calls or any(one.function == call.function for one in now.calls):
             return None
@@ -136,8 +136,8 @@ class MutexHolders:
         return Need([says, *returns_locked(self._recording, call)], is_odd=True, gone=holder.name)
 
     def _of_nobody(self, wait: Waiting) -> Need:
-        """The need if no goroutine holds the mutex: a copy of a locked one, if the goroutine has waited for more than a
-        moment."""
+        """The need if no goroutine holds the mutex: the mutex may be a copy of a locked one if the goroutine has waited
+        for more than a moment."""
         times = self._recording.lines.times
         if not times or times[-1] - wait.begin < A_MOMENT:
             return Need([])

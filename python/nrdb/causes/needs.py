@@ -138,8 +138,8 @@ class Needs:
         return Need([*says, *self._since_then(last)], Name(last.goroutine), how, Certainty.LIKELY, self._stopped(last))
 
     def _sibling_of(self, wrote: Call) -> Optional[Name]:
-        """Another waiting goroutine of the `go` statement with which the goroutine that reads the requests started an
-        ended one for an answer."""
+        """A waiting goroutine that the reader of the requests started by the same `go` statement as an ended goroutine
+        that wrote an answer."""
         lines = self._recording.lines
         known = lines.goroutines.get(lines.goid_of(wrote.goroutine, wrote.first))
         if known is None or known.made is None or known.last < 0 or not known.maker:
@@ -156,8 +156,8 @@ class Needs:
         return first.name if first else None
 
     def _started_by(self, last: Call) -> Optional[Name]:
-        """The goroutine for the other end of a read, to which nothing was written yet, that its reader started after
-        the last request, and that waits elsewhere while the reader reads on."""
+        """The goroutine that is perhaps to write at the other end of a read, if nothing was written there yet: the
+        other end's reader started it after the last request and reads on, and it waits elsewhere."""
         lines, reads = self._recording.lines, self._index.by_socket[last.socket]
         got = [
             one for one in reads if one.goroutine == last.goroutine and one.name == "Read" and one.moved and one.last
@@ -171,8 +171,9 @@ class Needs:
         return first.name if first else None
 
     def _relay_back(self, last: Call) -> Optional[Name]:
-        """The goroutine for the other end of a read, to which nothing was written, and whose reader passes on what it
-        reads: the one that waits to read where that reader writes, the other half of a relay."""
+        """The goroutine that is perhaps to write at the other end of a read, if nothing was written there and the other
+        end's reader passes on what it reads: the goroutine that waits to read where that reader writes, which is the
+        other half of a relay."""
         if last.name != "Read" or Name(last.goroutine) in self._waiters:
             return None
         wrote = {
@@ -226,7 +227,7 @@ class Needs:
 
 
 def doing(index: Index, waits: Waits, goroutine: int, position: int) -> str:
-    """What a goroutine does that is in no call: `it sleeps at a.go:63 in client since step 9`."""
+    """What a goroutine that is in no call does: `it sleeps at a.go:63 in client since step 9`."""
     if wait := waits.at(Name(goroutine), position):
         return f"it {waits_words(wait)} since step {wait.first}"
     last = [one for one in index.by_goroutine[goroutine] if one.first <= position][-1]

@@ -1,4 +1,4 @@
-"""What each goroutine needs that waits outside the poller: for a mutex, a channel, a WaitGroup, a descriptor in use, or
+"""What each goroutine that waits outside the poller needs, for a mutex, a channel, a WaitGroup, a descriptor in use, or
 a connection of net/http; and which goroutine could give it."""
 
 from typing import Hashable, Iterator, Optional
@@ -162,7 +162,7 @@ class NeedsElsewhere:
         return Need([says], Name(users[-1].goroutine), "{by} uses the descriptor")
 
     def _of_condition(self, wait: Waiting) -> list[str]:
-        """The need of a wait for a condition: the function that should have woken the goroutine, or all that wait."""
+        """The need of a wait for a condition: the function that should have woken the goroutine, or all waiters."""
         key = wait.stack.own(), wait.objects
         if key not in self._conditions:
             alike = [one for one in self._waiters.values() if one.wait and one.wait.objects == wait.objects]

@@ -1,5 +1,5 @@
-"""What a goroutine needs that waits at a channel: from how often each goroutine took and gave there, from the last that
-did what it waits for, and from those that ended without that."""
+"""What a goroutine that waits at a channel needs. It is derived from how often each goroutine took and gave there, from
+the last goroutine that did the awaited operation, and from those that ended without it."""
 
 from itertools import islice
 from typing import Any, Callable, Hashable, Iterable, Iterator, Mapping, Optional, TypeVar
@@ -41,7 +41,8 @@ Rule = Callable[[Recording, Waiting, Iterable[tuple[Name, Stack]]], Optional[Nee
 
 
 class NeedsOfChannels:
-    """The needs of the goroutines that wait at channels. `stacks` are those of all that wait or sleep."""
+    """The needs of the goroutines that wait at channels. `stacks` has the stacks of all goroutines that wait or
+    sleep."""
 
     def __init__(
         self, recording: Recording, waits: Waits, ledger: Ledger, waiters: Mapping[Name, Waiter],
@@ -49,7 +50,7 @@ class NeedsOfChannels:
     ) -> None:  # fmt: skip
         self._recording, self._waits, self._ledger = recording, waits, ledger
         self._waiters, self._stacks, self._does = waiters, stacks, does
-        self._memo: dict[Hashable, Any] = {}  # found once for a channel, because many may wait there
+        self._memo: dict[Hashable, Any] = {}  # computed once for a channel, because many may wait there
 
     def _once(self, key: Hashable, find: Callable[[], Found]) -> Found:
         if key not in self._memo:
@@ -80,7 +81,7 @@ class NeedsOfChannels:
 
     def of_balance(self, wait: Waiting) -> Optional[Need]:
         """The need at a channel from which goroutines take and give back: the calls that kept something or gave it back
-        twice; else a goroutine that has something and waits. None if the channel isn't used so."""
+        twice; else a goroutine that has something and waits. None if the channel isn't used this way."""
         at, wanted = wait.objects[0], GIVES.get(wait.objects[0].use, "")
         balances = self._balances(at.object) if self.is_buffered(at) else []
         if not balances:
@@ -158,7 +159,7 @@ class NeedsOfChannels:
         return bool(wait.objects) and all(at.use for at in wait.objects) and not any(one.last >= since for one in given)
 
     def _made_since(self, wait: Waiting) -> int:
-        """The earliest step after which the channel was made at which a goroutine waits."""
+        """The earliest step after which the channel that a goroutine waits at was made."""
         return self._once((wait.name, wait.objects, "made"), lambda: made_since(self._recording, wait))
 
     def of(self, wait: Waiting) -> Need:
@@ -227,7 +228,7 @@ class NeedsOfChannels:
         return later
 
     def _given(self, at: At) -> list[Given]:
-        """The first goroutines that did the awaited operation at a channel, those that wait first."""
+        """The first goroutines that did the awaited operation at a channel, starting with those that wait."""
 
         def find() -> list[Given]:
             every = list(self._ledger.given(at))
@@ -236,12 +237,12 @@ class NeedsOfChannels:
         return self._once(("given", at), find)
 
     def _closing(self, wait: Waiting) -> Optional[Need]:
-        """The need of what should close a channel, from the source."""
+        """The need for the close of a channel, from the source."""
         return self._by_source("closing", unclosed, wait)
 
     def _by_source(self, key: str, rule: Rule, wait: Waiting) -> Optional[Need]:
-        """The result of a rule that reads the source, computed once for the waits of a line, and for each if it names
-        that goroutine itself."""
+        """The result of a rule that reads the source, computed once for all waits of a line; for a wait whose own
+        goroutine the result names, computed again."""
         nobody = wait._replace(name=NOBODY)
         place = wait.stack.own(), wait.objects, key
         need = self._once(place, lambda: rule(self._recording, nobody, self._stacks.items()))

@@ -1,4 +1,4 @@
-"""What a goroutine needs that waits for a mutex: the goroutine that perhaps holds it, from stacks, from earlier
+"""What a goroutine that waits for a mutex needs: the goroutine that perhaps holds it, from stacks, from earlier
 holders, and from the program's source."""
 
 from typing import Callable, Mapping, NamedTuple, Optional
@@ -47,7 +47,8 @@ def of_once(stack: Stack) -> str:
 
 
 class NeedsOfMutexes:
-    """The needs of the goroutines that wait for mutexes. `stacks` are those of all that wait or sleep."""
+    """The needs of the goroutines that wait for mutexes. `stacks` has the stacks of all goroutines that wait or
+    sleep."""
 
     def __init__(
         self, recording: Recording, ledger: Ledger, waiters: Mapping[Name, Waiter], stacks: list[tuple[Name, Stack]],
@@ -83,8 +84,8 @@ class NeedsOfMutexes:
         return Need([f"{held} {first.name}, which {self._does(first.name)}."])
 
     def _crossed(self, waiter: Waiter, wait: Waiting) -> Optional[Need]:
-        """Another goroutine that waits in the same function for a mutex other than the one that a holder has, and holds
-        one too: as two do that call the function with the same mutexes in another order."""
+        """The need if another goroutine waits for another mutex, in a function that both are in, and holds a mutex
+        there too, as when two goroutines call a function with the same mutexes in different orders."""
         objects = {at.object for at in wait.objects}
         mine = {call.function for call in waiter.stack.calls if self._held(call)}
         for name, other in self._waiters.items():
@@ -97,7 +98,7 @@ class NeedsOfMutexes:
         return None
 
     def _last(self, wait: Waiting) -> set[Name]:
-        """The goroutines that are the last known to have got a mutex."""
+        """The last known holders of the mutexes that a goroutine waits for."""
         numbers = [at.object for at in wait.objects]
         return {holder.name for number in numbers if (holder := self._ledger.last_holder(number))}
 
@@ -114,15 +115,15 @@ class NeedsOfMutexes:
         return held_at(self._recording, call) if call.of == OF_THE_PROGRAM else []
 
     def _holders(self, waiter: Waiter, wait: Waiting, lock: Call) -> list[Holder]:
-        """The goroutines that may hold it, those with the strongest evidence first."""
+        """The goroutines that may hold the mutex, strongest evidence first."""
         numbers = frozenset(at.object for at in wait.objects)
         if (lock, numbers) not in self._found:
             self._found[lock, numbers] = self._found_for(lock, numbers, self._last(wait))
         return [holder for holder in self._found[lock, numbers] if holder.name != waiter.name]
 
     def _found_for(self, lock: Call, numbers: frozenset[int], last: set[Name]) -> list[Holder]:
-        """The goroutines that may hold a mutex, without those that wait for the same mutex, except a goroutine that
-        holds it itself."""
+        """The goroutines that may hold a mutex, leaving out those that wait for the same mutex, unless such a goroutine
+        itself holds it."""
         locks = {lock}.union(*map(self._ledger.lines_of, numbers))
         had = {name for number in numbers for name in self._ledger.had(number)}
         found = list[Holder]()
@@ -149,7 +150,8 @@ class NeedsOfMutexes:
 
     def _lock_of(self, call: Call, lock: Call, locks: set[Call]) -> Optional[int]:
         """The line at which a goroutine in a call locked a mutex that may be the one that another waits for in the call
-        `lock`, and others in `locks`; 0 if the line isn't certain, None if it holds none there."""
+        `lock`, or others wait for in `locks`; 0 if the line isn't certain, None if the goroutine holds no such mutex
+        there."""
         key = call, lock, frozenset(locks)
         if key not in self._locks:
             self._locks[key] = self._look_for_lock(call, lock, locks)

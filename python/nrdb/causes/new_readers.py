@@ -21,8 +21,8 @@ MAKES = re.compile(r"\b(bufio\.NewReader|bufio\.NewReaderSize|bufio\.NewScanner|
 
 
 def thrown_away(index: Index, call: Call, other: int, position: int) -> list[str]:
-    """Says, for a Read that waits, that its function was left since the last one and makes a new reader, while the
-    other end waits for more than one answer."""
+    """Says, for a Read that waits, that its goroutine left the function after the last Read, that the function makes a
+    new reader, and that the other end waits for more than one answer."""
     lines = index.recording.lines
     own = lines.of(call.first).own()
     made = maker_line(index, own[0]) if own else 0
@@ -95,7 +95,7 @@ def lines_in(index: Index, call: Call) -> tuple[LineCall, ...]:
 
 
 def since_an_answer(reads: list[Call], calls: list[Call]) -> list[Call]:
-    """The last Read of a socket, and the earlier ones after which nothing was written there, the last one first."""
+    """The last Read of a socket, followed by the earlier ones after which nothing was written there, latest first."""
     wrote = max((one.first for one in calls if one.name == "Write" and one.moved), default=0)
     return [one for one in reversed(reads) if one is reads[-1] or one.last > wrote]
 

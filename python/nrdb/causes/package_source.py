@@ -21,8 +21,8 @@ MOST_FILES = 40
 
 
 def files_of(recording: Recording, file: str) -> Iterator[tuple[str, Lines]]:
-    """The files of the package of a file, named as in a recording, this one first; without its tests if it isn't
-    one."""
+    """The files of the package of a file, named as in a recording, starting with that file; tests are left out unless
+    the file is one."""
     folder, name = os.path.split(file)
     for path in (file, *others_in(os.path.abspath(folder or "."), name)):
         lines = source(os.path.abspath(os.path.join(folder, os.path.basename(path))), recording.lines.written)
@@ -32,7 +32,7 @@ def files_of(recording: Recording, file: str) -> Iterator[tuple[str, Lines]]:
 
 @lru_cache(maxsize=256)
 def places_with(recording: Recording, file: str, pattern: "re.Pattern[str]") -> tuple[str, ...]:
-    """The lines of a file's package that have a pattern in their code."""
+    """The lines of a file's package whose code matches a pattern."""
     return tuple(
         f"{path}:{number}"
         for path, lines in files_of(recording, file)

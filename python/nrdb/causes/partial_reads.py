@@ -1,5 +1,5 @@
 """Reads whose count is perhaps ignored, from the program's source: a goroutine waits to read, and lines of its function
-read once into a slice of exactly the wanted length, although a Read returns what is there."""
+read once into a slice of exactly the wanted length, although a Read returns whatever has arrived."""
 
 import re
 from typing import Optional
@@ -46,8 +46,8 @@ def partial_reads(index: Index, call: Call) -> list[str]:
 
 
 def part_taken(index: Index, call: Call) -> list[str]:
-    """The last Read before one that waits at a socket, by a line that reads a length once, if it got fewer bytes than
-    it asked for."""
+    """Says that the last Read before one that waits at a socket got fewer bytes than it asked for, if its line reads a
+    length only once."""
     for read in reversed(
         [one for one in index.by_socket[call.socket] if one.name == "Read" and one.first < call.first]
     ):

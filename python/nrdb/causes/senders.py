@@ -25,8 +25,8 @@ class Giving(NamedTuple):
 
 
 def later_giver(recording: Recording, wait: Waiting, stacks: Iterable[tuple[Name, Stack]]) -> Optional[Need]:
-    """The goroutine that may later do the awaited operation; else, if no line of the file does it, that fact. None
-    if the source isn't available."""
+    """The need that a goroutine may meet later by the awaited operation; else, if no line of the file does it, a need
+    that says so. None if the source isn't available."""
     own = wait.stack.own()
     if not own or own[0].of != OF_THE_PROGRAM or len(wait.objects) != 1 or wait.objects[0].use not in WORDS:
         return None

@@ -1,4 +1,4 @@
-"""Datagram sockets at which several goroutines read: each gets whatever comes next, also what was meant for another."""
+"""Datagram sockets at which several goroutines read: each gets whatever comes next, even what was meant for another."""
 
 from ..one_call import Call
 from ..waits import Name, of_names

@@ -25,7 +25,7 @@ def giver_at_siblings(recording: Recording, wait: Waiting, waiters: Container[Na
 
 
 def given_at_siblings(recording: Recording, wait: Waiting) -> list[Use]:
-    """The uses that end such a wait at other channels made at the same line, the last first. None if the channel's line
+    """The uses that end such a wait at other channels made at the same line, latest first. None if the channel's line
     isn't known."""
     lines = recording.lines
     if len(wait.objects) != 1 or wait.objects[0].object not in lines.made:

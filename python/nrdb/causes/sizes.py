@@ -1,4 +1,4 @@
-"""The number of bytes that calls moved, also if the recording counts fewer."""
+"""The number of bytes that calls moved, even if the recording counts fewer."""
 
 from collections import defaultdict
 from functools import lru_cache
@@ -18,7 +18,7 @@ def are_known(index: Index) -> bool:
 
 
 def moved_at(index: Index, socket: int, name: str, until: int) -> int:
-    """The number of bytes that the calls of a name, which ended up to a step, moved at a socket."""
+    """The number of bytes that the calls with a name moved at a socket, among those that ended up to a step."""
     calls = index.by_socket.get(socket, ())
     return sum(size_of(index, call) for call in calls if call.name == name and 0 < call.last <= until)
 

@@ -1,5 +1,5 @@
 """Calls of Done that a loop skips: a goroutine calls Done of a WaitGroup once for each value that its loop takes from a
-channel; the rounds without it, and, from the program's source, the paths that skip it."""
+channel. The sentences name the rounds without Done and, from the program's source, the paths that skip it."""
 
 import re
 from collections import defaultdict
@@ -19,7 +19,7 @@ from .source_functions import Lines, range_of, source_of, text_at
 OVER = re.compile(r"for \w+ :?= range [\w.]+ \{$")
 TAKES = re.compile(r"(?:case )?\w+(?:, \w+)? :?= <-[\w.]+:?$")
 DONE_OF = re.compile(r"^([\w.\[\]]+)\.Done\(\)$")
-MOST_CALLS = 3  # lines between a loop and Done
+MOST_CALLS = 3  # the most lines between a loop and Done
 
 
 class Rounds(NamedTuple):
@@ -99,7 +99,7 @@ def rounds_of(recording: Recording, stack: Stack) -> Optional[Rounds]:
 
 
 def takes_at(lines: Lines, head: int, line: int) -> int:
-    """The line of a loop, up to a line of it, that takes a value from a channel; 0 unless there is exactly one."""
+    """The line of a loop, before one of its lines, that takes a value from a channel; 0 unless there is exactly one."""
     if OVER.match(code(lines, head)):
         return head
     found = [number for number in body_of(lines, head) if number < line and TAKES.match(code(lines, number))]
@@ -111,13 +111,14 @@ def code(lines: Lines, number: int) -> str:
 
 
 def is_at(recording: Recording, use: Use, rounds: Rounds) -> bool:
-    """Whether a loop took a value: at its line for that, or in the `select` of which this is a case."""
+    """Whether a use is a loop's taking of a value: at the line that takes it, or in the `select` of which that line is
+    a case."""
     own = recording.lines.stacks[use.stack].own()
     return own is not None and own[0].function == rounds.line.function and rounds.head <= own[0].line <= rounds.takes
 
 
 def is_by(recording: Recording, use: Use, rounds: Rounds) -> bool:
-    """Whether a loop called Done."""
+    """Whether a use is a loop's call of Done."""
     return rounds.line in recording.lines.stacks[use.stack].calls
 
 

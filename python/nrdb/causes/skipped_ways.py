@@ -11,7 +11,7 @@ Test = Callable[[str], bool]
 DIES = re.compile(r"(?:panic|os\.Exit|log\.Fatal\w*|runtime\.Goexit|goto|\w\.Fatal\w*)\b")
 LEAVES = re.compile(r"(return|continue|break)\b(?: (\w+))?")
 ENDLESS = re.compile(r"(?:\w+: *)?for \{$")
-IS_THERE = re.compile(r"if (?!err)\w+ != nil \{$")  # of what was taken
+IS_THERE = re.compile(r"if (?!err)\w+ != nil \{$")  # tests whether something was taken
 GOT = re.compile(r"(?:if |case )?(?:[\w.]+, )*(\w+) :?= ")
 DOES = {"return": "returns", "continue": "goes on", "break": "breaks off", "end": "ends"}
 MANY = {"returns": "return", "goes on": "go on", "breaks off": "break off", "ends": "end"}
@@ -35,7 +35,8 @@ def has(pattern: str) -> Test:
 
 
 class Way(NamedTuple):
-    """A path that leaves without what should be done: its line, and what it does there; `passes by` for a condition."""
+    """A path that leaves without doing what should be done: its line, and what it does there; `passes by` for a
+    condition."""
 
     number: int
     does: str
@@ -43,7 +44,7 @@ class Way(NamedTuple):
 
 class State(NamedTuple):
     """The possible states at a place: something is taken and not yet given back, or it is given back; the block whose
-    condition decides, 0 for none; and whether it is given back when the function ends, whatever comes before."""
+    condition decides, 0 for none; and whether it is given back in any case when the function ends."""
 
     is_open: bool = False
     is_done: bool = False
@@ -64,9 +65,9 @@ BEFORE, OPEN, DONE = State(), State(is_open=True), State(is_done=True)
 
 
 class Walk(NamedTuple):
-    """A walk through a function: from statements that take something to those that give it back. `keeps` finds those
-    that pass it on, for which others are responsible. `ways` is filled, and `given` with the statements that a path
-    from the first to the second passes."""
+    """A walk through a function: from statements that take something to those that give it back. `keeps` finds
+    statements that pass it on, after which others are responsible for it. The walk fills `ways`, and fills `given` with
+    the statements that give back on a path that took something."""
 
     begins: Test
     ends: Test
@@ -137,7 +138,8 @@ class Walk(NamedTuple):
         return joined(afters, one.number), exits
 
     def is_taken(self, one: Statement, got: str) -> Optional[bool]:
-        """Whether the first branch of a block runs exactly if something was taken (False: if not); None if neither."""
+        """Whether the first branch of a block runs exactly if something was taken (True) or exactly if nothing was
+        (False); None if neither."""
         head, _, condition = one.text.removesuffix(" {").removeprefix("if ").rpartition("; ")
         begins = self.does_begin(one.text)
         if one.kind != "if" or (head and not begins and name_of(head) == got):

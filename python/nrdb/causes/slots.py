@@ -67,7 +67,7 @@ def slots_in(recording: Recording, name: Name, use: Use, stack: Stack, leavings:
 
 
 def is_behind(taken: Stack, call: Call) -> bool:
-    """Whether a call is in a function that took a slot, at a line after that."""
+    """Whether a call is in a function that took a slot, at a later line."""
     return any(one.function == call.function and one.line < call.line for one in taken.calls)
 
 

@@ -47,8 +47,8 @@ def range_of(lines: Lines, call: Call) -> Optional[range]:
 
 
 def is_inside(lines: Lines, call: Call, within: range) -> bool:
-    """Whether a call is in a function of these lines itself, not in a literal of it, or in a function that only starts
-    another."""
+    """Whether a call is in the function of these lines itself rather than in a literal of it, or in a function that
+    only starts another."""
     return WRAPPED not in call.function and range_of(lines, call) == within
 
 

@@ -21,8 +21,8 @@ LATE = 20_000_000  # nanoseconds by which a timer may go off late
 
 
 class Silent(NamedTuple):
-    """A timer that will send nothing more: its name, where it was made, and where it was stopped; None if it went
-    off. `was_due` says whether it was due before the stop, which then had no effect."""
+    """A timer that will send nothing more: its name, where it was made, and where it was stopped (None: it went off).
+    `was_due` says whether it was due before the stop, which then had no effect."""
 
     name: str
     made: Timer
@@ -35,8 +35,9 @@ def is_by(stack: Stack, functions: tuple[str, ...]) -> bool:
 
 
 def silent_at(recording: Recording, number: int, begin: int = 0) -> Optional[Silent]:
-    """The timer of a channel, if it will send nothing more; None if it may, or if unknown. A goroutine that waits
-    there since `begin`, a time when the timer had gone off, found it empty, so its value had been taken."""
+    """The timer of a channel, if it will send nothing more; None if it may, or if unknown. If a goroutine has waited
+    there since `begin`, when the timer had already gone off, it found the channel empty, so the value had been
+    taken."""
     lines = recording.lines
     timers = lines.timers.get(number, [])
     if not timers:

@@ -21,8 +21,8 @@ from .words import is_by_go, place_in
 
 def errors_table(recording: Recording, position: int, most: Optional[int]) -> Table:
     """The calls of the whole recording that ended with a timeout, a close, a broken pipe or an event error; those that
-    end after the position are marked. Of more than `most`, the last ones up to the position, and as many later ones as
-    fit."""
+    end after the position are marked. If there are more than `most`: the last ones up to the position, and as many
+    later ones as fit."""
     failed = [call for call in book_of(recording).calls if call.last and call.outcome.is_error]
     found = [call for call in failed if not is_by_go(recording, call)]
     past = [call for call in found if call.last <= position]

@@ -1,6 +1,5 @@
-"""Replies that are perhaps incomplete: a Read got something of an answer and waits for more, while the goroutine
-that wrote it reads on. From the program's source: the loop that writes the reply, and its paths that write
-nothing."""
+"""Replies that are perhaps incomplete: a Read got part of an answer and waits for more, while the goroutine that wrote
+it reads on. Derived from the program's source: the loop that writes the reply, and its paths that write nothing."""
 
 import re
 from typing import Iterator, NamedTuple

@@ -56,7 +56,7 @@ def opened_at(index: Index, socket: int) -> str:
 
 
 def is_same(one: str, other: str) -> bool:
-    """Whether two addresses may be the same: of an unspecified one only the port is known."""
+    """Whether two addresses may be the same; if one is unspecified, only the ports are compared."""
     if one.startswith(UNSPECIFIED) or other.startswith(UNSPECIFIED):
         return one.rpartition(":")[2] == other.rpartition(":")[2]
     return one == other

@@ -12,7 +12,7 @@ from .index import MOVING, Index
 from .waiters import is_waiting
 from .words import is_of_go, told
 
-SETTLED = 16  # steps after the end of the stream in which a relay would have closed
+SETTLED = 16  # steps after the end of the stream within which a relay would have closed the other socket
 
 
 class UnpassedEnd(NamedTuple):

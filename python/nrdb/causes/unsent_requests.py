@@ -92,7 +92,7 @@ def is_of_program(recording: Recording, use: Use) -> bool:
 
 
 def step_before(recording: Recording, last: Use) -> int:
-    """The step after which the same goroutine handed a request over from the same line before; 0 if it didn't."""
+    """The step after which the same goroutine last handed over a request from the same line; 0 if it didn't."""
     lines, own = recording.lines, recording.lines.stacks[last.stack].own()
     steps = [
         step
@@ -107,7 +107,7 @@ def step_before(recording: Recording, last: Use) -> int:
 
 
 def causes_of_unsent(index: Index) -> list[Cause]:
-    """The causes."""
+    """The requests that were never written, as causes."""
     return [
         Cause(
             one.closed,

@@ -1,5 +1,6 @@
 """The wait-for graph at a recording's end, and its roots: each goroutine that waits, the one that it waits for, and
-what all of them finally wait for. If several goroutines could give what one needs, it has one of them."""
+what all of them finally wait for. If several goroutines could give what a goroutine needs, the graph has only one of
+them."""
 
 from collections import defaultdict
 from functools import lru_cache
@@ -44,9 +45,9 @@ class Branch(NamedTuple):
 
 class Hang(NamedTuple):
     """A root: the goroutine that others wait for, or goroutines that wait for one another. `needs` has the need of
-    each, `waiting` is the number of goroutines that wait for them, and `perhaps` the number of those that aren't
-    certain to. `alike` are similar roots, and `beside` others that wait for the same ended goroutine. `is_loose`: it isn't known which root waits for which.
-    `until`: a call of the roots whose deadline will end the wait."""
+    each, `waiting` is the number of goroutines that wait for them, and `perhaps` is how many of those do so only
+    perhaps. `alike` are similar roots, and `beside` others that wait for the same ended goroutine. `is_loose`: it isn't
+    known which root waits for which. `until`: a call of the roots whose deadline will end the wait."""
 
     roots: list[Waiter]
     needs: list[Need]
@@ -81,9 +82,9 @@ class Hang(NamedTuple):
 
     @property
     def has_reason(self) -> bool:
-        """Whether it says more than what its roots wait for: that its roots hold mutexes, or why what they wait for
-        doesn't come. A channel that isn't closed isn't a reason, because a goroutine that takes values may have nothing
-        to do."""
+        """Whether more is known than what its roots wait for: that they hold mutexes, or why what they wait for doesn't
+        come. A channel that isn't closed isn't a reason, because a goroutine that takes values may have nothing to
+        do."""
         need, wait = self.needs[0], self.root.wait
         if self.is_deadlock:
             return self.is_of_mutexes or any(one.more and not one.is_plain for one in self.needs)
@@ -151,7 +152,8 @@ class WaitGraph:
 
     def _is_idle(self, name: Name, by: Name) -> bool:
         """Whether a goroutine that has answered the last request reads at a connection that the other end perhaps no
-        longer uses: the one that wrote there last waits for a connection, because finished calls have kept theirs."""
+        longer uses: the goroutine that wrote there last waits for a connection, because finished calls have kept
+        theirs."""
         call = self.waiters[name].call
         if call is None or call.name not in READING or not self.needs[by].is_kept:
             return False
@@ -180,8 +182,8 @@ class WaitGraph:
         return (kind_of(self.recording, waiter), need.how) if waiter.stack.calls else waiter.name
 
     def _ring(self, ring: list[Name]) -> Hang:
-        """Goroutines that wait for one another, including those that may hold one of their mutexes instead of another,
-        and wait for one of them."""
+        """The hang of goroutines that wait for one another, including others that may hold a mutex instead of one of
+        these and that wait for one of them."""
         every = list(ring) if all(is_at_mutex(self.waiters[name]) for name in ring) else []
         for name in every:
             others = [other for other in self.needs[name].others if other not in every and other in self.edges]
@@ -222,7 +224,7 @@ class WaitGraph:
         return Hang(roots, needs, branches, count, count - sure, certainty, alike, beside)
 
     def _branches(self, names: list[Name], seen: set[Name], depth: int = 0) -> list[Branch]:
-        """The branches that wait for these, equal ones merged, the best-known ones first. Below a certain depth the
+        """The branches that wait for these goroutines, equal ones merged, most certain first. Below a certain depth the
         rest form one level."""
         alike: dict[Hashable, list[Name]] = defaultdict(list)
         upcoming = list(names)
@@ -246,7 +248,7 @@ class WaitGraph:
 
 
 def kind_of(recording: Recording, waiter: Waiter) -> tuple[str, str, int]:
-    """The line at which a waiter waits, and what for: waiters with the same are alike."""
+    """The line at which a waiter waits, and what it waits for: waiters that agree in both are alike."""
     what = name_of(recording, waiter.call) if waiter.call else ""
     return place_in(waiter.stack), waiter.wait.kind if waiter.wait else what, mutex_of(waiter)
 

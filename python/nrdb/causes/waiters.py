@@ -69,7 +69,7 @@ def waiters_during(index: Index, position: int) -> dict[Name, Waiter]:
 
 
 def is_timed(recording: Recording, wait: Waiting) -> bool:
-    """Whether a wait ends by itself: at a ticker's channel, or at that of a timer that goes off after the end of the
+    """Whether a wait ends by itself: at the channel of a ticker, or of a timer that goes off after the end of the
     recording."""
     lines = recording.lines
     if wait.kind == ALL_REQUESTS:  # (which tests repeatedly)

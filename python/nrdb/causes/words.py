@@ -95,12 +95,12 @@ def waits_words(wait: Waiting) -> str:
 
 
 def is_of_the_program(stack: Stack) -> bool:
-    """Whether a line of the program is in a stack, without the main function that Go makes for tests."""
+    """Whether a stack has a line of the program, not counting the main function that Go makes for tests."""
     return any(call.of == OF_THE_PROGRAM and call.file != OF_TESTS for call in stack.calls)
 
 
 def is_of_go(recording: Recording, call: Call) -> bool:
-    """Whether a call is certainly of Go's own code alone, as those of net/http between two requests."""
+    """Whether a call is certainly by Go's own code alone, like those of net/http between two requests."""
     stack = recording.lines.of(call.first)
     return bool(stack.calls) and all(one.of == OF_GO for one in stack.calls)
 
@@ -134,7 +134,7 @@ def since_begin(recording: Recording, opened: int = 0) -> str:
 
 
 def came_of(recording: Recording, call: Call) -> str:
-    """The result of a call; if reads and writes count at most some bytes, `put at least 64 bytes`."""
+    """The result of a call, as `put at least 64 bytes` if the recording caps the counts of reads and writes."""
     most, words = recording.lines.bytes, call.came()
     is_cut = bool(most and call.moved and call.moved >= most)
     return (
