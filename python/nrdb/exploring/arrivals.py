@@ -1,6 +1,6 @@
-"""The times at which bytes came and went. A recorder of Go doesn't see them, and writes them just before the read
-or write that shows them, although the event that reported them came earlier. So in other schedules such bytes
-come with that event."""
+"""The times at which bytes arrived at and left a socket. A recorder of Go doesn't see these times: it writes the bytes
+just before the read or write that shows them, although the event that reported them came earlier. So in other schedules
+such bytes come with that event."""
 
 from dataclasses import replace
 from typing import NamedTuple, Optional
@@ -16,7 +16,7 @@ JUST_BEFORE = 0.4
 
 
 class Tries(NamedTuple):
-    """The tries of a socket's side, and those that found nothing, including the opening: rising numbers."""
+    """The step numbers, rising, of the tries at one side of a socket, and of the tries that found nothing."""
 
     all: list[int]
     in_vain: list[int]

@@ -9,15 +9,16 @@ from netrev_words.recording import Limits, Step
 
 from .runs import Made
 
-Looked = tuple[Any, ...]  # a step, and all values that it reads
+Looked = tuple[Any, ...]  # a step with all values that it reads
 MOST_KEPT = 20_000
 
-# the argument by which a kind of step names a goroutine, a socket or a descriptor; OWN: the goroutine's status names it
+# the position of the argument by which a kind of step names a goroutine, a socket or a descriptor; OWN: the goroutine's
+# status names it
 OWN, NONE = 0, -1
 SOCKETS = ("sysread", "syswrite", "closewrite", "incref", "increfclose", "decref", "rwlock", "rwunlock")
 DESCRIPTORS = ("pollreset", "waitbegin", "setdeadline", "evict")
 WAITS = ("blockarm", "blockcheck", "parkcommit", "blockswap", "waitcheck")
-# what a step of each kind reads: the arguments with goroutine, socket and descriptor
+# for each kind of step, the positions of the arguments with the goroutine, socket and descriptor that it reads
 LOOKS: dict[str, tuple[int, int, int]] = {
     "exit": (1, NONE, NONE),
     **{kind: (1, 2, NONE) for kind in SOCKETS},
@@ -27,14 +28,14 @@ LOOKS: dict[str, tuple[int, int, int]] = {
     **{kind: (NONE, 1, NONE) for kind in ("arrive", "peerclose", "drain")},
     "pollevent": (NONE, NONE, 1),
 }
-ALONE = ("pollreset", "waitbegin")  # kinds that may find no goroutine inside the wait
+ALONE = ("pollreset", "waitbegin")  # kinds that the cache covers only if no goroutine is inside the wait
 TIMED = ("setdeadline", "evict")  # kinds that read the clock and timers
-OF_TIMERS = {"next_number", "timers"}  # the objects that those may create
+OF_TIMERS = {"next_number", "timers"}  # the objects that timed steps may create
 
 
 class Effect(NamedTuple):
-    """The effect of a step: the values that it read, the values that it gave goroutines, sockets and descriptors,
-    its changes of the timers, and by how much the number of parked goroutines changed."""
+    """The effect of a step: the values that it read, the values that it gave goroutines, sockets and descriptors, its
+    changes to the timers, and the change in the number of parked goroutines."""
 
     looked: Looked
     made: Made
@@ -44,13 +45,13 @@ class Effect(NamedTuple):
 
 
 class Board(Machine):
-    """The state. It is changed in place, and has the attributes of a World."""
+    """The machine's state during a schedule. It is changed in place, and has the attributes of a World."""
 
     __slots__ = ("is_recorded", "recorded", "further")
 
     def __init__(self, limits: Limits, is_recorded: bool) -> None:
         super().__init__(limits)
-        self.is_recorded = is_recorded  # whether this is the recorded run, whose effects are cached by number
+        self.is_recorded = is_recorded  # true for the recorded run, whose effects are cached by step number
         self.recorded: dict[int, Effect] = {}  # effects of the recorded run's steps, by their numbers
         self.further: dict[Looked, Effect] = {}  # effects of other steps, by the values that they read
 
@@ -60,7 +61,7 @@ class Board(Machine):
         return made
 
     def is_as(self, other: "Board") -> bool:
-        """Whether both are the same state."""
+        """Whether both boards have the same state."""
         return all(getattr(self, name) == getattr(other, name) for name in STATE)
 
     def make(self, step: Step, number: int) -> Made:
@@ -116,7 +117,7 @@ class Board(Machine):
         return Effect(looked, made, puts, tuple((of, getattr(self, of)) for of in wholes), self.waiters - waiters)
 
     def _has(self, effect: Effect) -> None:
-        """Sets the values as they were after that step."""
+        """Sets the values to what they were after the step with this effect."""
         for of, place, now in effect.puts:
             self.put(of, place, now)
         for of, now in effect.wholes:
@@ -125,6 +126,6 @@ class Board(Machine):
 
 
 def _named(step: Step, at: int, status: Optional[Status]) -> int:
-    """The number that a step has as an argument, or its goroutine's status."""
+    """The number of an object, from an argument of a step or from its goroutine's status."""
     named: Any = step[at] if at != OWN else status[1] if status else -1
     return int(named)

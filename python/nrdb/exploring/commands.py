@@ -26,7 +26,7 @@ from .workers import Share, play_all, processors
 FAILURES = "failures"
 MOST, GREATEST = 3_000, 1_000_000
 MOST_STEPS = 100_000
-SECONDS = 0.2  # between two lines of progress
+SECONDS = 0.2  # seconds between two lines of progress
 
 
 def answer_explore(session: Session, words: list[str]) -> None:
@@ -46,8 +46,8 @@ class Explored(NamedTuple):
 
 
 def explored(session: Session, most: int = MOST, is_of_failures: bool = False) -> Explored:
-    """Runs schedules near the recorded one, and writes those that end with a suspect, or else those in which a call
-    fails that succeeded."""
+    """Runs schedules near the recorded one, and writes those that end with a suspect, or, if none does, those in which
+    a call fails that succeeded in the recording."""
     recording = session.text()
     if recording.length > MOST_STEPS:
         raise Misused(messages.TOO_LONG.format(most=MOST_STEPS))
@@ -76,7 +76,7 @@ def explored(session: Session, most: int = MOST, is_of_failures: bool = False) -
 
 
 class Progress:
-    """A line on a terminal with the progress."""
+    """A line on a terminal that shows the progress."""
 
     def __init__(self, exploring: Exploring, most: int, check: Callable[[], None]) -> None:
         self.exploring, self.most, self.check = exploring, most, check
@@ -135,8 +135,8 @@ class Keeping:
             return str(wrong)
 
     def _wanted(self, whole: Recording, finding: Finding) -> Wanted:
-        """The target of the short recording: its suspect; the goroutine that hangs, after both deadlines; or the call that fails,
-        with its cause."""
+        """The target of the short recording: the finding's suspect; the goroutine that hangs, after both settings of
+        its deadline; or the call that fails, with its cause."""
         if finding.suspect:
             shown = [one for one in suspects_of(whole).suspects if one.is_shown]
             subjects = [one.subject for one in shown]

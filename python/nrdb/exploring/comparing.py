@@ -1,5 +1,5 @@
-"""Whether a schedule has returned to the recorded run, so that both continue in the same way. The states may differ
-in the numbers of sockets and descriptors, and in values that nothing can read any more."""
+"""Whether a schedule has returned to the recorded run, so that both continue in the same way. The numbers of sockets
+and descriptors may differ between the states, and so may values that nothing can read any more."""
 
 from typing import NamedTuple
 
@@ -10,18 +10,18 @@ from .control import Numbers
 
 
 class Numbered(NamedTuple):
-    """A state, with the numbers of its objects."""
+    """A state, with the mapping of the recording's objects to its numbers."""
 
     board: Board
     numbers: Numbers
 
     def are_the_same(self, other: "Numbered") -> bool:
-        """Whether all objects have the same numbers."""
+        """Whether all objects have the same numbers in both states."""
         mine, its = self.numbers, other.numbers
         return mine.sockets == its.sockets and mine.descriptors == its.descriptors
 
     def status(self, status: Status) -> Status:
-        """A status that names a socket of the recording, or a use of a descriptor, instead of a number."""
+        """A status that names a socket of the recording, or a use of a descriptor, in place of a number."""
         if len(status) < 2:
             return status
         of_socket, of_descriptor = self.numbers.named()
@@ -29,7 +29,7 @@ class Numbered(NamedTuple):
         return status[0], which.get(status[1], -1), *status[2:]
 
     def timer(self, timer: Timer) -> tuple[int, int, str, str, bool]:
-        """A timer, and whether it belongs to its descriptor's last setting."""
+        """A timer in comparable form, and whether it belongs to its descriptor's last setting."""
         own = self.board.descs[timer.desc].sequences[SIDES.index(timer.side)]
         use = self.numbers.named()[1].get(timer.desc, -1)
         return timer.when, use, timer.side, timer.function, timer.sequence == own
@@ -82,5 +82,5 @@ def _have_alike_descriptors(one: Numbered, other: Numbered) -> bool:
 
 
 def _desc(desc: Desc) -> Desc:
-    """A descriptor without the values from its earlier uses."""
+    """A descriptor without the values that remain from its earlier uses."""
     return desc._replace(sequences=(), fdseq=0, socket=0)

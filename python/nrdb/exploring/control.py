@@ -1,5 +1,5 @@
-"""The control flow of a goroutine's calls: the next step, from its operation and its status, and the place where it
-continues, from the machine's answer."""
+"""The control flow of a goroutine's calls: the next step follows from its operation and its status, and the place where
+it continues follows from the machine's answer."""
 
 from bisect import bisect_right
 from typing import NamedTuple, Optional
@@ -14,23 +14,24 @@ from .scripts import Operation
 NEVER = float("inf")
 GOROUTINE, CLOCK, MADE, NETWORK = range(4)  # the actor
 
-About = tuple[bool, int]  # whether it is a socket, and which; otherwise which use of a descriptor
+About = tuple[bool, int]  # True and a socket, or False and a use of a descriptor
 
 
 class Place(NamedTuple):
-    """The place of a goroutine: its operation, how many recorded steps of it the goroutine has made, how far the
-    operation's tries are, and whether it waits, or has to destroy the descriptor."""
+    """The place of a goroutine: its operation, how many recorded steps of the operation it has made, how far the
+    operation's tries have come, and whether it waits or has to destroy the descriptor."""
 
     operation: int = 0
     made: int = 0
-    tries: int = 0  # for a read, the tries that got everything; for a write, its bytes
-    waits: int = 0  # how often it has begun to wait
+    tries: int = 0  # for a read, the number of tries that got everything; for a write, the number of bytes written
+    waits: int = 0  # how often the goroutine has begun to wait
     is_waiting: bool = False
-    destroys: int = -1  # the use whose descriptor it has to free
+    destroys: int = -1  # the use whose descriptor the goroutine has to free
 
 
 def number_of(operation: Operation, place: Place, kind: str) -> int:
-    """The number in the recording of the step of this kind that a goroutine makes next, or 0."""
+    """The number in the recording of the step of this kind that a goroutine makes next; 0 if the recording doesn't have
+    it."""
     made = place.made
     return operation.steps[made] if made < len(operation.kinds) and operation.kinds[made] == kind else 0
 
@@ -46,7 +47,7 @@ def next_number(operations: list[Operation], place: Place) -> float:
 
 
 class Stream:
-    """The bytes of a write: at each of them, the tries that were made there."""
+    """The bytes of a write, and the tries that were made at each of them."""
 
     def __init__(self, operation: Operation) -> None:
         self.tries: dict[int, list[bytes]] = {}
@@ -60,7 +61,7 @@ class Stream:
         self._starts = sorted(self.tries)
 
     def at(self, place: int, turn: int) -> bytes:
-        """The next try at that byte."""
+        """Returns the next try that begins at a byte."""
         if tries := self.tries.get(place):
             return tries[min(turn, len(tries) - 1)]
         following = bisect_right(self._starts, place)
@@ -78,7 +79,7 @@ class Numbers:
         self.sockets: dict[int, int] = {}
         self.descriptors: dict[int, int] = {}
         self.fdseqs: dict[int, int] = {}
-        self.use_of: dict[int, int] = {}  # of a socket that is open
+        self.use_of: dict[int, int] = {}  # for each open socket, its use of a descriptor
         self._named: Optional[tuple[dict[int, int], dict[int, int]]] = None
 
     def copy(self) -> "Numbers":
@@ -89,14 +90,14 @@ class Numbers:
         return made
 
     def named(self) -> tuple[dict[int, int], dict[int, int]]:
-        """The socket of the recording, and the use of a descriptor, that each number stands for."""
+        """The sockets of the recording by their numbers here, and the uses by their descriptors' numbers."""
         if self._named is None:
             of_socket = {number: socket for socket, number in self.sockets.items()}
             self._named = of_socket, {self.descriptors[use]: use for use in self.use_of.values()}
         return self._named
 
     def has_socket(self, socket: int, number: int) -> None:
-        """A socket of the recording gets this number."""
+        """Records the number of a socket of the recording."""
         self.sockets[socket] = number
         self._named = None
 
@@ -114,7 +115,7 @@ class Numbers:
             self._named = None
 
     def is_as(self, other: "Numbers") -> bool:
-        """Whether both are the same."""
+        """Whether both have the same numbers."""
         return (
             self.sockets == other.sockets
             and self.descriptors == other.descriptors
@@ -130,7 +131,7 @@ class Numbers:
         return (self.sockets if is_socket else self.descriptors).get(which, -1)
 
     def needed(self, about: Optional[About]) -> int:
-        """The number of an object that a step needs; NotMade if it doesn't exist."""
+        """The number of an object that a step needs; raises NotMade if the object doesn't exist."""
         number = self.of(about)
         if number < 0 and about is not None:
             raise NotMade
@@ -140,7 +141,7 @@ class Numbers:
 def next_step(
     board: Board, numbers: Numbers, g: int, place: Place, operation: Operation, stream: Optional[Stream]
 ) -> Step:
-    """The next step of a goroutine; NotMade if another goroutine must first make the object of the step."""
+    """The next step of a goroutine; raises NotMade if another goroutine must first make the object of the step."""
     if step := step_by_status(g, board.goroutines[g]):
         return step
     if place.destroys >= 0:
@@ -163,7 +164,8 @@ def _about(sort: Sort, operation: Operation) -> Optional[About]:
 
 
 def is_about(status: Status, place: Place, operation: Operation) -> Optional[About]:
-    """The object whose number the next step needs; None if the goroutine's status has the number, or the step has no object."""
+    """The object whose number the next step needs; None if the goroutine's status has the number or the step has no
+    object."""
     if status[0] in BY_STATUS:
         return None
     return _about(Sort.WAIT if place.is_waiting else operation.sort, operation)
@@ -193,12 +195,12 @@ def behind(
 
 
 def _following(place: Place, status: str) -> Place:
-    """The next operation, after the end of this one."""
+    """The place after the end of an operation: the next operation, unless the goroutine still owes something."""
     return place if status == "owing" or place.destroys >= 0 else Place(place.operation + 1)
 
 
 def _ready(place: Place, operation: Operation) -> Place:
-    """The wait is over."""
+    """The place after a wait that ended because the descriptor is ready."""
     if operation.sort is Sort.WAIT:
         return Place(place.operation + 1)
     if operation.ends_unread and place.waits >= operation.kinds.count("waitbegin"):

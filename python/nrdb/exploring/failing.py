@@ -1,6 +1,5 @@
 """Calls that fail: a call that succeeded in the recording ends with an error in a schedule, because a deadline has
-passed or a close came first. What its goroutine does afterwards isn't known, so such a schedule ends with that
-call."""
+passed or a close came first. What the goroutine does afterwards isn't known, so such a schedule ends with that call."""
 
 from bisect import bisect_left
 from enum import Enum
@@ -23,7 +22,7 @@ class Why(Enum):
 
 
 CHECKED: dict[tuple[Any, ...], Why] = {("code", 1): Why.CLOSED, ("code", 2): Why.TIMED_OUT}
-# the meanings of the answers of each kind of step
+# for each kind of step, the answers that mean a failure
 FAULTS: dict[str, dict[tuple[Any, ...], Why]] = {
     "rwlock": {("no",): Why.CLOSED},
     "syswrite": {("pipe",): Why.BROKEN},
@@ -31,7 +30,7 @@ FAULTS: dict[str, dict[tuple[Any, ...], Why]] = {
 }
 OVER = ("rwunlock", "pollclose")  # steps with which a failed call ends
 
-# for a goroutine and one of its operations, the operation at which its call begins
+# the operation at which a call begins, keyed by a goroutine and an operation of the call
 Watched = dict[tuple[int, int], int]
 
 
@@ -46,7 +45,7 @@ class Failed(NamedTuple):
 
 
 class Reason(NamedTuple):
-    """The step of a schedule by which a call fails, and how many calls had ended well under that deadline."""
+    """The step of a schedule that makes a call fail, and how many calls had ended well under the same deadline."""
 
     step: int
     served: int
@@ -78,8 +77,8 @@ def went_well(script: Script, call: list[Operation]) -> bool:
 
 
 def failing_delays(script: Script) -> list[Delay]:
-    """Delays of calls that went well: until the next close of their socket by another, until the next deadline in the past that another
-    sets, and until a deadline has passed that an earlier call had."""
+    """Delays of calls that went well: until another goroutine next closes their socket, until another goroutine next
+    sets a deadline in the past, and until a deadline that an earlier call had has passed."""
     sets, closes, ends = _of_socket(script, Sort.SET), _of_socket(script, Sort.CLOSE), ends_of(script)
     found: list[Delay] = []
     for (g, at), begins in script.watched.items():
@@ -102,7 +101,7 @@ def _until(before: int, later: Iterator[int]) -> list[Delay]:
 
 
 def _of_socket(script: Script, sort: Sort) -> dict[int, list[tuple[int, Operation]]]:
-    """The operations of a sort that have steps, in order, by socket, each with its goroutine."""
+    """By socket, the operations of a sort that have steps, in order, each with its goroutine."""
     found: dict[int, list[tuple[int, Operation]]] = {}
     for g, operations in enumerate(script.goroutines):
         for operation in operations:
@@ -112,7 +111,8 @@ def _of_socket(script: Script, sort: Sort) -> dict[int, list[tuple[int, Operatio
 
 
 def _is_of_an_earlier_call(number: int, sets: list[Operation], ends: set[int]) -> bool:
-    """Whether the last deadline that was set before is in the future, and an earlier call had ended well under it."""
+    """Whether the last deadline that was set before a step is in the future, and an earlier call had ended well under
+    it."""
     last = bisect_left([one.steps[0] for one in sets], number) - 1
     if last < 0 or sets[last].values[0] <= 0:
         return False
@@ -130,8 +130,8 @@ def ends_of(script: Script) -> dict[tuple[int, str], set[int]]:
 
 
 def reason_of(script: Script, failed: Failed, steps: list[Made]) -> Optional[Reason]:
-    """The reason why a call failed in a schedule; None if it isn't worth reporting: a future deadline that was set
-    for this call alone, which also passes in the recorded order if the bytes come late."""
+    """The reason why a call failed in a schedule. None if it isn't worth reporting: a future deadline that was set for
+    this call alone would also pass in the recorded order if the bytes came late."""
     if failed.why is Why.BROKEN:
         return Reason(failed.step, 0)
     call = script.goroutines[failed.goroutine][failed.begins]
@@ -156,7 +156,7 @@ def stays_of(script: Script, failed: Failed, reason: Reason, steps: list[Made]) 
 
 
 def _numbers(script: Script, sort: Sort, call: Operation) -> set[int]:
-    """The steps that set a deadline or close a socket, so that a call may fail."""
+    """The steps that set a deadline for a call or close its socket, so that it may fail."""
     return {
         operation.steps[0]
         for _, operation in _of_socket(script, sort).get(call.socket, [])

@@ -23,9 +23,9 @@ from .scripts import Script
 
 COPIES, MOST_COPIES = 200, 2_000  # copies of the recorded run, from which schedules continue
 APART = 5  # steps between two copies, unless that makes more copies than allowed
-LONGER = 4  # how much longer than the recording a schedule may be
+LONGER = 4  # the longest schedule, as a multiple of the recording's length
 HANG = "a call that hangs"
-ORDERED = (LOST_WAKE_UP, TAKEN_BACK, LEFT_BEHIND, WRITE_AFTER_SHUT)  # what an order decides
+ORDERED = (LOST_WAKE_UP, TAKEN_BACK, LEFT_BEHIND, WRITE_AFTER_SHUT)  # the rules whose suspects depend on an order
 
 Key = tuple[Any, ...]
 
@@ -36,7 +36,7 @@ class Played(NamedTuple):
     steps: list[Made]
     world: World
     places: list[Place]
-    sockets: dict[int, int]  # by their numbers in the recording
+    sockets: dict[int, int]  # the numbers of sockets, by those in the recording
     has_news: bool
     failed: Optional[Failed] = None
 
@@ -49,24 +49,24 @@ class Finding(NamedTuple):
 
     key: Key
     suspect: Optional[Suspect]
-    hangs: int  # the goroutine, -1 for none
+    hangs: int  # the goroutine that hangs, or -1
     schedule: Schedule
     played: Played
     reason: Optional[Reason] = None  # for a call that fails
 
 
 class Exploring:
-    """The schedules that were run so far, and the findings."""
+    """The schedules run so far, and their findings."""
 
     def __init__(self, script: Script, line_of: Callable[[int], str]) -> None:
         self.script, self.line_of = with_events(replace(script, limits=_wide(script.limits))), line_of
         self.found: dict[Key, Finding] = {}
         self.times: Counter[Key] = Counter()  # how many schedules end with each finding
-        self.played = self.left = 0  # schedules in all, and those in which a step doesn't apply
-        self.taken_over = 0  # shares of processes that ended too early
+        self.played = self.left = 0  # the number of all schedules, and of those in which a step doesn't apply
+        self.taken_over = 0  # how many shares were taken over from processes that ended too early
         self._most = LONGER * script.length + 200
         self._copies: list[Player] = []
-        self._times: list[int] = []  # of the copies
+        self._times: list[int] = []  # the times of the copies
         self.delays = single_delays(self.script)
         if self.script.watched:
             self.delays = list(dict.fromkeys([*failing_delays(self.script), *self.delays]))
@@ -123,7 +123,7 @@ class Exploring:
         self.found.update((finding.key, finding) for finding in self._ends(schedule) if finding.key == key)
 
     def least(self, finding: Finding) -> Finding:
-        """A finding without unnecessary delays."""
+        """The finding with all unnecessary delays removed."""
         delays = finding.schedule.delays
         for left_out in delays if len(delays) > 1 else ():
             schedule = finding.schedule._replace(delays=tuple(delay for delay in delays if delay != left_out))
@@ -133,7 +133,7 @@ class Exploring:
         return finding
 
     def _ends(self, schedule: Schedule) -> list[Finding]:
-        """The findings of a schedule."""
+        """The findings at the end of a schedule."""
         try:
             played = self.ends_of(schedule.delays)
         except Impossible:
@@ -158,7 +158,8 @@ class Exploring:
         return self._all_of(player)
 
     def _with_the_rest(self, player: Player, copy: Player) -> Played:
-        """The result of a schedule that has returned to the recorded run, with the same numbers: the rest is the recorded one."""
+        """The result of a schedule that has returned to the recorded run with the same numbers: it ends with the
+        recorded steps."""
         steps = self._steps[: player.before] + player.steps + self._steps[copy.before :]
         recorded = self.recorded
         return Played(steps, recorded.world, recorded.places, recorded.sockets, player.has_news)
@@ -166,7 +167,7 @@ class Exploring:
     # ---- the findings of a schedule
 
     def _is_otherwise(self, played: Played) -> bool:
-        """Whether it may end differently from the recorded run."""
+        """Whether a schedule may end differently from the recorded run."""
         parked = {g for g, status in enumerate(played.world.goroutines) if status[0] == "parked"}
         return played.has_news or bool(parked - self._parked)
 
@@ -198,7 +199,8 @@ class Exploring:
         return self.line_of(operation.steps[0]) or (g, operation.socket)
 
     def _counts(self, suspect: Suspect, played: Played) -> bool:
-        """Whether the finding depends on the order, and a goroutine that was woken wrongly doesn't continue by itself."""
+        """Whether a suspect counts as a finding: it depends on the order, and a goroutine that was woken wrongly
+        doesn't continue by itself."""
         if not suspect.is_shown or suspect.rule not in ORDERED:
             return False
         if suspect.rule not in (LOST_WAKE_UP, TAKEN_BACK) or suspect.goroutine is None:
@@ -216,7 +218,7 @@ class Exploring:
         return status[2] == "r" and (bool(socket.buffers[0]) or socket.peer_closed)
 
     def _key(self, suspect: Suspect, played: Played) -> Key:
-        """The rule and the place: the program's line at fault if known, otherwise the rule's object."""
+        """The rule and the place of a finding: the program's line at fault if known, otherwise the rule's object."""
         if line := self.line_of(played.steps[suspect.step - 1].number):
             return suspect.rule, line
         back = {number: socket for socket, number in played.sockets.items()}

@@ -1,5 +1,6 @@
-"""Calls that hang: a goroutine is parked without a deadline in a call that a deadline ended in the recording. That deadline was set
-in this schedule too; if it wasn't, because the goroutine that sets it hangs or waits, the call hangs for another reason."""
+"""Calls that hang: a goroutine is parked without a deadline in a call that a deadline ended in the recording. This
+schedule must have set that deadline too; if it didn't, because the goroutine that sets it hangs or waits, the call
+hangs for another reason."""
 
 from typing import Optional
 
@@ -38,7 +39,7 @@ def ended_by(script: Script, g: int, place: Place) -> Optional[int]:
 
 
 def _sets(script: Script, operation: Operation) -> list[int]:
-    """The steps that set a deadline for what the operation waits for."""
+    """The steps that set a deadline for what an operation waits for."""
     return [
         one.steps[0]
         for operations in script.goroutines

@@ -53,7 +53,7 @@ def _mark_raw(goroutines: list[list[Operation]], lines: Lines) -> None:
 
 
 def _others(events: Events, openers: set[int]) -> tuple[dict[int, list[Item]], list[Item], list[Item]]:
-    """The steps that no goroutine made: those of the network and the clock, and those of unknown goroutines."""
+    """The steps that no known goroutine made: those of the network and the clock, and those of unknown goroutines."""
     network: dict[int, list[Item]] = {}
     clock: list[Item] = []
     made: list[Item] = []

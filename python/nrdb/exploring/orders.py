@@ -1,6 +1,6 @@
-"""The orders that every schedule keeps: the steps that must precede a goroutine's steps, as the recorder saw the
-program order them, and the steps that the network may react to. Both are stored for operations: one begins after
-another one has ended."""
+"""The orders that every schedule keeps: which steps must precede a goroutine's steps, according to the recorder's view
+of the program's order, and which steps the network may react to. Both kinds of order are stored for operations: an
+operation begins after another has ended."""
 
 from typing import NamedTuple, Optional, Sequence
 
@@ -8,7 +8,7 @@ from .control import GOROUTINE, NETWORK, NEVER, Place
 from .scripts import Cause, Operation, Order
 
 Pairs = Sequence[tuple[int, int]]
-Key = tuple[float, int]  # a due time, and the place among those of the same time
+Key = tuple[float, int]  # a due time, and the place among the actions of the same time
 
 
 class Where(NamedTuple):
@@ -29,7 +29,8 @@ def places_of(goroutines: list[list[Operation]]) -> dict[int, Where]:
 
 
 def orders_of(goroutines: list[list[Operation]], pairs: Optional[Pairs]) -> Optional[list[list[Order]]]:
-    """For each goroutine, the operations that must precede its operations, in order; None if nothing is known."""
+    """For each goroutine, the operations of others that must precede its operations, in order; None if nothing is
+    known."""
     if pairs is None:
         return None
     where = places_of(goroutines)
@@ -42,14 +43,15 @@ def orders_of(goroutines: list[list[Operation]], pairs: Optional[Pairs]) -> Opti
 
 
 class Waiting:
-    """The goroutines and sockets that wait for a goroutine. When it continues, each checks again: goroutines at once, and the
-    network for its sockets when it is due. If all would wait again, none checks: only their order is updated."""
+    """The goroutines and sockets that wait for a goroutine. When that goroutine continues, each of them checks again:
+    goroutines at once, and the network for its sockets when it is due. If all would only wait again, none of them
+    checks, and only their order is updated."""
 
     def __init__(self) -> None:
         self.first: list[int] = []  # goroutines
-        self.network: list[int] = []  # sockets, after those
-        self.later: list[tuple[int, int]] = []  # checked after both: actors and numbers
-        self.until = NEVER  # the operation after which the first of the goroutines continues
+        self.network: list[int] = []  # sockets, which check after the goroutines
+        self.later: list[tuple[int, int]] = []  # actors and their numbers, which check after both
+        self.until = NEVER  # the operation after which the first of these goroutines continues
         self.again: Optional[Key] = None  # when the network checks again
 
     def copy(self) -> "Waiting":
@@ -59,7 +61,7 @@ class Waiting:
         return made
 
     def add(self, actor: int, which: int) -> None:
-        """Adds one that waits."""
+        """Adds a goroutine or a socket that waits."""
         is_behind = self.later or (self.network if actor == GOROUTINE and self.again is None else ())
         if is_behind or (actor != GOROUTINE and self.again is not None):
             self.later.append((actor, which))
@@ -69,7 +71,7 @@ class Waiting:
             self.network.append(which)
 
     def settle(self, now: Key) -> None:
-        """The network checked again before this time."""
+        """Records that the network has checked again before a time."""
         if self.again is not None and self.again < now:
             self.again = None
             if self.later:
@@ -77,8 +79,8 @@ class Waiting:
                 self.network = []
 
     def look_again(self, due: Key) -> int:
-        """All check again without success. Returns how many of the network's will from now on check when they are
-        due."""
+        """Makes all check again without success. Returns how many checks of the network are from now on made when they
+        are due."""
         for actor, which in self.later:
             (self.first if actor == GOROUTINE else self.network).append(which)
         self.later = []
@@ -94,7 +96,7 @@ class Waiting:
         return bool(self.network) or any(actor != GOROUTINE for actor, _ in self.later)
 
     def row(self) -> list[tuple[int, int]]:
-        """All except those that check again when they are due."""
+        """All waiters except those that check again when they are due."""
         network = self.network if self.again is None else []
         return [*((GOROUTINE, g) for g in self.first), *((NETWORK, s) for s in network), *self.later]
 
@@ -105,7 +107,7 @@ class Passing:
     def __init__(self, orders: Optional[list[list[Order]]], causes: list[Cause], places: list[Place]) -> None:
         self.orders, self.causes, self.places = orders, causes, places
         self.passed = [0] * len(places)  # for each goroutine, how many of its orders are met
-        self.caused = 0  # how many causes are over
+        self.caused = 0  # how many causes have been made
         self.waiting: dict[int, Waiting] = {}
 
     def copy(self, places: list[Place]) -> "Passing":
@@ -115,12 +117,13 @@ class Passing:
         return made
 
     def is_as(self, other: "Passing") -> bool:
-        """Whether in both the same goroutines wait for the same others."""
+        """Whether the same goroutines wait for the same others in both."""
         rows, its_rows = ({g: one.row() for g, one in each.waiting.items()} for each in (self, other))
         return rows == its_rows
 
     def has_still_to_go_on(self, g: int) -> Optional[int]:
-        """The goroutine that must continue before another one makes its next step, by the program's order; None if there is none."""
+        """The goroutine that, by the program's order, must continue before another makes its next step; None if there
+        is none."""
         if self.orders is None:
             return None
         row, at, operation = self.orders[g], self.passed[g], self.places[g].operation
@@ -143,7 +146,7 @@ class Passing:
         return None
 
     def wait(self, g: int, actor: int, which: int, now: Key) -> None:
-        """Records that one waits for a goroutine to continue."""
+        """Records that an actor waits for a goroutine to continue."""
         waiting = self.waiting.get(g)
         if waiting is None:
             waiting = self.waiting[g] = Waiting()
@@ -153,7 +156,7 @@ class Passing:
             waiting.until = min(waiting.until, self.waits_until(which))
 
     def is_still_awaited(self, g: int, waiting: Waiting) -> bool:
-        """Whether everything that waits for a goroutine must still wait, although it has continued."""
+        """Whether everything that waits for a goroutine must still wait although the goroutine has continued."""
         place = self.places[g]
         if place.operation > waiting.until:
             return False
@@ -162,19 +165,19 @@ class Passing:
         return not (waiting.again is not None and waiting.later) and self.holds_network_back(g)
 
     def holds_network_back(self, g: int) -> bool:
-        """Whether a goroutine must still make what the network waits for."""
+        """Whether a goroutine must still make a step that the network waits for."""
         if self.caused >= len(self.causes):
             return False
         cause, place = self.causes[self.caused], self.places[g]
         return cause.goroutine == g and (place.operation, place.made) <= (cause.operation, cause.at)
 
     def waits_until(self, g: int) -> int:
-        """The operation of the other goroutine after which one continues."""
+        """The operation of another goroutine after which this goroutine continues."""
         assert self.orders is not None
         return self.orders[g][self.passed[g]].until
 
     def settle(self) -> None:
-        """Everything that was due has checked again."""
+        """Records that everything that was due has checked again."""
         for waiting in self.waiting.values():
             waiting.settle((NEVER, 0))
 

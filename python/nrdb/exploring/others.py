@@ -14,14 +14,15 @@ MOST_TRIES = 200
 
 
 class Others:
-    """The progress of each of these actors."""
+    """The progress of the network, the clock and the unknown goroutines."""
 
     def __init__(self, script: Script) -> None:
         self.script = script
         self.places: dict[tuple[int, int], int] = defaultdict(int)
-        self.told: set[int] = set()  # the events that came, by their numbers in the recording
-        self.fresh: dict[tuple[int, str], bool] = {}  # for a socket's number and side: something came without an event
-        self.closed: set[int] = set()  # numbers of sockets in which no goroutine begins to wait any more
+        self.told: set[int] = set()  # the events that have come, by their numbers in the recording
+        # by a socket's number and side: whether something came that no event has reported
+        self.fresh: dict[tuple[int, str], bool] = {}
+        self.closed: set[int] = set()  # the numbers of sockets at which no goroutine can begin to wait any more
         self.tries: dict[int, int] = {}
 
     def copy(self) -> "Others":
@@ -48,24 +49,24 @@ class Others:
         return self.script.clock if actor == CLOCK else self.script.made
 
     def beginnings(self) -> Iterator[tuple[int, int, float]]:
-        """Each of them, and when it begins."""
+        """Each of these actors that has actions, with the time of its first action."""
         for actor, which in [(CLOCK, 0), (MADE, 0), *((NETWORK, s) for s in self.script.network)]:
             if row := self._row(actor, which):
                 yield actor, which, row[0].due
 
     def next(self, actor: int, which: int) -> Optional[Item]:
-        """The next action of one of them."""
+        """The next action of an actor."""
         row, at = self._row(actor, which), self.places[actor, which]
         return row[at] if at < len(row) else None
 
     def done(self, actor: int, which: int, item: Item) -> None:
-        """Records that the action is done."""
+        """Records that an actor has done an action."""
         if item.event.kind == "pollevent":
             self.told.add(item.event.number)
         self.places[actor, which] += 1
 
     def see(self, step: Step, board: Board) -> None:
-        """Called after each step: records bytes that came and that no event has reported yet."""
+        """Records, after each step, the bytes that came and that no event has reported yet."""
         kind = step[0]
         if kind in ("arrive", "peerclose"):
             self.fresh[step[1], "r"] = True
@@ -82,8 +83,8 @@ class Others:
     # ---- steps
 
     def steps_of(self, item: Item, board: Board, numbers: Numbers) -> Optional[list[Step]]:
-        """The steps of an action that is due: none if it has no place in this schedule; None if it must wait, and NotMade if its
-        object doesn't exist yet."""
+        """The steps of an action that is due; an empty list if the action has no place in this schedule, and None if it
+        must wait. Raises NotMade if its object doesn't exist yet."""
         kind, arguments = item.event.kind, item.event.arguments
         if kind in ("spawn", "sockopen"):
             return [(kind, *arguments)]
@@ -100,7 +101,7 @@ class Others:
         return self._moves(item, board, numbers.sockets[arguments[0]])
 
     def _pops(self, item: Item, board: Board, numbers: Numbers) -> list[Step]:
-        """The timers that go off up to this one."""
+        """The steps by which timers go off, up to the timer of this action."""
         assert item.timer
         wanted = numbers.descriptors.get(item.timer[0]), item.timer[1]
         due = [timer for timer in board.timers if timer.when <= board.clock]
@@ -121,7 +122,7 @@ class Others:
         return [("pollevent", numbers.descriptors[use], max(numbers.fdseqs[use] + offset, 0), mode, error)]
 
     def _moves(self, item: Item, board: Board, s: int) -> Optional[list[Step]]:
-        """Bytes that come or go, or the peer's close."""
+        """The step by which bytes come or go, or by which the peer closes."""
         kind, value = item.event.kind, item.event.arguments[1:]
         socket = board.sockets[s]
         if kind != "drain" and socket.peer_closed:
@@ -133,14 +134,14 @@ class Others:
         return [(kind, s, *value)]
 
     def _again(self, item: Item) -> Optional[list[Step]]:
-        """Without room or with too few bytes, the action waits, and is dropped if that doesn't change."""
+        """Makes an action wait that lacks room or bytes, and drops it after some tries."""
         number = item.event.number
         self.tries[number] = self.tries.get(number, 0) + 1
         return None if self.tries[number] < MOST_TRIES else []
 
     @staticmethod
     def passed(board: Board, step: Step) -> list[Step]:
-        """The steps before the deadline of a step's descriptor passes: the clock advances, and timers go off."""
+        """The steps that let the deadline of a step's descriptor pass: the clock advances, and timers go off."""
         if step[0] != "pollreset":
             return []
         own = (timer.when for timer in board.timers if timer.desc == step[2] and step[3] in timer.covers)

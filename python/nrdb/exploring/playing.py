@@ -1,6 +1,6 @@
-"""Runs a script under a schedule. Time is counted in steps of the recording: each recorded step is due when it was made, and any
-other step at once; a delayed goroutine is due later. An action that isn't due waits, and so do a goroutine that sleeps and a step
-whose object doesn't exist yet."""
+"""Runs a script under a schedule. Time is counted in steps of the recording: each recorded step is due at the time at
+which it was made, and any other step at once; the steps of a delayed goroutine are due later. An action that isn't due
+waits, and so do a goroutine that sleeps and a step whose object doesn't exist yet."""
 
 from heapq import heappop, heappush
 from typing import Optional
@@ -19,8 +19,8 @@ from .standing import Standing, Turn
 WAKING = frozenset(("pollevent", "setdeadline", "evict", "fire", "release"))
 NEWS = (("code", 2), ("pipe",))  # a timeout, a broken pipe
 MAKING = frozenset(("spawn", "sockopen", "pollopen"))
-UNLIKE = MAKING | {"pollclose"}  # kinds of steps that make or free a number
-SEEN = frozenset(("arrive", "peerclose", "drain", "increfclose", "pollevent"))  # (what `Others.see` needs)
+UNLIKE = MAKING | {"pollclose"}  # kinds of steps that create or free a number
+SEEN = frozenset(("arrive", "peerclose", "drain", "increfclose", "pollevent"))  # the steps that `Others.see` needs
 
 
 class Player(Standing):
@@ -57,8 +57,8 @@ class Player(Standing):
     # ---- goroutines
 
     def _needs_no_wait(self, g: int) -> bool:
-        """Whether a goroutine's event has come already, so that its call continues without a wait, which it then
-        does."""
+        """Whether a goroutine's event has come already, so that its call continues without a wait; if so, lets the call
+        continue."""
         place = self.places[g]
         operation = self.script.goroutines[g][place.operation]
         if operation.sort is not Sort.WAIT or place.is_waiting or operation.is_raw:
@@ -91,7 +91,7 @@ class Player(Standing):
         self.following[g], self.coming[g] = step, number
         due = float(number)
         if not number and g not in self.off and next_number(operations, place) == NEVER:
-            due = self.script.length + 1.0  # what it did then isn't recorded, because the recording ended
+            due = self.script.length + 1.0  # what the goroutine did then isn't recorded, because the recording ended
         elif number in self.until:
             due = max(due, self.until[number])
             self.held[g] = due
@@ -126,7 +126,7 @@ class Player(Standing):
             self._follows(g, turn)
 
     def _takes_turn(self, g: int, step: Step, answer: Answer) -> None:
-        """A goroutine has made its step: updates its place, and schedules its next step."""
+        """Updates the place of a goroutine that has made its step, and schedules its next step."""
         place, number = self.places[g], self.coming[g]
         operation = self.script.goroutines[g][place.operation]
         if number:
@@ -163,7 +163,7 @@ class Player(Standing):
         self.turns[number] = turn
 
     def _follows(self, g: int, turn: Turn) -> None:
-        """Schedules a goroutine's next step as in the recorded run, if it has the same object there."""
+        """Schedules a goroutine's next step as in the recorded run, if the step's object has the same number there."""
         following, number = turn.following, turn.coming
         if following is None or self.numbers.of(turn.about) != turn.named:
             return self._push_goroutine(g)
@@ -182,7 +182,7 @@ class Player(Standing):
             self._apply(step, 0)
 
     def _passes(self, g: int) -> None:
-        """A goroutine has continued, so goroutines that waited for it may continue too."""
+        """Lets the goroutines continue that waited for a goroutine which has continued."""
         waiting = self.passing.waiting.get(g)
         if waiting is None:
             return
@@ -203,7 +203,7 @@ class Player(Standing):
             del self.passing.waiting[g]
 
     def _looks(self, g: int, which: int, rest: Waiting) -> None:
-        """A goroutine that waits for another one checks whether that has continued far enough."""
+        """Checks, for a goroutine that waits for another, whether the other has continued far enough."""
         until = self.passing.waits_until(which)
         if self.places[g].operation > until:
             self._push_goroutine(which)
@@ -212,7 +212,7 @@ class Player(Standing):
             rest.until = min(rest.until, until)
 
     def _network_looks(self, waiting: Waiting, rest: Waiting, in_vain: bool) -> None:
-        """The network checks again, when it is due."""
+        """Lets the network check again when it is due."""
         if in_vain and waiting.network:
             rest.network, rest.again = waiting.network, waiting.again
             self._count += rest.look_again((self.now, self._count + 1))
@@ -225,7 +225,7 @@ class Player(Standing):
                 self._push(self.now, NETWORK, s)
 
     def _look_again(self) -> None:
-        """An object was made, so steps that lacked it may be made."""
+        """Schedules the steps that lacked an object, after an object was made."""
         lacking, self.lacking = self.lacking, []
         for actor, which in lacking:
             if actor == GOROUTINE:
@@ -283,8 +283,8 @@ class Player(Standing):
             self._push(following.due, actor, which)
 
     def _is_held_back(self, actor: int, which: int, event: Event) -> bool:
-        """Whether a due action must wait: the network for the steps that it may react to, and a new goroutine whose parent is
-        unknown for the goroutines that pause."""
+        """Whether a due action must wait: the network waits for the steps that it may react to, and a new goroutine
+        whose parent is unknown waits for the goroutines that pause."""
         if actor == NETWORK:
             if (cause := self.passing.has_still_to_cause(event.number)) is not None:
                 self.passing.wait(cause, actor, which, (self.now, self._at))

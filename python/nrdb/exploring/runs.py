@@ -21,4 +21,4 @@ class Made(NamedTuple):
 
 
 class Impossible(Exception):
-    """A step of a call doesn't apply, so this is no schedule of these calls."""
+    """Raised if a step of a call doesn't apply, so that this isn't a schedule of these calls."""

@@ -1,5 +1,5 @@
-"""The schedules to try: the recorded one with a few delays. A goroutine pauses until another one has made a step
-about the same part of the same socket; first each delay alone, then two and three of them, drawn by a seed."""
+"""The schedules to try: the recorded one with a few delays. A goroutine pauses until another one has made a step at the
+same part of the same socket; each delay is tried alone first, then two or three of them, drawn by a seed."""
 
 import random
 from bisect import bisect_left, bisect_right
@@ -11,10 +11,10 @@ from netrev_calls.flow import Sort
 from .runs import Delay
 from .scripts import Operation, Script
 
-NEAR = 4  # how many steps of other actors about the same thing a pause may wait for
-AROUND = 40  # steps within which several delays are drawn
-IN_VAIN = 2_000  # seeds without a new schedule after which the search ends
-LOCK, WAIT, BYTES = "lock", "wait", "bytes"  # the things of a socket that a step is about
+NEAR = 4  # the most steps of other actors at the same part for which a pause may wait
+AROUND = 40  # the most steps within which several delays are drawn
+IN_VAIN = 2_000  # seeds in a row without a new schedule that end the search
+LOCK, WAIT, BYTES = "lock", "wait", "bytes"  # the parts of a socket that a step may be about
 OF_THING = {
     LOCK: ("rwlock", "rwunlock", "increfclose", "acquire", "release"),
     WAIT: (
@@ -25,43 +25,44 @@ OF_THING = {
 }
 THING_OF = {kind: thing for thing, kinds in OF_THING.items() for kind in kinds}
 SIDE_OF = {"arrive": "r", "peerclose": "r", "sysread": "r", "drain": "w", "syswrite": "w", "closewrite": "w"}
-# a pair of steps about a wait has at least one of these, because no other goroutine enters meanwhile
+# two steps about a wait are paired only if one of them is of these kinds, because no other goroutine can enter the wait
+# meanwhile
 TO_OTHERS = frozenset(("setdeadline", "evict", "pollevent", "fire"))
 
-Thing = tuple[int, str, str]  # a socket, which thing of it, and the side
+Thing = tuple[int, str, str]  # a socket, a part of it, and a side
 
 
 class Schedule(NamedTuple):
-    """The delays, and the seed that drew them; 0 for a single delay."""
+    """The delays of a schedule, and the seed that drew them; 0 for a single delay."""
 
     delays: tuple[Delay, ...]
     seed: int
 
     def is_simpler_than(self, other: "Schedule") -> bool:
-        """Whether it has fewer delays, or else shorter ones."""
+        """Whether a schedule has fewer delays, or as many and shorter ones."""
         return self.measure() < other.measure()
 
     def measure(self) -> tuple[int, int]:
-        """How many delays it has, and how long they are."""
+        """The number of delays, and their total length."""
         return len(self.delays), sum(delay.until - delay.before for delay in self.delays)
 
 
 class Touched(NamedTuple):
-    """A recorded step about a part of a socket, and its goroutine, -1 for the network or a timer."""
+    """A recorded step about a part of a socket, and its goroutine (-1: the network or a timer)."""
 
     number: int
     who: int
     kind: str
 
     def matters_to(self, other: "Touched") -> bool:
-        """Whether the step is another goroutine's, so that the order of both may matter."""
+        """Whether the other step is another actor's and the order of both may matter."""
         if self.who == other.who:
             return False
         return THING_OF[self.kind] != WAIT or self.kind in TO_OTHERS or other.kind in TO_OTHERS
 
 
 def touched(script: Script) -> dict[Thing, list[Touched]]:
-    """The steps on each object, in order."""
+    """The steps about each part of a socket, in order."""
     found: dict[Thing, list[Touched]] = {}
 
     def note(socket: int, sides: str, step: Touched) -> None:
@@ -83,7 +84,7 @@ def touched(script: Script) -> dict[Thing, list[Touched]]:
 
 
 def single_delays(script: Script) -> list[Delay]:
-    """All single delays of a step until a step of others, the nearest first."""
+    """All delays of one step until a step of another actor, nearest first."""
     by_distance: list[set[Delay]] = [set() for _ in range(NEAR)]
     for steps in touched(script).values():
         for at, one in enumerate(steps):
@@ -95,8 +96,8 @@ def single_delays(script: Script) -> list[Delay]:
 
 
 def _late_delays(script: Script) -> Iterator[Delay]:
-    """Delays of a call until its deadline has passed, if it was set for both sides before the other side's was
-    moved alone."""
+    """Delays of a call until its deadline has passed, if the deadline was set for both sides before the other side's
+    deadline was moved alone."""
     sets = sorted(_of_sort(script, Sort.SET))
     for number, reset in sorted(_of_sort(script, Sort.RESET)):
         before = [(at, one) for at, one in sets if at < number and one.use == reset.use]
@@ -106,7 +107,7 @@ def _late_delays(script: Script) -> Iterator[Delay]:
 
 
 def _of_sort(script: Script, sort: Sort) -> Iterator[tuple[int, Operation]]:
-    """The operations of a sort that have steps, with the number of the first."""
+    """The operations of a sort that have steps, each with the number of its first step."""
     for operations in script.goroutines:
         for operation in operations:
             if operation.sort is sort and operation.steps:
@@ -114,7 +115,7 @@ def _of_sort(script: Script, sort: Sort) -> Iterator[tuple[int, Operation]]:
 
 
 def schedules(delays: list[Delay], most: int) -> Iterator[Schedule]:
-    """At most this many different schedules, those with the nearest delays first; fewer if seeds give no new ones."""
+    """At most this many different schedules, with the nearest delays first; fewer if the seeds give no new ones."""
     for delay in delays[:most]:
         yield Schedule((delay,), 0)
     in_order = sorted(delays)
@@ -130,7 +131,7 @@ def schedules(delays: list[Delay], most: int) -> Iterator[Schedule]:
 
 
 def drawn(delays: list[Delay], in_order: list[Delay], seed: int) -> tuple[Delay, ...]:
-    """Two or three delays, short ones rather than long ones, that are near each other."""
+    """Two or three delays near each other, with short ones preferred."""
     dice = random.Random(seed)
     first = delays[int(len(delays) * dice.random() ** 2)]
     begin = bisect_left(in_order, Delay(first.before - AROUND, 0))

@@ -1,6 +1,6 @@
-"""A script: what each goroutine, the network and the clock did in a recording, without the order. A goroutine's
-script is a list of operations, the parts of its calls. If the machine answers differently, the goroutine
-continues with another operation than the next one."""
+"""A script: what each goroutine, the network and the clock did in a recording, without the order. A goroutine's script
+is a list of operations, which are the parts of its calls. If the machine answers differently, the goroutine continues
+with another operation than the next one."""
 
 from dataclasses import dataclass, field
 from typing import Any, NamedTuple, Optional
@@ -17,17 +17,17 @@ class Operation:
 
     sort: Sort
     socket: int
-    use: int = -1  # of a descriptor
+    use: int = -1  # the use of a descriptor
     side: str = ""
-    values: tuple[Any, ...] = ()  # the arguments after those
+    values: tuple[Any, ...] = ()  # the step's arguments besides the object and the side
     steps: list[int] = field(default_factory=list)
     kinds: list[str] = field(default_factory=list)
-    moved: list[int] = field(default_factory=list)  # bytes, by each try of a write
+    moved: list[int] = field(default_factory=list)  # for each try of a write, the number of bytes it moved
     on_failure: int = 0
-    cause: Optional[int] = None  # the step of the event that ended a wait which no read or write followed
-    is_brief: bool = False  # such a wait that found its readiness already set
-    is_raw: bool = False  # whether it waits is decided by a function of the program, which was passed to RawConn
-    ends_unread: bool = False  # after its last wait no step shows a try
+    cause: Optional[int] = None  # for a wait without a read or write after it, the step of the event that ended it
+    is_brief: bool = False  # whether such a wait found its readiness already set
+    is_raw: bool = False  # whether a function of the program that was passed to RawConn decides if it waits
+    ends_unread: bool = False  # whether no step shows a try after its last wait
 
 
 class Item(NamedTuple):
@@ -47,8 +47,8 @@ class Order(NamedTuple):
 
 
 class Cause(NamedTuple):
-    """A recorded step that another actor may answer: its number, its goroutine, its operation, and the index in
-    that."""
+    """A recorded step that another actor may answer: its number, its goroutine, its operation, and its index in the
+    operation."""
 
     number: int
     goroutine: int
@@ -58,8 +58,8 @@ class Cause(NamedTuple):
 
 @dataclass
 class Script:
-    """The operations of each goroutine; the actions of the network at each socket; timers and the clock; and the
-    steps of unknown goroutines. Numbers are those of the recording, except that uses stand for descriptors."""
+    """The operations of each goroutine; the actions of the network at each socket; timers and the clock; and the steps
+    of unknown goroutines. Numbers are those of the recording, except that uses take the place of descriptors."""
 
     limits: Limits
     length: int
@@ -67,10 +67,12 @@ class Script:
     network: dict[int, list[Item]]
     clock: list[Item]
     made: list[Item]
-    sockets: list[int]  # of each use
-    ordinals: list[int]  # which use of its descriptor each is, from 0
+    sockets: list[int]  # by use, its socket
+    ordinals: list[int]  # by use, its ordinal among the uses of its descriptor, from 0
     causes: list[Cause]
     answers: list[tuple[Any, ...]]
-    orders: Optional[list[list[Order]]] = None  # for each goroutine, if the recorder saw what the program orders
-    # the places at which calls may fail: the operations of those that succeeded, by goroutine, and the place where each call begins
+    # for each goroutine, the orders that the recorder saw the program impose; None if it didn't record them
+    orders: Optional[list[list[Order]]] = None
+    # the places at which calls may fail: for a goroutine and an operation of a call that succeeded, the operation at
+    # which the call begins
     watched: dict[tuple[int, int], int] = field(default_factory=dict)

@@ -1,5 +1,5 @@
-"""The state of a running script: the machine's state, the place of each goroutine in its calls, and the due times.
-It can be copied, and compared with another one."""
+"""The state of a running script: the machine's state, the place of each goroutine in its calls, and the due times. It
+can be copied and compared with another."""
 
 from heapq import heapify, heappush
 from typing import NamedTuple, Optional, TypeVar
@@ -17,13 +17,13 @@ from .others import Others
 from .runs import Delay, Made
 from .scripts import Script
 
-Due = tuple[float, int, int, int]  # the time, the order among those at that time, the actor, and its number
+Due = tuple[float, int, int, int]  # a time, the order among the actions at that time, the actor, and the actor's number
 Itself = TypeVar("Itself", bound="Standing")
 
 
 class Turn(NamedTuple):
-    """A goroutine's turn in the recorded run: its place before, its answer, and its status and place afterwards;
-    its next step, if that was scheduled at once, with the number of the step's object, and the object."""
+    """A goroutine's turn in the recorded run: its place before it, the answer, and its status and place after it; its
+    next step, if that was scheduled at once, the step's object and the number of the object."""
 
     place: Place
     answer: Answer
@@ -45,17 +45,18 @@ class Standing:
         self.board = Board(script.limits, not delays)
         self.turns: dict[int, Turn] = {}  # turns of the recorded run, by the numbers of their steps
         self.numbers = Numbers()
-        self.before = 0  # steps that the copied player had made
-        self.steps: list[Made] = []  # those after them
+        self.before = 0  # how many steps the copied player had made
+        self.steps: list[Made] = []  # the steps after those
         self.places = [Place() for _ in script.goroutines]
         self.passing = Passing(script.orders, script.causes, self.places)
-        self.following: dict[int, Step] = {}  # for a goroutine that is scheduled, its step
-        self.coming = [0] * len(script.goroutines)  # the number of that in the recording, or 0
+        self.following: dict[int, Step] = {}  # the next step of each goroutine that is scheduled
+        self.coming = [0] * len(script.goroutines)  # by goroutine, the number of its next step in the recording, or 0
         self.off: set[int] = set()  # the actors that have made steps that the recording doesn't have
-        self.has_news = False  # the recording had none
+        # whether a step had an answer of NEWS that the recording doesn't have, or a watched call failed
+        self.has_news = False
         self.failed: Optional[Failed] = None  # the first watched call that failed
         self.is_over = False  # whether that call has ended
-        self.held: dict[int, float] = {}  # the actors that pause, and until when
+        self.held: dict[int, float] = {}  # the actors that pause, each with the end of its pause
         self.asleep: set[int] = set()
         self.lacking: list[tuple[int, int]] = []  # the actors that wait for another's step
         self.others = Others(script)
@@ -80,7 +81,7 @@ class Standing:
         return made
 
     def _hold(self) -> None:
-        """Makes a goroutine that pauses before its next step due later."""
+        """Delays the next step of each goroutine that pauses before it."""
         for at, (due, count, actor, g) in enumerate(self._heap):
             if actor == GOROUTINE and (until := self.until.get(self.coming[g])):
                 self.held[g] = max(due, until)
@@ -99,8 +100,8 @@ class Standing:
         )
 
     def is_the_same_as(self, other: "Standing") -> bool:
-        """Whether everything that decides its continuation equals the other's, down to the numbers: so both make
-        exactly the same steps from here on."""
+        """Whether everything that decides how this run continues is equal in the other, down to the numbers, so that
+        both make exactly the same steps from here on."""
         return (
             self.places == other.places
             and self.board.is_as(other.board)
@@ -115,7 +116,7 @@ class Standing:
         )
 
     def _watch(self, g: int, place: Place) -> None:
-        """Records the first watched call that fails, and its end."""
+        """Records the first watched call that fails, and the end of that call."""
         made = self.steps[-1]
         begins = self.script.watched.get((g, place.operation))
         if self.failed is None and begins is not None and (why := fault_of(made)):
@@ -128,7 +129,7 @@ class Standing:
         return self.before + len(self.steps)
 
     def _all_due(self) -> list[tuple[float, int, int]]:
-        """Everything that is due, in order."""
+        """All pending actions, in the order in which they are due."""
         if self._in_order is None:
             self._in_order = sorted((due, actor, which) for due, _, actor, which in self._heap)
         return self._in_order

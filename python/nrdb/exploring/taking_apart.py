@@ -8,7 +8,7 @@ from netrev_words.vocabulary import KINDS
 from ..reducing.events import Event, Events
 from .scripts import Operation
 
-ROOM = 4_096  # bytes that a read asks for, if that is unknown
+ROOM = 4_096  # the number of bytes that a read asks for, if unknown
 OF_EACH = ("g", "s", "d", "side", "mode")  # the arguments of an operation besides its values
 
 
@@ -18,10 +18,10 @@ class TakenApart:
     def __init__(self, events: Events, asked: dict[int, int], told: dict[tuple[int, str], int]) -> None:
         self.events, self.asked, self.told = events, asked, told
         self.operations: list[Operation] = []
-        self.answer: tuple[Any, ...] = ()  # of its last step
+        self.answer: tuple[Any, ...] = ()  # the answer of its last step
 
     def see(self, event: Event) -> None:
-        """Called after each of its steps."""
+        """Adds the goroutine's next step."""
         handler = getattr(self, f"_{event.kind}", self._begins if event.kind in SORTS else self._goes_on)
         handler(event)
         self.answer = event.answer
@@ -31,7 +31,7 @@ class TakenApart:
         return self.operations[-1] if self.operations else None
 
     def _begins(self, event: Event) -> Operation:
-        """An operation begins with this step, which names its object."""
+        """Begins an operation with a step, which names its object."""
         arguments = dict(zip(KINDS[event.kind].arguments, event.arguments))
         socket, use = self.events.socket_of(event), arguments.get("d", -1)
         values = tuple(value for form, value in arguments.items() if form not in OF_EACH)
@@ -44,7 +44,7 @@ class TakenApart:
         return operation
 
     def _goes_on(self, event: Event) -> None:
-        """The last operation includes this step."""
+        """Adds a step to the last operation."""
         assert self.last
         self.last.steps.append(event.number)
         self.last.kinds.append(event.kind)
@@ -52,7 +52,7 @@ class TakenApart:
             self._waited(event)
 
     def _waited(self, event: Event) -> None:
-        """A wait may have ended with this step."""
+        """Records that a wait has ended, if this step ended it."""
         last = self.last
         assert last
         is_ready = came(event.kind, event.answer) is Came.READY
@@ -61,14 +61,14 @@ class TakenApart:
             last.is_brief = event.kind == "blockarm" and (cause is None or cause < last.steps[0])
             last.cause = None if last.is_brief else cause
         if is_ready and last.sort in (Sort.READ, Sort.WRITE):
-            last.ends_unread = True  # until it tries again
+            last.ends_unread = True  # until a try follows
 
     def _supposed(self, sort: Sort, socket: int, use: int = -1, side: str = "", *values: Any) -> None:
-        """An operation that the recording doesn't show, because the call ended before it."""
+        """Adds an operation that the recording doesn't show, because the call ended before it."""
         self.operations.append(Operation(sort, socket, use, side, values))
 
     def _supposed_try(self, socket: int, use: int, side: str) -> None:
-        """The tries that a call would have made if its descriptor hadn't been closing, or its deadline hadn't
+        """Adds the tries that a call would have made if its descriptor hadn't been closing or its deadline hadn't
         passed."""
         if socket not in self.asked:
             self._supposed(Sort.WAIT, socket, use, side)
@@ -151,7 +151,8 @@ class TakenApart:
         self._tries(Sort.WRITE, "w", event)
 
     def _tries(self, sort: Sort, side: str, event: Event) -> None:
-        """A read or a write: the first of a call, one after a wait, or the next one if the call moves bytes in several steps."""
+        """Adds a try of a read or a write: the first of a call, one after a wait, or the next one if the call moves
+        bytes in several steps."""
         last, (_, s, value) = self.last, event.arguments
         is_over = self.answer[:1] in (("eof",), ("pipe",))
         goes_on = last is not None and last.sort is sort and last.socket == s and last.steps and not is_over
@@ -225,7 +226,7 @@ def _finish(operations: list[Operation], is_at_rest: bool) -> None:
 
 
 def _end(operations: list[Operation], open_ones: list[int], at: int) -> None:
-    """The operations after which the call ends if they fail, and those in between."""
+    """Sets where a goroutine continues if the operations that this one ends fail, or the tries in between."""
     ending = operations[at]
     for begun in reversed(open_ones):
         one = operations[begun]

@@ -17,7 +17,7 @@ from .scripts import Script
 UNLESS = "possible, unless your program orders these calls by what a recording doesn't show: "
 UNKNOWN = "a channel, a mutex, a condition"
 IF_RAW = "and only if the function that RawConn was given waits without a try, which isn't recorded"
-LEFT_UNKNOWN = "a lock that was free, an atomic"  # whether the recorder saw the program's orders
+LEFT_UNKNOWN = "a lock that was free, an atomic"  # what remains unknown if the recorder saw the program's orders
 
 
 class Telling:
@@ -27,7 +27,7 @@ class Telling:
         self.recording, self.book, self.script = recording, book, script
 
     def delay(self, delay: Delay) -> str:
-        """A delay as text: the goroutine, the place, and the end."""
+        """A delay as text: the goroutine, the place, and the end of the delay."""
         kind, g = self._step(delay.before)
         call = self.call_of(g, delay.before)
         in_call, before = (f", in {self._named(call)},", kind) if call else ("", kind)
@@ -36,7 +36,7 @@ class Telling:
         return f"goroutine {g}{in_call} pauses before {before} (step {delay.before}) until {self._until(delay.until)}"
 
     def unless(self, finding: Finding) -> str:
-        """The line about what isn't known of a finding."""
+        """The line that says what isn't known about a finding."""
         unless = UNLESS + (UNKNOWN if self.script.orders is None else LEFT_UNKNOWN)
         g = finding.suspect.goroutine if finding.suspect else None
         if g is None or finding.key[0] != LOST_WAKE_UP:
@@ -60,7 +60,7 @@ class Telling:
         return step.kind, -1 if g is None else g
 
     def call_of(self, g: int, number: int) -> Optional[Call]:
-        """The innermost call of a goroutine that has this step."""
+        """The innermost call of a goroutine that includes a step."""
         found = [
             call
             for call in self.book.calls
@@ -72,7 +72,7 @@ class Telling:
         return f"{call.name} on socket {call.socket}"
 
     def finding(self, at: int, finding: Finding, times: int, file: str) -> list[str]:
-        """The lines about a finding that was written to a file, without netrev's."""
+        """The lines about a finding that was written to a file, except netrev's answer."""
         lines = [f"{at}. {self._head(finding, file)}"]
         delays = finding.schedule.delays
         for one in delays:
@@ -122,7 +122,7 @@ class Telling:
 
 
 def summary(exploring: Exploring, seconds: float, is_stopped: bool) -> str:
-    """The number of schedules that were played, and their results."""
+    """The number of schedules that were run, and their results."""
     how = f"one delay: {min(exploring.played, len(exploring.delays))} of {len(exploring.delays)}"
     if exploring.seed:
         how += f"; two and three: seeds 1 to {exploring.seed}"

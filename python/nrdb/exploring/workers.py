@@ -1,5 +1,5 @@
-"""Runs schedules on all processors. Each of several processes runs its share and reports its findings; the result
-is that of one process."""
+"""Runs schedules on all processors. Each of several processes runs its share and reports its findings; the result is
+the same as with one process."""
 
 import os
 import pickle
@@ -16,14 +16,16 @@ from .finding import Exploring, Key
 from .schedules import Schedule, schedules
 from .scripts import Script
 
-WORTH_IT = 100_000  # steps of all schedules, if they are as long as the recording
-SECONDS = 0.2  # between two messages
-LENGTH = 8  # bytes of a message's length
+# the least number of steps, summed over schedules as long as the recording, for which more processes are worth it
+WORTH_IT = 100_000
+SECONDS = 0.2  # seconds between two messages
+LENGTH = 8  # the number of bytes that encode a message's length
 CODE = f"import sys; sys.path[:0] = {sys.path!r}; from nrdb.exploring.workers import work; work()"
 
 
 class Best(NamedTuple):
-    """The simplest schedule with a finding, its index among all, and the index of the first."""
+    """The simplest schedule with a finding, its index among all schedules, and the index of the first schedule with
+    that finding."""
 
     measure: tuple[int, int]
     at: int
@@ -35,7 +37,7 @@ class Best(NamedTuple):
 
 
 class Told(NamedTuple):
-    """The findings of a process since its last report, and whether these are all."""
+    """The findings of a process since its last report, and whether they are its last."""
 
     is_all: bool
     played: int
@@ -46,7 +48,7 @@ class Told(NamedTuple):
 
 
 class Share(NamedTuple):
-    """The share of a process: every Nth schedule, from this one on."""
+    """The share of a process: every `of`th schedule, beginning with number `which`."""
 
     script: Script
     lines: Lines
@@ -55,7 +57,8 @@ class Share(NamedTuple):
     of: int
 
     def play(self, exploring: Exploring, best: dict[Key, Best], behind: int = 0) -> Iterator[None]:
-        """Runs them, except for those that ran before, and keeps the simplest schedule of each finding; yields after each."""
+        """Runs the schedules of the share, except for those that ran before, and keeps the simplest schedule of each
+        finding; yields after each schedule."""
         mine = islice(enumerate(schedules(exploring.delays, self.most)), self.which + behind * self.of, None, self.of)
         for at, schedule in mine:
             for key in exploring.play(schedule):
@@ -69,14 +72,14 @@ def processors() -> int:
 
 
 def play_all(exploring: Exploring, share: Share, tell: Callable[[], None]) -> None:
-    """Runs so many schedules, on as many processors as exist if that is worth it; `tell` is called now and then.
-    The rest of a share whose process ends early, such as for lack of memory, runs here."""
+    """Runs this many schedules, on as many processors as exist if that is worth it, and calls `tell` now and then. The
+    rest of a share whose process ends early, such as for lack of memory, runs here."""
     if share.of < 2 or share.script.length * share.most < WORTH_IT:
         exploring.run(share.most, tell)
         return
     best: dict[Key, Best] = {}
     with ExitStack() as stack:
-        stack.callback(_keep, exploring, best)  # (also if Ctrl-C ends it)
+        stack.callback(_keep, exploring, best)  # (even if Ctrl-C ends it)
         selector = stack.enter_context(DefaultSelector())
         workings = [stack.enter_context(Working()) for _ in range(share.of)]
         for which, working in enumerate(workings):
@@ -119,7 +122,7 @@ class Working:
             to.write(pickle.dumps(share))
 
     def hear(self, exploring: Exploring, best: dict[Key, Best]) -> bool:
-        """Reads a report; False if the process has ended, even within a report."""
+        """Reads a report; returns False if the process has ended, even in the middle of a report."""
         head = self.told.read(LENGTH)
         size = int.from_bytes(head, "big")
         data = self.told.read(size) if len(head) == LENGTH else b""
@@ -150,7 +153,8 @@ class Working:
 
 
 def work() -> None:
-    """Runs the share that arrives on the input, and reports on the output. If nothing reads the output any more, it ends."""
+    """Runs the share that arrives on standard input, and reports on standard output. Ends when nothing reads the output
+    any more."""
     try:
         share: Share = pickle.load(sys.stdin.buffer)
         tell_of(share, sys.stdout.buffer)
