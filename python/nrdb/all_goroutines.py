@@ -1,5 +1,5 @@
-"""All goroutines of a log, as NAME.where has them (docs/reference/RECORDING.md has the format), including those
-without sockets: Go's numbers, each wait outside the poller, and the objects at which they wait."""
+"""All goroutines of a log, as NAME.where has them (docs/reference/RECORDING.md has the format), including those without
+sockets: Go's numbers, each wait outside the poller, and the objects at which goroutines wait."""
 
 from typing import TYPE_CHECKING, Any, Container, Iterator, NamedTuple, Optional, Sequence
 
@@ -10,7 +10,7 @@ OF_GOROUTINES = frozenset(
     ("goroutines", "parks", "objects", "uses", "timers", "left_out", "channels", "failed_dials", "held")
 )  # lines of the file
 STILL = -1  # the end of a wait that lasts to the end of the recording
-# What goroutines wait for outside of the poller.
+# What goroutines wait for outside the poller.
 A_RECEIVER = "a receiver at a channel"  # for a channel without a buffer
 A_VALUE, ROOM, A_SELECT, A_CONDITION = "a value from a channel", "room in a channel", "a select", "a condition"
 A_SLEEP, A_MUTEX, A_READ_LOCK, A_WRITE_LOCK = "time.Sleep", "a mutex", "a read lock", "a write lock"
@@ -22,14 +22,14 @@ A_WAIT_GROUP, A_SEMAPHORE, A_NIL_CHANNEL, NO_CASES = (
 )
 MUTEXES = (A_MUTEX, A_READ_LOCK, A_WRITE_LOCK)
 FOR_VALUE, FOR_ROOM = "value", "room"  # at a channel
-PUT, TOOK, CLOSED, ENDED = "put", "took", "closed", "ended"  # what goroutines do there
+PUT, TOOK, CLOSED, ENDED = "put", "took", "closed", "ended"  # what goroutines do at a channel
 ADDED, DONE = "added", "done"  # at a WaitGroup
 
 
 class GoGoroutine(NamedTuple):
-    """A goroutine by Go's own number, as in a stack dump: its number in the recording (-1: it made no step), the call of the `go`
-    statement that started it, the goroutine that called it (0 if unknown), the steps after which it was started and ended, and both
-    times. An unknown start or end is -1."""
+    """A goroutine by Go's own number, as in a stack dump: its number in the recording (-1: it made no step), the call
+    of the `go` statement that started it, the goroutine that called `go` (0 if unknown), the steps after which it
+    started and ended, and the times of both. An unknown start or end is -1."""
 
     goid: int
     number: int
@@ -42,17 +42,17 @@ class GoGoroutine(NamedTuple):
 
 
 class At(NamedTuple):
-    """The number of an object at which a goroutine waits, and the operation that it waits for: FOR_VALUE, FOR_ROOM,
-    or empty."""
+    """The number of an object at which a goroutine waits, and the operation that the goroutine waits for: FOR_VALUE,
+    FOR_ROOM, or empty."""
 
     object: int
     use: str
 
 
 class Park(NamedTuple):
-    """A wait outside the poller, by Go's number of the goroutine: the steps after which it begins and ends, both times (-1: it
-    still waits), the reason in words, its stack, the goroutine that ended it (0 if unknown), the objects (one for each case of a
-    select), and the end of a sleep (0 if unknown)."""
+    """A wait outside the poller, by Go's number of the goroutine: the steps after which it begins and ends and the
+    times of both (-1: it still waits), the reason in words, its stack, the goroutine that ended it (0 if unknown), the
+    objects (one for each case of a select), and the end of a sleep (0 if unknown)."""
 
     goid: int
     first: int
@@ -71,7 +71,7 @@ class Park(NamedTuple):
 
 
 class Object(NamedTuple):
-    """An object at which goroutines wait: its number, its sort, and for a channel its capacity (-1: unknown)."""
+    """An object at which goroutines wait: its number, its sort, and, for a channel, its capacity (-1: unknown)."""
 
     object: int
     sort: str
@@ -79,8 +79,8 @@ class Object(NamedTuple):
 
 
 class Use(NamedTuple):
-    """What a goroutine did from one stack, at a channel PUT, TOOK, CLOSED or ENDED, and at a WaitGroup ADDED or DONE: how often,
-    and the steps and times of the first and the last."""
+    """The uses of an object by a goroutine from one stack (of a channel: PUT, TOOK, CLOSED or ENDED; of a WaitGroup:
+    ADDED or DONE): how many, and the steps and times of the first and the last."""
 
     object: int
     goid: int
@@ -94,8 +94,9 @@ class Use(NamedTuple):
 
 
 class Timer(NamedTuple):
-    """A timer that a goroutine made, reset or stopped: its channel (0 if it calls a function), the stack, the step before, the
-    time, and when it was due (-1 if it was stopped). For a timer without a channel only the making is recorded."""
+    """A timer that a goroutine made, reset or stopped: its channel (0 if it calls a function), the stack, the step
+    before, the time, and the time at which it was due (-1 if it was stopped). For a timer without a channel, only its
+    making is recorded."""
 
     object: int
     goid: int
@@ -111,7 +112,8 @@ class Timer(NamedTuple):
 
 
 class Making(NamedTuple):
-    """A channel that was made: by which goroutine, from which stack, after which step, and when."""
+    """A channel that was made: the goroutine that made it, the stack, the step after which it was made, and the
+    time."""
 
     object: int
     goid: int
@@ -121,8 +123,9 @@ class Making(NamedTuple):
 
 
 class FailedDial(NamedTuple):
-    """A dial of a goroutine that failed: the stack, the step before, the time, the reason (the system's error, `timeout`,
-    `cancelled`, or empty), the address (empty if unknown), and the channel of its context (0 if it has none)."""
+    """A dial of a goroutine that failed: the stack, the step before it, the time, the reason (the system's error,
+    `timeout`, `cancelled`, or empty), the address (empty if unknown), and the channel of its context (0 if it has
+    none)."""
 
     goid: int
     stack: int
@@ -134,8 +137,8 @@ class FailedDial(NamedTuple):
 
 
 class Held(NamedTuple):
-    """A mutex that is locked at the recording's end: the goroutine that locked it, READ if for reading, the stack, and the step
-    before."""
+    """A mutex that is locked at the recording's end: the goroutine that locked it, how (READ: for reading), the stack,
+    and the step before."""
 
     object: int
     goid: int
@@ -148,7 +151,7 @@ READ = "read"  # how an RWMutex is held
 
 
 class LeftOut(NamedTuple):
-    """The number of waits with a reason and a stack that didn't fit, by whether they last to the end."""
+    """The number of waits with a reason and a stack that didn't fit into the file, by whether they last to the end."""
 
     reason: str
     stack: int
@@ -171,7 +174,7 @@ OF_OWNER: tuple[type, ...] = (int,) * 3
 
 
 class AllGoroutines:
-    """The file's facts about all goroutines. It is empty for a file of the first form."""
+    """The file's facts about all goroutines. It is empty for a file of the first format."""
 
     def begin_goroutines(self) -> None:
         """Starts without any known goroutine."""
@@ -183,18 +186,18 @@ class AllGoroutines:
         self.left_out: list[LeftOut] = []
         self.made: dict[int, Making] = {}  # by channel
         self.failed_dials: dict[int, list[FailedDial]] = {}  # by goroutine
-        self.held: Optional[dict[int, list[Held]]] = None  # by mutex; None if it isn't known which are locked
+        self.held: Optional[dict[int, list[Held]]] = None  # by mutex; None if the recording doesn't have them
         self._goids: dict[int, int] = {}  # by the recording's numbers
         self.owners: dict[
             int, list[tuple[int, int]]
-        ] = {}  # for a number: after which step each goroutine took it, and its name
+        ] = {}  # for a number of the recording: the step after which each goroutine took it, and the goroutine's goid
         self._owned: dict[int, int] = {}  # the number that a goroutine has taken, by Go's number
 
     def add_goroutines(self, line: dict[str, Any], calls: dict[int, "Call"], stacks: Container[int]) -> None:
         """Adds a line about all goroutines, or about the objects at which they wait."""
 
         def known(numbers: Sequence[int]) -> Iterator[int]:
-            """The numbers of stacks; 0 for one that isn't in the file."""
+            """The numbers of stacks, with 0 for a stack that isn't in the file."""
             return (number if number in stacks else 0 for number in numbers)
 
         if "goroutines" in line:
@@ -247,35 +250,36 @@ class AllGoroutines:
         return next((goid for taken, goid in reversed(self.owners[number]) if taken < max(step, 1)), 0)
 
     def reused_goid(self, number: int, step: int) -> int:
-        """Go's number of the goroutine that has a number of the recording at a step, if several had it; 0 if one alone had it, or it is unknown."""
+        """Go's number of the goroutine that has a number of the recording at a step, if several goroutines had that
+        number; 0 if only one had it or the goroutine is unknown."""
         return self.goid_of(number, step) if number in self.owners else 0
 
     def number_of(self, goid: int, step: Optional[int] = None) -> int:
-        """The number in the recording that a goroutine has at a step, else at the end, by Go's name of it; -1 if it has
+        """The number in the recording that a goroutine, given by its goid, has at a step, else at the end; -1 if it has
         none."""
         known = self.goroutines.get(goid)
         number = self._owned.get(goid, known.number if known else -1)
         return -1 if number in self.owners and self.goid_of(number, step) != goid else number
 
     def has_step(self, goid: int, number: int, step: int) -> bool:
-        """Whether a step of a number of the recording is this goroutine's, by Go's name of it."""
+        """Whether a step with a number of the recording was made by the goroutine with this goid."""
         return number not in self.owners or self.goid_of(number, step) == goid
 
     def park_of(self, goid: int, position: int) -> Optional[Park]:
-        """The wait outside of the poller in which a goroutine is at a position, by Go's name of it."""
+        """The wait outside the poller in which the goroutine with this goid is at a position."""
         return next((one for one in self.parks.get(goid, ()) if one.is_at(position)), None)
 
 
 def typed(value: Any, sort: type) -> Any:
-    """The value; a TypeError if it has another type."""
+    """The value; raises a TypeError if it has another type."""
     if type(value) is not sort:
         raise TypeError
     return value
 
 
 def columns(rows: Any, sorts: Sequence[type]) -> list[Any]:
-    """The columns of some rows, of these types; a TypeError or a ValueError if one differs. There may be 65,536 rows, so no Python
-    loop visits all values."""
+    """The columns of some rows, of these types; raises a TypeError or a ValueError if a value differs. There may be
+    65,536 rows, so no Python loop visits all values."""
     if set(map(len, rows)) - {len(sorts)}:
         raise ValueError
     found = list(zip(*rows)) or [()] * len(sorts)

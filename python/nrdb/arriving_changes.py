@@ -20,8 +20,8 @@ PIPE = 2**20  # bytes
 
 
 class ArrivingChanges(RecordedChanges):
-    """The output of `netrev changes FILE`. netrev starts with the first request. If it fails, Lost is raised, and the next request
-    starts it again."""
+    """The output of `netrev changes FILE`, which is started by the first request. If it fails, Lost is raised, and the
+    next request starts it again."""
 
     def __init__(self, program: str, path: str, interrupts: Interrupts, tell: Callable[[str], None]) -> None:
         super().__init__()
@@ -56,7 +56,7 @@ class ArrivingChanges(RecordedChanges):
             self._reader.join(SILENCE)
 
     def _is_begun(self) -> bool:
-        """Whether a thread reads. If Ctrl-C prevented it from starting, another thread takes its place."""
+        """Whether a thread is reading. If Ctrl-C prevented it from starting, another thread takes its place."""
         return self._reader is not None and self._reader.ident is not None
 
     def _wait(self, position: Optional[int]) -> None:

@@ -30,8 +30,7 @@ class Attached:
         return True
 
     def hits(self, marks: Sequence[str]) -> None:
-        """These marks hit after a move: their lines are to run. Lines that are left from an earlier stop are
-        dropped."""
+        """Queues the lines of these marks, which hit after a move. Lines left from an earlier stop are dropped."""
         self.pending = deque(line for mark in marks for line in self.lines.get(mark, ()))
 
     def listed(self, entries: Sequence[str]) -> Iterator[str]:

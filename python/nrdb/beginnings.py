@@ -1,4 +1,4 @@
-"""The beginning of a recording: the first steps of a recording of a long-running server lead to its state."""
+"""The beginning of a recording: in a recording of a long-running server, the first steps lead to its state."""
 
 from typing import Optional, Protocol
 

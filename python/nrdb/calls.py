@@ -1,5 +1,5 @@
-"""Go's calls instead of steps: the `Read`, `Write`, `SetDeadline` or `Close` of each step, how long it waited and how it ended.
-nrdb finds them in one pass over the recording's steps."""
+"""Go's calls instead of steps: the `Read`, `Write`, `SetDeadline` or `Close` that each step belongs to, how long it
+waited and how it ended. nrdb finds them in one pass over the recording's steps."""
 
 from collections import defaultdict
 from functools import cached_property, lru_cache, partial
@@ -28,10 +28,11 @@ class Book:
     def __init__(self, recording: Recording) -> None:
         self.calls: list[Call] = []
         self._recording, self._errors = recording, recording.lines.errors
-        self.error = ""  # the system's name of the step's error, until a call gets it
+        self.error = ""  # the system's name for the step's error, until a call gets it
         self.open: dict[int, list[Call]] = defaultdict(list)  # the calls that each goroutine is in, the innermost last
-        self.asleep: dict[int, tuple[int, int]] = {}  # since which step, and the clock then
-        self.descriptor_of: dict[int, int] = {}  # of a socket that is open
+        # the step since which each goroutine has slept, and the clock then
+        self.asleep: dict[int, tuple[int, int]] = {}
+        self.descriptor_of: dict[int, int] = {}  # for each open socket, its descriptor
         self.notes = Notes(recording, self._looks())
 
     @cached_property
@@ -65,7 +66,7 @@ class Book:
         return look
 
     def begin(self, step: int, g: int, name: str, socket: int, calls: list[Call]) -> Call:
-        """A call of a socket begins with this step."""
+        """Begins a call of a socket at this step."""
         call = Call(g, name, socket, self.descriptor_of.get(socket, NONE), step)
         calls.append(call)
         self.calls.append(call)
@@ -81,7 +82,8 @@ class Book:
 
 
 def fail(notes: Notes, call: Call, outcome: Outcome) -> None:
-    """A call ends with this result; for a timeout, a close and a shut write side also the step that caused it."""
+    """Ends a call with this result; for a timeout, a close and a shut write side, also stores the step that caused
+    it."""
     call.outcome = outcome
     if outcome is Outcome.CLOSED and call.socket in notes.closer:
         call.cause = notes.closer[call.socket].step
@@ -93,8 +95,8 @@ def fail(notes: Notes, call: Call, outcome: Outcome) -> None:
         call.passed = timeout.passing.step
 
 
-# The functions that run after the steps of each kind, made of the book, the notes and a step's arguments, as in `noting.py`. (`sysread`, `syswrite`,
-# `setdeadline` and `closewrite` end no call.)
+# The functions that run after the steps of each kind, made from the book, the notes and a step's arguments, as in
+# `noting.py`. (`sysread`, `syswrite`, `setdeadline` and `closewrite` end no call.)
 
 
 def goes_on(book: Book, notes: Notes, g: int, *_: object) -> Look:
@@ -173,7 +175,7 @@ def gives(book: Book, notes: Notes, g: int, s: int, side: str = "") -> Look:
 
 
 def begins(name: str, has_failed: Callable[[Notes, int, int, int], bool]) -> Maker:
-    """A step that begins a call; the call has failed at once if the socket was closed before."""
+    """Makes the function for a step that begins a call; the call has failed at once if the socket was closed before."""
 
     def of(book: Book, notes: Notes, g: int, s: int) -> Look:
         goroutine, calls = notes.goroutine(g), book.open[g]
@@ -203,7 +205,7 @@ def destroys(book: Book, notes: Notes, g: int, d: int) -> Look:
 
 
 def checks(book: Book, notes: Notes, g: int, d: int, side: str) -> Look:
-    """A step that checks a descriptor's side; outside of a call, as in `Dial`, it is a call of its own."""
+    """Handles a step that checks a descriptor's side; outside a call, as in `Dial`, the step is a call of its own."""
     goroutine, calls, names = notes.goroutine(g), book.open[g], tuple(WAITING.values())
 
     def look(step: int) -> None:
@@ -220,7 +222,7 @@ def checks(book: Book, notes: Notes, g: int, d: int, side: str) -> Look:
 
 
 def checks_again(book: Book, notes: Notes, g: int) -> Look:
-    """`waitcheck`, which ends a wait and has the same side."""
+    """Handles `waitcheck`, which ends a wait and has the wait's side."""
     goroutine, calls = notes.goroutine(g), book.open[g]
 
     def look(step: int) -> None:
@@ -256,8 +258,8 @@ def writes(book: Book, notes: Notes, g: int, s: int, digits: str) -> Look:
 
 
 def names_control(name: Callable[[str], str]) -> Maker:
-    """A step that gives a call its name, which was `Control` after its `incref`: `setdeadline`, by its mode, and
-    `closewrite`."""
+    """Makes the function for a step that gives a call its name in place of `Control`, which it had since its `incref`:
+    `setdeadline`, by its mode, and `closewrite`."""
 
     def of(book: Book, notes: Notes, g: int, which: int, mode: str = "", *_: object) -> Look:
         calls = book.open[g]

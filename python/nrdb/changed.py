@@ -1,4 +1,4 @@
-"""What the last step changed: of goroutines, sockets and descriptors, of the clock and of the counts."""
+"""The changes made by the last step to goroutines, sockets, descriptors, the clock and the counts."""
 
 from typing import Collection, Iterator, Optional, Sequence
 
@@ -19,8 +19,8 @@ NOTHING = "changed: nothing that a cell shows"
 def tables_beside(
     changes: RecordedChanges, recording: Recording, position: int, hit: Sequence[Listed]
 ) -> Iterator[Table]:
-    """The tables after a move to a position: the owners of the timers in the steps there, the marks that hit, and
-    the changes of the last step."""
+    """The tables after a move to a position: the owners of the timers of the steps there, the marks that hit, and the
+    changes of the last step."""
     if (timers := timers_beside(recording, position)).rows:
         yield timers
     if hit:
@@ -31,7 +31,8 @@ def tables_beside(
 
 
 def changed_table(changes: RecordedChanges, position: int, told: Collection[str] = ()) -> Optional[Table]:
-    """The changes of the step that led to the position, in one line, without those that were printed already; None at the start."""
+    """The changes of the step that led to the position, in one line, without those printed already; None at the
+    start."""
     if not position:
         return None
     cells = sorted((cell for cell, _ in changes.at(position)), key=_order)

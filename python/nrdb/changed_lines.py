@@ -1,4 +1,4 @@
-"""The lines of `netrev changes` as bytes, which are searched and parsed only when they are needed."""
+"""The lines of `netrev changes` as bytes, which are searched and parsed only when needed."""
 
 import re
 from array import array
@@ -9,7 +9,7 @@ from .messages import session as messages
 
 LINE = re.compile(rb"\d+ [a-z]+(?: \d+)? = [ -~]+")
 LINES = re.compile(r"^(\d+) ([a-z]+(?: \d+)?) = ([ -~]+)$", re.MULTILINE | re.ASCII)
-WINDOW = 2**14  # bytes of lines that are parsed at once: few enough for a processor's cache
+WINDOW = 2**14  # how many bytes of lines are parsed at once: few enough for a processor's cache
 
 
 def next_step(text: str, place: int) -> int:
@@ -22,7 +22,7 @@ def next_step(text: str, place: int) -> int:
 
 
 class NoChanges(ValueError):
-    """A text isn't the whole output of `netrev changes`."""
+    """Raised for a text that isn't the whole output of `netrev changes`."""
 
 
 class ChangedLines:
@@ -33,7 +33,7 @@ class ChangedLines:
         self._lasts = array("I")  # the last step of each piece
 
     def take(self, lines: bytes) -> None:
-        """Adds whole lines, each with its line feed; NoChanges if they have another form."""
+        """Adds whole lines, each with its line feed; raises NoChanges if they have another form."""
         first, last = lines[: lines.index(b"\n")], lines[lines.rfind(b"\n", 0, -1) + 1 : -1]
         if lines.count(b"\n") != lines.count(b" = ") or not (LINE.fullmatch(first) and LINE.fullmatch(last)):
             raise NoChanges(messages.CHANGES_MALFORMED)
@@ -46,7 +46,8 @@ class ChangedLines:
         return self._lasts[-1] if self._lasts else 0
 
     def texts(self, first: int, end: int) -> Iterator[tuple[str, str, str]]:
-        """The step, the cell and the value of each line of these pieces, as texts; NoChanges if a line lacks them."""
+        """The step, the cell and the value of each line of these pieces, as texts; raises NoChanges if a line lacks one
+        of them."""
         for piece in self.pieces[first:end]:
             found = LINES.findall(piece.decode("latin-1"))
             if len(found) != piece.count(b"\n"):
@@ -61,8 +62,8 @@ class ChangedLines:
                 yield step, cell, value
 
     def whole_steps(self, end: int) -> Iterator[tuple[int, str]]:
-        """The lines as texts that contain all lines of their steps, each text with a line feed before the first one, and the step
-        after which it ends. The last one ends before `end`."""
+        """The lines as texts, each of which has all lines of its steps and begins with a line feed, with the step after
+        which it ends. The last text ends before `end`."""
         text = "\n"
         for piece in self.pieces:
             text, begin = text + piece.decode("latin-1"), 0
@@ -93,7 +94,7 @@ class ChangedLines:
         named = b" %s = " % cell.encode()
         end = len(self._lasts) if until is None else bisect_right(self._lasts, until) + 1
         for piece in self.pieces[:end]:
-            before, *parts = piece.split(named)  # (each ends with the step of the next one)
+            before, *parts = piece.split(named)  # (each part ends with the step of the next one)
             for part in parts:
                 step = int(before[before.rfind(b"\n") + 1 :])
                 if until is not None and step > until:

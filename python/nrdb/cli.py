@@ -1,7 +1,7 @@
-"""The command line of nrdb, and its exit status, which is netrev's: 0 done, 1 the recording was refused, 2 usage
-error, 3 the file, the program or the connection failed; and 4 if --suspects, --explore or --explore-failures
-finds something. Modules that most sessions don't need are imported when they are used, so that the prompt
-appears sooner."""
+"""The command line of nrdb, and its exit status, which is netrev's: 0 done, 1 the recording was refused, 2 usage error,
+3 the file, the program or the connection failed; nrdb adds 4 for findings of --suspects, --explore or
+--explore-failures. Modules that most sessions don't need are imported on first use, so that the prompt appears
+sooner."""
 
 import argparse
 import gc
@@ -36,7 +36,7 @@ DONE, REFUSED, USAGE, FAILED, SUSPECTS = range(5)
 
 
 def main(words: Optional[Sequence[str]] = None) -> int:
-    """Runs nrdb with these words; its exit status."""
+    """Runs nrdb with these words, and returns the exit status."""
     gc.set_threshold(200_000)  # (a recording of a million steps makes millions of objects, few of them in cycles)
     wanted = parsed(sys.argv[1:] if words is None else words)
     if wanted.dap or wanted.dap_port is not None:
@@ -51,7 +51,7 @@ def main(words: Optional[Sequence[str]] = None) -> int:
     printer = JsonPrinter() if wanted.json else TextPrinter(is_coloured=has_colours())
     try:
         return run(wanted, printer)
-    except OSError as error:  # the output can't be written: its reader has gone, or the disk is full
+    except OSError as error:  # Runs the requested session, reports how it ended, and returns the exit status.
         sys.stdout = open(os.devnull, "w", encoding="utf-8")
         if not isinstance(error, BrokenPipeError):
             print(messages.STANDARD_OUTPUT.format(why=error.strerror), file=sys.stderr)
@@ -86,14 +86,14 @@ def run(wanted: argparse.Namespace, printer: Printer) -> int:
 
 
 def without_netrev(file: Optional[str]) -> str:
-    """What to do if netrev's program can't be started."""
+    """Says what to do if the program netrev can't be started."""
     look = make_command(f"look FILE={shlex.quote(os.path.abspath(file))}") if file else None
     how = how_to_get_netrev("NETREV or --netrev")
     return messages.NETREV_UNPROVED.format(how=how, look=look) if look else messages.NETREV_IS_MISSING.format(how=how)
 
 
 def start(wanted: argparse.Namespace, printer: Printer) -> int:
-    """Opens the requested session and runs it to its end; the exit status."""
+    """Opens the requested session, runs it to its end, and returns the exit status."""
     interrupts = Interrupts()
     with closing(opened(wanted, interrupts, printer)) as netrev:
         try:
@@ -104,7 +104,7 @@ def start(wanted: argparse.Namespace, printer: Printer) -> int:
 
 
 def begun(wanted: argparse.Namespace, netrev: Netrev, interrupts: Interrupts, printer: Printer) -> int:
-    """Runs a session with this netrev to its end; the exit status."""
+    """Runs a session with this netrev to its end, and returns the exit status."""
     with interrupts.held(lambda: printer.note(messages.STILL_READING)) if has_prompt(wanted) else nullcontext():
         session = session_of(wanted, netrev, interrupts, printer)
         first = session.ask("info position")
@@ -133,18 +133,19 @@ def has_prompt(wanted: argparse.Namespace) -> bool:
 
 
 def is_of_all(wanted: argparse.Namespace) -> bool:
-    """Whether the output is about all steps, whatever the position."""
+    """Whether the output covers all steps, regardless of the position."""
     return bool(wanted.suspects or wanted.trace or wanted.timeline)
 
 
 def session_of(wanted: argparse.Namespace, netrev: Netrev, interrupts: Interrupts, printer: Printer) -> Session:
-    """The requested session, which hasn't begun yet."""
+    """The requested session, before it has begun."""
     recording = Recording.read(wanted.file) if wanted.file else None
     if wanted.join and wanted.file and (fault := fault_of(wanted.netrev, wanted.file)):
         raise NoRecording(messages.NOT_A_RECORDING.format(path=wanted.file, fault=fault))
     lent = netrev if is_of_all(wanted) and not wanted.lines and not wanted.join else None
     scout = Scout(lambda: Own(wanted.netrev, wanted.file, interrupts), lent) if wanted.file else None
-    tell = printer.note if has_prompt(wanted) else lambda _: None  # (a batch prints the same at any speed)
+    # (in a batch, the output mustn't depend on the speed)
+    tell = printer.note if has_prompt(wanted) else lambda _: None
     recorded = ArrivingChanges(wanted.netrev, wanted.file, interrupts, tell) if wanted.file else None
     session = Session(netrev, recording, scout, printer, interrupts, ANSWERS, recorded=recorded)
     if recording and recorded and shutil.which(wanted.netrev):
@@ -157,7 +158,7 @@ def session_of(wanted: argparse.Namespace, netrev: Netrev, interrupts: Interrupt
 
 
 def refused(wanted: argparse.Namespace, netrev: Netrev, first: str, printer: Printer) -> int:
-    """Reports that netrev's first reply is a fault, and explains it for a recording; the exit status."""
+    """Reports that netrev's first reply is a fault, explains the fault for a recording, and returns the exit status."""
     if wanted.join and not first.startswith("fault "):
         raise Strange("info position", first)
     printer.reply("", Reply(first), "")
@@ -174,8 +175,8 @@ def opened(wanted: argparse.Namespace, interrupts: Interrupts, printer: Printer)
 
 
 def played(session: Session, wanted: argparse.Namespace) -> int:
-    """Runs the lines of -x and -ex, and then prints the suspects, writes the timeline, or reads lines from the
-    terminal or the input; the exit status."""
+    """Runs the lines of -x and -ex; then prints the suspects, writes the timeline, or reads lines from the terminal or
+    the input. Returns the exit status."""
     for sort, text in wanted.lines or ():
         if sort == "line":
             session.printer.echo(text)
@@ -208,7 +209,7 @@ def unless_stopped(session: Session, work: Callable[[], int]) -> int:
 
 
 def suspected(session: Session) -> int:
-    """Prints the suspects; the exit status."""
+    """Prints the suspects, and returns the exit status."""
     from .suspects.table import suspects_table
 
     table = suspects_table(session.looks(), session.text())
@@ -217,7 +218,7 @@ def suspected(session: Session) -> int:
 
 
 def schedules_tried(session: Session, is_of_failures: bool) -> int:
-    """Explores; the exit status."""
+    """Explores, and returns the exit status."""
     from .exploring import explored
 
     said = explored(session, is_of_failures=is_of_failures)
@@ -226,7 +227,7 @@ def schedules_tried(session: Session, is_of_failures: bool) -> int:
 
 
 def made(session: Session, path: str, write: Callable[..., str], part: Sequence[int]) -> int:
-    """Writes a file, for a timeline perhaps with a part, and says what was written; the exit status."""
+    """Writes a file (for a timeline, perhaps of a part), says what was written, and returns the exit status."""
     session.printer.note(write(session, path, *part))
     return DONE
 
@@ -268,7 +269,7 @@ def typed(session: Session) -> None:
 
 
 def run_typed(session: Session, run: Sequence[str]) -> bool:
-    """Runs the lines of an input that isn't a terminal, each echoed first. False if the session has ended."""
+    """Runs the lines of an input that isn't a terminal, each echoed first. Returns False if the session has ended."""
     if len(run) > 1:
         return session.guarded(lambda _: answer_run(session, run), "")
     session.printer.echo(run[0])

@@ -13,7 +13,7 @@ class Collecting(TextPrinter):
         super().__init__(self.kept)
 
     def echo(self, line: str) -> None:
-        """The caller shows the typed line itself."""
+        """Does nothing, because the caller shows the typed line itself."""
 
     def take(self) -> str:
         """The output since the last call."""

@@ -152,7 +152,7 @@ FORMS = {
 }
 ALL_TOPICS = "; ".join(f"info {topic.usage}" for topic in TOPICS.values())
 
-# Words of other debuggers, and their equivalents here.
+# The spellings that other debuggers use, and their equivalents here.
 SPELLINGS = {
     "s": "stepi",
     "step": "stepi",
@@ -203,8 +203,8 @@ class Ambiguous(Exception):
 
 
 def whole(word: str, known: Collection[str], spellings: Mapping[str, str] = {}) -> str:
-    """The known word that this one is, in another debugger's spelling too, or the only one that begins with it.
-    Otherwise the word itself."""
+    """The known word that a word is, perhaps in another debugger's spelling, or the only known word that it is a prefix
+    of. Otherwise the word itself."""
     if word in known:
         return word
     if word in spellings:
@@ -221,12 +221,13 @@ ALL_SPELLINGS = {**SPELLINGS, **SHORT}
 
 @lru_cache(maxsize=1_024)
 def whole_command(word: str) -> str:
-    """The command that a word is, abbreviated or in another debugger's spelling. Otherwise the word itself."""
+    """The command that a word stands for, perhaps abbreviated or in another debugger's spelling. Otherwise the word
+    itself."""
     return whole(word, COMMANDS, ALL_SPELLINGS)
 
 
 def whole_words(words: list[str]) -> list[str]:
-    """The words of a line with abbreviations written out: the command, a topic, a direction, a dump."""
+    """The words of a line with all abbreviations written out: of the command, a topic, a direction, a dump."""
     if words[0] in TABLES_OF_OTHERS:
         return ["info", TABLES_OF_OTHERS[words[0]], *words[1:]]
     first = whole_command(words[0])

@@ -9,7 +9,7 @@ from .messages import session as messages
 
 
 class Condition(NamedTuple):
-    """A cell, and the required value, as printed or in words; `*` is any text."""
+    """A cell, and the required value, either as printed or in words; `*` matches any text."""
 
     cell: str
     value: str
@@ -24,7 +24,7 @@ class Condition(NamedTuple):
         return None
 
     def is_met(self, value: str, words: str) -> bool:
-        """Whether the cell has this value, given as the value itself or in words."""
+        """Whether the cell has the required value, which is compared with both its value and its words."""
         return fnmatchcase(value, self.value) or fnmatchcase(words, self.value)
 
     def says(self, number: str) -> str:

@@ -15,21 +15,21 @@ LONGEST = 200  # the most characters of an error's text
 
 
 class Misused(Exception):
-    """A command of nrdb with wrong arguments; the message says what is wrong."""
+    """Raised for a command of nrdb with wrong arguments; the message says what is wrong."""
 
 
 Part = TypeVar("Part")
 
 
 def needed(part: Optional[Part]) -> Part:
-    """A part of a session that exists if the recording does; raises Misused if a session was joined without it."""
+    """A part of a session that exists only with the recording; raises Misused if a session was joined without it."""
     if part is None:
         raise Misused(messages.NEEDS_RECORDING)
     return part
 
 
 class Mismatched(Exception):
-    """The recording of the joined session is another one."""
+    """Raised if the recording of the joined session is another one."""
 
 
 def unexpected(error: Exception) -> str:

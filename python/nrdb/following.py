@@ -1,5 +1,5 @@
-"""`steps` and `calls`: what a goroutine did, what happened to a socket or a descriptor, and all steps of a kind;
-and the destinations of `next` and `finish`."""
+"""`steps` and `calls`: what a goroutine did, what happened to a socket or a descriptor, and all steps of a kind. Also
+the destinations of `next` and `finish`."""
 
 from itertools import chain
 from typing import Callable, Iterator, NamedTuple, Optional
@@ -35,7 +35,7 @@ class Subject(NamedTuple):
 
     @classmethod
     def of(cls, words: list[str]) -> Optional[tuple["Subject", list[str]]]:
-        """The subject at the beginning of the words, and the words after it; None if there is none."""
+        """The subject at the beginning of these words, and the words after it; None if they begin with no subject."""
         number = number_of(words[1]) if len(words) > 1 else None
         if words[:1] and words[0] in SUBJECTS:
             return None if number is None else (cls(words[0], number), words[2:])
@@ -48,7 +48,7 @@ class Subject(NamedTuple):
 
 
 def steps_table(recording: Recording, subject: Subject, position: int, most: Optional[int]) -> Table:
-    """The last steps of the subject up to the position, at most `most` if that isn't None."""
+    """The last steps of the subject up to the position: at most `most` of them, or all if that is None."""
     found = list(_numbers(recording, subject, position))
     shown = found if most is None else found[-most:]
     rows = [_step_row(recording, recording.step(number)) for number in shown]
@@ -72,7 +72,7 @@ def _typed(subject: Subject) -> str:
 
 
 def _step_row(recording: Recording, step: Step) -> Row:
-    """A step, its answer if it has one, the owner of its timer, and the program's line."""
+    """The row of a step: the step, its answer if it has one, the owner of its timer, and the program's line."""
     timer, at = timer_of(recording, step), recording.lines.words(step.number)
     values = {"step": step.number, "line": step.line, "does": str(step), "timer": timer and timer._asdict()}
     answered = f", answered {answer_text(step.answer)}" if step.answer not in (None, "done") else ""
@@ -83,7 +83,7 @@ def _step_row(recording: Recording, step: Step) -> Row:
 
 
 def _rest(count: int, shown: int, name: str, line: str, subject: Subject, position: int) -> str:
-    """The line about what is omitted, or that there is nothing."""
+    """The line that says what is omitted, or that nothing was found."""
     if shown < count:
         return f"{count - shown} earlier ones: {line} all"
     return "" if count else f"no {name} of {subject} up to position {position}"
@@ -99,7 +99,7 @@ def calls_table(recording: Recording, subject: Subject, position: int, most: Opt
 
 
 def call_row(recording: Recording, call: Call, position: int) -> Row:
-    """A call. If it ends after the position, it is shown as unfinished."""
+    """The row of a call. If it ends after the position, it is shown as unfinished."""
     seen = call if call.last <= position else call.as_begun()
     at = recording.lines.words(call.first)
     values = {
@@ -123,15 +123,14 @@ class Stay(Exception):
 
 
 class Goal(NamedTuple):
-    """A destination, and the call that the move passes from its start to its end, if any."""
+    """A destination, and the call that the move passes from beginning to end, if any."""
 
     position: int
     call: Optional[Call] = None
 
 
 def goroutine_at(recording: Recording, position: int) -> int:
-    """The goroutine of the last step, or of the last earlier step that a goroutine made; at the start, of the next
-    one."""
+    """The goroutine of the last step that a goroutine made up to the position; at the start, of the next one."""
     whose = book_of(recording).whose.goroutines
     for at in chain(range(position - 1, -1, -1), range(position, len(whose))):
         if whose[at] >= 0:
@@ -140,7 +139,7 @@ def goroutine_at(recording: Recording, position: int) -> int:
 
 
 def next_goal(recording: Recording, goroutine: int, position: int) -> Goal:
-    """After the goroutine's next step, or after the whole call that begins with it."""
+    """The position after the goroutine's next step, or after the whole call that begins with it."""
     book = book_of(recording)
     step = _own_step(book, goroutine, range(position + 1, recording.length + 1))
     call = next((call for call in book.calls if call.first == step), None)
@@ -148,7 +147,7 @@ def next_goal(recording: Recording, goroutine: int, position: int) -> Goal:
 
 
 def previous_goal(recording: Recording, goroutine: int, position: int) -> Goal:
-    """Before the goroutine's last step, or before the whole call that it ended."""
+    """The position before the goroutine's last step, or before the whole call that it ended."""
     book = book_of(recording)
     step = _own_step(book, goroutine, range(position, 0, -1))
     call = next((call for call in book.calls if call.goroutine == goroutine and call.last == step), None)
@@ -156,8 +155,8 @@ def previous_goal(recording: Recording, goroutine: int, position: int) -> Goal:
 
 
 def finish_goal(recording: Recording, goroutine: int, position: int) -> Goal:
-    """After the call that the goroutine is in; between two calls, before its first step outside the program's
-    function."""
+    """The position after the call that the goroutine is in; between two calls, before its first step outside the
+    program's function."""
     inside = calls_at(book_of(recording), goroutine, position)
     if not inside:
         return return_goal(recording, goroutine, position)
@@ -179,7 +178,7 @@ def return_goal(recording: Recording, goroutine: int, position: int) -> Goal:
 
 
 def start_goal(recording: Recording, goroutine: int, position: int) -> Goal:
-    """Before the call that the goroutine is in."""
+    """The position before the call that the goroutine is in."""
     call = _call_at(book_of(recording), goroutine, position)
     return Goal(call.first - 1, call)
 
@@ -202,7 +201,7 @@ def _call_at(book: Book, goroutine: int, position: int) -> Call:
 
 
 def calls_at(book: Book, goroutine: int, position: int) -> list[Call]:
-    """The calls that a goroutine is in, the innermost last."""
+    """The calls that a goroutine is in, innermost last."""
     return [
         call
         for call in book.calls

@@ -1,4 +1,4 @@
-"""The place of a goroutine at a position: its stack, the step since which it is there, and what it does."""
+"""The place of a goroutine at a position: its stack, the step since which it has been there, and what it does."""
 
 from typing import NamedTuple, Optional
 
@@ -11,15 +11,15 @@ from .where import Stack
 
 
 class GoroutineStack(NamedTuple):
-    """The stack of a goroutine at a position, the step since which it is there, and what it does, as text; `is_past` if
-    it has gone on since without a step, so that the stack is that of its last step."""
+    """The stack of a goroutine at a position, the step since which it has been there, and what it does, as text.
+    `is_past`: it has since gone on without a step, so the stack is that of its last step."""
 
     name: Name
     stack: Stack
     since: int
     does: str
     is_past: bool = False
-    goid: int = 0  # Go's own number, if several goroutines had that of the recording
+    goid: int = 0  # Go's own number, if several goroutines had the recording's number
 
     def words(self) -> str:
         """The stack as a line: `goroutine 3: waits for a mutex since step 9, at main.go:34 sync.(*Mutex).Lock`."""
@@ -28,7 +28,8 @@ class GoroutineStack(NamedTuple):
 
 
 def stack_of(recording: Recording, name: Name, position: int) -> Optional[GoroutineStack]:
-    """The stack of a goroutine at a position; None if the recording has neither a step nor a wait of it before."""
+    """The stack of a goroutine at a position; None if the recording has neither a step nor a wait of the goroutine
+    before it."""
     wait = waits_of(recording).at(name, position)
     goid = 0 if name.is_goid else recording.lines.reused_goid(name.number, position)
     if wait:

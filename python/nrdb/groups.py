@@ -6,12 +6,13 @@ from .output import Row
 from .waits import Name, of_names
 from .words import DOING, SIDES
 
-MANY = 4  # the least number of goroutines that share a row if they wait for the same
+MANY = 4  # the least number of goroutines that share a row if they wait for the same thing
 RUNS = 8  # numbers that are shown
 
 
 def grouped(rows: list[Row], who_has: Callable[[int, str], str]) -> list[Row]:
-    """The rows, one for many similar goroutines. `who_has` describes the holder of a socket's lock for a side."""
+    """The rows, with one row for many similar goroutines. `who_has` describes the holder of a socket's lock for a
+    side."""
     alike: dict[Hashable, list[Row]] = {}
     for at, row in enumerate(rows):
         alike.setdefault(_likeness(row.values) or at, []).append(row)
@@ -22,7 +23,7 @@ def grouped(rows: list[Row], who_has: Callable[[int, str], str]) -> list[Row]:
 
 
 def _likeness(values: dict[str, Any]) -> Optional[Hashable]:
-    """What a goroutine has in common with those that wait for the same; None if it doesn't sleep."""
+    """The key that a goroutine shares with those that wait for the same thing; None if it doesn't sleep."""
     if values.get("elsewhere"):
         return (values["waits_for"], *_place(values))
     name, *rest = values["status"].split()
@@ -33,8 +34,7 @@ def _likeness(values: dict[str, Any]) -> Optional[Hashable]:
 
 
 def _common(values: dict[str, Any]) -> tuple[str, ...]:
-    """What the parked goroutines of a group have in common, as text: what is unread, the deadline, the line of the
-    program."""
+    """The text that the parked goroutines of a group share: what is unread, the deadline, the line of the program."""
     known = values["waits_for"].split("; ")[1:]
     unread = "bytes are unread" if "unread" in known[0] else ""
     rest = ["deadlines to come" if words.startswith("deadline at ") else words for words in known[1:]]
@@ -48,7 +48,7 @@ def _place(values: dict[str, Any]) -> tuple[str, str]:
 
 
 def _group(rows: list[Row], who_has: Callable[[int, str], str]) -> Row:
-    """One row for all of these."""
+    """One row for all these rows."""
     first = rows[0].values
     if first.get("elsewhere"):
         names = [
@@ -76,7 +76,7 @@ def _goid(row: Row) -> dict[str, Any]:
 
 
 def _runs(numbers: list[int]) -> str:
-    """Numbers as text, consecutive ones as a range."""
+    """Numbers as text, with consecutive ones as a range."""
     runs: list[list[int]] = []
     for number in sorted(numbers):
         if runs and runs[-1][1] == number - 1:

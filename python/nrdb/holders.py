@@ -1,4 +1,4 @@
-"""The goroutines that hold the references of a socket, by the steps that changed the count in its lock word."""
+"""The goroutines that hold references of a socket, derived from the steps that changed the count in its lock word."""
 
 from dataclasses import dataclass
 from typing import NamedTuple
@@ -16,7 +16,8 @@ LOCKING = ("incref", "increfclose", "decref", "rwlock", "rwunlock")
 
 @dataclass(frozen=True)
 class Reference:
-    """A reference that is held: the goroutine, the step since which it holds it, and for a lock its side, in a list of one."""
+    """A reference that is held: the goroutine, the step since which it holds it, and, for a lock, its side in a list of
+    one."""
 
     step: Step
     goroutine: int
@@ -24,7 +25,7 @@ class Reference:
 
 
 class Holding(NamedTuple):
-    """A reference during the count of taken and released ones; `number` is the step that took it."""
+    """A reference while references are counted; `number` is the step that took it."""
 
     number: int
     goroutine: int
@@ -32,8 +33,8 @@ class Holding(NamedTuple):
 
 
 def holders_of(recording: Recording, changes: RecordedChanges, socket: int, position: int) -> list[Reference]:
-    """The references of the socket at the position, the oldest first: one more after a step that raised their number,
-    one less after a step that lowered it."""
+    """The references of the socket at the position, oldest first: a step that raised their number added one, and a step
+    that lowered it removed one."""
     counts = {step: LockWord.of(int(word)).references for step, word in changes.changes_of(f"lock {socket}", position)}
     held: list[Holding] = []
     end = -1 if recording.has_answers else None
@@ -50,7 +51,7 @@ def holders_of(recording: Recording, changes: RecordedChanges, socket: int, posi
 
 
 def _given(held: list[Holding], goroutine: int, side: list[str]) -> Holding:
-    """The reference that is given back: the newest one of the same goroutine, if it has one."""
+    """The reference that a step gives back: the same goroutine's newest one, if it has one."""
     fits = [one for one in held if one.side == side]
     own = [one for one in fits if one.goroutine == goroutine]
     return (own or fits or held)[-1]

@@ -1,5 +1,5 @@
-"""Ctrl-C. During a query, nrdb stops only after it has read the whole reply; a long walk checks for Ctrl-C between two
-queries. A second Ctrl-C, while netrev doesn't answer, ends the session."""
+"""Ctrl-C. During a query, nrdb stops only after it has read the whole reply; a long search checks for Ctrl-C between
+two queries. A second Ctrl-C, while netrev doesn't answer, ends the session."""
 
 import signal
 from contextlib import contextmanager
@@ -7,12 +7,12 @@ from typing import Callable, Iterator
 
 
 class Interrupted(Exception):
-    """Ctrl-C was pressed during a walk, which stops."""
+    """Raised when Ctrl-C was pressed during a long search, which stops."""
 
 
 class GivenUp(Exception):
-    """Ctrl-C was pressed again while netrev didn't answer: a reply is half read, so the session can't be used any
-    more."""
+    """Raised when Ctrl-C was pressed again while netrev didn't answer: a reply is half read, so the session can't be
+    used any more."""
 
 
 class Interrupts:
@@ -27,7 +27,8 @@ class Interrupts:
 
     @contextmanager
     def held(self, first: Callable[[], None] = lambda: None) -> Iterator[None]:
-        """Inside, Ctrl-C is remembered and reported by `check`; a second one raises GivenUp. `first` is called at the first one."""
+        """Context in which Ctrl-C is remembered and reported by `check`; a second Ctrl-C raises GivenUp. `first` is
+        called at the first Ctrl-C."""
         self._came, self._first = False, first
         before = signal.signal(signal.SIGINT, self._handle)
         try:
@@ -37,7 +38,7 @@ class Interrupts:
 
     @contextmanager
     def at_once(self) -> Iterator[None]:
-        """Inside, netrev isn't asked, and Ctrl-C raises Interrupted at once, except inside `shielded`."""
+        """Context in which netrev isn't asked, and Ctrl-C raises Interrupted at once, except inside `shielded`."""
         self.check()
         before, self._stops_at_once = self._stops_at_once, True
         try:
@@ -57,7 +58,7 @@ class Interrupts:
             self._shields -= 1
 
     def clear(self) -> None:
-        """Forgets an earlier Ctrl-C, whose work is done."""
+        """Forgets an earlier Ctrl-C whose work is done."""
         self._came = False
 
     def give_up(self) -> None:
@@ -80,7 +81,7 @@ class Interrupts:
         self.came()
 
     def check(self) -> None:
-        """Raises Interrupted if Ctrl-C came, and GivenUp if it came twice."""
+        """Raises Interrupted if Ctrl-C was pressed, and GivenUp if it was pressed twice."""
         self.check_given_up()
         if self._came:
             self._came = False

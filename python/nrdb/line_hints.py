@@ -48,7 +48,7 @@ def unknown(words: list[str]) -> str:
 
 
 def of_cell(words: list[str], command: str) -> str:
-    """The hint for words that should be a cell."""
+    """The hint for words that should name a cell."""
     if not words:
         return messages.WHICH_CELL.format(command=command, cells=" ".join(CELLS))
     name = words[0].lstrip("*&$")
@@ -109,7 +109,7 @@ def of_steps(words: list[str], command: str) -> str:
 
 
 def spelled_number(word: str) -> Optional[int]:
-    """The number that a word is in another notation, or None; also None for one that netrev accepts nowhere."""
+    """The number that a word is in another notation; None if it is no number, or one that netrev accepts nowhere."""
     try:
         number = int(word, 0)
     except ValueError:

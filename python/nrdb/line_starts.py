@@ -1,5 +1,5 @@
-"""The beginnings of a text's lines. There may be a million, so they are counted by blocks, and found within a block
-when one of its lines is needed."""
+"""The beginnings of a text's lines. There may be a million lines, so they are counted by block, and found within a
+block only when one of its lines is needed."""
 
 from bisect import bisect_left
 from itertools import accumulate
@@ -14,8 +14,9 @@ class LineStarts:
     def __init__(self, data: bytes) -> None:
         self._data = data
         counts = (data.count(b"\n", begin, begin + BLOCK) for begin in range(0, len(data), BLOCK))
-        self._before = list(accumulate(counts, initial=0))  # how many line feeds are before each block
-        # for the last block: how many line feeds are before it and up to its end, and their places in it; the places of a few blocks
+        self._before = list(accumulate(counts, initial=0))  # how many line feeds precede each block
+        # the number of line feeds before the last block used and up to its end, and their places in it; then the places
+        # of a few blocks
         self._first = self._last = 0
         self._behind = [0]
         self._kept: dict[int, list[int]] = {}
@@ -33,7 +34,7 @@ class LineStarts:
         return self._behind[line - self._first]
 
     def _found(self, block: int) -> list[int]:
-        """The places behind the line feeds of a block."""
+        """The places after the line feeds of a block."""
         if block not in self._kept:
             if len(self._kept) == KEPT:
                 del self._kept[next(iter(self._kept))]

@@ -1,4 +1,4 @@
-"""Lines of text on a terminal: broken between words, with what follows indented."""
+"""Lines of text on a terminal: broken between words, with continuation lines indented."""
 
 import os
 import textwrap
@@ -6,7 +6,7 @@ from typing import TextIO
 
 from netrev_words.vocabulary import number_of
 
-LEAST = 20  # columns below which nothing is broken
+LEAST = 20  # the narrowest terminal, in columns, on which lines are broken
 INDENT = 4
 
 
@@ -23,7 +23,7 @@ def width_of(out: TextIO) -> int:
 
 
 def wrapped(text: str, width: int) -> list[str]:
-    """A line, broken between words into lines of that width; unbroken if it fits or the width is too small."""
+    """A line broken between words into lines of at most that width; unbroken if it fits or the width is too small."""
     if width < LEAST or len(text) <= width:
         return [text]
     begun = len(text) - len(text.lstrip())

@@ -1,4 +1,4 @@
-"""Turns garbage collection off for passes over a million steps."""
+"""Turns garbage collection off during passes over a million steps."""
 
 import gc
 from contextlib import contextmanager
@@ -7,7 +7,7 @@ from typing import Iterator
 
 @contextmanager
 def without_collections() -> Iterator[None]:
-    """In this context, Python doesn't search for objects in cycles: nearly everything that a long pass makes is kept,
+    """Context in which Python doesn't search for cycles of objects: nearly everything that a long pass makes is kept,
     and searching it repeatedly would take as long as the pass."""
     was_on = gc.isenabled()
     gc.disable()

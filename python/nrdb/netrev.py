@@ -16,10 +16,10 @@ from .shapes import Listed, Strange, entries_in, mark_of, value_of
 
 AT_ONCE = 16_384  # bytes that are sent before replies are read: they fit into any pipe
 READ = 65_536
-LONGEST = 2 * 1_048_576 + 64  # bytes of the longest reply, a dump of a full buffer
-QUERIES = ("print ", "dump ", "info position")  # lines whose replies change only after other lines
-MOST_KEPT, LONGEST_KEPT = 65_536, 200  # replies that are kept, and the bytes of one
-SILENCE = 1  # seconds after which a caller that waits for the first reply is told so
+LONGEST = 2 * 1_048_576 + 64  # the bytes of the longest reply, which is a dump of a full buffer
+QUERIES = ("print ", "dump ", "info position")  # queries whose replies only other lines change
+MOST_KEPT, LONGEST_KEPT = 65_536, 200  # the most replies that are kept, and the most bytes of one
+SILENCE = 1  # seconds of waiting for the first reply after which the caller is notified
 
 
 def bytes_of(text: str) -> bytes:
@@ -32,7 +32,7 @@ def bytes_of(text: str) -> bytes:
 
 
 class Ended(Exception):
-    """netrev, or the connection to it, has ended. `status` is its exit status, if known."""
+    """Raised when netrev, or the connection to it, has ended. `status` is its exit status, if known."""
 
     def __init__(self, status: Optional[int] = None):
         super().__init__("netrev ended")
@@ -53,7 +53,8 @@ class Reply:
 
 
 def is_kept(reply: Reply) -> bool:
-    """Whether the same query would get this reply again: it isn't an error, such as a lack of memory. A long one isn't kept."""
+    """Whether the same query would get this reply again: the reply isn't an error, such as a lack of memory. A long
+    reply isn't kept."""
     return len(reply.first) <= LONGEST_KEPT and not reply.first.startswith("fault")
 
 
@@ -93,10 +94,10 @@ class Lines:
 
 
 class Netrev:
-    """Sends lines and reads a reply to each: one line, for the two lists one more for each entry. No line is sent
-    while a reply is unread, so each reply belongs to its line."""
+    """Sends lines, and reads a reply to each: one line, and for the two lists one more line for each entry. No line is
+    sent while a reply is unread, so each reply belongs to its line."""
 
-    asks_ahead = True  # whether no other front can change what a query shows
+    asks_ahead = True  # whether no other front can change the reply to a query
 
     def __init__(self, interrupts: Interrupts):
         self._interrupts = interrupts
@@ -107,7 +108,7 @@ class Netrev:
         ] = {}  # replies to queries since the last other line, if no other front can change them
 
     def ask(self, line: str) -> Reply:
-        """The reply to this line: netrev's, or the one it gave to the same query since the last other line."""
+        """The reply to this line: netrev's, or the reply to the same query since the last other line."""
         if self._ahead and self._ahead[0][0] == line:
             self._interrupts.check_given_up()
             _, came = self._ahead.popleft()
@@ -117,8 +118,8 @@ class Netrev:
         return self._answers([line])[0]
 
     def ask_ahead(self, queries: Sequence[str]) -> None:
-        """Sends several queries of one line each at once; they change nothing. `ask` returns their replies as long
-        as no other line is sent; an error is raised when that reply is asked for."""
+        """Sends several queries at once, each with a reply of one line; they change nothing. `ask` returns their
+        replies as long as no other line is sent; an error is raised when its reply is asked for."""
         self._begin(list(queries))
         for query in queries:
             try:
@@ -128,8 +129,8 @@ class Netrev:
                 return
 
     def ask_all(self, lines: Sequence[str]) -> list[str]:
-        """The replies to these lines, of one line each. The lines are sent in batches that don't fill a pipe; Ctrl-C is checked
-        between batches."""
+        """The replies to these lines, of one line each. The lines are sent in batches that don't fill a pipe; Ctrl-C is
+        checked between batches."""
         replies: list[str] = []
         batch: list[str] = []
         size = 0
@@ -195,7 +196,8 @@ class Netrev:
         return line
 
     def _send(self, text: bytes) -> None:
-        """Sends these lines. If netrev has ended, its earlier output is still read, which reports the end."""
+        """Sends these lines. If netrev has ended, the output that it wrote before is still read, and reading then
+        reports the end."""
         raise NotImplementedError
 
     def _next(self, asked: str) -> Optional[str]:
@@ -203,11 +205,11 @@ class Netrev:
         raise NotImplementedError
 
     def close(self) -> Optional[int]:
-        """Ends the conversation; the exit status if there is one. It may be called again."""
+        """Ends the conversation, and returns the exit status if there is one. It may be called again."""
         raise NotImplementedError
 
     def drop(self) -> None:
-        """Ends the conversation without waiting for netrev."""
+        """Ends the conversation without waiting for netrev to finish."""
         self.close()
 
 

@@ -1,11 +1,12 @@
-"""The notes of a recording: a class for each sort of note, and the uses of descriptors, which have most of them.
-(Goroutines: `noted_goroutines.py`.)"""
+"""The notes of a recording: a class for each sort of note, and a class for uses of descriptors, which have most of the
+notes. (Goroutines: `noted_goroutines.py`.)"""
 
 from bisect import bisect_left
 from typing import NamedTuple, Optional
 
 CLOSING, TIMED_OUT, EVENT_ERROR = 1, 2, 3  # the codes of a side
-new = tuple.__new__  # (a million steps make some 100,000 notes, and creating a named tuple takes three times as long)
+# (a million steps make some 100,000 notes, and NamedTuple's own constructor takes three times as long)
+new = tuple.__new__
 
 
 class Setting(NamedTuple):
@@ -19,14 +20,14 @@ class Setting(NamedTuple):
 
 class Due(NamedTuple):
     """The origin of a side's deadline: the last call that set it, and the first later call that set only the other
-    side's."""
+    side's deadline."""
 
     setting: Setting
     moved: Optional[Setting]
 
 
 class Passing(NamedTuple):
-    """A deadline that passed: the step, its kind, and the step that caused it."""
+    """A deadline that passed: the step, the step's kind, and the step that caused it."""
 
     step: int
     kind: str
@@ -34,7 +35,7 @@ class Passing(NamedTuple):
 
 
 class Taking(NamedTuple):
-    """A readiness that was taken: the step, the goroutine, and the step of the event."""
+    """A readiness that was taken: the step, the goroutine, and the step of the event that brought it."""
 
     step: int
     goroutine: int
@@ -42,7 +43,7 @@ class Taking(NamedTuple):
 
 
 class Wait(NamedTuple):
-    """The beginning of a wait of a side: its step, its goroutine, and the step at which that goroutine last read or
+    """The beginning of a wait on a side: its step, its goroutine, and the step at which that goroutine last read or
     wrote."""
 
     step: int
@@ -69,8 +70,8 @@ class Timeout(NamedTuple):
 
 
 class Hold(NamedTuple):
-    """A reference of a socket: its goroutine, the step since which it is held, its kind, and the side of the lock
-    that it came with, if any."""
+    """A reference of a socket: its goroutine, the step since which it is held, its kind, and the side of the lock that
+    it came with (if any)."""
 
     goroutine: int
     step: int
@@ -90,7 +91,8 @@ SIDES = {"r": (0,), "w": (1,), "rw": (0, 1)}  # of a mode
 
 
 class Use:
-    """A use of a descriptor: for which socket, from which step to which (0: the end), its tag, and what happened in it."""
+    """A use of a descriptor: its socket, its first and last step (0: it lasts to the end), its tag, and what happened
+    in it."""
 
     __slots__ = (
         *("descriptor", "socket", "opened", "closed", "tag"),
@@ -102,8 +104,8 @@ class Use:
         self.settings: list[Setting] = []
         self.errors: list[ErrorEvent] = []
         self.thrown: list[Taking] = []  # readinesses for reading that a pollreset discarded
-        # for both sides: the origin of its deadline, the steps at which that passed, the last event, the last readiness that was taken or
-        # discarded, and the waits
+        # for both sides: the origin of the deadline, the steps at which it passed, the last event, the last readiness
+        # that was taken or discarded, and the waits
         self.dues: list[Optional[Due]] = [None, None]
         self.passings: tuple[list[Passing], ...] = ([], [])
         self.last_events = [0, 0]
@@ -111,7 +113,7 @@ class Use:
         self.waits: tuple[list[Wait], ...] = ([], [])
 
     def last_event(self, side: str) -> int:
-        """The step of the last event of a side; 0 if none came."""
+        """The step of the last event of a side; 0 if none has come."""
         return self.last_events[AT[side]]
 
     def setting(self, step: int) -> Setting:
@@ -125,7 +127,7 @@ class Use:
 
 
 def code_of(info: int, side: str) -> int:
-    """The code of a side by a descriptor's `info`: that of the first condition that holds, or 0."""
+    """The code of a side, from a descriptor's `info`: that of the first condition that holds, or 0."""
     if info & 1:
         return CLOSING
     if info & (4 if side == "r" else 8):

@@ -3,12 +3,12 @@
 from typing import Optional
 
 IDLE, ACQUIRING, QUEUED, PARKED = "idle", "acquiring", "queued", "parked"
-MANY = 3  # pauses of a place that must have ended before the longest of them counts
+MANY = 3  # how many pauses at a place must have ended before the longest of them counts
 
 
 class Pauses:
-    """The number of pauses that ended in a status, as far as they are reported, and the longest of them. A pause longer than
-    `enough` must be reported."""
+    """The number of reported pauses that ended in a status, and the longest of them. A pause longer than `enough` must
+    be reported."""
 
     __slots__ = ("count", "longest", "enough")
 
@@ -16,7 +16,7 @@ class Pauses:
         self.count, self.longest, self.enough = 0, 0, -1
 
     def ends(self, steps: int) -> None:
-        """A pause of this many steps has ended."""
+        """Records that a pause of this many steps has ended."""
         self.count += 1
         self.longest = max(self.longest, steps)
         if self.count >= MANY:
@@ -34,8 +34,8 @@ class NoPauses(Pauses):
 
 
 class Status(str):
-    """A status as netrev prints it, with what each step needs: the number and the side of its socket or descriptor, the pauses in
-    this status, and the goroutines that sleep in it, in order."""
+    """A status as netrev prints it, with what each step needs: the number and the side of its socket or descriptor, the
+    pauses in this status, and the goroutines that sleep in it, in order."""
 
     __slots__ = ("number", "side", "pauses", "sleepers", "is_idle", "is_acquiring", "is_asleep")
 
@@ -61,7 +61,8 @@ class Statuses(dict[str, Status]):
 
     def __init__(self) -> None:
         super().__init__()
-        # an idle goroutine pauses as long as it holds a reference, which is noted at its steps and not when it leaves the place
+        # an idle goroutine pauses while it holds a reference, which is noted at its steps rather than when it leaves
+        # the status
         self.pauses: dict[str, Pauses] = {IDLE: Pauses()}
         self[IDLE] = Status(IDLE, NoPauses())
 
@@ -75,8 +76,9 @@ ABSENT = Status("absent", NoPauses())
 
 
 class Goroutine:
-    """A goroutine: its cell after a step, its status and since when, its last step, `pollreset`, and read or write, and the number
-    of references that it holds. While it makes one step after the other, the last step isn't stored."""
+    """A goroutine: its cell after a step, its status and the step since which it has it, its last step, its last
+    `pollreset`, its last read or write, and the number of references that it holds. The last step isn't stored while
+    the goroutine makes one step after the other."""
 
     __slots__ = ("number", "cell", "status", "since", "last", "reset", "tried", "held")
 

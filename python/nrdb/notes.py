@@ -1,7 +1,7 @@
-"""Facts that no cell shows, gathered in one pass over a recording's steps and their changes: which goroutine holds
-which reference since when, which set which deadline, which took which event, and how long each paused. This is
-nrdb's own analysis. A recording may have a million steps, so the work for a step is prepared once for all
-similar lines nearby: a function that notes the step and one that inspects the state."""
+"""Facts that no cell shows, gathered in one pass over a recording's steps and their changes: which goroutine has held
+which reference since when, which set which deadline, which took which event, and how long each paused. This is nrdb's
+own analysis. A recording may have a million steps, so the work for a step is prepared once for all similar lines
+nearby, as two functions: one notes the step, the other inspects the state."""
 
 from collections import deque
 from types import MappingProxyType
@@ -37,7 +37,7 @@ class Now(dict[str, str]):
 
 
 class Notes:
-    """The notes after the steps so far, and finally after all."""
+    """The notes after the steps so far, and, at the end, after all steps."""
 
     def __init__(self, recording: Recording, looks: Looks = MappingProxyType({})) -> None:
         self.recording, self.changes, self._looks = recording, changes_of(recording), looks
@@ -51,11 +51,12 @@ class Notes:
         self.goroutines: dict[int, Goroutine] = {}
         self.goroutine(0).is_made(0, self.statuses[IDLE])
         self.made = 1  # goroutines
-        self._turn = NOBODY  # the goroutine of the last step
+        self._turn = NOBODY  # the goroutine that made the last step
         self.wakers: dict[int, Note] = {}  # for descriptors, the goroutines that are woken there
-        self.comings: dict[tuple[int, str, int], Note] = {}  # and an event there, with its mode and error
-        # for sockets: their lock words and the contents of their buffers, the holders, who closed them or their write sides, and when bytes
-        # came, the peer closed, and an evict happened
+        # for events at descriptors, with their modes and errors, the functions that note them
+        self.comings: dict[tuple[int, str, int], Note] = {}
+        # for sockets: their lock words, the contents of their buffers, the holders, the steps that closed them or their
+        # write sides, and the steps at which bytes came, the peer closed, and an evict happened
         self.locks: dict[int, int] = {}
         self.inputs: dict[int, int] = {}
         self.outputs: dict[int, int] = {}
@@ -63,23 +64,23 @@ class Notes:
         self.closer: dict[int, By] = {}
         self.shut: dict[int, By] = {}
         self.arrived: dict[int, int] = {}
-        # for each side the last try that was answered EAGAIN
+        # for each side, the last try that was answered EAGAIN
         self.again: dict[str, dict[int, int]] = {"r": {}, "w": {}}
         self.peer: dict[int, int] = {}
         self.evicted: dict[int, int] = {}
-        # for descriptors: their tags and notes, all uses, the tags of those that are open, which are ready for reading, and the last event that was
-        # dropped, with its tag
+        # for descriptors: their tags and notes, all uses, the tags of open descriptors, the descriptors that are ready
+        # for reading, and the last event that was dropped, with its tag
         self.tags: dict[int, int] = {}
         self.infos: dict[int, int] = {}
         self.uses: list[Use] = []
-        self.use_of: dict[int, Use] = {}  # the last one of each
-        self.socket_before: dict[Use, int] = {}  # the socket of the use before
+        self.use_of: dict[int, Use] = {}  # the last use of each descriptor
+        self.socket_before: dict[Use, int] = {}  # the socket of the previous use
         self.open_tags: dict[int, int] = {}
-        self.free: list[int] = []  # the one that was freed last is at the end
+        self.free: list[int] = []  # the descriptors that are free, with the one freed last at the end
         self.ready: dict[str, set[int]] = {"r": set(), "w": set()}  # of each side
         self.stale: dict[int, tuple[int, int]] = {}
         self.timeouts: list[Timeout] = []
-        # those after a CloseWrite: the step, the goroutine, and the socket
+        # the writes after a CloseWrite: the step, the goroutine, and the socket
         self.refused_writes: list[tuple[int, int, int]] = []
         self.longest_holds: dict[str, int] = {}  # the longest finished hold of each kind
         self._has_answers, self._rows = recording.has_answers, recording.rows(self._row)
@@ -101,8 +102,8 @@ class Notes:
         self._lines = ""
 
     def _note_steps(self, steps: range) -> None:
-        """Goes through these steps. After enough pauses, a goroutine's step right after another one of its steps
-        doesn't report a pause."""
+        """Notes these steps. After enough pauses, a step of a goroutine right after another of its own steps doesn't
+        report a pause."""
         turn, is_enough = self._turn, self.pauses[IDLE].count >= MANY
         for step, number, (goroutine, note, look) in zip(steps, map(str, steps), self._rows):
             if goroutine is not turn:
@@ -124,7 +125,7 @@ class Notes:
             idle.ends(pause)
 
     def _holds(self, told: Told) -> None:
-        """Stores what the next steps changed, in the same table, because callers keep it."""
+        """Stores what the next steps changed, in the same dictionary, because callers keep a reference to it."""
         self.told.clear()
         self.told.update(told.cells())
         self._lines, self._fired_at = told.text, 0
@@ -145,7 +146,8 @@ class Notes:
         return found
 
     def fired(self, number: str) -> list[str]:
-        """The lines of a firing's changes, without its number: netrev prints first that one firing less is left."""
+        """The lines of a firing's changes, without its number: netrev first prints that the number of firings fell by
+        one."""
         before = f"\n{number} "
         at = self._fired_at = self._lines.index(f"{before}firings", self._fired_at)
         _, _, *lines = self._lines[at : at + MOST_CHANGED].split(before)
@@ -156,8 +158,8 @@ class Notes:
     # the effects of a step on a goroutine
 
     def moves(self, goroutine: Goroutine, step: int, shown: str) -> None:
-        """A goroutine gets a new status by its own step, which ends its pause. A goroutine that isn't idle can make
-        no other step."""
+        """Gives a goroutine a new status by its own step, which ends its pause. A goroutine that isn't idle can make no
+        other step."""
         before = goroutine.status
         status = goroutine.status = self.statuses[shown]
         if step - goroutine.since > before.pauses.enough:
@@ -167,12 +169,12 @@ class Notes:
             status.sleepers[goroutine] = None
 
     def is_woken(self, goroutine: Goroutine, step: int, shown: str) -> None:
-        """A sleeping goroutine gets another status by a step of another."""
+        """Gives a sleeping goroutine another status by another goroutine's step."""
         del goroutine.status.sleepers[goroutine]
         goroutine.status, goroutine.since = self.statuses[shown], step
 
     def ends(self, step: int, g: int, d: int, side: str) -> bool:
-        """Whether a call ends with the code that its side has."""
+        """Whether a call ends with the code of its side."""
         info = self.infos[d]
         self.code = code_of(info, side) if info else 0
         if self.code == TIMED_OUT:

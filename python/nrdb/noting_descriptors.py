@@ -13,7 +13,7 @@ if TYPE_CHECKING:
 
 
 def opened(notes: Notes, g: int, s: int) -> Note:
-    """The new descriptor is the one that was freed last, else a new number."""
+    """Notes a new descriptor, which is the one freed last or has a new number."""
     told = notes.told.get
 
     def note(step: int, number: str) -> None:
@@ -78,7 +78,7 @@ def began_to_wait(notes: Notes, g: int, d: int, side: str) -> Note:
 
 
 def took(notes: Notes, g: int) -> Note:
-    """A goroutine arms its wait or wakes; if its word was ready, it takes the readiness."""
+    """Notes that a goroutine arms its wait or wakes; if its word was ready, it takes the readiness."""
     goroutine, told, own, moves, ready = notes.goroutine(g), notes.told.get, f" gor {g}", notes.moves, notes.ready
 
     def note(step: int, number: str) -> None:
@@ -92,7 +92,7 @@ def took(notes: Notes, g: int) -> Note:
 
 
 def taken(notes: Notes, step: int, number: str, g: int, d: int, side: str) -> Taking:
-    """A goroutine takes a descriptor's readiness."""
+    """Notes that a goroutine takes a descriptor's readiness."""
     if f"{number} {side}g {d}" in notes.told:
         notes.ready[side].discard(d)
     use, at = notes.use_of[d], AT[side]
@@ -102,7 +102,7 @@ def taken(notes: Notes, step: int, number: str, g: int, d: int, side: str) -> Ta
 
 
 def looked(notes: Notes, g: int) -> Note:
-    """A goroutine checks why it was woken."""
+    """Notes that a goroutine checks why it was woken."""
     goroutine, own = notes.goroutine(g), stepped(notes, g)
 
     def note(step: int, number: str) -> None:
@@ -131,7 +131,7 @@ def set_deadline(notes: Notes, g: int, d: int, mode: str, time: int) -> Note:
             before = use.dues[at]
             if before and before.moved is None:
                 use.dues[at] = Due(before.setting, setting)
-        if time < 0 or infos[d]:  # (or one that has passed is moved)
+        if time < 0 or infos[d]:  # (or a deadline that has passed is moved)
             wakes(step, number)
 
     return note
@@ -148,7 +148,8 @@ def evicted(notes: Notes, g: int, d: int) -> Note:
 
 
 def came(notes: Notes, d: int, tag: int, mode: str, error: int) -> Note:
-    """An event comes. (Each use of a descriptor has another tag, so little is prepared for it.)"""
+    """Notes that an event comes. (Little is prepared for an event, because each use of a descriptor has another
+    tag.)"""
     comes, open_tags = coming(notes, d, mode, error), notes.open_tags
 
     def note(step: int, number: str) -> None:
@@ -188,14 +189,14 @@ def _coming(notes: Notes, d: int, mode: str, error: int) -> Note:
 
 @lru_cache(maxsize=1_024)
 def cell_and_value(line: str) -> tuple[str, int, str]:
-    """The name of a cell, its number, and its value: `info 0 = 8`. (Firings have similar changes.)"""
+    """The name of a cell, its number, and its value: `info 0 = 8`. (The changes of firings are similar.)"""
     cell, _, value = line.partition(" = ")
     name, _, which = cell.partition(" ")
     return name, int(which or -1), value
 
 
 def fired(notes: Notes, i: int) -> Note:
-    """A deadline passes; the changed cell tells whose it is."""
+    """Notes that a deadline passes; the changed cell shows whose deadline it is."""
 
     def note(step: int, number: str) -> None:
         for line in notes.fired(number):

@@ -9,7 +9,7 @@ from .noted_goroutines import IDLE, PARKED, QUEUED, Status
 if TYPE_CHECKING:
     from .notes import Notes
 
-Note = Callable[[int, str], None]  # called with the step's number, and that number as text
+Note = Callable[[int, str], None]  # called with the step's number as an integer and as text
 
 
 def spawned(notes: Notes) -> Note:
@@ -28,7 +28,7 @@ def ticked(notes: Notes, time: int) -> Note:
 
 
 def stepped(notes: Notes, g: int, *_: object) -> Note:
-    """The goroutine may get another status."""
+    """Notes that a goroutine may get another status."""
     goroutine, told, cell, moves = notes.goroutine(g), notes.told.get, f" gor {g}", notes.moves
 
     def note(step: int, number: str) -> None:
@@ -39,7 +39,7 @@ def stepped(notes: Notes, g: int, *_: object) -> Note:
 
 
 def released(notes: Notes, g: int) -> Note:
-    """The step may wake the first goroutine in a queue of the socket."""
+    """Notes that the step may wake the first goroutine in a queue of the socket."""
     goroutine, own = notes.goroutine(g), stepped(notes, g)
 
     def note(step: int, number: str) -> None:
@@ -52,7 +52,7 @@ def released(notes: Notes, g: int) -> Note:
 
 
 def wake(notes: Notes, status: Status, step: int, number: str) -> None:
-    """The first goroutine that sleeps in a status may have been woken."""
+    """Notes that the first goroutine that sleeps in a status may have been woken."""
     for goroutine in status.sleepers:
         if shown := notes.told.get(number + goroutine.cell):
             notes.is_woken(goroutine, step, shown)
@@ -60,7 +60,7 @@ def wake(notes: Notes, status: Status, step: int, number: str) -> None:
 
 
 def waking(notes: Notes, d: int) -> Note:
-    """The step may wake a goroutine that is parked at a descriptor."""
+    """Notes that the step may wake a goroutine that is parked at a descriptor."""
     if d not in notes.wakers:
         notes.wakers[d] = _waking(notes, d)
     return notes.wakers[d]

@@ -10,7 +10,7 @@ from .noting_goroutines import Note
 if TYPE_CHECKING:
     from .notes import Notes
 
-# fields of a lock word: the lower bits are the two locks, waiting readers and writers are in the higher ones
+# fields of a lock word: the lowest bits are the two locks; the higher bits count waiting readers and writers
 REFERENCES = (2**20 - 1) << 3
 WAITING = 1 << 23
 
@@ -85,7 +85,7 @@ def shut(notes: Notes, g: int, s: int) -> Note:
 
 
 def referred(kind: str) -> Callable[..., Note]:
-    """The function that notes a step of a kind that may take a reference: whether the lock word counts one more,
+    """Makes the function that notes a step of a kind that may take a reference: whether the lock word counts one more,
     and, for a side, whether the lock was taken with it."""
 
     def of(notes: Notes, g: int, s: int, side: str = "") -> Note:
@@ -110,7 +110,7 @@ def referred(kind: str) -> Callable[..., Note]:
 
 
 def given(notes: Notes, g: int, s: int, side: str = "") -> Note:
-    """A goroutine gives up a reference."""
+    """Notes that a goroutine gives up a reference."""
     locks, told, cell, holds = notes.locks, notes.told.get, f" lock {s}", notes.holds.setdefault(s, [])
     goroutine, own, longest = notes.goroutine(g), f" gor {g}", notes.longest_holds
 
@@ -136,7 +136,7 @@ def given(notes: Notes, g: int, s: int, side: str = "") -> Note:
 
 
 def fitting(holds: list[Hold], g: int, side: str) -> Hold:
-    """The reference that a goroutine gives up: its own last one of that sort, else another's, because Go only
+    """The reference that a goroutine gives up: its own last one of that sort, else another goroutine's, because Go only
     counts references."""
     of_the_sort = [one for one in holds if one.side == side]
     mine = [one for one in of_the_sort if one.goroutine == g]

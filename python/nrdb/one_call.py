@@ -20,7 +20,8 @@ class Outcome(Enum):
     BROKEN_PIPE = "broken pipe"
     SYSTEM_ERROR = "system error"  # an error that no step shows, from NAME.where
 
-    is_error: bool  # whether the program gets an error: at the end of a file it gets one that every reader expects
+    # whether the program gets an error; the end of a file doesn't count, because every reader expects it
+    is_error: bool
 
     def __init__(self, words: str) -> None:
         self.is_error = words not in ("done", "end of file")
@@ -39,19 +40,20 @@ class Call:
     descriptor: int
     first: int
     last: int = 0
-    waited: int = 0  # steps during which its goroutine slept
-    slept: int = 0  # nanoseconds of the clock during these
-    moved: Optional[int] = None  # bytes, if it tried to read or write any
+    waited: int = 0  # the number of steps during which its goroutine slept
+    slept: int = 0  # the nanoseconds of the clock during these steps
+    moved: Optional[int] = None  # how many bytes it moved, if it tried to read or write any
     outcome: Outcome = Outcome.DONE
-    side: str = ""  # of the lock that it holds
-    is_asking: bool = False  # for a lock that another goroutine holds
-    is_ending: bool = False  # it has given up its reference, and must still release or destroy
+    side: str = ""  # the side of the lock that it holds
+    is_asking: bool = False  # whether it waits for a lock that another goroutine holds
+    is_ending: bool = False  # whether it has given up its reference and must still release or destroy
     destroys: bool = False
     cause: int = (
-        0  # the step that caused its error: the setting of the deadline, the close of the socket or of its write side
+        # the step that caused its error: the setting of the deadline, or the close of the socket or of its write side
+        0
     )
-    passed: int = 0  # and for a timeout the step at which the deadline passed
-    error: str = ""  # the system's name of its error, if it has one
+    passed: int = 0  # for a timeout, the step at which the deadline passed
+    error: str = ""  # the system's name for its error, if it has one
 
     def steps(self) -> str:
         """Its steps, as text."""
@@ -70,7 +72,7 @@ class Call:
         return f"{moved}, {ended}" if self.moved else ended
 
     def as_begun(self) -> "Call":
-        """The call as it is known before it ends, with its beginning only."""
+        """The call as known before it ends, with only its beginning."""
         return Call(self.goroutine, self.name, self.socket, self.descriptor, self.first)
 
     def words(self) -> str:

@@ -22,7 +22,7 @@ Values = dict[str, Any]  # the values of a row by name, as in JSON
 
 @dataclass(frozen=True)
 class Place:
-    """The session's position, the number of steps, and the steps before and after it, if known."""
+    """The session's position, the number of steps, and the steps before and after the position, if known."""
 
     position: int
     steps: int
@@ -46,7 +46,7 @@ class Place:
 
 
 class Style(Enum):
-    """The style of a line on a terminal with colours: netrev's own replies have none."""
+    """The style of a line on a terminal with colours; netrev's own replies have none."""
 
     PLAIN = ""
     ADDED = "36"  # cyan: what nrdb adds
@@ -55,7 +55,7 @@ class Style(Enum):
 
 @dataclass(frozen=True)
 class Row:
-    """A row of a table: its values by name, and its line. A row without a line is part of the line before; one
+    """A row of a table: its values by name, and its line. A row without a line is part of the line before; a row
     without values is a further line of the row before."""
 
     values: Values
@@ -64,7 +64,7 @@ class Row:
 
 @dataclass(frozen=True)
 class Table:
-    """Rows about a topic, with a line about omitted rows, or about an empty table."""
+    """Rows about a topic, with a line that says what was omitted or that the table is empty."""
 
     topic: str
     rows: list[Row]
@@ -72,7 +72,7 @@ class Table:
 
 
 def displays_table(cells: Sequence[str], values: Sequence[str], words_of: Callable[[str, str], str]) -> Table:
-    """The displayed cells, each with its value and the meaning."""
+    """The table of displayed cells, each with its value and the value's meaning."""
     rows = []
     for cell, value in zip(cells, values):
         words = words_of(cell, value)
@@ -82,8 +82,8 @@ def displays_table(cells: Sequence[str], values: Sequence[str], words_of: Callab
 
 
 class Printer(ABC):
-    """Prints events, each before the next line is read. All text goes through `plain`, so a terminal doesn't obey text of a
-    recording or a server. `is_paged` says whether output pauses when the screen is full."""
+    """Prints each event before the next line is read. All text goes through `plain`, so that a terminal doesn't obey
+    text from a recording or a server. `is_paged` says whether output pauses when the screen is full."""
 
     def __init__(self, out: Optional[TextIO] = None):
         self.out = out if out is not None else sys.stdout
@@ -95,12 +95,12 @@ class Printer(ABC):
         self.put(plain(text))
 
     def put(self, text: str) -> None:
-        """Writes a line, in plain text or styled."""
+        """Writes a line as plain text or styled."""
         print(text, file=self.out, flush=self._flushes)
 
     @contextmanager
     def joined(self) -> Iterator[None]:
-        """Context in which no line is read, and the output is written together at the end."""
+        """Context in which no line is read; the output is written together at the end."""
         self._flushes = False
         try:
             yield
@@ -110,11 +110,11 @@ class Printer(ABC):
 
     @abstractmethod
     def echo(self, line: str) -> None:
-        """A line that wasn't typed, as the prompt would show it."""
+        """Prints a line that wasn't typed, as the prompt would show it."""
 
     @abstractmethod
     def reply(self, line: str, reply: Reply, words: str) -> None:
-        """netrev's reply to a line, and the meaning of its value."""
+        """Prints netrev's reply to a line, and the meaning of its value."""
 
     @abstractmethod
     def place(self, place: Place) -> None:
@@ -122,7 +122,7 @@ class Printer(ABC):
 
     @abstractmethod
     def note(self, text: str) -> None:
-        """A remark, of one line or several."""
+        """Prints a remark, of one line or several."""
 
     @abstractmethod
     def table(self, table: Table) -> None:
@@ -130,7 +130,7 @@ class Printer(ABC):
 
     @abstractmethod
     def end(self, status: int) -> None:
-        """The session has ended."""
+        """Reports that the session has ended."""
 
 
 class TextPrinter(Printer):
@@ -141,12 +141,12 @@ class TextPrinter(Printer):
         self.is_coloured = is_coloured
 
     def styled(self, text: str, style: Style) -> str:
-        """The text made plain, in that style."""
+        """The text made plain, in this style."""
         is_styled = self.is_coloured and style is not Style.PLAIN
         return f"\x1b[{style.value}m{plain(text)}\x1b[0m" if is_styled else plain(text)
 
     def add(self, text: str, style: Style = Style.ADDED) -> None:
-        """Prints a line of nrdb's own; several on a narrow terminal."""
+        """Prints a line of nrdb's own, broken into several on a narrow terminal."""
         for line in wrapped(plain(text), width_of(self.out) - len("| ")):
             self.put(self.styled(f"| {line}", style))
 
@@ -174,7 +174,7 @@ class TextPrinter(Printer):
             self.add(table.rest)
 
     def end(self, status: int) -> None:
-        """The session has ended."""
+        """Reports that the session has ended."""
 
 
 class JsonPrinter(Printer):
@@ -185,7 +185,7 @@ class JsonPrinter(Printer):
         self.write(text.replace("\x7f", "\\u007f"))  # the only control character that JSON leaves unescaped
 
     def echo(self, line: str) -> None:
-        """The reply contains its line."""
+        """Does nothing, because the reply contains its line."""
 
     def reply(self, line: str, reply: Reply, words: str) -> None:
         self._event("reply", line=line, reply=reply.lines, words=words or None)

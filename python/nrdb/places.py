@@ -14,7 +14,7 @@ DESCRIPTOR_CELLS = ("info", "rg", "wg", "rd", "wd", "fdseq")
 
 
 def sockets_table(world: World, numbers: Optional[Iterable[int]] = None, is_all: bool = False) -> Table:
-    """The sockets that aren't at rest; or all; or the ones with these numbers."""
+    """The table of the sockets that aren't at rest, of all sockets, or of those with these numbers."""
     every = list(range(world.made(Of.SOCKET)) if numbers is None else numbers)
     cells = world.of_each(every, *SOCKET_CELLS)
     owners = {socket: descriptor for descriptor, socket in world.sockets_of_open().items()}
@@ -28,7 +28,7 @@ def sockets_table(world: World, numbers: Optional[Iterable[int]] = None, is_all:
 
 
 def _says_something(values: list[str], queues: list[list[int]]) -> bool:
-    """Whether a socket isn't at rest: at rest no goroutine holds or waits for it, and its input is empty or it is
+    """Whether a socket isn't at rest: at rest, no goroutine holds or waits for it, and its input is empty or it is
     closed."""
     if values[0] == "absent":
         return False
@@ -52,7 +52,7 @@ def _socket_row(number: int, values: list[str], queues: list[list[int]], descrip
 
 
 def descriptors_table(world: World, numbers: Optional[Iterable[int]] = None, is_all: bool = False) -> Table:
-    """The open descriptors; or all; or the ones with these numbers."""
+    """The table of the open descriptors, of all descriptors, or of those with these numbers."""
     sockets = world.sockets_of_open()
     every = list(range(world.made(Of.DESCRIPTOR)) if numbers is None else numbers)
     shown = [number for number in every if is_all or numbers is not None or number in sockets]
@@ -63,7 +63,7 @@ def descriptors_table(world: World, numbers: Optional[Iterable[int]] = None, is_
 
 
 def rest_words(every: list[int], left: int, name: str, all_of_them: str) -> str:
-    """The number of rows that aren't shown, or a message that none exists; empty if all are shown."""
+    """The number of rows that aren't shown, or a message that there are none; empty if all are shown."""
     if not every:
         return f"no {name} exists yet"
     return f"{left} {all_of_them}" if left else ""
@@ -87,7 +87,7 @@ def _descriptor_row(number: int, values: list[str], socket: Optional[int]) -> Ro
 
 
 def timers_table(world: World) -> Table:
-    """The clock and the deadlines of open descriptors that are still to come, in the order of their times."""
+    """The clock, and the deadlines of open descriptors that are still to come, in order of time."""
     names = ("clock", "timers", "least", "firings")
     values = dict(zip(names, world.values(list(names))))
     clock = int(values["clock"])

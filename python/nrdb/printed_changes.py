@@ -1,5 +1,5 @@
-"""The changes of a recording from one run of `netrev changes`, for callers without a session. The machine in Python takes many
-times as long."""
+"""The changes of a recording from one run of `netrev changes`, for callers without a session. The Python model of the
+machine takes many times as long."""
 
 import subprocess
 from typing import Optional
@@ -10,11 +10,12 @@ from .changed_lines import NoChanges
 from .recorded_changes import RecordedChanges
 from .recording import Recording
 
-AT_LEAST, A_STEP = 5, 0.00005  # seconds that netrev gets, and more for each step: about the time of the model
+# the seconds that netrev gets, and the additional seconds for each step: about as long as the model takes
+AT_LEAST, A_STEP = 5, 0.00005
 
 
 def printed_changes(netrev: str, path: str, recording: Recording) -> Optional[RecordedChanges]:
-    """netrev's list of the changes of a recording in a file; None if netrev can't be started, takes as long as the
+    """The changes of a recording in a file as netrev lists them; None if netrev can't be started, takes as long as the
     model would, or refuses the recording."""
     words, seconds = [netrev, "changes", file_word(path)], AT_LEAST + A_STEP * recording.length
     try:

@@ -1,4 +1,4 @@
-"""Consecutive queries, such as those of a script: they are sent to netrev together, and each is shown in its turn."""
+"""Consecutive queries, such as those of a script, which are sent to netrev together and shown one by one."""
 
 import codecs
 import io
@@ -21,12 +21,12 @@ class Answering(Protocol):
     attached: Attached
 
     def echoed(self, line: str) -> bool:
-        """Answers a line that wasn't typed, and shows it first. False if the session has ended."""
+        """Shows a line that wasn't typed, and answers it. Returns False if the session has ended."""
 
 
 @lru_cache(maxsize=1_024)
 def query_of(line: str) -> str:
-    """A line in the form that is sent to netrev, if it is only a `print`; otherwise empty."""
+    """A line in the form in which it is sent to netrev, if it is only a `print`; otherwise empty."""
     try:
         parts = parts_of(line)
         words = whole_words(parts[0].split()) if len(parts) == 1 else [""]
@@ -36,8 +36,8 @@ def query_of(line: str) -> str:
 
 
 def runs_of(session: Answering, lines: Sequence[str]) -> Iterator[Sequence[str]]:
-    """Lines in runs: consecutive queries that may be sent together, and each other line alone. A run is made when
-    the lines before it have been answered."""
+    """Lines in runs: consecutive queries that may be sent together, or any other line alone. Each run is determined
+    after the lines before it have been answered."""
     first = 0
     while first < len(lines):
         end = first + 1
@@ -48,7 +48,7 @@ def runs_of(session: Answering, lines: Sequence[str]) -> Iterator[Sequence[str]]
 
 
 def end_of_queries(lines: Sequence[str], first: int) -> int:
-    """The end of the consecutive queries that begin at a line, as many as are sent at once."""
+    """The end of the consecutive queries that begin at a line, limited to those that are sent together."""
     size = 0
     for at in range(first, min(first + MOST, len(lines))):
         query = query_of(lines[at])
@@ -59,7 +59,7 @@ def end_of_queries(lines: Sequence[str], first: int) -> int:
 
 
 def answer_run(session: Answering, run: Sequence[str]) -> bool:
-    """Answers a run of lines that weren't typed, each shown first. False if the session has ended."""
+    """Answers a run of lines that weren't typed, and shows each first. Returns False if the session has ended."""
     if len(run) == 1:
         return session.echoed(run[0])
     session.netrev.ask_ahead(list(map(query_of, run)))
@@ -68,13 +68,13 @@ def answer_run(session: Answering, run: Sequence[str]) -> bool:
 
 
 def lines_together(stream: TextIO) -> Iterator[list[str]]:
-    """The lines of a stream as they arrive, those together that arrived at once, without trailing blanks."""
+    """The lines of a stream without trailing blanks, in lists of those that arrived together."""
     raw = getattr(stream, "buffer", None)
     if not isinstance(raw, io.BufferedReader) or stream.errors is None:
         yield from ([line.rstrip()] for line in stream)
         return
     decoder = io.IncrementalNewlineDecoder(codecs.getincrementaldecoder(stream.encoding)(stream.errors), True)
-    begun: list[str] = []  # the part of a line whose end hasn't arrived
+    begun: list[str] = []  # the beginning of a line whose end hasn't arrived
     is_open = True
     while is_open:
         came = raw.read1(AT_ONCE)

@@ -1,5 +1,5 @@
-"""Recorded answers as text: the answers that a step of each kind can have, their meanings, and where to look if the
-program's answer differs from the machine's."""
+"""Recorded answers as text: the answers that a step of each kind can have, their meanings, and hints for a program's
+answer that differs from the machine's."""
 
 import json
 from typing import Any, Optional
@@ -65,7 +65,7 @@ MEANS = {
 
 
 def answer_text(answer: Any) -> str:
-    """An answer in a few letters, such as `done` or `got 2`; the JSON of anything else."""
+    """An answer in a few letters, such as `done` or `got 2`; anything else as JSON."""
     if isinstance(answer, str):
         return answer
     if isinstance(answer, list) and len(answer) == 2 and answer[0] in COUNTED_ANSWERS:
@@ -90,7 +90,7 @@ def answer_words(kind: str, answer: Any) -> str:
 
 
 def spelled(kind: str) -> str:
-    """The answers that a kind can give, as a recording has them."""
+    """The answers that a kind can give, as they appear in a recording."""
     names = [f'["{name}",N]' if name in COUNTED_ANSWERS else f'"{name}"' for name in KINDS[kind].answers]
     return names[0] if len(names) == 1 else f"{', '.join(names[:-1])} or {names[-1]}"
 

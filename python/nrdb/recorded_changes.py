@@ -1,6 +1,6 @@
-"""The output of `netrev changes` for a recording: the cells that each step changed, with their new values. The lines are kept as
-text. A caller with many questions gets arrays of numbers, two for each cell, with each value stored once, because a million steps
-change some millions of cells."""
+"""The output of `netrev changes` for a recording: the cells that each step changed, with their new values. The lines
+are kept as text at first. For a caller with many queries they become arrays of numbers, two for each cell, with each
+value stored once, because a million steps change some millions of cells."""
 
 from array import array
 from bisect import bisect_left, bisect_right
@@ -11,7 +11,7 @@ from typing import Callable, Iterable, Iterator, NamedTuple, Optional, Sequence
 from .messages import session as messages
 from .changed_lines import ChangedLines, NoChanges
 
-FEW = 300  # queries that are answered by a search of the lines; after that, arrays are made
+FEW = 300  # the number of queries that are answered by searching the lines, before arrays are made
 AT_START = {"clock": "0", "waiters": "0", "timers": "0", "firings": "0", "gor 0": "idle"}
 
 
@@ -24,20 +24,20 @@ class Change(NamedTuple):
 
 
 class Told(NamedTuple):
-    """The changes of the steps from one number to another: their lines in one text, a line feed before each."""
+    """The changes of a range of steps, with their lines in one text, a line feed before each."""
 
     first: int
     end: int
     text: str
 
     def cells(self) -> Iterator[tuple[str, str]]:
-        """Each step with a cell (`12 lock 0`), and the value."""
+        """Each step with a cell (`12 lock 0`), and the cell's value."""
         cells_and_values = iter(self.text[1:].replace(" = ", "\n").split("\n"))
         return zip(cells_and_values, cells_and_values)
 
 
 class Texts(dict[str, int]):
-    """Texts, each stored once, and their numbers in the order in which they came."""
+    """Texts, each stored once, and their numbers in order of arrival."""
 
     def __init__(self) -> None:
         super().__init__()
@@ -63,20 +63,20 @@ def value_at_start(cell: str) -> str:
 
 
 class RecordedChanges:
-    """The changes of a recording's steps, which may still be arriving: a caller waits for those that it needs."""
+    """The changes of a recording's steps. They may still be arriving: a caller waits for those that it needs."""
 
     def __init__(self) -> None:
-        # for each cell the numbers of its changes
+        # for each cell, the numbers of its changes
         self._steps, self._values, self._texts = OfCells(), OfCells(), Texts()
         self._lines = ChangedLines()
-        self._held = 0  # how many of its pieces are in the arrays
+        self._held = 0  # how many of the pieces are in the arrays
         self._asked = 0
         self._rest = b""
         self._is_whole, self._length, self._fault = False, 0, ""
 
     @classmethod
     def read(cls, pieces: Iterable[bytes]) -> "RecordedChanges":
-        """The changes of a whole output, which comes in pieces; NoChanges if it is malformed or incomplete."""
+        """The changes of a whole output, given in pieces; raises NoChanges if it is malformed or incomplete."""
         changes = cls()
         for piece in pieces:
             changes.take(piece)
@@ -84,11 +84,11 @@ class RecordedChanges:
             raise NoChanges(messages.CHANGES_END_EARLY)
         return changes
 
-    # what is asked
+    # ---- queries
 
     @property
     def length(self) -> int:
-        """The number of steps that can be made: all of them, or those before the first fault."""
+        """The number of steps that apply: all of them, or those before the first fault."""
         self._wait(None)
         return self._length
 
@@ -104,7 +104,7 @@ class RecordedChanges:
         return self._lines.at(step)
 
     def between(self, first: int, last: int) -> Iterator[tuple[int, list[tuple[str, str]]]]:
-        """The steps that lead from one position to another and changed a cell, each with its change."""
+        """The steps that lead from one position to another and changed a cell, each with its changes."""
         self._wait(last)
         for step, lines in groupby(self._lines.between(first, last), itemgetter(0)):
             yield int(step), [(cell, value) for _, cell, value in lines]
@@ -132,7 +132,8 @@ class RecordedChanges:
     def nearest(
         self, cells: Sequence[str], are_wanted: Callable[[list[str]], bool], position: int, backwards: bool
     ) -> Optional[int]:
-        """The nearest position in a direction after a step that changed one of the cells and gave them wanted values; or None."""
+        """The nearest position, in a direction, after a step that changed one of the cells and gave them wanted values;
+        None if none exists."""
         steps = sorted({step for cell in cells for step in self.steps_of(cell, position if backwards else None)})
         ways = reversed(steps[: bisect_left(steps, position)]) if backwards else steps[bisect_right(steps, position) :]
         return next((step for step in ways if are_wanted(self.values(step, cells))), None)
@@ -165,8 +166,8 @@ class RecordedChanges:
         return (Change(int(step), cell, value) for step, cell, value in self.texts())
 
     def told(self) -> Iterator[Told]:
-        """All changes, some thousands of steps at a time, for a caller that needs few of them: no line is parsed by
-        itself."""
+        """All changes, some thousands of steps at a time, for a caller that needs few of them, so that lines aren't
+        parsed one by one."""
         self._wait(None)
         first = 1
         for end, text in self._lines.whole_steps(self._length + 1):
@@ -174,7 +175,8 @@ class RecordedChanges:
             first = end
 
     def _is_asked_little(self) -> bool:
-        """Whether so few queries came that the lines are searched. Otherwise the changes so far are in the arrays."""
+        """Whether so few queries came that searching the lines is enough. If not, puts the changes so far into the
+        arrays."""
         self._asked += 1
         if self._asked > FEW:
             self._hold()
@@ -186,7 +188,7 @@ class RecordedChanges:
             self._hold_piece()
 
     def _hold_piece(self) -> None:
-        """Puts the next piece into arrays, whole."""
+        """Puts the whole next piece into arrays."""
         steps, values, texts = self._steps, self._values, self._texts
         for step, cell, value in self._lines.texts(self._held, self._held + 1):
             steps[cell].append(int(step))
@@ -194,9 +196,9 @@ class RecordedChanges:
         self._held += 1
 
     def _wait(self, position: Optional[int]) -> None:
-        """Returns when the changes up to a position have arrived, or everything."""
+        """Waits until the changes up to a position, or all changes, have arrived."""
 
-    # how the changes are read
+    # ---- reading the changes
 
     def prepare(self) -> None:
         """Starts reading, unless it has started."""
@@ -210,7 +212,7 @@ class RecordedChanges:
         return self._is_whole
 
     def has(self, position: Optional[int]) -> bool:
-        """Whether the changes up to a position have been read, or all."""
+        """Whether the changes up to a position, or all changes, have been read."""
         return self._is_whole or (position is not None and position < self._lines.last)
 
     def take(self, piece: bytes) -> None:

@@ -20,7 +20,7 @@ from .recorded_changes import RecordedChanges
 from .suspect_list import SuspectList
 from .where import Lines
 
-# a text that has a blank line after the first contains one of these
+# any text with a blank line after the first line contains one of these
 BEFORE_BLANKS = (b"\n\n", b"\n ", b"\n\t", b"\n\r")
 BLANK_LINE = re.compile(rb"^[ \t\r]*$", re.MULTILINE)
 SHOWN = 40
@@ -30,8 +30,8 @@ Row = TypeVar("Row")
 
 
 class Step(NamedTuple):
-    """A step: its number from 1, its line, its kind, its arguments, and in version 2 the recorded answer, as JSON: a string, or a
-    list of a string and a number."""
+    """A step: its number from 1, its line, its kind, its arguments, and, in version 2, the recorded answer as JSON: a
+    string, or a list of a string and a number."""
 
     number: int
     line: int
@@ -40,7 +40,7 @@ class Step(NamedTuple):
     answer: Any = None
 
     def argument(self, name: str) -> Any:
-        """The argument of that name, or None if the kind has none."""
+        """The argument with this name; None if the kind has none."""
         kind = KINDS.get(self.kind)
         if kind is None or name not in kind.arguments:
             return None
@@ -52,11 +52,11 @@ class Step(NamedTuple):
 
 
 class NoRecording(Exception):
-    """The text isn't a recording: netrev never read it, or read another one."""
+    """Raised for a text that isn't a recording: netrev never read it, or read another one."""
 
 
 def parsed(text: bytes) -> Any:
-    """The JSON value of a text; NoRecording if it isn't JSON."""
+    """The JSON value of a text; raises NoRecording if it isn't JSON."""
     try:
         return json.loads(text)
     except (ValueError, RecursionError):
@@ -64,7 +64,7 @@ def parsed(text: bytes) -> Any:
 
 
 def check_size(path: str, size: int) -> None:
-    """NoRecording for a file that has more bytes than this machine has memory."""
+    """Raises NoRecording for a file that has more bytes than this machine has memory."""
     if size > os.sysconf("SC_PHYS_PAGES") * os.sysconf("SC_PAGE_SIZE"):
         raise NoRecording(too_large(path))
 
@@ -99,13 +99,12 @@ class Recording:
         self.suspects: Optional[SuspectList] = None  # netrev's list, for a recording in a file
 
     def _are_arrays(self, end: int) -> bool:
-        """Whether each line up to that place except the first begins as an array does, so that none is blank."""
+        """Whether each line before that place, except the first, begins as an array does, so that none is blank."""
         return self.data.count(b"\n[", 0, end) == self._starts.line_at(end) - 1
 
     @classmethod
     def read(cls, path: str) -> "Recording":
-        """Reads the file that netrev reads too; raises an OSError if that fails, NoRecording if it can't be read
-        twice."""
+        """Reads the same file as netrev; raises an OSError if that fails, and NoRecording if it can't be read twice."""
         check_name(path)
         if not stat.S_ISREG(os.stat(path).st_mode) and not os.path.isdir(path):
             raise NoRecording(messages.NOT_A_FILE.format(path=path))
@@ -124,7 +123,7 @@ class Recording:
         return max(len(self._numbers) - 1, 0)
 
     def line(self, number: int) -> bytes:
-        """The line of that number, from 1, without its line feed; empty if it doesn't exist."""
+        """The line with this number, from 1, without its line feed; empty if it doesn't exist."""
         if not 1 <= number < len(self._starts):
             return b""
         begin = self._starts[number - 1]
@@ -132,11 +131,11 @@ class Recording:
         return self.data[begin:] if end < 0 else self.data[begin:end]
 
     def before_line(self, number: int) -> bytes:
-        """The lines before that one."""
+        """The text before the line with this number."""
         return self.data[: self._starts[number - 1]]
 
     def before_step(self, number: int) -> bytes:
-        """The lines before the line of step `number`, which may be one more than the last."""
+        """The text before the line of step `number`, which may be the last step's number plus one."""
         return self.before_line(self._numbers[number]) if number <= self.length else self.data
 
     def between(self, first: int, last: int) -> bytes:
@@ -147,7 +146,7 @@ class Recording:
         return self.data[self._starts[self._numbers[first + 1] - 1] : self._starts[self._numbers[last]]]
 
     def is_last(self, number: int) -> bool:
-        """Whether only blanks follow that line."""
+        """Whether only blanks follow the line with this number."""
         return not self.data[self._starts[number] :].strip(b" \t\r\n\0")
 
     @cached_property
@@ -162,15 +161,15 @@ class Recording:
         return self.limits.get("netrev") == 2
 
     def step_or_none(self, number: int) -> Optional[Step]:
-        """The step of that number, from 1, or None if it doesn't exist."""
+        """The step with this number, from 1; None if it doesn't exist."""
         return self.step(number) if 1 <= number <= self.length else None
 
     def step(self, number: int) -> Step:
-        """The step of that number, from 1 to the recording's length."""
+        """The step with this number, from 1 to the recording's length."""
         return self._made(number, parsed(self.line(self._numbers[number])))
 
     def _made(self, number: int, values: Any) -> Step:
-        """The step of that number, from the array in its line."""
+        """The step with this number, from the array in its line."""
         if not (isinstance(values, list) and values and isinstance(values[0], str)):
             raise NoRecording(messages.NOT_A_STEP.format(line=self._numbers[number]))
         kind, *arguments = values
@@ -178,8 +177,8 @@ class Recording:
         return Step(number, self._numbers[number], kind, tuple(arguments), answer)
 
     def found_back(self, spelled: re.Pattern[bytes], until: int) -> Iterator[re.Match[bytes]]:
-        """The matches of a pattern in the lines of the first steps, the last one first. The text is searched backwards
-        in pieces, each twice as long as the one before."""
+        """The matches of a pattern in the lines of the first steps, latest first. The text is searched backwards in
+        pieces, each twice as long as the previous one."""
         end, size = min(until, self.length), PIECE
         while end > 0:
             first = max(end - size, 0) + 1
@@ -192,11 +191,11 @@ class Recording:
         return bisect_left(self._numbers, self._starts.line_at(place))
 
     def arrays(self) -> Iterator[list[Any]]:
-        """Each step's array from JSON, one after the other. Equal lines may share one, which must not be changed."""
+        """The JSON array of each step, in order. Equal lines may share an array, which must not be changed."""
         return self.rows(lambda values: values)
 
     def rows(self, made: Callable[[list[Any]], Row], begin: int = 1, end: Optional[int] = None) -> Iterator[Row]:
-        """A value made from each step's array, in order; it is made once for similar lines nearby."""
+        """A value made from each step's array, in order; the value is made only once for similar lines nearby."""
         return chain.from_iterable(self._rows_together(made, begin, end))
 
     def _rows_together(
@@ -217,7 +216,7 @@ class Recording:
             yield map(rows.__getitem__, lines)
 
     def steps_of(self, kinds: tuple[str, ...], until: int, socket: Optional[int] = None) -> Iterator[Step]:
-        """The steps of these kinds among the first ones, and at this socket if one is given."""
+        """The steps of these kinds among the first ones, only those at this socket if one is given."""
         for number, values in self.arrays_like(kinds, until, socket):
             step = self._made(number, values)
             if step.kind in kinds and socket in (None, step.argument("s")):
@@ -226,7 +225,7 @@ class Recording:
     def arrays_like(
         self, kinds: tuple[str, ...], until: int, socket: Optional[int] = None
     ) -> Iterator[tuple[int, list[Any]]]:
-        """The arrays of such steps with their numbers, perhaps with others between."""
+        """The arrays of steps of these kinds with their numbers, perhaps with other steps between."""
         numbers = list(self._numbers_of(kinds, until, socket))
         lines = [self.line(self._numbers[number]) for number in numbers]
         yield from zip(numbers, parsed(b"[%s]" % b",".join(lines)))
@@ -237,8 +236,8 @@ class Recording:
         return b"\\" in self.data
 
     def _numbers_of(self, kinds: tuple[str, ...], until: int, socket: Optional[int]) -> Iterable[int]:
-        """The numbers of these steps, and perhaps of others. They are found by a search of the text, if that finds
-        all."""
+        """The numbers of steps of these kinds, perhaps with others between. They come from a search of the text if that
+        finds all of them."""
         until = min(until, self.length)
         if not until or self.has_escapes:
             return range(1, until + 1)

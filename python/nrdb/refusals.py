@@ -1,4 +1,4 @@
-"""Explains why netrev refuses a recording: the line, what to correct in it, and for a step that doesn't apply, or
+"""Explains why netrev refuses a recording: names the line, what to correct in it, and, for a step that doesn't apply or
 whose recorded answer isn't the machine's, the values just before it."""
 
 import json
@@ -58,7 +58,7 @@ def fault_of(program: str, path: str) -> str:
 
 
 def step_explained(program: str, recording: Recording, number: int, reason: int) -> list[str]:
-    """The reason why a step doesn't apply."""
+    """The lines that explain why a step doesn't apply."""
     step = recording.step(number)
     said = [line_of(step), f"reason {reason}: {REASONS[reason]}"]
     if reason in messages.REASONS:
@@ -67,12 +67,12 @@ def step_explained(program: str, recording: Recording, number: int, reason: int)
 
 
 def line_of(step: Step) -> str:
-    """The step, and the form of steps of its kind."""
+    """The step, followed by the form of steps of its kind."""
     return f"line {step.line}: {step}" + (f"   ({KINDS[step.kind].usage})" if step.arguments else "")
 
 
 def answer_explained(program: str, recording: Recording, number: int) -> list[str]:
-    """The recorded answer of a step and the machine's, side by side, and where to look."""
+    """The recorded answer of a step and the machine's, side by side, with a hint about where to look."""
     step = recording.step(number)
     shown = before(program, recording, step)
     said = [line_of(step), f"recorded: {with_meaning(step.kind, step.answer)}"]
@@ -93,8 +93,8 @@ def with_meaning(kind: str, answer: Any) -> str:
 
 
 def likely(recording: Recording, step: Step, shown: list[str]) -> Iterator[Any]:
-    """The answers that the machine may give to a step, from the values just before it; netrev then decides which it
-    is."""
+    """The answers that the machine may give to a step, derived from the values just before it; netrev then decides
+    which one it is."""
     for name in KINDS[step.kind].answers:
         if name == "code":
             yield from (["code", code] for code in range(4))
@@ -105,7 +105,7 @@ def likely(recording: Recording, step: Step, shown: list[str]) -> Iterator[Any]:
 
 
 def count_of(recording: Recording, step: Step, shown: list[str]) -> int:
-    """The number that the machine must answer to a step: that of the new object, or how many bytes move."""
+    """The number in the machine's answer to a step: the new object's number, or how many bytes move."""
     earlier = step.number - 1
     if step.kind == "pollopen":
         return opened_by(recording, earlier)[1]
@@ -118,7 +118,7 @@ def count_of(recording: Recording, step: Step, shown: list[str]) -> int:
 
 
 def held(shown: list[str], cell: str) -> int:
-    """How many bytes a buffer holds, from the values just before."""
+    """How many bytes a buffer holds, from the values just before a step."""
     return next(int(told.split()[3]) for told in shown if told.startswith(f"{cell} "))
 
 
@@ -141,7 +141,7 @@ def named_cells(step: Step) -> list[str]:
 
 
 def before(program: str, recording: Recording, step: Step) -> list[str]:
-    """The values of the cells that a step names just before it, by a run of the recording up to there."""
+    """The values, just before a step, of the cells that it names, from a run of the recording up to there."""
     lines = [f"stepi {FAR}", *(f"print {cell}" for cell in named_cells(step))]
     with tempfile.TemporaryDirectory(prefix="nrdb-") as folder:
         cut = os.path.join(folder, "cut.jsonl")

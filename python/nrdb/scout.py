@@ -1,7 +1,7 @@
-"""A second netrev over the same recording, for queries at other positions, so the session's position, marks and
+"""A second netrev on the same recording for queries at other positions, so that the session's position, marks and
 checkpoints stay as they are.
 
-If a query is interrupted, unread replies may remain. So its netrev is ended, and the next query starts another; if
+An interrupted query may leave unread replies. Its netrev is therefore ended, and the next query starts another; if
 netrev ended by itself, the query is repeated once.
 """
 
@@ -11,19 +11,20 @@ from .messages import session as messages
 from .netrev import Ended, Netrev
 from .shapes import move_of
 
-JOURNAL = 65_536  # commands that fit into a session of `netrev run`
-MOST_PLACED = 2  # commands that go to a position
+JOURNAL = 65_536  # how many commands fit into a session of `netrev run`
+MOST_PLACED = 2  # the most commands that a move to a position takes
 
 Seen = TypeVar("Seen")
 
 
 class Lost(Exception):
-    """The second netrev isn't available: the reason."""
+    """Raised, with the reason, if the second netrev isn't available."""
 
 
 class Scout:
-    """Queries any position. netrev is started at the first query, and again when its journal is nearly full. A
-    session in which nothing moves may lend its own netrev for the beginning, and ends that itself."""
+    """Answers queries at any position. netrev is started at the first query, and again when its journal is nearly full.
+    A session in which nothing moves may lend its own netrev for the first queries; the session ends that netrev
+    itself."""
 
     def __init__(self, opened: Callable[[], Netrev], lent: Optional[Netrev] = None):
         self._opened = opened
@@ -32,7 +33,7 @@ class Scout:
         self._stands: Optional[int] = None  # its position, if known
 
     def prepare(self) -> None:
-        """Starts netrev, if it hasn't started, and doesn't wait until it has read the recording."""
+        """Starts netrev, if it hasn't started, without waiting until it has read the recording."""
         if self._netrev is None:
             try:
                 self._netrev, self._placed, self._stands = self._opened(), 0, None
@@ -40,7 +41,7 @@ class Scout:
                 raise Lost(f"{error.filename}: {error.strerror}") from None
 
     def drop(self) -> None:
-        """Ends netrev, whatever it does; a lent one is given back."""
+        """Ends netrev, whatever it is doing; a lent one is given back."""
         dropped, self._netrev = self._netrev, None
         if dropped is not None and dropped is not self._lent:
             dropped.drop()
@@ -54,7 +55,7 @@ class Scout:
         return self.look(position, lambda netrev: netrev.values(cells))
 
     def _anew(self, look: Callable[[], Seen]) -> Seen:
-        """The result of a query, by a second one if netrev ended during the first."""
+        """The result of a query, repeated on another netrev if the first one ended during it."""
         try:
             return self._whole(look)
         except Ended:
@@ -65,7 +66,7 @@ class Scout:
             raise Lost(messages.SECOND_NETREV_ENDED) from None
 
     def _whole(self, look: Callable[[], Seen]) -> Seen:
-        """The whole result. If the query is interrupted, for whatever reason, its netrev is ended."""
+        """The complete result of a query. If the query is interrupted for any reason, its netrev is ended."""
         try:
             return look()
         except BaseException:
@@ -73,7 +74,7 @@ class Scout:
             raise
 
     def _walker(self) -> Netrev:
-        """The netrev for queries, which is about to go somewhere."""
+        """The netrev for queries, with the position taken as unknown, because it is about to move."""
         self.prepare()
         assert self._netrev
         self._stands = None

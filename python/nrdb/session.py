@@ -35,7 +35,7 @@ Answering = Callable[["Session", list[str]], Optional[bool]]  # False if the ses
 
 @dataclass
 class Session:
-    """netrev, the recording and the second netrev, if they exist, and the printer."""
+    """The state of a session: netrev, the recording and the second netrev if they exist, and the printer."""
 
     netrev: Netrev
     recording: Optional[Recording]
@@ -48,22 +48,23 @@ class Session:
     stood: int = 0
     length: int = 0
     depth: int = 0
-    program: str = ""  # netrev's, and the recording's file, if known
+    program: str = ""  # netrev's program, and the recording's file if known
     path: str = ""
     breaks: Breaks = field(default_factory=Breaks)  # at places of the program
-    frame: Optional[int] = None  # the frame of the stack, from the innermost; None for the program's own line
-    is_before: bool = False  # a place of the program: the stack is that of the next step
+    frame: Optional[int] = None  # the frame of the stack, counted from the innermost; None for the program's own line
+    is_before: bool = False  # whether the stack is that of the next step, at a place of the program
     goroutine: Optional[Name] = None  # the chosen goroutine, until the session moves
     recorded: Optional[RecordedChanges] = None  # if the session has a recording
     errors: int = 0  # of nrdb's own
     conditions: dict[str, Condition] = field(default_factory=dict)  # conditions of marks, by their numbers
-    latest: str = ""  # the number of the mark that was set last
+    latest: str = ""  # the number of the mark set last
 
     def __post_init__(self) -> None:
         self.breaks.is_met = lambda number, at: number not in self.conditions or self.holds(self.conditions[number], at)
 
     def begin(self, reply: str) -> None:
-        """Prints the position of netrev's first reply; raises Mismatched if the session has another recording."""
+        """Prints the position that netrev's first reply gives; raises Mismatched if the session has another
+        recording."""
         self.stood, self.length, _ = position_of(reply)
         if self.recording and self.recording.length != self.length:
             raise Mismatched(messages.OTHER_RECORDING.format(steps=self.recording.length, length=self.length))
@@ -78,7 +79,7 @@ class Session:
         return position_of(self.ask("info position"))
 
     def place(self, position: int) -> Place:
-        """The position with the steps around it."""
+        """The position, with the steps around it."""
         if self.recording is None:
             return Place(position, self.length, None, None)
         last, then = (self.recording.step_or_none(number) for number in (position, position + 1))
@@ -101,15 +102,16 @@ class Session:
         return needed(self.recorded)
 
     def run(self, line: str) -> bool:
-        """Answers a line. False if the session has ended."""
+        """Answers a line. Returns False if the session has ended."""
         return self.guarded(self.attempt, line)
 
     def play(self, path: str) -> bool:
-        """Answers the lines of a file; an OSError if it can't be read. False if the session has ended."""
+        """Answers the lines of a file; raises an OSError if it can't be read. Returns False if the session has
+        ended."""
         return self.guarded(self.source, path)
 
     def guarded(self, answer: Callable[[str], bool], what: str) -> bool:
-        """Answers, and stops at Ctrl-C. False if the session has ended."""
+        """Answers a line or a file, and stops at Ctrl-C. Returns False if the session has ended."""
         try:
             with self.interrupts.held():
                 return answer(what)
@@ -119,8 +121,8 @@ class Session:
             return True
 
     def attempt(self, line: str) -> bool:
-        """Answers a line, which may have several commands separated by `;`, and runs the commands of marks that
-        hit. False if the session has ended."""
+        """Answers a line, which may have several commands separated by `;`, and runs the commands of marks that hit.
+        Returns False if the session has ended."""
         if not line.split() or line.lstrip().startswith("#"):
             return True
         for part in parts_of(line):
@@ -136,7 +138,7 @@ class Session:
         return True
 
     def attempt_one(self, line: str) -> bool:
-        """Answers a command, or prints its error. False if the session has ended."""
+        """Answers a command, or prints its error. Returns False if the session has ended."""
         try:
             self.tell_of_others()
             return self.answer(line)
@@ -152,7 +154,7 @@ class Session:
         return True
 
     def answer(self, line: str) -> bool:
-        """Answers a line that has words."""
+        """Answers a line that isn't blank."""
         words = whole_words(line.split())
         if is_answered_here(words) or names_a_place(self.recording, words):
             return self.answers[words[0]](self, words[1:]) is not False
@@ -161,7 +163,7 @@ class Session:
     def pass_on(self, line: str, words: list[str]) -> bool:
         """Sends a line to netrev, and shows its reply. A line that netrev knows is sent as it was typed."""
         sent = " ".join(words) if words[0] in COMMANDS else line
-        # (a stop deletes the temporary breaks that it names, so the marks are listed before)
+        # (a stop deletes the temporary breaks that it names, so the marks are listed before it)
         stood = self.netrev.marks() if words[0] in STOPPING and self.recorded else []
         reply = self.stop_of(sent) if words[0] in STOPPING else self.netrev.ask(sent)
         self.show(line, reply, words[0] == "dump")
@@ -178,8 +180,8 @@ class Session:
         return reply.first != "bye"
 
     def note_marks(self, entries: Sequence[str]) -> None:
-        """Prints the lines that the marks of `info breakpoints` run, the breaks at places of the program, and the
-        conditions."""
+        """Prints the lines that run when the marks of `info breakpoints` hit, the breaks at places of the program, and
+        the conditions."""
         standing = [*(entry.split()[0] for entry in entries), *self.breaks.standing]
         conditions = [one.says(number) for number, one in self.conditions.items() if number in standing]
         breaks = [one.words() for one in self.breaks.standing.values()]
@@ -199,7 +201,7 @@ class Session:
             self.interrupts.check()
 
     def holding(self, marks: Sequence[str]) -> list[str]:
-        """Those of the marks that hit whose conditions hold at the session's position, and those without a condition."""
+        """Those of the marks that hit whose conditions hold at the session's position or that have no condition."""
         return [mark for mark in marks if mark not in self.conditions or self.holds(self.conditions[mark])]
 
     def holds(self, condition: Condition, position: Optional[int] = None) -> bool:
@@ -209,7 +211,7 @@ class Session:
         return condition.is_met(value, self.words_of(cell, value))
 
     def back_to_a_break(self, sent: str, reply: Reply) -> Reply:
-        """The reply to a move; if the move passed a break of the program, the reply to the move back to it."""
+        """The reply to a move, or, if the move passed a break of the program, to the move back to that break."""
         if not self.breaks.standing or not MOVED.fullmatch(reply.first):
             return reply
         position = move_of(sent, reply.first).position
@@ -219,7 +221,7 @@ class Session:
         return Reply(self.go(near))
 
     def tell_breaks(self, name: str, position: int) -> None:
-        """Prints which breaks of the program stop here, after a move to one."""
+        """Prints which breaks of the program stop at a position, after a move to one."""
         for hit in self.breaks.hit(position) if name in STOPPING else ():
             self.is_before = True
             self.printer.note(f"break {hit.number}: {hit.place.spelled}")
@@ -237,8 +239,8 @@ class Session:
         return dump_words(cell, value) if is_dump else in_words(cell, value) if cell_of(cell.split()) else ""
 
     def arrive(self, position: int, numbers: Sequence[str] = (), stood: Sequence[Listed] = ()) -> None:
-        """Prints the position after a move, the marks that hit (`stood` are those before it), and the changes of
-        the last step."""
+        """Prints the position after a move, the marks that hit (`stood` are the marks listed before the move), and the
+        changes of the last step."""
         self.stood, self.frame, self.is_before, self.goroutine = position, None, False, None
         self.attached.hits(numbers)
         self.printer.place(self.place(position))
@@ -268,12 +270,12 @@ class Session:
             self.stood = now
 
     def go(self, position: int) -> str:
-        """Goes to the position, whatever the direction; the reply to the last command."""
+        """Goes to the position, whatever the direction is, and returns the reply to the last command."""
         return go_to(position, self.ask)
 
     def source(self, path: str) -> bool:
-        """Answers the lines of a file, printing each first; raises an OSError if it can't be read. False if the
-        session has ended."""
+        """Prints and answers each line of a file; raises an OSError if it can't be read. Returns False if the session
+        has ended."""
         if self.depth == NESTED:
             raise Misused(messages.NESTED.format(most=NESTED))
         lines = lines_of_script(path)
@@ -284,7 +286,7 @@ class Session:
             self.depth -= 1
 
     def echoed(self, line: str) -> bool:
-        """Answers a line that wasn't typed, printing it first. False if the session has ended."""
+        """Prints a line that wasn't typed, and answers it. Returns False if the session has ended."""
         if line.split():
             self.printer.echo(line)
         return self.attempt(line)

@@ -1,5 +1,5 @@
-"""The forms of netrev's replies, as docs/reference/COMMANDS.md has them. Each reply must have the form for its
-line, so that none is mistaken for the reply to another line; a reply without such a form isn't netrev's."""
+"""The forms of netrev's replies, as docs/reference/COMMANDS.md has them. Each reply must have the form for its line, so
+that it isn't mistaken for the reply to another line; a reply in another form isn't netrev's."""
 
 import re
 from typing import Callable, Match, NamedTuple
@@ -33,11 +33,11 @@ OF_DUMP = {
 
 
 class Refused(Exception):
-    """netrev refused a line: its reply."""
+    """Raised, with the reply, if netrev refused a line."""
 
 
 class Strange(Exception):
-    """A reply that netrev doesn't give: another program answers."""
+    """Raised for a reply that netrev doesn't give, because another program answers."""
 
     def __init__(self, line: str, reply: str):
         shown = reply if len(reply) <= SHOWN else f"{reply[: SHOWN - 2]}.."
@@ -53,7 +53,8 @@ class Position(NamedTuple):
 
 
 class Move(NamedTuple):
-    """The result of a move: the position, whether at an end of the recording, and the numbers of the marks that hit."""
+    """The result of a move: the position, whether it is an end of the recording, and the numbers of the marks that
+    hit."""
 
     position: int
     is_end: bool
@@ -124,8 +125,8 @@ def is_shaped(what: str, value: str, is_dump: bool) -> bool:
 
 
 def go_to(position: int, ask: Callable[[str], str]) -> str:
-    """Goes to a position, whatever the direction, through the function that asks netrev; its reply to the last
-    command."""
+    """Goes to a position, whatever the direction is, through the function that asks netrev, and returns the reply to
+    the last command."""
     now, _, direction = position_of(ask("info position"))
     if position == now:
         return f"at {now}"

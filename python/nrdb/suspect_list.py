@@ -1,6 +1,6 @@
 """The output of `netrev suspects FILE` for a recording: each line as netrev printed it, and its meaning. netrev is
-started once. An older netrev without that command lists nothing, nor does one that fails: then the rules of
-`info suspects` use nrdb's own notes (`suspects/reckoned.py`)."""
+started only once. An older netrev without that command, or one that fails, lists nothing; then the rules of `info
+suspects` use nrdb's own notes (`suspects/reckoned.py`)."""
 
 import re
 import subprocess
@@ -23,7 +23,8 @@ LAST = re.compile(r"ok (\d+) steps")
 
 
 class LostWakeUp(NamedTuple):
-    """A goroutine that is parked at a side whose last event was taken, and at which no try was answered EAGAIN since."""
+    """A goroutine that is parked at a side whose last event was taken, and at which no try has been answered EAGAIN
+    since."""
 
     line: str
     goroutine: int
@@ -35,8 +36,8 @@ class LostWakeUp(NamedTuple):
 
 
 class HeldReference(NamedTuple):
-    """A goroutine that took this many more references of a closed socket than it gave back, the last one at step
-    `since`."""
+    """A goroutine that took more references of a closed socket than it gave back: how many more, and the step `since`
+    that took the last one."""
 
     line: str
     socket: int
@@ -47,8 +48,9 @@ class HeldReference(NamedTuple):
 
 
 class OfDeadline(NamedTuple):
-    """The effect of a side's deadline at a step, its setter and sides, and the first later setting of the other side
-    alone. It passed, a goroutine's call ended with it, or it was taken back before that goroutine looked."""
+    """The effect of a side's deadline at a step, the step that set it and for which sides, and the first later setting
+    of the other side alone. The deadline passed, a goroutine's call ended with it, or it was withdrawn before that
+    goroutine checked."""
 
     line: str
     step: int
@@ -76,7 +78,7 @@ class Listed:
             self._take(line)
 
     def _take(self, line: str) -> None:
-        """Adds a line; the rules ignore one of an unknown form."""
+        """Adds a line; a line of an unknown form is ignored by the rules."""
         if found := OF_A_DEADLINE.fullmatch(line):
             self._take_deadline(line, *found.groups())
         elif found := HELD_REFERENCE.fullmatch(line):
@@ -134,7 +136,7 @@ class SuspectList:
         return Listed(lines) if found and int(found[1]) == length else None
 
     def _read(self) -> list[str]:
-        """All lines, when netrev has ended; none if it failed."""
+        """All lines, after netrev has ended; none if it failed."""
         self.prepare()
         while self._process is not None:
             self._interrupts.check()
@@ -146,7 +148,7 @@ class SuspectList:
         return []
 
     def drop(self) -> None:
-        """Ends netrev, if its output hasn't been read."""
+        """Ends netrev if its output hasn't been read."""
         if self._process is not None and self._lines is None:
             self._process.kill()
             self._process.communicate()

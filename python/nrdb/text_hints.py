@@ -135,7 +135,7 @@ def kind_of_step_hint(value: Any) -> str:
 
 
 def answered_hint(value: list[Any]) -> str:
-    """The hint for a step of version 2 whose arguments, or recorded answer, are wrong."""
+    """The hint for a step of version 2 whose arguments or recorded answer are wrong."""
     kind, given = KINDS[value[0]], value[1:]
     if given and is_answer(given[-1]):
         return arguments_hint(value[:-1])
@@ -159,7 +159,7 @@ def arguments_hint(value: list[Any]) -> str:
 
 
 def argument_hint(kind: Kind, name: str, given: Any) -> Optional[str]:
-    """What is wrong with an argument, or None."""
+    """A description of what is wrong with an argument; None if nothing is."""
     how = written(kind, name)
     if is_written(how, given):
         return None

@@ -1,5 +1,5 @@
-"""The timer that a `pop` starts and a `fire` runs, and the step that set it, computed from the recording's steps, because netrev
-shows only the number of timers."""
+"""The timer that a `pop` starts and a `fire` runs, and the step that set it. They are computed from the recording's
+steps, because netrev shows only the number of timers."""
 
 from functools import lru_cache
 from typing import Any, Mapping, NamedTuple, Optional
@@ -17,8 +17,8 @@ FOLLOWED = frozenset(("pollopen", "pollclose", "setdeadline", "evict", "tick", "
 
 
 class Timer(NamedTuple):
-    """A timer of a `pop` or a `fire`: its sides, the descriptor and its socket when the deadline was set, the due
-    time, and the step that set it. A stale one was stopped or moved before its function ran."""
+    """A timer of a `pop` or a `fire`: its sides, the descriptor and the socket that it had when the deadline was set,
+    the due time, and the step that set the deadline. A stale timer was stopped or moved before its function ran."""
 
     sides: str
     descriptor: int
@@ -40,11 +40,11 @@ class Following:
     def __init__(self) -> None:
         self._deadlines = Deadlines()
         self._clock = 0
-        self._free: list[int] = []  # free descriptors, the one that was freed last at the end
+        self._free: list[int] = []  # free descriptors, with the one freed last at the end
         self._sockets: dict[int, int] = {}  # of descriptors
 
     def follow(self, number: int, kind: str, *arguments: Any) -> Optional[Timer]:
-        """Processes a step; the timer that it pops or runs."""
+        """Processes a step, and returns the timer that it pops or runs."""
         deadlines = self._deadlines
         match kind, *arguments:
             case "tick", time:
@@ -88,7 +88,7 @@ def timer_of(recording: Recording, step: Optional[Step]) -> Optional[Timer]:
 
 
 def timer_words(recording: Recording, step: Step) -> str:
-    """The owner of a step's timer, in brackets after a row; empty if it has none."""
+    """The owner of a step's timer, in parentheses after a row; empty if it has none."""
     timer = timer_of(recording, step)
     return f"({timer})" if timer else ""
 

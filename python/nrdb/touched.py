@@ -1,4 +1,4 @@
-"""The sockets that goroutines use in a part of a recording, found without reading the part before."""
+"""The sockets that goroutines use in a part of a recording, found without reading the earlier steps."""
 
 from bisect import bisect_right
 from collections import Counter
@@ -43,8 +43,8 @@ class Touched(Counter[Place]):
             self[g, named[g]] += 1
 
     def _named_before(self, g: int) -> int:
-        """The socket that a goroutine named last before these steps. It continues what it began then, so its status
-        belongs to that socket."""
+        """The socket that a goroutine named last before these steps. It continues the call that it began then, so its
+        status belongs to that socket."""
         begun, words = 0, [""]
         for step, status in self._notes.changes.back(f"gor {g}", self._begin):
             if status == "idle":

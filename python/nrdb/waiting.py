@@ -1,6 +1,6 @@
-"""`info goroutines`: what each goroutine does that is neither idle nor gone, and what it waits for, in the poller
-or elsewhere. It is the first query if something hangs, so a thousand goroutines that wait for one lock read that
-lock once."""
+"""`info goroutines`: for each goroutine that is neither idle nor gone, what it does and what it waits for, in the
+poller or elsewhere. This is usually the first query when something hangs, so for a thousand goroutines that wait for
+one lock, the lock is read once."""
 
 from functools import cached_property
 from typing import Iterable, Mapping, Optional
@@ -29,7 +29,7 @@ class Queue:
 
     @cached_property
     def places(self) -> dict[int, int]:
-        """The places in the semaphore's queue, from 1, by goroutine."""
+        """The goroutines' places in the semaphore's queue, from 1."""
         queue = self._world.queue(QUEUES[self._side], self._socket)
         return {goroutine: place for place, goroutine in enumerate(queue, 1)}
 
@@ -51,7 +51,7 @@ class Queue:
 
 
 def lock_of(status: str) -> Optional[Lock]:
-    """The lock that a goroutine of this status waits for, if it is one that does."""
+    """The lock that a goroutine with this status waits for; None if it waits for none."""
     name, *rest = status.split()
     return (int(rest[0]), rest[1]) if name in ("acquiring", "queued", "relock") else None
 
@@ -67,7 +67,7 @@ def queues_of(world: World, statuses: Iterable[str]) -> dict[Lock, Queue]:
 
 
 class Waits:
-    """What the goroutines of one table wait for; `statuses` are those of all goroutines in it."""
+    """What the goroutines of one table wait for; `statuses` has the status of each goroutine in it."""
 
     def __init__(self, world: World, statuses: Mapping[int, str]):
         self._world, self._statuses = world, statuses
@@ -84,7 +84,7 @@ class Waits:
         return found
 
     def of(self, goroutine: int) -> str:
-        """What a goroutine waits for, with the known facts."""
+        """What a goroutine waits for, with the known facts about that."""
         status = self._statuses[goroutine]
         name, *rest = status.split()
         if name == "absent":
@@ -96,7 +96,7 @@ class Waits:
         return status_words(status)
 
     def _queue_words(self, goroutine: int, socket: int, side: str) -> str:
-        """The goroutine's place in the queue of that lock, and the lock's holder."""
+        """The goroutine's place in the queue of a lock, and the lock's holder."""
         queue = self._queues[socket, side]
         place = queue.places.get(goroutine)
         said = f"place {place} of {len(queue.places)}, " if place else ""
@@ -108,7 +108,7 @@ class Waits:
         )
 
     def _owed(self, socket: int, queue: Queue) -> str:
-        """The goroutines that owe releases there, and whether the socket is closed."""
+        """The goroutines that owe releases at a socket, and whether the socket is closed."""
         owed = "".join(f"; goroutine {number} owes a release there" for number in self._owing.get(socket, ()))
         return owed + ("; the socket is closed" if queue.word.closed else "")
 
@@ -139,8 +139,8 @@ class Waits:
 
 
 def goroutines_table(world: World, numbers: Optional[Iterable[int]] = None, is_all: bool = False) -> Table:
-    """The goroutines that do something or wait for something; or all; or the ones with these numbers. Those without a
-    step in the recording come last, if they wait."""
+    """The table of the goroutines that do or wait for something, of all goroutines, or of those with these numbers.
+    Waiting goroutines without a step in the recording come last."""
     every = list(range(world.made(Of.GOROUTINE)) if numbers is None else numbers)
     statuses = {number: status for number, (status,) in world.of_each(every, "gor").items()}
     elsewhere = {wait.name: wait for wait in waits_of(world.recording).all_at(world.position)}
@@ -169,25 +169,26 @@ def goroutines_table(world: World, numbers: Optional[Iterable[int]] = None, is_a
 
 
 def _row(number: int, goid: int, status: str, why: str) -> Row:
-    """The row of a goroutine; `goid` is Go's own number if several goroutines had that of the recording, else 0."""
+    """The row of a goroutine; `goid` is Go's own number if several goroutines had the recording's number, else 0."""
     values = {"goroutine": number, **({"goid": goid} if goid else {}), "status": status, "waits_for": why}
     return Row(values, f"gor {number:<4} {f'(goid {goid}) ' if goid else ''}{status:<16} {why}".rstrip())
 
 
 def _with_wait(row: Row, wait: Waiting) -> Row:
-    """The row of a goroutine that is idle for netrev, and waits outside of the poller."""
+    """The row of a goroutine that is idle for netrev and waits outside the poller."""
     values = row.values | {"waits_for": wait.does, "elsewhere": True}
     return _with_line(Row(values, f"{row.text:<25} {wait.does}"), wait.stack, wait.first)
 
 
 def row_of_wait(wait: Waiting) -> Row:
-    """The row of a goroutine that has no step in the recording, and waits."""
+    """The row of a goroutine that waits and has no step in the recording."""
     values = {**wait.name.values, "status": QUIET[0], "waits_for": wait.does, "elsewhere": True}
     return _with_line(Row(values, f"{str(wait.name):<25} {wait.does}"), wait.stack, wait.first)
 
 
 def _with_line(row: Row, stack: Stack, step: int) -> Row:
-    """The row with the program's line, the step since which the goroutine is there, and the line that started it."""
+    """The row with the program's line, the step since which the goroutine has been there, and the line that started
+    it."""
     if not stack.calls:
         return row
     started = f"; started at {stack.made.place()}" if stack.made else ""

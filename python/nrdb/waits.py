@@ -11,14 +11,14 @@ from .recording import Recording
 from .where import Lines, Stack, Wait
 from .words import duration
 
-MOST_NUMBERS = 8  # goroutines that are named
+MOST_NUMBERS = 8  # the most goroutines that are named
 LAST_USE, A_CONNECTION, A_RESPONSE, ALL_REQUESTS = (
     "the last who uses the descriptor",
     "a connection of net/http",
     "a response of net/http",
     "the end of all requests of net/http",
 )
-# The reason of a wait, if its stack shows it.
+# The reason for a wait, if its stack shows it.
 OF_FUNCTIONS = {
     "sync.(*Mutex).Lock": A_MUTEX,
     "sync.(*Mutex).lockSlow": A_MUTEX,
@@ -36,7 +36,7 @@ FIRST = attrgetter("first")
 
 
 class Name(NamedTuple):
-    """A goroutine: by its number in the recording, or by Go's own number if it made no step there."""
+    """A goroutine, named by its number in the recording, or by Go's own number if it made no step there."""
 
     number: int
     is_goid: bool = False
@@ -61,11 +61,11 @@ class Waiting(NamedTuple):
     stack: Stack
     by: Optional[Name] = None
     objects: tuple[At, ...] = ()
-    begin: int = 0  # nanoseconds, which order waits after one step
+    begin: int = 0  # in nanoseconds; orders waits that begin after the same step
     due: int = 0  # the planned end of a sleep, if known
 
     def is_at(self, position: int) -> bool:
-        """Whether it was under way at a position."""
+        """Whether the wait was in progress at a position."""
         return self.first <= position and (self.last is None or position < self.last)
 
     @property
@@ -75,7 +75,7 @@ class Waiting(NamedTuple):
 
     @property
     def kind(self) -> str:
-        """What it is for: `a mutex`, `a select`; empty if that isn't known."""
+        """The kind of what it waits for: `a mutex`, `a select`; empty if that isn't known."""
         return (
             next((OF_FUNCTIONS[call.function] for call in self.stack.calls if call.function in OF_FUNCTIONS), "")
             or self.reason
@@ -90,7 +90,7 @@ class Waiting(NamedTuple):
 
 
 class Waits:
-    """The waits outside of the poller of a recording, by goroutine, each list in the order in which they began."""
+    """The waits outside the poller of a recording, by goroutine, each list in the order in which they began."""
 
     def __init__(self, waits: Iterable[Waiting]) -> None:
         self.of: dict[Name, list[Waiting]] = defaultdict(list)
@@ -106,17 +106,18 @@ class Waits:
         return some[last] if last >= 0 and some[last].is_at(position) else None
 
     def all_at(self, position: int) -> Iterator[Waiting]:
-        """The waits that are under way at a position."""
+        """The waits that are in progress at a position."""
         return (wait for name in self.of if (wait := self.at(name, position)))
 
     def left(self, position: int) -> Iterator[Waiting]:
-        """The waits that were under way at a position and don't end."""
+        """The waits that were in progress at a position and don't end."""
         return (some[-1] for some in self.of.values() if some[-1].last is None and some[-1].first <= position)
 
 
 @lru_cache(maxsize=2)
 def waits_of(recording: Recording) -> Waits:
-    """The waits outside the poller in NAME.where: those of all goroutines, or, in the first format, of those with steps."""
+    """The waits outside the poller in NAME.where: those of all goroutines, or, in the first format, of goroutines with
+    steps."""
     lines = recording.lines
     if lines.parks:
         return Waits(of_park(lines, park) for parks in lines.parks.values() for park in parks)
@@ -140,14 +141,15 @@ def of_park(lines: Lines, park: Park) -> Waiting:
 
 
 def name_of_goid(lines: Lines, goid: int, step: Optional[int] = None) -> Name:
-    """The goroutine with a number of Go's: by its number in the recording at the step, if it has one, else at the end."""
+    """The goroutine with this goid: named by its number in the recording at the step, if it has one then, else at the
+    end."""
     number = lines.number_of(goid, step)
     return Name(number) if number >= 0 else Name(goid, True)
 
 
 def of_names(names: Iterable[Name]) -> str:
-    """Goroutines by their names: `goroutine 3`, `goroutines 3 and 5, goid 41`; of many the first ones and the
-    number of the others."""
+    """Goroutines by their names: `goroutine 3`, `goroutines 3 and 5, goid 41`; if there are many, the first ones and
+    the number of the others."""
     every = set(names)
     numbers, goids = (sorted(name.number for name in every if name.is_goid is is_goid) for is_goid in (False, True))
     named = [f"goroutine{'s' if numbers[1:] else ''} {listed(numbers)}"] if numbers else []

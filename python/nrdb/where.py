@@ -15,9 +15,9 @@ from .all_goroutines import OF_GOROUTINES, AllGoroutines, typed
 OF_GO, OF_THE_PROGRAM, OF_A_LIBRARY = "go", "program", "library"
 OF_SOCKETS = frozenset(("peers", "ends", "addresses", "sent", "sizes", "errors"))  # lines of the file
 OF_CALL = {"function": str, "file": str, "line": int, "of": str}
-MOST_BYTES, MOST_LINE = 2**26, 2**24  # of the file, and of one of its lines
-SHOWN = 12  # calls of a stack
-FORMS = (1, 2)  # forms of the file; the second has all goroutines
+MOST_BYTES, MOST_LINE = 2**26, 2**24  # the most bytes of the file and of one of its lines
+SHOWN = 12  # the most calls of a stack that are shown
+FORMS = (1, 2)  # formats of the file; the second has all goroutines
 
 
 class Call(NamedTuple):
@@ -33,13 +33,13 @@ class Call(NamedTuple):
 
 
 class Stack(NamedTuple):
-    """A step's calls from the innermost, and the `go` statement that made its goroutine."""
+    """A step's calls, innermost first, and the `go` statement that started its goroutine."""
 
     calls: tuple[Call, ...]
     made: Optional[Call]
 
     def own(self) -> Optional[tuple[Call, str]]:
-        """The innermost call of the program, or else of a library, with the function that it calls."""
+        """The innermost call of the program, or else of a library, with the function that is called there."""
         for wanted in ((OF_THE_PROGRAM,), (OF_THE_PROGRAM, OF_A_LIBRARY)):
             inner = ""
             for call in self.calls:
@@ -49,7 +49,7 @@ class Stack(NamedTuple):
         return None
 
     def place(self) -> str:
-        """The program's line; `in` and the innermost function if that is all that is known."""
+        """The program's line; `in` and the innermost function if only that is known."""
         found = self.own()
         return found[0].place() if found else self.words()
 
@@ -63,8 +63,9 @@ class Stack(NamedTuple):
 
 
 class Wait(NamedTuple):
-    """A wait outside the poller: the steps after which it begins and ends (0: it doesn't end in the recording), the goroutine, the
-    reason in words (empty if only the stack shows it), its stack, and the goroutine that ended it, or -1."""
+    """A wait outside the poller: the steps after which it begins and ends (0: it doesn't end in the recording), the
+    goroutine, the reason in words (empty if only the stack shows it), its stack, and the goroutine that ended it (-1:
+    unknown)."""
 
     first: int
     last: int
@@ -75,11 +76,12 @@ class Wait(NamedTuple):
 
 
 class Unusable(Exception):
-    """A file of lines that can't be used: the reason."""
+    """Raised, with the reason, for a NAME.where that can't be used."""
 
 
 class Lines(AllGoroutines):
-    """The lines of a recording's steps, and the reason if NAME.where can't be used. A missing file isn't a fault."""
+    """The source lines of a recording's steps, and, if NAME.where can't be used, the reason. A missing file isn't a
+    fault."""
 
     def __init__(self, text: str = "", steps: int = 0) -> None:
         self._begin()
@@ -90,7 +92,7 @@ class Lines(AllGoroutines):
 
     @classmethod
     def beside(cls, path: str, steps: int) -> "Lines":
-        """The lines of the file beside a recording with this many steps."""
+        """The lines from the file beside a recording with this many steps."""
         made, name = cls(), Path(path).with_suffix(".where")
         try:
             status = os.stat(name)
@@ -117,30 +119,32 @@ class Lines(AllGoroutines):
         """Starts without any known line."""
         self.steps = array("l")
         self.stacks: dict[int, Stack] = {0: Stack((), None)}
-        # steps that the program orders; None if the recorder saw none
+        # the pairs of steps that the program orders; None if the recorder saw none
         self.orders: Optional[list[tuple[int, int]]] = None
         self.bytes: Optional[
             int
-        ] = None  # the most bytes that a read or a write counts; None if each has all of its own
-        self.has_tags = False  # whether Go compared an event's tag with the use of the descriptor
+        ] = None  # the most bytes that a read or a write counts; None if each counts all of its bytes
+        self.has_tags = False  # whether Go compared an event's tag with the current use of the descriptor
         self.prelude = 0  # how many steps lead to the state in which the recording begins
-        self.tests: list[tuple[int, int, str]] = []  # the first and the last step while each test ran, package and name
-        self.peers: dict[int, int] = {}  # for a socket the one at the connection's other end
-        self.ends: dict[int, tuple[int, int]] = {}  # for a socket the numbers of its own name and of the other end's
-        # for datagram sockets their addresses, and those that they are connected to
+        # for each test, the first and the last step while it ran, its package and its name
+        self.tests: list[tuple[int, int, str]] = []
+        self.peers: dict[int, int] = {}  # for a socket, the socket at the connection's other end
+        # for a socket, the numbers of its own name and of its other end's name
+        self.ends: dict[int, tuple[int, int]] = {}
+        # for datagram sockets, their addresses and those that they are connected to
         self.addresses: dict[int, tuple[str, str]] = {}
         self.sent: dict[int, str] = {}  # the address that a datagram was sent to, by a step of the call
-        # by its step, the bytes that a read or a write moved, if the recording counts fewer
+        # by step, the bytes that a read or a write moved, if the recording counts fewer
         self.sizes: dict[int, int] = {}
-        self.errors: dict[int, str] = {}  # the system's errors, by the step after which a goroutine's call had them
-        self.waits: dict[int, list[Wait]] = {}  # waits outside of the poller, by goroutine
+        self.errors: dict[int, str] = {}  # the system's errors, by the step after which a goroutine's call got them
+        self.waits: dict[int, list[Wait]] = {}  # waits outside the poller, by goroutine
         # the times of the steps, in nanoseconds from the start of the log; empty if the recorder had none
         self.times = array("q")
         self._calls: dict[int, Call] = {}
         self.begin_goroutines()
 
     def _take(self, lines: Iterable[str], steps: int) -> None:
-        """Reads the lines of the file, all or none of them."""
+        """Reads all lines of the file, or none of them if one is wrong."""
         number = 0
         try:
             for number, line in enumerate(lines, 1):
@@ -161,7 +165,7 @@ class Lines(AllGoroutines):
             self.times = array("q")
 
     def _add(self, line: dict[str, Any]) -> None:
-        """Adds a line after the first."""
+        """Adds a line after the first one."""
         if "call" in line:
             self._calls[line["call"]] = Call(*(typed(line[name], sort) for name, sort in OF_CALL.items()))
         elif "stack" in line:
@@ -186,7 +190,7 @@ class Lines(AllGoroutines):
             self._add_of_sockets(line)
         elif "times" in line:
             self.times.extend(accumulate(_later(line["times"]), initial=self.times[-1] if self.times else 0))
-            del self.times[-len(line["times"]) - 1]  # (the time that the sums start from)
+            del self.times[-len(line["times"]) - 1]  # (the time from which the sums start)
         elif "waits" in line:
             for values in line["waits"]:
                 wait = Wait(*map(typed, values, (int, int, int, str, int, int)))
@@ -196,11 +200,11 @@ class Lines(AllGoroutines):
             self.add_goroutines(line, self._calls, self.stacks)
         elif line["step"] == len(self.steps) + 1:
             numbers = line["stacks"]
-            are_known = self.stacks.keys() >= set(numbers)  # (mostly all thousand are known)
+            are_known = self.stacks.keys() >= set(numbers)  # (usually all thousand are known)
             self.steps.extend(numbers if are_known else (one if one in self.stacks else 0 for one in numbers))
 
     def _add_of_sockets(self, line: dict[str, Any]) -> None:
-        """Adds a line about sockets: which are two ends of a connection, their names and addresses, and errors of the
+        """Adds a line about sockets: the pairs of ends of connections, their names and addresses, or errors of the
         system."""
         if "ends" in line:
             for one, own, other in line["ends"]:
@@ -222,7 +226,7 @@ class Lines(AllGoroutines):
         return len(self.steps) > 0
 
     def of(self, step: int) -> Stack:
-        """The stack of a step; one without calls if it is unknown."""
+        """The stack of a step; a stack without calls if unknown."""
         return self.stacks[self.steps[step - 1]] if 0 < step <= len(self.steps) else self.stacks[0]
 
     def tests_at(self, step: int) -> list[str]:
@@ -230,7 +234,7 @@ class Lines(AllGoroutines):
         return [name for first, last, name in self.tests if first <= step <= last]
 
     def wait_of(self, goroutine: int, position: int) -> Optional[Wait]:
-        """The wait outside of the poller in which a goroutine is at a position."""
+        """The wait outside the poller in which a goroutine is at a position."""
         waits = self.waits.get(goroutine, ())
         return next((one for one in waits if one.first <= position and (not one.last or position < one.last)), None)
 
@@ -248,7 +252,8 @@ def of_steps(first: Any, steps: int) -> None:
 
 
 def _later(values: Any) -> Any:
-    """The differences between times; raises a TypeError or a ValueError if one is invalid. There may be a million."""
+    """The differences between times; raises a TypeError or a ValueError if a value is invalid. There may be a million
+    of them."""
     if set(map(type, values)) - {int}:
         raise TypeError
     if min(values, default=0) < 0:
@@ -257,7 +262,7 @@ def _later(values: Any) -> Any:
 
 
 def stack_lines(stack: Stack) -> list[str]:
-    """The calls of a stack, one a line, with those of the program marked."""
+    """The calls of a stack, one per line, with those of the program marked."""
     lines = []
     for call in stack.calls[:SHOWN]:
         mark = "*" if call.of == OF_THE_PROGRAM else " "

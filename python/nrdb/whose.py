@@ -50,13 +50,13 @@ class Whose:
     def __init__(self, recording: Recording, notes: Notes) -> None:
         self._recording = recording
         self.goroutines, self._sockets, self._descriptors = array("i"), array("i"), array("i")
-        self._of_timers: list[int] = []  # the steps of timers, until their owners are needed
+        self._of_timers: list[int] = []  # the steps of timers whose owners haven't been needed yet
         self._opened = iter(notes.uses)
         self._made = 0  # sockets
         self._named: dict[int, Place] = {}  # the last object that a goroutine named
         self._descriptor_of: dict[int, int] = {}
         self._socket_of: dict[int, int] = {}
-        self._tagged: dict[Place, int] = {}  # the socket of a use of a descriptor, by its tag
+        self._tagged: dict[Place, int] = {}  # for a descriptor and a tag of its use, the socket of that use
         self._go_through()
 
     @property
@@ -86,7 +86,7 @@ class Whose:
             descriptor_is(d)
 
     def _other(self, number: int, kind: str, g: int, arguments: list[Any]) -> Place:
-        """The socket and the descriptor of a step that makes or frees one, or belongs to a timer or an event."""
+        """The socket and the descriptor of a step that makes or frees one, or that belongs to a timer or an event."""
         if kind == "sockopen":
             self._made += 1
             return self._made - 1, NONE

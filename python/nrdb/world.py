@@ -1,5 +1,5 @@
-"""The objects at the session's position, from netrev's replies and the recording's steps: which descriptors are open,
-and of which sockets."""
+"""The objects at the session's position, derived from netrev's replies and the recording's steps: which descriptors are
+open, and on which sockets."""
 
 import re
 from functools import lru_cache
@@ -13,8 +13,8 @@ from .recording import Recording
 OF_POLL = re.compile(rb'"poll(?:close"\s*,\s*\d+\s*,\s*(\d+)|open"\s*,\s*\d+\s*,\s*(\d+))')
 COUNTED_BY = {Of.GOROUTINE: "gor", Of.SOCKET: "lock", Of.DESCRIPTOR: "fdseq"}
 LIMITS = {Of.GOROUTINE: "gor", Of.SOCKET: "sock", Of.DESCRIPTOR: "desc"}
-AT_FIRST, TIMES = 8, 8  # how many cells are asked for at first, and how many times as many each time after that
-BLOCK = 16_384  # steps, after each of which it is kept which descriptors are open
+AT_FIRST, TIMES = 8, 8  # how many cells are asked for at first, and by what factor the number grows each time
+BLOCK = 16_384  # the number of steps after which the open descriptors are stored again
 
 
 class World:
@@ -36,7 +36,7 @@ class World:
         return int(self.value(cell))
 
     def of_each(self, numbers: Iterable[int], *names: str) -> dict[int, list[str]]:
-        """For each number the values of the cells with these names, in order."""
+        """For each number, the values of the cells with these names, in order."""
         numbers = list(numbers)
         values = self.values([f"{name} {number}" for number in numbers for name in names])
         return {number: values[at * len(names) : (at + 1) * len(names)] for at, number in enumerate(numbers)}
@@ -47,7 +47,7 @@ class World:
         return [] if shown in ("-", "absent") else [int(word) for word in shown.split()]
 
     def made(self, of: Of) -> int:
-        """The number of goroutines, sockets or descriptors that exist, whose numbers are all below it."""
+        """The number of goroutines, sockets or descriptors that exist; they are numbered from 0."""
         return made_at(self.netrev, of, room_for(self.recording, of))
 
     def sockets_of_open(self) -> dict[int, int]:
@@ -56,7 +56,7 @@ class World:
 
 
 class Opened:
-    """Which descriptors are open, by the openings and closings so far."""
+    """The descriptors that are open after the openings and closings so far."""
 
     def __init__(self, earlier: Optional["Opened"] = None) -> None:
         self.made: int = earlier.made if earlier else 0
@@ -75,7 +75,7 @@ class Opened:
         return opened
 
     def next(self) -> int:
-        """The number that `pollopen` takes: the one freed last, or the next new one."""
+        """The number that `pollopen` takes: that of the descriptor freed last, or the next new one."""
         return self.free[-1] if self.free else self.made
 
     def take(self) -> int:
@@ -95,15 +95,16 @@ def opened_after(recording: Recording, blocks: int) -> Opened:
 
 @lru_cache(maxsize=4)
 def opened_by(recording: Recording, position: int) -> tuple[dict[int, int], int]:
-    """The descriptors that are open after this many steps, each with its socket, and the number that `pollopen` takes next."""
+    """The descriptors that are open after this many steps, each with its socket, and the number that the next
+    `pollopen` takes."""
     blocks = position // BLOCK
     opened = opened_after(recording, blocks).after(recording, blocks * BLOCK, position)
     return opened.now, opened.next()
 
 
 def closings_and_openings(recording: Recording, first: int, last: int) -> Iterable[tuple[bytes, bytes]]:
-    """For each `pollclose` and `pollopen` among the steps from one position to another the descriptor, or the socket, as spelled; the
-    other one is empty."""
+    """For each `pollclose` and `pollopen` among the steps from one position to another, the descriptor or the socket,
+    as spelled; the other text is empty."""
     if not recording.has_escapes:
         return OF_POLL.findall(recording.between(first, last))
     steps = recording.steps_of(("pollopen", "pollclose"), last)
