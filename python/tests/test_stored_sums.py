@@ -1,0 +1,110 @@
+"""What nrdb says of the recordings in `caused` at many positions, and without parts of NAME.where: the sums are stored, as the texts are long.
+
+    /usr/bin/python3 python tests.test_stored_sums                     stores the sums anew
+    /usr/bin/python3 python tests.test_stored_sums NAME VIEW ..        prints the text of a view, to compare it with an earlier one's"""
+
+import hashlib
+import json
+import re
+import shutil
+import sys
+import tempfile
+from collections.abc import Callable
+from pathlib import Path
+
+import pytest
+
+from nrdb.causes.first import first_words
+from nrdb.causes.tables import errors_table, hangs_table
+from nrdb.recording import Recording
+from tests.go_caused import SOURCE, source_of
+from tests.test_causes import CAUSED, in_the_folder_of_the_source
+from tests.test_stored_sentences import PROGRAMS, RECORDINGS, lines_of
+
+STORED = CAUSED / "sums.json"
+PARTS = 12  # of a recording, between which it is looked at
+# lines of NAME.where that are left out
+WITHOUT = {"times": "times", "orders": "orders|waits", "objects": "objects|channels|held|timers"}
+
+
+def read(path: Path) -> Recording:
+    recording = Recording.read(str(path))
+    recording.lines.written = float("inf")  # (a clone's files are newer than the recording)
+    return recording
+
+
+def hangs(recording: Recording) -> list[str]:
+    """The hangs between all parts."""
+    found = []
+    for part in range(1, PARTS):
+        at = recording.length * part // PARTS
+        found += [f"at {at}", *lines_of(hangs_table(recording, at))]
+    return found
+
+
+def errors(recording: Recording) -> list[str]:
+    return [
+        line for part in range(1, 4) for line in lines_of(errors_table(recording, recording.length * part // 4, None))
+    ]
+
+
+def in_short(recording: Recording) -> list[str]:
+    """The first words, and some hangs."""
+    first = [line for line in first_words(recording, "made.jsonl") if not line.startswith("next:")]
+    more = [line for part in (2, 3) for line in lines_of(hangs_table(recording, recording.length * part // 4))]
+    return first + more + lines_of(errors_table(recording, recording.length, None))
+
+
+def without(name: str, what: str) -> list[str]:
+    """The views of a recording whose NAME.where lacks some lines."""
+    with tempfile.TemporaryDirectory() as folder:
+        path = Path(folder, "made.jsonl")
+        shutil.copy(CAUSED / f"{name}.jsonl", path)
+        lines = (CAUSED / f"{name}.where").read_text().splitlines(keepends=True)
+        path.with_suffix(".where").write_text("".join(line for line in lines if not re.match(rf'{{"(?:{what})"', line)))
+        return in_short(read(path))
+
+
+def whole(name: str) -> Recording:
+    return read(CAUSED / f"{name}.jsonl")
+
+
+VIEWS: dict[str, Callable[[str], list[str]]] = {
+    "hangs": lambda name: hangs(whole(name)),
+    "errors": lambda name: errors(whole(name)),
+    **{f"without {part}": lambda name, what=what: without(name, what) for part, what in WITHOUT.items()},  # type: ignore[misc]
+}
+
+
+def text_of(name: str, view: str) -> str:
+    """What nrdb says in a view of a recording, beside its program's source."""
+    program = name.rpartition("-")[0]
+    with in_the_folder_of_the_source(source_of(program) if program in PROGRAMS else SOURCE):
+        return "\n".join(VIEWS[view](name))
+
+
+def views_of(name: str) -> list[str]:
+    """The views whose sums are stored: of good runs, in which hardly anything hangs, only the whole NAME.where's."""
+    return [view for view in VIEWS if name.endswith("-bad") or not view.startswith("without")]
+
+
+def sums_of(name: str) -> dict[str, str]:
+    return {view: hashlib.sha256(text_of(name, view).encode()).hexdigest()[:12] for view in views_of(name)}
+
+
+@pytest.mark.parametrize("name", [name for name in RECORDINGS if (CAUSED / f"{name}.where").exists()])
+def test_nrdb_says_what_the_sums_are_of(name: str) -> None:
+    assert sums_of(name) == json.loads(STORED.read_text())[name]
+
+
+def main(words: list[str]) -> None:
+    for view in words[1:]:
+        print(text_of(words[0], view))
+    if not words:
+        names = [name for name in RECORDINGS if (CAUSED / f"{name}.where").exists()]
+        lines = (f"{json.dumps(name)}: {json.dumps(sums_of(name))}" for name in names)
+        STORED.write_text("{\n" + ",\n".join(lines) + "\n}\n")
+
+
+if __name__ == "__main__":
+    main(sys.argv[1:])
