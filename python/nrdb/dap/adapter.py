@@ -30,13 +30,13 @@ CANCELLED, ENDS = "cancelled", "the editor ends the session"
 
 
 def shown(text: str) -> str:
-    """Text of several lines in the form that editors show."""
+    """Text of several lines in the form in which editors show it."""
     return "\n".join(plain(line) for line in text.split("\n"))
 
 
 class Outcome(NamedTuple):
-    """The result of a request: the body of its response, and then that the session has stopped, an event, or its
-    end."""
+    """The result of a request: the body of its response; and, to be reported after that, a stop, an event, or the end
+    of the session."""
 
     body: Body = {}
     stop: Optional[Stop] = None
@@ -45,7 +45,8 @@ class Outcome(NamedTuple):
 
 
 class Adapter:
-    """Serves one editor, whose requests come from `source`. `program` is netrev's; no message can change it."""
+    """Serves one editor, whose requests come from `source`. `program` is the path of netrev, which no message can
+    change."""
 
     def __init__(self, wire: Wire, source: Source, program: str):
         self._wire, self._source, self._program = wire, source, program
@@ -73,7 +74,8 @@ class Adapter:
         }  # fmt: skip
 
     def serve(self, begun: Sequence[Request] = ()) -> None:
-        """Answers requests until the editor is gone. `begun` came before, and its `initialize` was answered then."""
+        """Answers requests until the editor disconnects. The requests of `begun` came before this; their `initialize`
+        has been answered."""
         with closing(self._source), self._opened:
             for request in begun:
                 self._initialize(request) if request.command == "initialize" else self._guarded(request)
@@ -100,7 +102,7 @@ class Adapter:
             self._refused(work, shown(str(why)))
         except Interrupted:
             self._refused(work, CANCELLED)
-        except GivenUp:  # (the request that ends the session comes next, and is answered before the close)
+        except GivenUp:  # (the request that ends the session comes next, and is answered before everything is closed)
             work.refuses(ENDS)
             self._target_or_none = None
         except (Ended, Strange, Lost) as why:
@@ -121,7 +123,7 @@ class Adapter:
                 self._close()
 
     def _worked(self, request: Request, work: Work) -> Outcome:
-        """The result of a request, while the editor's messages are still read."""
+        """The result of a request; the editor's messages are read meanwhile."""
         if self._source.ends(request):
             raise Interrupted
         if request.command in ("launch", "attach"):
@@ -140,12 +142,13 @@ class Adapter:
             self._stopped(Stop("goto", texts.SOMEONE_MOVED.format(position=moved)))
 
     def _refused(self, work: Work, why: str) -> None:
-        """Reports that a request failed. After a move that was answered early, the session stays at its position."""
+        """Reports that a request failed. If a move was answered early, also reports that the session stays at its
+        position."""
         if work.refuses(why):
             self._stopped(Stop("pause", why))
 
     def _outcome(self, request: Request) -> Outcome:
-        """The outcome of a request; Unanswerable if it fails."""
+        """The outcome of a request; raises Unanswerable if it fails."""
         answer = self._answers.get(request.command)
         if answer is None:
             raise Unanswerable(texts.UNKNOWN_REQUEST.format(command=request.command))
@@ -185,7 +188,7 @@ class Adapter:
             self._wire.event("output", category="console", output=text)
 
     def _end(self, why: str) -> None:
-        """Ends the session, whatever netrev does."""
+        """Ends the session, whatever netrev is doing."""
         self._console(f"| {plain(why)}\n")
         self._close()
         self._wire.event("terminated")
@@ -222,7 +225,7 @@ class Adapter:
         return Outcome(event="initialized")
 
     def _cancel(self, request: Request) -> Outcome:
-        return Outcome()  # (its work was stopped when it arrived, or is done)
+        return Outcome()  # (the cancelled work was stopped when the request arrived, or has finished)
 
     def _configured(self, request: Request) -> Outcome:
         return Outcome(stop=self._target.stop)

@@ -1,5 +1,6 @@
-"""Decides which editor is served. Over the standard streams it is the editor that started nrdb. A port is open to everything on the
-machine, including web pages in a browser, so there a launch needs the token that nrdb printed."""
+"""Decides which editors are served. Over the standard streams, that is the editor that started nrdb. A port is open to
+every program on the machine, including web pages in a browser, so there a launch must carry the token that nrdb
+printed."""
 
 import hmac
 import os
@@ -7,19 +8,19 @@ import secrets
 from ..messages import editors as texts
 from .messages import Request, Unanswerable
 
-TOKEN = "token"  # the argument of a launch
-NAMED_BY = "NRDB_TOKEN"  # the variable for a token that the user chooses
+TOKEN = "token"  # the argument of a launch that has the token
+NAMED_BY = "NRDB_TOKEN"  # the environment variable for a token that the user chooses
 LEAST = 16  # characters of one
 BEFORE = ("initialize", "disconnect")  # requests that are answered without the token
 OPENING = ("launch", "attach")  # requests that carry the token
 
 
 class Stranger(Unanswerable):
-    """A launch without the token: nothing more is read from that connection."""
+    """Raised for a launch without the token; nothing more is read from that connection."""
 
 
 class NoToken(Exception):
-    """The token that the user chose isn't valid: the reason."""
+    """Raised, with the reason, if the token that the user chose isn't valid."""
 
 
 def token_for_a_port() -> str:
@@ -33,8 +34,8 @@ def token_for_a_port() -> str:
 
 
 def is_let_in(request: Request, token: str) -> bool:
-    """Whether a request is a launch with the token, rather than one that is answered without it. Unanswerable for
-    any other request, Stranger for a launch with another token."""
+    """Whether a request is a launch with the token; False for requests that are answered without it. Raises
+    Unanswerable for any other request, and Stranger for a launch with another token."""
     if request.command in BEFORE:
         return False
     if request.command not in OPENING:

@@ -11,11 +11,11 @@ from .numbering import Numbering
 from .target import Target
 from .wishes import Unset, Wish, cell_wish, kind_wish, positions_of, wish_of
 
-MOST_TARGETS = 1_000  # lines that are searched for steps
+MOST_TARGETS = 1_000  # the most lines that are searched for steps
 
 
 def set_lines(target: Target, numbering: Numbering, request: Request) -> Body:
-    """Breakpoints at lines of the recording."""
+    """Sets the breakpoints at lines of the recording."""
     asked = request.objects("breakpoints")
     if not is_the_recording(target, request):
         return {"breakpoints": in_the_program(target, numbering, path_of(request), asked)}
@@ -27,7 +27,8 @@ def set_lines(target: Target, numbering: Numbering, request: Request) -> Body:
 
 
 def of_steps(target: Target, path: str, wishes: list[Wish | Unset]) -> list[Body]:
-    """Replaces the breakpoints before steps; the protocol's answer for each. Log messages use no marks of netrev."""
+    """Replaces the breakpoints before steps, and returns the protocol's answer for each. Log messages use no marks of
+    netrev."""
     session = target.debuggee.session
     target.logpoints.clear(path)
     told = [
@@ -41,7 +42,7 @@ def of_steps(target: Target, path: str, wishes: list[Wish | Unset]) -> list[Body
 
 
 def in_the_program(target: Target, numbering: Numbering, path: str, asked: list[Body]) -> list[Body]:
-    """Breakpoints in a file of the program."""
+    """Sets the breakpoints in a file of the program."""
     if not target.debuggee.recording.lines:
         return [{"verified": False, "message": texts.NO_LINES} for _ in asked]
     target.go_lines.clear(path)
@@ -58,12 +59,12 @@ def path_of(request: Request) -> str:
 
 
 def is_the_recording(target: Target, request: Request) -> bool:
-    """Whether the source that a request names is the recording."""
+    """Whether a request names the recording as its source."""
     return bool(path_of(request)) and target.debuggee.is_at(path_of(request))
 
 
 def set_functions(target: Target, _: Numbering, request: Request) -> Body:
-    """Breakpoints of kinds of steps, and of the program's functions."""
+    """Sets the breakpoints at kinds of steps and at the program's functions."""
     asked = request.objects("breakpoints")
     target.go_lines.clear(FUNCTIONS)
     of_program = [
@@ -76,7 +77,7 @@ def set_functions(target: Target, _: Numbering, request: Request) -> Body:
 
 
 def is_function(asked: Body) -> bool:
-    """Whether a breakpoint can be at a function because its name isn't a kind of step."""
+    """Whether a breakpoint may be at a function, because its name isn't a kind of step."""
     return isinstance(asked.get("name"), str) and asked["name"] not in KINDS
 
 
@@ -89,7 +90,7 @@ def data_info(target: Target, _: Numbering, request: Request) -> Body:
 
 
 def targets(target: Target, numbering: Numbering, request: Request) -> list[Body]:
-    """The positions at which a goroutine comes to a line of the program."""
+    """The positions at which a goroutine reaches a line of the program."""
     line = numbering.asked(request, "line")
     positions = target.go_lines.positions(path_of(request), line)
     whose = [(position, target.debuggee.maker(position + 1)) for position in positions[:MOST_TARGETS]]
@@ -100,13 +101,13 @@ def targets(target: Target, numbering: Numbering, request: Request) -> list[Body
 
 
 def set_data(target: Target, _: Numbering, request: Request) -> Body:
-    """Watched cells."""
+    """Sets the watched cells."""
     wishes = [cell_wish(one) for one in request.objects("breakpoints")]
     return {"breakpoints": target.marks.replace(Sort.DATA, wishes)}
 
 
 def set_filters(target: Target, _: Numbering, request: Request) -> Body:
-    """Sets the exception filters, before whose steps the session stops."""
+    """Sets the exception filters, which stop the session before the steps that they select."""
     names = request.arguments.get("filters") or []
     if not isinstance(names, list) or not all(isinstance(name, str) for name in names):
         raise Unanswerable(texts.FILTERS)
@@ -123,7 +124,7 @@ def exception_info(target: Target, _: Numbering, __: Request) -> Body:
 
 
 def locations(target: Target, numbering: Numbering, request: Request) -> Body:
-    """Those of the requested lines of the recording that have a step; none for another source."""
+    """The requested lines of the recording that have a step; none for another source."""
     first = numbering.asked(request, "line")
     last = numbering.asked(request, "endLine") if "endLine" in request.arguments else first
     if not is_the_recording(target, request):

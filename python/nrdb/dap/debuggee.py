@@ -23,7 +23,7 @@ from ..collecting import Collecting
 from .messages import Unanswerable
 
 FAR = 10_000  # steps
-Maker = Optional[int]  # the maker of a step: the number of a goroutine, or None for the network and the clock
+Maker = Optional[int]  # the maker of a step: a goroutine's number, or None for the network and the clock
 
 
 class Debuggee:
@@ -44,11 +44,11 @@ class Debuggee:
         return self.recording.length
 
     def step(self, number: int) -> Optional[Step]:
-        """The step of that number, or None."""
+        """The step with that number; None if it doesn't exist."""
         return self.recording.step_or_none(number)
 
     def step_at(self, line: int) -> Optional[Step]:
-        """The step in a line, or the first step after it."""
+        """The step on a line, or else the first step after it."""
         low, high = 1, self.length + 1
         while low < high:
             middle = (low + high) // 2
@@ -56,16 +56,16 @@ class Debuggee:
         return self.step(low)
 
     def maker(self, number: int) -> Maker:
-        """The goroutine that makes this step."""
+        """The goroutine that makes a step; None for the network and the clock."""
         step = self.step(number)
         return step.argument("g") if step else None
 
     def maker_here(self) -> Maker:
-        """The goroutine that makes the next step; at the end, that of the last step."""
+        """The maker of the next step; at the end, of the last step."""
         return self.maker(min(self.position + 1, self.length))
 
     def last_step_of(self, maker: Maker) -> int:
-        """The last step of this goroutine up to the position; 0 if there is none, or it is far away."""
+        """The last step of this maker up to the position; 0 if there is none or it is far away."""
         if maker is not None:
             return last_steps(self.recording, self.position, [maker])[maker]
         numbers = range(self.position, max(self.position - FAR, 0), -1)
@@ -76,10 +76,10 @@ class Debuggee:
         return {"name": self.path.name, "path": str(self.path)}
 
     def is_at(self, path: str) -> bool:
-        """Whether a path leads to the recording."""
+        """Whether a path is that of the recording."""
         try:
             return Path(path).resolve() == self.path
-        except (OSError, RuntimeError, ValueError):  # (no path, or one in a circle)
+        except (OSError, RuntimeError, ValueError):  # (not a path, or one whose links form a circle)
             return False
 
     def numbers(self, of: Of) -> list[str]:
@@ -87,7 +87,7 @@ class Debuggee:
         return [str(number) for number in range(self.session.world().made(of))]
 
     def say_nothing_yet(self) -> None:
-        """Drops output that wasn't shown."""
+        """Drops output that hasn't been shown."""
         self.printer.take()
 
     def others_moved(self) -> Optional[int]:
@@ -105,8 +105,8 @@ class Debuggee:
 def debuggee(
     program: str, path: str, interrupts: Interrupts, address: Optional[tuple[str, int]] = None
 ) -> Iterator[Debuggee]:
-    """The session of a recording, while it is debugged: one of its own, or the shared one at an address. Raises
-    Unanswerable if netrev or nrdb can't take the recording."""
+    """Context with the session of the recording that is debugged: one of its own, or the shared session at an address.
+    Raises Unanswerable if netrev or nrdb can't take the recording."""
     printer = Collecting()
     try:
         recording = Recording.read(path)
@@ -129,7 +129,7 @@ def debuggee(
 def begun(
     program: str, path: str, recording: Recording, netrev: Netrev, printer: Collecting, interrupts: Interrupts
 ) -> Iterator[Session]:
-    """A session that has begun, closed at the end of the context."""
+    """Context with a session that has begun; closed at its end."""
     scout = Scout(lambda: Own(program, path, interrupts))
     recording.changes = recorded = ArrivingChanges(program, path, interrupts, printer.note)
     recording.suspects = suspects = SuspectList(program, path, interrupts)

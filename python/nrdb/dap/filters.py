@@ -1,4 +1,4 @@
-"""The editor's exception filters: steps before which to stop, because something went wrong there."""
+"""The editor's exception filters, which select the steps before which to stop because something goes wrong there."""
 
 from bisect import bisect_left, bisect_right
 from enum import Enum
@@ -59,7 +59,7 @@ class Filters:
         self._set: frozenset[Filter] = frozenset()
 
     def replace(self, names: Iterable[object]) -> list[Body]:
-        """Replaces the filters; the protocol's answer for each."""
+        """Replaces the filters, and returns the protocol's answer for each."""
         known = {one.value: one for one in Filter}
         asked = list(names)
         self._set = frozenset(known[name] for name in asked if isinstance(name, str) and name in known)
@@ -87,7 +87,7 @@ class Filters:
         return sorted({wrong.step - 1 for one in self._set for wrong in self._all[one]})
 
     def nearest(self, position: int, forwards: bool) -> Optional[int]:
-        """The nearest position in that direction at which to stop."""
+        """The nearest position in a direction at which to stop."""
         positions = self._positions()
         at = bisect_right(positions, position) if forwards else bisect_left(positions, position) - 1
         return positions[at] if 0 <= at < len(positions) else None

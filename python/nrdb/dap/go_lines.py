@@ -1,5 +1,5 @@
-"""Breakpoints in the program's own source: before the steps at which a goroutine comes to a line or a function, as NAME.where has
-them. Like the filters, they belong to nrdb and use no marks of netrev."""
+"""Breakpoints in the program's own source: before the steps at which, according to NAME.where, a goroutine reaches a
+line or a function. Like the filters, they belong to nrdb and use no marks of netrev."""
 
 from bisect import bisect_left, bisect_right
 from functools import cached_property
@@ -16,12 +16,12 @@ from .messages import Body, Unanswerable
 from .roots import Roots
 from .wishes import Unset, Wish, is_in, refused
 
-FIRST = 1_000_000  # the numbers of such breakpoints, above those of all marks
-FUNCTIONS = "functions"  # instead of a file
+FIRST = 1_000_000  # the first number of these breakpoints, above those of all marks
+FUNCTIONS = "functions"  # in place of a file
 
 
 class Hits:
-    """A breakpoint: its number, the positions at which it is reached, rising, and its condition, hit count and
+    """A breakpoint: its number, the positions at which it is reached, rising, its condition, its hit count and its
     message."""
 
     def __init__(self, number: int, session: Session, reached: Sequence[int], wish: Wish):
@@ -43,10 +43,10 @@ class GoLines:
         self._given = FIRST
 
     def lines(self, path: str) -> dict[int, list[int]]:
-        """The positions at which a goroutine comes to each line of a file."""
+        """For each line of a file, the positions at which a goroutine reaches it."""
         try:
             wanted = Path(path).resolve()
-        except (OSError, RuntimeError, ValueError):  # (no path, or one in a circle)
+        except (OSError, RuntimeError, ValueError):  # (not a path, or one whose links form a circle)
             return {}
         return places_of(self._debuggee.recording).lines_of(lambda file: self._roots.is_at(file, wanted))
 
@@ -56,7 +56,8 @@ class GoLines:
         self._logpoints.clear(path)
 
     def positions(self, path: str, line: int) -> list[int]:
-        """The positions at which a goroutine comes to a line of a file; Unanswerable if no step comes from it, as at the prompt."""
+        """The positions at which a goroutine reaches a line of a file; raises Unanswerable if no step comes from the
+        line, as at the prompt."""
         lines = self.lines(path)
         if line not in lines:
             name = plain(Path(path).name) or "that file"
@@ -64,7 +65,7 @@ class GoLines:
         return lines[line]
 
     def set_line(self, path: str, line: int, wish: "Wish | Unset") -> Body:
-        """Sets a breakpoint at a line that steps come from; returns the protocol's object for it."""
+        """Sets a breakpoint at a line that steps come from, and returns the protocol's object for it."""
         try:
             return self._set(path, self.positions(path, line), wish)
         except Unanswerable as why:
@@ -85,7 +86,7 @@ class GoLines:
         return {"id": self._given, "verified": True}
 
     def nearest(self, position: int, forwards: bool) -> Optional[int]:
-        """The nearest position in that direction at which to stop."""
+        """The nearest position in a direction at which to stop."""
         found = [near(hits.positions, position, forwards) for many in self._of.values() for hits in many]
         return (min if forwards else max)((one for one in found if one is not None), default=None)
 
@@ -96,6 +97,6 @@ class GoLines:
 
 
 def near(rising: Sequence[int], position: int, forwards: bool) -> Optional[int]:
-    """The nearest of these positions in that direction."""
+    """The nearest of these rising positions in a direction."""
     at = bisect_right(rising, position) if forwards else bisect_left(rising, position) - 1
     return rising[at] if 0 <= at < len(rising) else None

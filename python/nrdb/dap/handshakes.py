@@ -1,5 +1,5 @@
-"""The beginnings of connections at a port: several at once, each in its thread, until a launch names the token. So a
-connection without the token doesn't hold up an editor."""
+"""The beginnings of connections at a port: several at once, each in a thread of its own, until a launch carries the
+token. A connection without the token therefore doesn't hold up an editor."""
 
 import socket
 from contextlib import ExitStack, suppress
@@ -11,9 +11,9 @@ from .admission import Stranger, is_let_in
 from .capabilities import CAPABILITIES
 from .messages import Malformed, Request, Unanswerable, Wire
 
-IN_TIME = 10.0  # seconds within which an editor at the port has to send a launch
-MOST = 64  # connections without the token that may exist at once: one more ends the oldest
-MOST_BYTES = 65_536  # bytes that a connection may send before it has named the token
+IN_TIME = 10.0  # the seconds within which an editor at the port must send a launch
+MOST = 64  # the most connections without the token at one time: one more ends the oldest
+MOST_BYTES = 65_536  # the most bytes that a connection may send before it has named the token
 
 
 class Connection:
@@ -31,8 +31,8 @@ class Connection:
         self.launch: Optional[Request] = None
 
     def admitted(self) -> bool:
-        """Answers the requests that need no token, until a launch with the token came; False if the connection ends
-        before."""
+        """Answers the requests that need no token, until a launch with the token arrives; returns False if the
+        connection ends before that."""
         while (request := self.wire.request()) is not None:
             try:
                 if is_let_in(request, self._token):
@@ -61,7 +61,7 @@ class Connection:
 
 
 class Handshakes:
-    """The connections at a port. Those with the token are queued, to be served one after the other."""
+    """The connections at a port. Those that have named the token are queued, and are served one after the other."""
 
     def __init__(self, listening: socket.socket, token: str):
         self._listening, self._token = listening, token
@@ -100,7 +100,7 @@ class Handshakes:
     def _shake(self, connection: Connection) -> None:
         """Begins a connection, in a thread of its own."""
         is_admitted = False
-        # (the other end has gone, or sent something that isn't a message)
+        # (the other end has gone, or has sent something that isn't a message)
         with suppress(Malformed, OSError, ValueError):
             is_admitted = connection.admitted()
         is_admitted = self._ended(connection) and is_admitted
@@ -110,7 +110,7 @@ class Handshakes:
             connection.close()
 
     def _ended(self, connection: Connection) -> bool:
-        """Marks a connection's handshake as ended; whether it wasn't before."""
+        """Marks a connection's handshake as ended; returns whether it hadn't ended before."""
         with self._lock:
             late = self._begun.pop(connection, None)
         if late:

@@ -1,5 +1,5 @@
-"""Reads an editor's messages while a request is worked on. A thread reads them, so `pause`, `cancel` and a
-disconnect take effect at once: they stop the work, which runs in the main thread, by a signal."""
+"""Reads an editor's messages while nrdb works on a request. A thread reads them, so `pause`, `cancel` and `disconnect`
+take effect at once: they stop the work, which runs in the main thread, by a signal."""
 
 import signal
 import threading
@@ -17,28 +17,28 @@ CANCEL, PAUSE = "cancel", "pause"
 MOVES = ("continue", "reverseContinue", "next", "stepIn", "stepBack", "stepOut", "goto", "restart", "configurationDone")
 PAUSED = (*MOVES, "evaluate")
 SIGNAL = signal.SIGUSR1
-MOST_HELD = 2**22  # bytes of requests that may wait: beyond that, reading pauses
+MOST_HELD = 2**22  # the most bytes of waiting requests: beyond that, reading pauses
 
 
 class Source(Protocol):
-    """Where requests come from."""
+    """The source of an editor's requests."""
 
     def request(self) -> Optional[Request]:
         """The next request; None if the editor has gone."""
 
     @contextmanager
     def work(self, request: Request, interrupts: Interrupts) -> Iterator[None]:
-        """Context in which this request is worked on."""
+        """Context for the work on this request."""
 
     def ends(self, request: Request) -> bool:
         """Whether a request must not be started, because the editor ends the session or has cancelled it."""
 
     def close(self) -> None:
-        """No more requests are needed."""
+        """Ends the reading: no more requests are needed."""
 
 
 class Reading:
-    """Reads a request when the one before is answered, and nothing in between."""
+    """Reads a request after the previous one has been answered, and nothing meanwhile."""
 
     def __init__(self, wire: Wire):
         self.request = wire.request
@@ -81,8 +81,8 @@ class Hearing:
 
     @contextmanager
     def work(self, request: Request, interrupts: Interrupts) -> Iterator[None]:
-        """Context in which this request is worked on. A message may stop it through these interrupts: a pause and a
-        cancel act as Ctrl-C, a disconnect gives the session up."""
+        """Context for the work on this request. A message may stop the work through these interrupts: a pause and a
+        cancel act as Ctrl-C, and a disconnect gives the session up."""
         interrupts.clear()
         self._interrupts, self._is_told = interrupts, False
         try:
@@ -102,8 +102,8 @@ class Hearing:
             self._room.notify()
 
     def _look(self) -> None:
-        """Stops the work if a message that does so has arrived. The signal handler calls it too, at any point of
-        the work."""
+        """Stops the work if a message that stops it has arrived. The signal handler calls it too, at any point of the
+        work."""
         request = self._at_work
         if request is None or request.command in ENDING:
             return
@@ -131,8 +131,8 @@ class Hearing:
                 return
 
     def _hand_on(self, came: Request | Exception | None, size: int) -> None:
-        """Passes on a message of this many bytes when the queue has room, and signals the main thread at once if it
-        is urgent."""
+        """Passes on a message of this many bytes when the queue has room; if it is urgent, signals the main thread at
+        once."""
         is_urgent = isinstance(came, Request) and came.command in (*ENDING, CANCEL, PAUSE)
         if isinstance(came, Request) and is_urgent:
             self._urgent.append(came)
@@ -150,7 +150,7 @@ def stops(request: Request, heard: Request) -> bool:
 
 
 def is_cancelled_by(request: Request, heard: Request) -> bool:
-    """Whether an arrived message cancels a request, by its number or by its progress."""
+    """Whether an arrived message cancels a request, named by its number or by its progress."""
     if heard.command != CANCEL:
         return False
     named = heard.arguments.get("requestId"), heard.arguments.get("progressId")

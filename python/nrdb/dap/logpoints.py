@@ -1,5 +1,5 @@
-"""Breakpoints that print a message when a move passes, without stopping. They belong to nrdb and use no marks of netrev: a cell in
-braces is replaced by its value there, from `netrev changes`."""
+"""Breakpoints that print a message instead of stopping when a move passes them. They belong to nrdb and use no marks of
+netrev. A cell in braces is replaced by its value at the position, from `netrev changes`."""
 
 from typing import Iterator, NamedTuple, Sequence
 
@@ -7,8 +7,8 @@ from ..session import Session
 from .messages import Body
 from .wishes import HERE, IN_BRACES, Wish
 
-FIRST = 2_000_000  # the numbers of such breakpoints, above those of all others
-MOST = 1_000  # messages that a move prints
+FIRST = 2_000_000  # the first number of these breakpoints, above those of all others
+MOST = 1_000  # the most messages that a move prints
 
 
 class LogPoint(NamedTuple):
@@ -31,13 +31,13 @@ class LogPoints:
         self._of[path] = []
 
     def set(self, path: str, positions: Sequence[int], wish: Wish) -> Body:
-        """Sets a log message that is reached at these positions; returns the protocol's object for it."""
+        """Sets a log message that is reached at these positions, and returns the protocol's object for it."""
         self._given += 1
         self._of.setdefault(path, []).append(LogPoint(wish.message, wish.stops(self._session, positions)))
         return {"id": self._given, "verified": True}
 
     def told(self, begun: int, ended: int) -> Iterator[str]:
-        """The messages of a move that led from one position to another, in its order."""
+        """The messages of a move from one position to another, in the move's order."""
         low, high = (begun + 1, ended) if ended > begun else (ended, begun - 1)
         every = (one for many in self._of.values() for one in many)
         hits = [(position, one.message) for one in every for position in one.positions if low <= position <= high]
@@ -48,7 +48,7 @@ class LogPoints:
             yield f"and {len(hits) - MOST} messages more"
 
     def _filled(self, message: str, position: int) -> str:
-        """A message with values in place of the names in braces."""
+        """A message in which the names in braces are replaced by their values."""
         return IN_BRACES.sub(lambda found: self._value(found[1].strip(), position), message)
 
     def _value(self, named: str, position: int) -> str:

@@ -1,4 +1,4 @@
-"""What an editor looks at: goroutines as threads, their stacks, and cells as variables."""
+"""What an editor shows: goroutines as threads, their stacks, and cells as variables."""
 
 from dataclasses import dataclass
 from pathlib import Path
@@ -21,18 +21,18 @@ from .memory import reference_of
 from .messages import Body, Unanswerable
 from .roots import Roots
 
-NETWORK = 65_536  # the thread's number; a goroutine's is at most 4,096
-GOIDS = 10**6  # thread numbers above this one are of goroutines without steps, by Go's own numbers
-IN_QUEUES = ("acquiring", "queued", "relock", "owing")  # statuses whose number is a socket's
+NETWORK = 65_536  # the number of the network's thread; a goroutine's is at most 4,096
+GOIDS = 10**6  # thread numbers above this belong to goroutines without steps, and add Go's own number to it
+IN_QUEUES = ("acquiring", "queued", "relock", "owing")  # statuses whose number is that of a socket
 
 
 def thread_of(maker: Maker) -> int:
-    """The number of a thread, from 1, as the protocol has it."""
+    """A maker's thread number in the protocol, from 1."""
     return NETWORK if maker is None else maker + 1
 
 
 def maker_of(thread: int) -> Maker:
-    """The goroutine of a thread's number; Unanswerable if there is none."""
+    """The maker that a thread number stands for; raises Unanswerable if there is none."""
     if thread == NETWORK:
         return None
     if thread > GOIDS:
@@ -58,7 +58,7 @@ class Cells:
     number: int = 0
 
     def names(self) -> list[str]:
-        """The cells in the spelling of commands."""
+        """The names of the cells, as commands spell them."""
         return [
             cell.name if self.of is Of.ALL else f"{cell.name} {self.number}"
             for cell in CELLS.values()
@@ -87,7 +87,7 @@ def place_words(stack: Optional[Stack]) -> str:
 
 
 class Handles:
-    """Numbers by which the editor names objects. They are valid until the next move, and never reused."""
+    """The numbers by which the editor names objects. They are valid until the next move and never reused."""
 
     def __init__(self) -> None:
         self._things: dict[int, Thing] = {}
@@ -99,7 +99,7 @@ class Handles:
         return self._given
 
     def take(self, number: int) -> Thing:
-        """The object with this number; Unanswerable if the number is from before a move."""
+        """The object with this number; raises Unanswerable if the number was given before a move."""
         if number not in self._things:
             raise Unanswerable(texts.OTHER_POSITION)
         return self._things[number]
@@ -109,8 +109,8 @@ class Handles:
 
 
 class Looks:
-    """Reads values at the session's position. `goes_first` says whether the program's own line, if known, is shown before the
-    recording's."""
+    """Reads values at the session's position. `goes_first` says whether the program's own line, if known, is shown
+    before the recording's line."""
 
     def __init__(self, debuggee: Debuggee, goes_first: bool, roots: Roots):
         self._debuggee, self._goes_first, self._roots = debuggee, goes_first, roots
@@ -121,8 +121,8 @@ class Looks:
         return self._debuggee.session.world()
 
     def threads(self) -> list[Body]:
-        """The goroutines that aren't gone, each with what it does and its function and line of the program, if
-        known; waiting goroutines without steps; and the network with the clock."""
+        """The goroutines that aren't gone, each with what it does and, if known, its function and line of the program;
+        then waiting goroutines without steps; then the network with the clock."""
         world, recording = self._world, self._debuggee.recording
         statuses = world.of_each(range(world.made(Of.GOROUTINE)), "gor")
         there = [goroutine for goroutine, (status,) in statuses.items() if status != "gone"]
@@ -158,8 +158,8 @@ class Looks:
         return self._ordered(found.stack, calls, [self._label(frame, found.does)])
 
     def frames(self, maker: Maker) -> list[Body]:
-        """A stack: the next or last step, its call as in `calls`, and the program's own calls at that step; if they are unknown,
-        what the goroutine does, in words."""
+        """The frames of a stack: the next or last step, its call as in `calls`, and the program's own calls at that
+        step; if they are unknown, what the goroutine does, in words."""
         here = self._debuggee.position
         is_next = here < self._debuggee.length and self._debuggee.maker(here + 1) == maker
         frame = Frame(maker, here + 1 if is_next else self._debuggee.last_step_of(maker))
@@ -178,8 +178,8 @@ class Looks:
         return self._ordered(stack, [self._call_frame(frame, call) for call in stack.calls], [first, *labels])
 
     def _ordered(self, stack: Stack, calls: list[Body], others: list[Body]) -> list[Body]:
-        """The frames in the order of calls, after the others. If the program's own line comes first, its callers follow, then the
-        others, and last the calls inside Go."""
+        """The frames in the order of calls, with the other frames before them. If the program's own line goes first,
+        its callers follow, then the other frames, and last the calls inside Go."""
         own = next((at for at, call in enumerate(stack.calls) if call.of == OF_THE_PROGRAM), None)
         if not self._goes_first or own is None:
             return [*others, *calls]
@@ -224,7 +224,7 @@ class Looks:
         return [{"name": name, "variablesReference": number, "expensive": dear} for name, number, dear in scopes]
 
     def _about(self, frame: Frame) -> list[Cells]:
-        """The socket and the descriptor that the goroutine's status or the frame's step names."""
+        """The cells of the socket and the descriptor that the goroutine's status or the frame's step names."""
         world = self._world
         socket, descriptor = None, None
         status = "idle" if frame.maker is None else world.value(f"gor {frame.maker}")
@@ -244,7 +244,7 @@ class Looks:
         return [Cells(of, number) for of, number in named if number is not None]
 
     def variables(self, reference: int) -> list[Body]:
-        """The variables of a scope, or of a variable in it."""
+        """The variables of a scope, or those inside a variable of it."""
         thing = self.handles.take(reference)
         if isinstance(thing, Cells):
             return self.cells(thing.names())
@@ -253,7 +253,7 @@ class Looks:
         raise Unanswerable(texts.NO_VARIABLE.format(reference=reference))
 
     def _every(self, of: Of) -> list[Body]:
-        """All objects of a sort, each with its cells below it; goroutines have one cell."""
+        """All objects of a sort, each with its cells inside; goroutines have one cell."""
         world = self._world
         if of is Of.GOROUTINE:
             return self.cells([f"gor {number}" for number in range(world.made(of))])
@@ -272,7 +272,7 @@ class Looks:
         ]
 
     def cells(self, names: Sequence[str]) -> list[Body]:
-        """Cells with their values and the meanings of these."""
+        """Cells with their values and the values' meanings."""
         values = self._world.values(names)
         return [
             {"name": cell, "value": self._with_words(cell, value), "evaluateName": cell, "variablesReference": 0}

@@ -1,4 +1,4 @@
-"""Requests about the session's position: goroutines, stacks, variables, values, memory and completions."""
+"""Requests about the session's position: for goroutines, stacks, variables, values, memory and completions."""
 
 from ..messages import editors as texts
 from ..prompt.completion import candidates
@@ -14,7 +14,7 @@ def threads(target: Target, _: Numbering, __: Request) -> Body:
 
 
 def stack(target: Target, numbering: Numbering, request: Request) -> Body:
-    """The stack of a thread, or a part of it."""
+    """The stack of a thread, or the requested part of it."""
     frames = target.looks.frames_of(request.whole_number("threadId"))
     shown = page(request, frames, "startFrame", "levels")
     placed = [frame | ({"line": numbering.to(frame["line"])} if frame["line"] else {}) for frame in shown]
@@ -27,13 +27,13 @@ def scopes(target: Target, _: Numbering, request: Request) -> Body:
 
 
 def variables(target: Target, _: Numbering, request: Request) -> Body:
-    """The variables of a scope, or a part of them."""
+    """The variables of a scope, or the requested part of them."""
     found = target.looks.variables(request.whole_number("variablesReference"))
     return {"variables": page(request, found, "start", "count")}
 
 
 def page(request: Request, rows: list[Body], first: str, count: str) -> list[Body]:
-    """The requested rows; all if no number is given."""
+    """The requested rows; all rows if the request gives no number."""
     begin, most = (request.arguments.get(name) or 0 for name in (first, count))
     if not isinstance(begin, int) or not isinstance(most, int) or begin < 0 or most < 0:
         raise Unanswerable(texts.RANGE.format(first=first, count=count))
@@ -41,7 +41,7 @@ def page(request: Request, rows: list[Body], first: str, count: str) -> list[Bod
 
 
 def value(target: Target, text: str, context: object) -> Body:
-    """The value of a cell; under the mouse pointer also the meaning of a kind of step."""
+    """The value of a cell; under the mouse pointer, also the meaning of a kind of step."""
     shown = (target.looks.meaning if context == "hover" else target.looks.value)(text)
     if shown is None:
         raise Unanswerable(texts.NOT_A_VALUE.format(text=text))
@@ -66,5 +66,5 @@ def completions(target: Target, numbering: Numbering, request: Request) -> Body:
 
 
 def refuse_change(_: Target, __: Numbering, ___: Request) -> Body:
-    """Refuses to set a value."""
+    """Refuses a request to set a value."""
     raise Unanswerable(texts.READ_ONLY)

@@ -11,7 +11,7 @@ from .wishes import Unset, Wish, is_in, positions_of, refused
 
 
 class Sort(Enum):
-    """The sorts of breakpoints, by the protocol's names for the reason of a stop."""
+    """The sorts of breakpoints, each with the protocol's name for the reason of its stop."""
 
     LINE = "breakpoint"
     FUNCTION = "function breakpoint"
@@ -19,7 +19,7 @@ class Sort(Enum):
 
 
 class Marks:
-    """The marks of the editor's breakpoints. Marks that were typed in the console stay as they are."""
+    """The marks of the editor's breakpoints. Marks that were set in the console stay as they are."""
 
     def __init__(self, session: Session):
         self._session = session
@@ -28,8 +28,9 @@ class Marks:
         self._counted: dict[Wish, list[int]] = {}  # the positions at which breakpoints with a hit count stop
 
     def replace(self, sort: Sort, wishes: Sequence["Wish | Unset"]) -> list[Body]:
-        """Replaces the breakpoints of a kind. Returns the protocol's answer for each, in order."""
-        standing = {mark.number for mark in self._session.netrev.marks()}  # some may have been deleted in the console
+        """Replaces the breakpoints of a sort. Returns the protocol's answer for each, in order."""
+        # some marks may have been deleted in the console
+        standing = {mark.number for mark in self._session.netrev.marks()}
         self._numbers = {mark: number for mark, number in self._numbers.items() if number in standing}
         wanted = {wish.what for wish in wishes if isinstance(wish, Wish)}
         for mark in [mark for mark in self._numbers if mark[0] is sort and mark[1] not in wanted]:
@@ -39,7 +40,7 @@ class Marks:
         return [self._set(sort, wish) for wish in wishes]
 
     def _set(self, sort: Sort, wish: "Wish | Unset") -> Body:
-        """Sets a breakpoint; returns the protocol's object for it."""
+        """Sets a breakpoint, and returns the protocol's object for it."""
         try:
             if isinstance(wish, Unset):
                 raise wish
@@ -50,7 +51,7 @@ class Marks:
         return {"id": int(number), "verified": True}
 
     def _number(self, sort: Sort, wish: Wish) -> str:
-        """The number of the mark, which is made if it doesn't exist."""
+        """The number of the mark for a breakpoint; sets the mark if it doesn't exist."""
         if (sort, wish.what) not in self._numbers:
             line = f"{'watch' if sort is Sort.DATA else 'break'} {wish.what}"
             reply = self._session.ask(line)
@@ -60,16 +61,16 @@ class Marks:
         return self._numbers[sort, wish.what]
 
     def holding(self, numbers: Sequence[str]) -> list[str]:
-        """Those of the marks that hit here which have no condition, or one that holds."""
+        """Those of the marks that hit here that have no condition or one that holds."""
         marks = {number: mark for mark, number in self._numbers.items()}
-        met = self._session.holding(numbers)  # by the conditions that were typed in the console
+        met = self._session.holding(numbers)  # according to the conditions that were set in the console
         return [number for number in met if number not in marks or self._holds(marks[number])]
 
     def _holds(self, mark: tuple[Sort, str]) -> bool:
         return any(self._stops(wish) for wish in self._wishes[mark])
 
     def _stops(self, wish: Wish) -> bool:
-        """Whether a breakpoint that is reached stops here."""
+        """Whether a breakpoint that has been reached stops here."""
         if wish.times is None:
             return wish.condition is None or self._session.holds(wish.condition)
         if wish not in self._counted:

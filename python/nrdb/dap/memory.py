@@ -1,4 +1,5 @@
-"""The bytes in a socket's buffers, as an editor reads memory: named by the cell that counts them, `in 0` or `out 0`."""
+"""The bytes in a socket's buffers, which an editor reads as memory: a buffer is named by the cell that counts its
+bytes, `in 0` or `out 0`."""
 
 import base64
 from typing import Optional
@@ -19,7 +20,7 @@ def reference_of(cell: str) -> Optional[str]:
 
 
 def read(netrev: Netrev, request: Request) -> Body:
-    """The requested bytes of a buffer at the session's position. Missing bytes can't be read."""
+    """The requested bytes of a buffer at the session's position. Bytes that aren't there are reported as unreadable."""
     named = request.text("memoryReference")
     begin, count = _offset(request), request.whole_number("count")
     words = named.split()

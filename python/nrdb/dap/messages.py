@@ -1,4 +1,4 @@
-"""Messages of the protocol: JSON after a header with its length, as both ends send them."""
+"""The protocol's messages: JSON after a header with its length, sent in both directions."""
 
 import json
 from dataclasses import dataclass, field
@@ -15,15 +15,15 @@ Body = dict[str, Any]
 
 
 class Malformed(Exception):
-    """The input isn't a message; the text says why. Its end is unknown, so nothing after it can be read."""
+    """Raised, with the reason, if the input isn't a message. Its end is unknown, so nothing after it can be read."""
 
 
 class EditorGone(OSError):
-    """Nothing can be written to the editor any more."""
+    """Raised if nothing can be written to the editor any more."""
 
 
 class Unanswerable(Exception):
-    """A request that can't be answered, with the reason that the editor shows."""
+    """Raised for a request that can't be answered, with the reason for the editor to show."""
 
 
 @dataclass(frozen=True)
@@ -35,21 +35,21 @@ class Request:
     arguments: Body = field(default_factory=dict)
 
     def text(self, name: str) -> str:
-        """The argument of that name, which must be a string."""
+        """The argument with this name, which must be a string."""
         value = self.arguments.get(name)
         if not isinstance(value, str):
             raise Unanswerable(texts.STRING.format(command=self.command, name=name))
         return value
 
     def whole_number(self, name: str) -> int:
-        """The argument of that name, which must be a whole number."""
+        """The argument with this name, which must be a whole number."""
         value = self.arguments.get(name)
         if not isinstance(value, int) or isinstance(value, bool):
             raise Unanswerable(texts.INTEGER.format(command=self.command, name=name))
         return value
 
     def objects(self, name: str) -> list[Body]:
-        """The argument of that name, which must be a list of objects; an empty list if it is missing."""
+        """The argument with this name, which must be a list of objects; an empty list if it is missing."""
         value = self.arguments.get(name) or []
         if not isinstance(value, list) or not all(isinstance(one, dict) for one in value):
             raise Unanswerable(texts.OBJECTS.format(command=self.command, name=name))
@@ -61,7 +61,7 @@ class Wire:
 
     def __init__(self, reader: BinaryIO, writer: BinaryIO, most: Optional[int] = None):
         self._reader, self._writer = reader, writer
-        self.most = most  # the most bytes that may come in all, headers included
+        self.most = most  # the most bytes that may arrive in all, headers included
         self._came = 0
         self._sent, self._lock = 0, Lock()
         self.received = 0  # the bytes of all messages so far
@@ -81,8 +81,8 @@ class Wire:
                 return _request(message)
 
     def _length(self) -> Optional[int]:
-        """The length in the header; None at the end of the input. Any line that isn't the protocol's ends it,
-        because a request of a browser for a web page begins with one."""
+        """The length in the header; None at the end of the input. Any line that isn't the protocol's ends the input,
+        because a browser's request for a web page begins with such a line."""
         found: dict[bytes, bytes] = {}
         while (line := self._reader.readline(LONGEST_HEADER)) not in (b"\r\n", b"\n"):
             if not line:
@@ -102,11 +102,11 @@ class Wire:
         return int(length)
 
     def respond(self, request: Request, body: Body) -> None:
-        """Answers a request that was done."""
+        """Answers a request that succeeded."""
         self._send("response", request_seq=request.number, command=request.command, success=True, body=body)
 
     def refuse(self, request: Request, why: str) -> None:
-        """Answers a request that wasn't done, with the reason."""
+        """Answers a request that failed, with the reason."""
         error = {"id": 1, "format": why.replace("{", "(").replace("}", ")"), "showUser": True}
         said = {"success": False, "message": why, "body": {"error": error}}
         self._send("response", request_seq=request.number, command=request.command, **said)
@@ -122,7 +122,7 @@ class Wire:
             try:
                 self._writer.write(b"Content-Length: %d\r\n\r\n%s" % (len(data), data))
                 self._writer.flush()
-            except (OSError, ValueError) as gone:  # closed at the other end, or here
+            except (OSError, ValueError) as gone:  # closed by the other end, or by nrdb
                 raise EditorGone(str(gone)) from gone
 
 
@@ -138,7 +138,7 @@ def _object(data: bytes) -> Body:
 
 
 def _request(message: Body) -> Request:
-    """The request that an object is."""
+    """The request that an object represents."""
     number, command, arguments = message.get("seq"), message.get("command"), message.get("arguments")
     if not isinstance(number, int) or not isinstance(command, str):
         raise Malformed(texts.NO_COMMAND)

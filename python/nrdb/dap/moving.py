@@ -1,4 +1,5 @@
-"""The editor's moves, each made of one or several lines to netrev, with their destinations and the reasons for stopping there."""
+"""The editor's moves, each made of one or several lines to netrev, with their destinations and the reasons for stopping
+there."""
 
 from typing import Callable, NamedTuple, Optional, Sequence
 
@@ -15,9 +16,9 @@ from .logpoints import LogPoints
 from .marks import Marks
 from .messages import Unanswerable
 
-PIECE = 100_000  # steps that netrev goes through at once; after each batch a pause is checked
+PIECE = 100_000  # the most steps that netrev goes through at once, after which a pause is checked
 AT_THE_END = "the recording's end"
-MOST_STEPS = 20_000  # steps of the longest recording for which a stop at the end names what all goroutines wait for
+MOST_STEPS = 20_000  # the most steps of a recording for which a stop at the end says what all goroutines wait for
 
 
 class Stop(NamedTuple):
@@ -29,7 +30,7 @@ class Stop(NamedTuple):
 
 
 def text_of(stop: Stop, recording: Recording) -> str:
-    """The text of a stop: of an exception its description; at the end the first failure, or what all goroutines wait
+    """The text of a stop: for an exception, its description; at the end, the first failure, or what all goroutines wait
     for. Empty for a long recording, because an editor waits for the answer."""
     if stop.reason == "exception":
         return stop.says
@@ -37,8 +38,8 @@ def text_of(stop: Stop, recording: Recording) -> str:
 
 
 class Moves:
-    """Moves of a session. They pass marks whose conditions don't hold. A pause stops a move where netrev is.
-    `tells` gets the progress of a long move."""
+    """Moves of a session. They pass marks whose conditions don't hold. A pause stops a move where netrev is. `tells` is
+    called with the progress of a long move."""
 
     def __init__(
         self,
@@ -54,7 +55,7 @@ class Moves:
         self.tells: Callable[[int, int], None] = lambda position, length: None
 
     def step(self, line: str) -> Stop:
-        """One step in either direction: `stepi` or `reverse-stepi`."""
+        """Makes one step in either direction: `stepi` or `reverse-stepi`."""
         self._face_forwards()
         reply = self._session.ask(line)
         move = move_of(line, reply)
@@ -72,7 +73,8 @@ class Moves:
         return self._arrived(f"goto {position}", reply, move_of("goto", reply), [], why)
 
     def next_of(self, maker: Maker) -> Stop:
-        """Goes to before the next step of a goroutine, or of the network, after the one that it is about to make."""
+        """Goes to just before the next step of a goroutine, or of the network, after the step that it is about to
+        make."""
         numbers = range(self._debuggee.position + 2, self._debuggee.length + 1)
         try:
             with self._interrupts.at_once():
@@ -82,7 +84,7 @@ class Moves:
         return self.run(True, self._debuggee.length if found is None else found - 1)
 
     def out_of(self, goroutine: int) -> Stop:
-        """After the step that ends a goroutine's call, or out of the program's function between calls; raises
+        """Goes to after the step that ends a goroutine's call, or, between calls, out of the program's function; raises
         Unanswerable if neither ends."""
         try:
             with self._interrupts.at_once():
@@ -94,8 +96,8 @@ class Moves:
         return self.run(True, goal.position)
 
     def run(self, forwards: bool, target: Optional[int] = None) -> Stop:
-        """Goes to the nearest position in that direction at which a mark hits or a filter stops, or to the target;
-        else to the end."""
+        """Goes to the nearest position in a direction at which a mark hits or a filter stops, or to the target, or else
+        to the end."""
         begun = self._debuggee.position
         stood = self._session.netrev.marks()
         try:
@@ -121,8 +123,8 @@ class Moves:
                 return self._arrived(line, reply, move._replace(marks=tuple(hit)), stood, why)
 
     def _searched(self, line: str, forwards: bool, bound: Optional[int]) -> tuple[str, Move]:
-        """netrev's reply to a search, and the move. The search is made in pieces, each up to a mark of its own,
-        which no reply names; raises Interrupted if a pause comes between two."""
+        """netrev's reply to a search, and the move. The search is made in pieces, each up to a temporary mark that
+        isn't reported; raises Interrupted if a pause comes between two pieces."""
         here = self._session.stands().position
         while True:
             self._interrupts.check()
@@ -133,7 +135,7 @@ class Moves:
             made = None if is_last else MARK.fullmatch(self._session.ask(f"tbreak @{edge + 1}"))
             reply = self._session.ask(line)
             move = move_of(line, reply)
-            if made is None:  # (or 64 marks exist)
+            if made is None:  # (or there are 64 marks already)
                 return reply, move
             if made[1] not in move.marks:
                 self._session.ask(f"delete {made[1]}")
@@ -143,7 +145,7 @@ class Moves:
             self.tells(here, self._debuggee.length)
 
     def _go(self, position: int) -> str:
-        """netrev's reply to the move to a position, also made in pieces."""
+        """netrev's reply to the move to a position, which is also made in pieces."""
         here = self._session.stands().position
         while abs(position - here) > PIECE:
             self._interrupts.check()
@@ -154,7 +156,7 @@ class Moves:
         return self._session.go(position)
 
     def _paused(self, stood: Sequence[Listed]) -> Stop:
-        """A stop because of a pause."""
+        """The stop at a pause."""
         position = self._session.stands().position
         if position == self._debuggee.position:
             return Stop("pause", f"at {position}")
@@ -164,7 +166,7 @@ class Moves:
         return Stop("pause", f"at {position}")
 
     def _bound(self, forwards: bool, target: Optional[int]) -> Optional[int]:
-        """The position that a move doesn't pass, whatever hits there."""
+        """The position beyond which a move doesn't go, whatever hits there."""
         position = self._debuggee.position
         filtered = self._filters.nearest(position, forwards)
         places = self._go_lines.nearest(position, forwards), self._session.breaks.nearest(position, forwards)
@@ -172,7 +174,7 @@ class Moves:
         return (min if forwards else max)(bounds, default=None)
 
     def _stop_at(self, bound: int, target: Optional[int]) -> Stop:
-        """Goes back to the position that the move went past."""
+        """Goes back to the bound that a move passed."""
         reply = self._session.go(bound)
         move = move_of("goto", reply)
         return self._arrived(f"goto {bound}", reply, move, [], self._why([], move, target))
@@ -191,23 +193,24 @@ class Moves:
         return self._end_or("step", move)
 
     def _end_or(self, reason: str, move: Move) -> Stop:
-        """A stop at an end of the recording, or for this reason."""
+        """The stop at an end of the recording, or else for this reason."""
         if not move.is_end:
             return Stop(reason, f"at {move.position}")
         return Stop("pause", AT_THE_END if move.position else "the recording's start")
 
     def _face_forwards(self) -> None:
-        """Sets the direction to forwards: the editor has its own names for both, whatever was typed in the console."""
+        """Sets the direction to forwards, because the editor has its own commands for both directions, whatever was
+        typed in the console."""
         if self._session.stands().direction == "reverse":
             self._session.ask("set exec-direction forward")
 
     def _arrived(self, line: str, reply: str, move: Move, stood: Sequence[Listed], why: Stop) -> Stop:
-        """Reports the new position."""
+        """Reports the new position, and returns the reason for the stop."""
         self._session.printer.reply(line, Reply(reply), "")
         self._session.arrive(move.position, move.marks, stood)
         return why
 
 
 def told(wrong: Sequence[Failure]) -> str:
-    """The errors, each as a sentence."""
+    """The errors, one sentence each."""
     return "; ".join(f"{one.sort}: {one.says}" for one in wrong)

@@ -1,20 +1,21 @@
-"""Finds the files that NAME.where names: in the folder of the program's source, or in Go's for Go's own files."""
+"""Finds the files that NAME.where names: in the folder of the program's source, or in Go's folder for Go's own
+files."""
 
 import os
 from pathlib import Path
 from typing import NamedTuple, Optional
 
-SOURCES_OF_GO = "src"  # in the folder of a release of Go
+SOURCES_OF_GO = "src"  # the subfolder in the folder of a Go release
 
 
 class Roots(NamedTuple):
-    """The folder that the program's file names start from, and that of Go, if known."""
+    """The folder that the program's file names are relative to, and Go's folder if known."""
 
     program: Path
     go: Optional[Path] = None
 
     def path_of(self, file: str) -> Optional[Path]:
-        """The path of a file that the recorder named; None if it isn't here."""
+        """The path of a file that the recorder named; None if it doesn't exist here."""
         return next((path for path in self._places(file) if os.path.isfile(path)), None)
 
     def is_at(self, file: str, wanted: Path) -> bool:
@@ -29,7 +30,7 @@ class Roots(NamedTuple):
 
 
 def whole(path: Path) -> Optional[Path]:
-    """A path without links; None if it doesn't exist or its links form a circle."""
+    """A path with links resolved; None if it doesn't exist or its links form a circle."""
     try:
         return path.resolve()
     except (OSError, RuntimeError, ValueError):

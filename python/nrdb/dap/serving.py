@@ -1,5 +1,5 @@
-"""Serves editors over the standard streams, or at a port of the loopback, one after the other, each after a launch
-that names the token."""
+"""Serves editors one after the other, over the standard streams or at a port of the loopback, where each must send a
+launch with the token."""
 
 import os
 import socket
@@ -21,7 +21,7 @@ DONE, USAGE, FAILED = 0, 2, 3
 
 
 def serve(wire: Wire, program: str, begun: Sequence[Request] = ()) -> int:
-    """Serves one editor, whose first requests have been read; the exit status."""
+    """Serves one editor, whose first requests have been read, and returns the exit status."""
     try:
         Adapter(wire, source_of(wire), program).serve(begun)
     except Malformed as wrong:
@@ -33,23 +33,24 @@ def serve(wire: Wire, program: str, begun: Sequence[Request] = ()) -> int:
 
 
 def source_of(wire: Wire) -> Source:
-    """The source of the requests: a thread, the only one that may stop the main thread."""
+    """The source of the requests: a thread, or, outside the main thread, direct reading, because only the main thread
+    can be interrupted."""
     if current_thread() is main_thread():
         return Hearing(wire)
     return Reading(wire)
 
 
 def serve_streams(program: str) -> int:
-    """Serves an editor over standard input and output; the exit status."""
+    """Serves an editor over standard input and output, and returns the exit status."""
     reader = open(
         os.dup(sys.stdin.fileno()), "rb"
-    )  # (a thread may still read from it at the end, which sys.stdin's own file doesn't allow)
+    )  # (a thread may still be reading from it at the end, which sys.stdin's own file doesn't allow)
     return serve(Wire(reader, sys.stdout.buffer), program)
 
 
 def serve_port(program: str, port: int) -> int:
-    """Serves editors at a port of the loopback, one after the other, until it is interrupted; the exit status. Port
-    0 is any free port. The port is printed, with the token that an editor has to name."""
+    """Serves editors at a port of the loopback, one after the other, until it is interrupted, and returns the exit
+    status. Port 0 means any free port. The port is printed, with the token that an editor must send."""
     try:
         token = token_for_a_port()
     except NoToken as why:

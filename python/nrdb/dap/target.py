@@ -1,4 +1,4 @@
-"""The debugged recording with everything that an editor has set and may request."""
+"""The debugged recording, with everything that an editor has set and may request."""
 
 from dataclasses import dataclass
 from pathlib import Path
@@ -26,9 +26,9 @@ OF_ATTACH = ("program", "address", "source", "sourceRoot", "goRoot", TOKEN)
 
 @dataclass(frozen=True)
 class Launch:
-    """The arguments of a launch: the recording, where to stop first, whether the program's lines are shown before
-    the recording's, and the folders of the program's source and of Go. An attach also has the address of a
-    shared session, and no place to stop at."""
+    """The arguments of a launch: the recording, where to stop first, whether the program's lines are shown before the
+    recording's, and the folders of the program's source and of Go. The arguments of an attach also have the address of
+    a shared session, and no first stop."""
 
     recording: str
     stop_at: Optional[int | str]
@@ -39,7 +39,7 @@ class Launch:
 
     @classmethod
     def of(cls, request: Request) -> "Launch":
-        """The arguments of a launch; Unanswerable if one is invalid."""
+        """The arguments of a launch; raises Unanswerable if one is invalid."""
         given = request.arguments
         stop_at = given.get("stopAt", AT_END)
         if stop_at not in (AT_END, AT_START) and not (isinstance(stop_at, int) and stop_at >= 0):
@@ -48,7 +48,7 @@ class Launch:
 
     @classmethod
     def of_attach(cls, request: Request) -> "Launch":
-        """The arguments of an attach; Unanswerable if one is invalid."""
+        """The arguments of an attach; raises Unanswerable if one is invalid."""
         host, _, port = request.text("address").rpartition(":")
         if not (port.isascii() and port.isdigit() and len(port) < 6 and int(port) < 2**16):
             raise Unanswerable(texts.ADDRESS)
@@ -67,7 +67,7 @@ class Launch:
         return source == "go", _text(given, "sourceRoot"), _text(given, "goRoot")
 
     def position(self, debuggee: Debuggee) -> int:
-        """The position of the first stop; in a shared session, its current position."""
+        """The position of the first stop; in a shared session, the session's position."""
         if self.stop_at is None:
             return debuggee.position
         if isinstance(self.stop_at, int):
@@ -83,7 +83,7 @@ def _text(given: dict[str, Any], name: str) -> Optional[str]:
 
 
 class Target:
-    """A debuggee, its marks, filters, moves and looks, and the reason of the last stop."""
+    """A debuggee with its marks, filters, moves and displays, and the reason for the last stop."""
 
     def __init__(self, debuggee: Debuggee, launch: Launch, interrupts: Interrupts):
         self.debuggee = debuggee

@@ -1,5 +1,5 @@
-"""Breakpoints as an editor requests them: the mark, a condition, a hit count, and a message instead of a stop. All depend only on
-the position, so they are the same in both directions."""
+"""Breakpoints as an editor requests them: the mark, a condition, a hit count, and a message instead of a stop. All of
+these depend only on the position, so they act alike in both directions."""
 
 import re
 from bisect import bisect_left
@@ -15,15 +15,15 @@ from .messages import Body
 
 HIT_COUNT = re.compile(r"(==?|>=?|<=?|%)?\s*(\d{1,9})")
 IN_BRACES = re.compile(r"\{([^{}]*)\}")
-HERE = "position"  # a name in braces, besides the cells
+HERE = "position"  # a name in braces that isn't a cell
 
 
 class Unset(Exception):
-    """A breakpoint that can't be set: the reason."""
+    """Raised, with the reason, for a breakpoint that can't be set."""
 
 
 def condition_of(text: str) -> Condition:
-    """The condition in a text; Unset if the text is none."""
+    """The condition that a text states; raises Unset if it isn't a condition."""
     condition = Condition.of(text.split())
     if condition is None:
         raise Unset(texts.NOT_A_CONDITION.format(text=text))
@@ -31,14 +31,14 @@ def condition_of(text: str) -> Condition:
 
 
 class HitCount(NamedTuple):
-    """Which of the times that a breakpoint is reached it stops, counted from the recording's start."""
+    """A hit count: at which of the times that a breakpoint is reached it stops, counted from the recording's start."""
 
     relation: str
     number: int
 
     @classmethod
     def of(cls, text: str) -> "HitCount":
-        """The hit count in a text: 3 or == 3, >= 3, < 3, and % 3 for each third."""
+        """The hit count in a text: 3 or == 3, >= 3, < 3, or % 3 for every third time."""
         found = HIT_COUNT.fullmatch(text.strip())
         number = number_of(found[2]) if found else None
         if found is None or number is None or (found[1] == "%" and not number):
@@ -46,7 +46,7 @@ class HitCount(NamedTuple):
         return cls((found[1] or "=").replace("==", "="), number)
 
     def holds(self, count: int) -> bool:
-        """Whether it stops at the Nth time, counted from 1."""
+        """Whether a breakpoint with this hit count stops at the Nth time, counted from 1."""
         number = self.number
         return {
             "=": count == number, ">": count > number, ">=": count >= number, "<": count < number, "<=": count <= number,
@@ -56,8 +56,8 @@ class HitCount(NamedTuple):
 
 @dataclass(frozen=True)
 class Wish:
-    """A requested breakpoint: the mark in netrev's spelling (empty for a line of the program), its condition, its hit count, and
-    its message instead of a stop."""
+    """A requested breakpoint: the mark in netrev's spelling (empty for a line of the program), its condition, its hit
+    count, and its message instead of a stop."""
 
     what: str
     condition: Optional[Condition] = None
@@ -65,14 +65,14 @@ class Wish:
     message: str = ""
 
     def stops(self, session: Session, positions: Sequence[int]) -> list[int]:
-        """The positions, of those at which it is reached, at which it stops or prints its message, rising."""
+        """Those of the positions at which it is reached where it stops or prints its message, rising."""
         condition, times = self.condition, self.times
         met = [one for one in positions if condition is None or session.holds(condition, one)]
         return [one for count, one in enumerate(met, 1) if times is None or times.holds(count)]
 
 
 def positions_of(session: Session, what: str) -> list[int]:
-    """The positions at which a mark of netrev's is reached, rising."""
+    """The positions at which a mark of netrev is reached, rising."""
     if what.startswith("@"):
         return [int(what[1:]) - 1]
     if what in KINDS:
@@ -81,7 +81,7 @@ def positions_of(session: Session, what: str) -> list[int]:
 
 
 def is_in(rising: Sequence[int], position: int) -> bool:
-    """Whether a position is among these, which rise."""
+    """Whether a position is among these rising positions."""
     at = bisect_left(rising, position)
     return at < len(rising) and rising[at] == position
 

@@ -1,5 +1,5 @@
-"""The work on a request. A long request is reported to the editor: a move is answered before it is done, because editors offer a
-pause only while the program runs, and an editor that shows progress gets it."""
+"""The work on a request. A long request is reported to the editor. A move is answered before it is done, because
+editors offer a pause only while the program runs; an editor that can show progress gets it."""
 
 from contextlib import suppress
 from threading import Event, Lock, Thread
@@ -8,14 +8,14 @@ from ..messages import editors as texts
 from .hearing import MOVES, progress_of
 from .messages import Body, Request, Wire
 
-LATE = 0.3  # seconds after which a request counts as long
+LATE = 0.3  # the seconds after which a request counts as long
 AGAIN = 0.5  # seconds between two progress reports
 TITLES = {"launch": texts.READING, "attach": texts.JOINING, "evaluate": "nrdb answers"}
 
 
 class Work:
-    """The work on one request. A thread reports it to the editor if it takes long, so the main thread writes nothing before it is
-    done."""
+    """The work on one request. If it takes long, a thread reports it to the editor, because the main thread writes
+    nothing before it is done."""
 
     def __init__(self, wire: Wire, request: Request, shows_progress: bool):
         self._wire, self._request, self._shows_progress = wire, request, shows_progress
@@ -25,16 +25,17 @@ class Work:
         Thread(target=self._tell, daemon=True).start()
 
     def tells(self, position: int, length: int) -> None:
-        """Records the progress of the work, and does nothing else, because it may be stopped anywhere."""
+        """Records the progress of the work and does nothing else, because the work may be stopped anywhere."""
         self._position, self._length = position, length
 
     def responds(self, body: Body) -> None:
-        """The request was done."""
+        """Answers a request that succeeded."""
         if not self._ends():
             self._wire.respond(self._request, body)
 
     def refuses(self, why: str) -> bool:
-        """The request failed. Returns whether it was answered before, so that the failure must still be reported."""
+        """Answers a request that failed. Returns whether it had been answered before, so that the failure must still be
+        reported."""
         if self._ends():
             return True
         self._wire.refuse(self._request, why)
@@ -49,10 +50,10 @@ class Work:
             return self._is_answered
 
     def _tell(self) -> None:
-        """Reports to the editor, in the thread, that the work takes long, and its progress."""
+        """Reports to the editor, from the thread, that the work takes long, with its progress."""
         if self._done.wait(LATE):
             return
-        with self._lock, suppress(OSError, ValueError):  # (the editor has gone; the reading thread finds that out)
+        with self._lock, suppress(OSError, ValueError):  # (if the editor has gone, the reading thread finds that out)
             self._is_late()
         told = 0
         while self._is_shown and not self._done.wait(AGAIN):
