@@ -1,5 +1,5 @@
-"""The events of a trace besides statuses and steps: Go's calls, the deadlines, the clock, and what went wrong, from
-where the recording begins."""
+"""The events of a trace other than statuses and steps, from the beginning of the recording: Go's calls, the deadlines,
+the clock, and what went wrong."""
 
 from itertools import chain
 from typing import Iterator
@@ -19,7 +19,7 @@ from .searched import DEADLINES_AND_CLOCK, by_cell, searched
 from .stories import stories_data
 
 SIDES = {"rd": "read", "wd": "write"}
-Changed = list[tuple[int, str]]  # the steps that change a cell, with its value after each
+Changed = list[tuple[int, str]]  # the steps that change a cell, each with the new value
 
 
 def beside(recording: Recording, changes: RecordedChanges, scout: Scout) -> Iterator[str]:
@@ -36,13 +36,13 @@ def beside(recording: Recording, changes: RecordedChanges, scout: Scout) -> Iter
 
 
 def since(told: Changed, begins: int) -> Changed:
-    """The changes of a cell from a position on, with its value there."""
+    """The changes of a cell from a position on, beginning with its value there."""
     before = [value for step, value in told if step <= begins]
     return [(begins, before[-1]), *(one for one in told if one[0] > begins)] if begins and before else told
 
 
 def call_events(recording: Recording) -> Iterator[str]:
-    """A slice for each call that takes more than a step, around its goroutine's statuses and steps."""
+    """A slice for each call of more than one step, around its goroutine's statuses and steps."""
     telling, begins = Telling(recording), begins_at(recording)
     for call in shown_calls(recording, Window(begins + 1 if begins else 0, recording.length)):
         if call.last == call.first:
@@ -66,7 +66,7 @@ class Telling:
         self._texts: dict[str, str] = {}  # the name of a call with its result
 
     def of(self, call: Call) -> tuple[str, str]:
-        """The name of a call, with its result, and its line."""
+        """The name of a call with its result, and its line of the program."""
         stack = self._stack(call.first)
         named = call.name, stack
         if named not in self._names:
@@ -86,7 +86,7 @@ class Telling:
 
 
 def deadline_events(cells: dict[str, Changed], length: int) -> Iterator[str]:
-    """A thread for each side of a descriptor that ever has a deadline, with a slice for each."""
+    """A thread for each side of a descriptor that ever has a deadline, with a slice for each deadline."""
     named = False
     for thread, (cell, told) in enumerate(cells.items()):
         ends = [*(step for step, _ in told[1:]), length + 1]
@@ -111,7 +111,7 @@ def clock_events(ticks: Changed) -> Iterator[str]:
 
 
 def story_events(story: Data, begins: int = 0) -> Iterator[Event]:
-    """A mark through all rows at each step of a story, numbered. A step before the recording's beginning is marked
+    """A numbered mark through all rows at each step of a story. A step before the recording's beginning is marked
     there."""
     says = {"says": plain(story["says"]), "lines": [plain(line) for line in story["lines"]]}
     for number, step in enumerate(story["steps"], 1):

@@ -23,7 +23,7 @@ DONE, FAILED, HANGS, OPEN, LISTENS = range(5)  # the states of a drawn call
 
 
 class Texts(dict[str, int]):
-    """Texts, each stored once, by their indices in the order in which they came."""
+    """Texts, each stored once, with their indices in order of arrival."""
 
     def __missing__(self, text: str) -> int:
         number = self[text] = len(self)
@@ -50,13 +50,13 @@ WIDTHS = (
     ("H", 2, 2**16),
     ("I", 4, 2**32),
     ("d", 8, inf),
-)  # kinds of arrays, the bytes of a number, and the first number that is too large
+)  # the typecodes of arrays, the bytes of a number, and the first number that is too large
 COLUMNS = ("g", "s", "first", "long", "name", "came", "line", "state", "stack", "waited", "slept")
 
 
 def calls_data(recording: Recording, window: Window) -> Data:
-    """The calls of the window, in packed columns. `first` counts from the call before; `long` is a call's steps, 0 if
-    it hasn't ended; `name`, `came`, `line` and `stack` are indices into `texts`."""
+    """The calls of the window, in packed columns. `first` is relative to the previous call's; `long` is the number of a
+    call's steps, or 0 if it hasn't ended; `name`, `came`, `line` and `stack` are indices into `texts`."""
     telling, calls = Telling(recording), shown_calls(recording, window)
     firsts = [call.first for call in calls]
     columns = [
@@ -76,8 +76,8 @@ def calls_data(recording: Recording, window: Window) -> Data:
 
 
 def packed(column: list[int]) -> Any:
-    """A column of natural numbers for the page: its one value, or the bytes of all in base64, with the size of
-    each. Numbers beyond 32 bits are the script's floating-point numbers of 64 bits."""
+    """A column of natural numbers for the page: a single value if all are equal, or the bytes of all in base64, with
+    the size of each number. Numbers beyond 32 bits become the script's floating-point numbers of 64 bits."""
     most = max(column)
     if most == min(column):
         return most
@@ -89,7 +89,7 @@ def packed(column: list[int]) -> Any:
 
 
 class Telling:
-    """The texts of calls: name, result, line and stack, each as an index of `texts`; and the state."""
+    """The texts of calls (name, result, line and stack), each as an index into `texts`, and the state."""
 
     def __init__(self, recording: Recording) -> None:
         self.texts = Texts({"": 0})
@@ -99,7 +99,7 @@ class Telling:
         self._known: dict[tuple[str, Optional[int], int], tuple[int, ...]] = {}
 
     def of(self, call: Call) -> tuple[int, ...]:
-        """The name, the result, the line, the state and the stack. Many calls that succeeded have the same ones."""
+        """The name, the result, the line, the state and the stack. Many calls that succeeded have the same texts."""
         stack = self._stack(call.first)
         if not call.last or call.outcome is not Outcome.DONE:
             return self._told(call, stack)
@@ -124,26 +124,26 @@ class Telling:
         return steps[step - 1] if 0 < step <= len(steps) else 0
 
     def _line(self, stack: int) -> int:
-        """The index of the text of a stack's line; no stack has an empty one."""
+        """The index of the text of a stack's line; the text is empty if the stack is unknown."""
         if stack not in self._lines:
             self._lines[stack] = self.texts[self._recording.lines.stacks[stack].words()]
         return self._lines[stack]
 
     def _calls_of(self, stack: int) -> int:
-        """The index of the text with a stack's calls of the program."""
+        """The index of the text with the program's calls of a stack."""
         if stack not in self._stacks:
             self._stacks[stack] = self.texts[program_calls(self._recording.lines.stacks[stack])]
         return self._stacks[stack]
 
 
 def program_calls(stack: Stack) -> str:
-    """The calls of the program in a stack, the innermost first: `(*room).say main.go:63, (*room).serve main.go:71`."""
+    """The program's calls in a stack, innermost first: `(*room).say main.go:63, (*room).serve main.go:71`."""
     return ", ".join(f"{short(call.function)} {call.place()}" for call in stack.calls if call.of == OF_THE_PROGRAM)
 
 
 def names_data(recording: Recording, window: Window) -> dict[int, str]:
-    """The function that each goroutine of the window runs: the outermost function of the program in any of its
-    calls, otherwise the outermost function."""
+    """The function that each goroutine of the window runs: the outermost function of the program in any of its calls,
+    or else the outermost function."""
     names: dict[int, str] = {}
     own: set[int] = set()
     for call in shown_calls(recording, window) if recording.lines else ():
@@ -157,7 +157,7 @@ def names_data(recording: Recording, window: Window) -> dict[int, str]:
 
 
 def runs_in(stack: Stack, of: Optional[str] = None) -> Optional[str]:
-    """The outermost function in a stack, or the outermost of the program, without the compiler's wrapper of a `go`
-    or a `defer`."""
+    """The outermost function in a stack, or the outermost of the program's, not counting the compiler's wrapper of a
+    `go` or a `defer`."""
     functions = (call.function for call in reversed(stack.calls) if of in (None, call.of))
     return next((one for one in functions if not WRAPPER.search(one)), None)

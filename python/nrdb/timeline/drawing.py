@@ -1,5 +1,5 @@
-"""The timeline's picture of a short recording as SVG, made without a browser: the calls on their connections, where
-goroutines sleep in them, the deadlines, and the numbered steps of a story. It shows the recording's steps, their
+"""The timeline's picture of a short recording as SVG, made without a browser: the calls on their connections, the times
+that goroutines sleep in them, the deadlines, and the numbered steps of a story. It shows the recording's steps, their
 changes, and nrdb's analysis."""
 
 import textwrap
@@ -17,9 +17,10 @@ from .calls import DONE, FAILED, HANGS, LISTENS, OPEN, Data, names_data, state_o
 from .runs import Window
 from .story import Connections
 
-WIDE, LEFT, HIGH, EDGE = 1000, 190, 20, 24  # pixels: of the picture, of the labels, of a row, and at the right
-LETTER = 6.1  # pixels of a letter, about
-LINE = 140  # letters of a line of the sentence
+# in pixels: the width of the picture, the width of the labels, the height of a row, and the margin at the right
+WIDE, LEFT, HIGH, EDGE = 1000, 190, 20, 24
+LETTER = 6.1  # the approximate width of a letter, in pixels
+LINE = 140  # the most letters of a line of the sentence
 CLASS = {DONE: "done", FAILED: "failed", HANGS: "hangs", OPEN: "open", LISTENS: "listens"}
 ENDS = {HANGS: "hangs", OPEN: "hasn't ended", LISTENS: "waits for connections"}
 STYLE = """
@@ -39,12 +40,12 @@ text { font: 11px system-ui, "DejaVu Sans", sans-serif; fill: var(--ink); domina
 
 
 def drawing(recording: Recording, story: Optional[Data]) -> str:
-    """The picture of a recording with a story, whose steps are numbered, as SVG."""
+    """The picture of a recording as SVG, with the numbered steps of a story."""
     return Drawing(recording, story).text()
 
 
 class Drawing:
-    """A picture in progress."""
+    """A picture that is being drawn."""
 
     def __init__(self, recording: Recording, story: Optional[Data]) -> None:
         self._recording, self._story = recording, story
@@ -80,11 +81,11 @@ class Drawing:
         self._parts.append(f'<text x="{x}" y="{y}"{named}>{escape(plain(text))}</text>')
 
     def _bar(self, begin: float, end: float, y: float, high: float, kind: str) -> None:
-        wide = round(max(self._x(end) - self._x(begin) - 1, 1), 2)  # (two adjacent ones stay separate)
+        wide = round(max(self._x(end) - self._x(begin) - 1, 1), 2)  # (so that two adjacent bars stay separate)
         self._parts.append(f'<rect class="{kind}" x="{self._x(begin)}" y="{y}" width="{wide}" height="{high}"/>')
 
     def _ruler(self, y: int) -> None:
-        """The positions, at round distances."""
+        """Draws the ruler with positions at round distances."""
         every = next(
             size
             for size in (1, 2, 5, 10, 20, 50, 100, 200, 500, 10**9)
@@ -96,7 +97,7 @@ class Drawing:
         self._write(12, y - 22, "position", "soft")
 
     def _sockets(self) -> list[int]:
-        """The connections, that of the story first."""
+        """The sockets to draw, starting with those of the story."""
         first = self._story["s"] if self._story else None
         return sorted(
             (socket for socket in self._index.by_socket if socket >= 0), key=lambda socket: (socket != first, socket)
@@ -120,7 +121,7 @@ class Drawing:
                 self._deadlines(*use)
 
     def _call(self, call: Call) -> None:
-        """A call's bar, darker below while its goroutine sleeps, and its text."""
+        """Draws a call's bar, darker below while its goroutine sleeps, and its text."""
         end, state = call.last or self._recording.length + 1, state_of(self._index, call)
         self._bar(call.first - 1, end, self._y + 2.5, HIGH - 5, CLASS[state])
         for begin, until in self._sleeps(call, end):
@@ -131,18 +132,18 @@ class Drawing:
         words = " · ".join(filter(None, (name_of(self._recording, call), came, line)))
         if shown := fitted(words, wide - 8):
             self._write(self._x(call.first - 1) + 4, self._y + HIGH / 2, shown, "on" if state == FAILED else "")
-        elif state in (HANGS, FAILED):  # (before the bar, which is too short for them)
+        elif state in (HANGS, FAILED):  # (before the bar, which is too short for the text)
             self._write(self._x(call.first - 1) - 4, self._y + HIGH / 2, words, "before")
 
     def _sleeps(self, call: Call, end: int) -> Iterator[tuple[int, int]]:
-        """The positions between which its goroutine is parked or queued in a call."""
+        """The positions between which a call's goroutine is parked or queued."""
         changes = self._changes.changes_of(f"gor {call.goroutine}")
         for (begin, status), (until, _) in zip(changes, [*changes[1:], (self._recording.length + 1, "")]):
             if status.startswith(("parked", "queued")) and call.first <= begin < end:
                 yield begin, min(until, end)
 
     def _deadlines(self, d: int, _socket: int, begins: int, ends: Optional[int]) -> None:
-        """The deadlines of a use of a descriptor, a row for each side that has any."""
+        """Draws the deadlines of a use of a descriptor, in a row for each side that has any."""
         last = ends or self._recording.length + 1
         for side, name in (("rd", "read"), ("wd", "write")):
             changes = [one for one in self._changes.changes_of(f"{side} {d}") if begins <= one[0] < last]
@@ -163,7 +164,7 @@ class Drawing:
             self._y += HIGH
 
     def _numbers(self, top: int) -> None:
-        """The story's steps, numbered."""
+        """Draws the numbers of the story's steps."""
         last = -99.0
         for number, step in enumerate(self._story["steps"] if self._story else (), 1):
             x = self._x(step)
@@ -174,6 +175,6 @@ class Drawing:
 
 
 def fitted(text: str, wide: float) -> str:
-    """The beginning of a text that fits; empty if that would be too short."""
+    """The beginning of a text that fits into a width; empty if it would be too short."""
     letters = int(wide / LETTER)
     return text if len(text) <= letters else f"{text[: letters - 1]}…" if letters > 3 else ""

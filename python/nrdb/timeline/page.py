@@ -38,7 +38,7 @@ SCRIPTS = (
 
 
 def write_timeline(session: Session, path: str, first: Optional[int] = None, last: Optional[int] = None) -> str:
-    """Writes the page; returns the line about it."""
+    """Writes the page, and returns the line about it."""
     recording = session.text()
     window = None
     if first is not None and last is not None:
@@ -57,7 +57,8 @@ def write_timeline(session: Session, path: str, first: Optional[int] = None, las
 
 
 def told_at_the_terminal(text: str) -> None:
-    """Prints the progress on a line of the terminal, which is overwritten; nothing if errors go elsewhere."""
+    """Prints the progress on a line of the terminal, which the next one overwrites; prints nothing if errors go
+    elsewhere."""
     if sys.stderr.isatty():
         sys.stderr.write(f"\r\x1b[K{text}")
         sys.stderr.flush()
@@ -79,7 +80,8 @@ def read_part(name: str) -> str:
 def plain_json(value: Any) -> str:
     """The value in JSON, with each text in it escaped."""
     told = of_json(value)
-    return of_json(plainly(value)) if "\\" in told else told  # (JSON has an escape for a text that isn't plain)
+    # (a backslash is JSON's escape for a text that isn't plain)
+    return of_json(plainly(value)) if "\\" in told else told
 
 
 def plainly(value: Any) -> Any:

@@ -20,8 +20,8 @@ from .stories import stories_data
 from .story import MOST_TIMES, Connections, lines_data, marks_of, ticks_of, times_of, wakes_of
 from .waits import requests_data, waits_data
 
-MOST = 20_000  # steps of a part
-AT_ONCE = 8_000  # steps of the part of a longer recording, unless a part is named
+MOST = 20_000  # the most steps of a part
+AT_ONCE = 8_000  # the steps of the part of a longer recording, unless a part is named
 STAGES = (
     "netrev tells what each step changed",
     "the rules look for suspects, and who waits for whom",
@@ -31,8 +31,8 @@ STAGES = (
 
 
 class Shown(NamedTuple):
-    """The data for a page: a recording and its file, a netrev for other positions, the changes of each step, the session's
-    position, its marks, and a function that gets the progress."""
+    """What a page is made from: a recording and its file, a netrev for other positions, the changes of each step, the
+    session's position, its marks, and a function that is called with the progress."""
 
     recording: Recording
     path: str
@@ -44,18 +44,18 @@ class Shown(NamedTuple):
 
     @classmethod
     def by(cls, session: Session, tell: Callable[[str], None]) -> "Shown":
-        """The data for a session's page."""
+        """What a session's page is made from."""
         looks, changes, marks = session.looks(), session.changes(), session.netrev.marks()
         return cls(session.text(), session.path, looks, changes, session.stands().position, marks, tell)
 
     def begins(self, stage: int) -> None:
-        """Reports which stage begins."""
+        """Reports that a stage begins."""
         self.tell(f"the picture, {stage + 1} of {len(STAGES)}: {STAGES[stage]}")
 
 
 def collected(shown: Shown, window: Optional[Window] = None) -> Data:
-    """The contents of the page: calls and stories of the whole run, and each cell's values for a part. If no part is named, it is
-    everything, or in a long recording the part around the first story."""
+    """The contents of the page: the calls and stories of the whole run, and each cell's values for a part of it. If no
+    part is named, the part is the whole run, or, in a long recording, the steps around the first story."""
     whole = whole_of(shown)
     recording = shown.recording
     stories = whole["suspects"] + whole["causes"]
@@ -64,8 +64,8 @@ def collected(shown: Shown, window: Optional[Window] = None) -> Data:
 
 
 def part_round(stories: list[Data], length: int, position: int = 0, begins: int = 0) -> Window:
-    """The positions whose values are shown: all from the recording's beginning, or in a long recording those around the end of its first
-    story, or around the session's position if that is elsewhere and not the start."""
+    """The positions whose values are shown: all positions of the recording, or, in a long one, those around the end of
+    its first story, or around the session's position if that is elsewhere and not at the start."""
     if length <= MOST:
         return Window(begins, length)
     part = part_about(stories[0]["steps"][-1] if stories else length, length)
@@ -74,15 +74,15 @@ def part_round(stories: list[Data], length: int, position: int = 0, begins: int 
 
 
 def part_about(position: int, length: int) -> Window:
-    """A part of a long recording that ends some steps after a position."""
+    """The part of a long recording that ends some steps after a position."""
     last = min(position + AT_ONCE // 4, length)
     return Window(max(last - AT_ONCE, 0), max(last, AT_ONCE))
 
 
 def whole_of(shown: Shown) -> Data:
-    """The data of the whole run: the calls, the waits outside of the poller, the clock and what went wrong."""
+    """The data of the whole run: the calls, the waits outside the poller, the clock and what went wrong."""
     shown.begins(0)
-    recording, every = shown.recording, Window(0, shown.changes.length)  # (which waits for all output of netrev)
+    recording, every = shown.recording, Window(0, shown.changes.length)  # (this waits for the whole output of netrev)
     shown.begins(1)
     suspects, causes = stories_data(shown.scout, recording)
     shown.begins(2)
@@ -127,7 +127,7 @@ def part_of(shown: Shown, window: Window) -> Data:
 
 
 def steps_of(recording: Recording, window: Window) -> list[str]:
-    """The steps that lead to each position, and the one after the last; empty if none does."""
+    """The step that leads to each position, and the one after the last position; empty if there is none."""
     behind = -1 if recording.has_answers else None
 
     def text_of(values: list[Any]) -> str:
@@ -138,7 +138,7 @@ def steps_of(recording: Recording, window: Window) -> list[str]:
 
 
 def rows_of(runs: Runs) -> list[Data]:
-    """The rows with shades: a name, the cell of the row, and the shade of each of its runs."""
+    """The rows with shades: each has a name, its cell, and the shade of each of its runs."""
     rows = []
     for cell, run in runs.items():
         name, _, number = cell.partition(" ")
@@ -150,7 +150,7 @@ def rows_of(runs: Runs) -> list[Data]:
 
 
 def words_of(runs: Runs) -> dict[str, dict[str, str]]:
-    """The meanings of the values of cells that have one, by the cell's name."""
+    """The meanings of cells' values that have one, by the cell's name."""
     shown: dict[str, dict[str, None]] = {}
     for cell, run in runs.items():
         if (name := cell.split()[0]) in CELLS:

@@ -15,8 +15,8 @@ from ..scout import Scout
 from ..session import Misused
 from ..world import COUNTED_BY, made_at, room_for
 
-Runs = dict[str, list[tuple[int, str]]]  # for each cell the positions at which its value changes, with the new value
-COMPARED = 16  # positions at which all cells are compared
+Runs = dict[str, list[tuple[int, str]]]  # for each cell, the positions at which its value changes, with the new value
+COMPARED = 16  # how many positions there are at which all cells are compared
 QUEUES = ("rq", "wq")
 NAMES = {of: [cell.name for cell in CELLS.values() if cell.of is of] for of in Of}
 NAMES[Of.SOCKET] += QUEUES
@@ -24,19 +24,20 @@ NAMES[Of.SOCKET] += QUEUES
 
 @dataclass(frozen=True)
 class Window:
-    """The positions that are shown, first and last."""
+    """The first and the last position that are shown."""
 
     first: int
     last: int
 
     def compared(self) -> list[int]:
-        """The positions at which all cells are compared: the last one, and others at equal distances."""
+        """The positions at which all cells are compared: the last position, and others at equal distances."""
         every = max((self.last - self.first) // COMPARED, 1)
         return [*range(self.first, self.last, every), self.last]
 
 
 def runs_of(recording: Recording, scout: Scout, changes: RecordedChanges, window: Window) -> tuple[Runs, int]:
-    """The runs of all cells and queues, and at how many positions they were compared with netrev's answers."""
+    """The runs of all cells and queues, and the number of positions at which they were compared with netrev's
+    answers."""
     cells = scout.look(window.last, partial(cells_made, recording))
     start = dict(zip(cells, shown_of(scout, cells, window.first)))
     queues = Queues(start)
@@ -64,8 +65,8 @@ def shown_of(scout: Scout, cells: Iterable[str], position: int) -> list[str]:
 
 
 class Queues:
-    """The queues, from the statuses of the goroutines in them: a new goroutine is last. They begin with netrev's
-    values."""
+    """The queues, derived from the statuses of the goroutines in them: a new goroutine goes to the end. They begin with
+    netrev's values."""
 
     def __init__(self, start: dict[str, str]) -> None:
         self._statuses = {cell: value for cell, value in start.items() if cell.startswith("gor ")}
@@ -78,7 +79,7 @@ class Queues:
         return "absent" if standing is None else " ".join(standing) or "-"
 
     def follow(self, changed: list[tuple[str, str]]) -> Iterator[tuple[str, str]]:
-        """The queues that change with a step that changes these cells, with their new values."""
+        """Updates the queues for a step that changes these cells; yields those that change, with their new values."""
         touched: dict[str, None] = {}
         for cell, value in changed:
             if cell.startswith("lock ") and f"rq {cell[5:]}" not in self._standing:
@@ -90,7 +91,7 @@ class Queues:
         return ((queue, self.shown(queue)) for queue in touched)
 
     def _moved(self, cell: str, status: str) -> Iterator[str]:
-        """The queues that a goroutine leaves or joins by its new status."""
+        """Moves a goroutine by its new status; yields the queues that it leaves or joins."""
         before, self._statuses[cell] = self._statuses.get(cell, ""), status
         if before.startswith("queued "):
             self._standing[_queue(before)].remove(cell[4:])
@@ -107,7 +108,7 @@ def _queue(status: str) -> str:
 
 
 def _compare(scout: Scout, runs: Runs, position: int) -> None:
-    """Compares all cells and queues with netrev's at the position; raises Misused if one differs."""
+    """Compares all cells and queues with netrev's values at a position; raises Misused if one differs."""
     for (cell, run), shown in zip(runs.items(), shown_of(scout, runs, position)):
         if shown != (told := value_at(run, position)):
             words = {"cell": cell, "answer": shown, "position": position, "value": told}
@@ -115,7 +116,7 @@ def _compare(scout: Scout, runs: Runs, position: int) -> None:
 
 
 def value_at(run: list[tuple[int, str]], position: int) -> str:
-    """The value of a run at a position."""
+    """The value that a run has at a position."""
     low, high = 0, len(run)
     while high - low > 1:
         middle = (low + high) // 2

@@ -1,5 +1,5 @@
-"""Changes of a few kinds of cells, for callers that need no others: netrev's lines are searched for them, and other
-lines aren't parsed."""
+"""Changes of a few kinds of cells, for callers that need no others: netrev's lines are searched for these cells, and no
+other lines are parsed."""
 
 import re
 from typing import Iterator
@@ -10,8 +10,9 @@ Lines = Iterator[tuple[str, str, str]]
 
 
 def spelled(cells: str) -> re.Pattern[str]:
-    """A line with the value of such a cell after a step: a number or words without escapes."""
-    # (a pattern that begins with a literal, the line feed before, is searched nearly twice as fast as one that begins with ^)
+    """A pattern for a line with the new value of such a cell: a number or words without escapes."""
+    # (a pattern that begins with a literal, here the line feed before the line, is searched nearly twice as fast as one
+    # that begins with ^)
     return re.compile(rf"\n(\d+) ({cells}) = ([\w -]+)$", re.MULTILINE | re.ASCII)
 
 
@@ -19,7 +20,7 @@ STATUSES, STATUSES_AND_CLOCK, DEADLINES_AND_CLOCK = map(spelled, (r"gor \d+", r"
 
 
 def searched(changes: RecordedChanges, lines: re.Pattern[str]) -> Lines:
-    """The step, the cell and its value of each of these lines, as texts."""
+    """The step, the cell and the value of each line that matches, as texts."""
     for piece in changes.pieces():
         yield from lines.findall("\n" + piece.decode("latin-1"))
 

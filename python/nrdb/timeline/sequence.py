@@ -10,20 +10,20 @@ from ..recording import Recording, Step
 from .calls import Data, names_data
 from .runs import Window
 
-MOST = 200  # steps above which the diagram is unreadable
+MOST = 200  # the number of steps above which the diagram is unreadable
 NETWORK = "net"
-PLAIN = frozenset(" .,-_/*()'+=")  # allowed besides letters and digits; Mermaid interprets all others
+PLAIN = frozenset(" .,-_/*()'+=")  # characters allowed besides letters and digits; Mermaid interprets all others
 
 
 def sequence(recording: Recording, story: Optional[Data]) -> str:
-    """The diagram, with notes at a story's steps; empty if there are too many steps."""
+    """The diagram, with notes at a story's steps; empty if the recording has too many steps."""
     if recording.length > MOST:
         return ""
     return "\n".join(["sequenceDiagram", *(f"    {line}" for line in _lines(recording, story))])
 
 
 def spelled(text: str) -> str:
-    """Text from outside, escaped for Mermaid: each character with a meaning there is written as a number."""
+    """Text from outside, escaped for Mermaid: each character that has a meaning there is written as a number."""
     return "".join(one if one.isalnum() or one in PLAIN else f"#{ord(one)};" for one in plain(text))
 
 

@@ -1,5 +1,5 @@
-"""The page's data besides the cells: the owners of descriptors and goroutines, wake-ups, marks, and the program's
-lines. They are nrdb's own, unproved."""
+"""The page's data other than the cells: the owners of descriptors and goroutines, wake-ups, marks, and the program's
+lines. They are nrdb's own and unproved."""
 
 from typing import Any
 
@@ -23,8 +23,9 @@ WAKES = {
 
 
 class Connections:
-    """The socket of each descriptor and goroutine in a window: each use of a descriptor, with its number, its socket, and its first
-    and last position (None: at or after the window's end); and the socket that each goroutine uses most."""
+    """The sockets of descriptors and goroutines in a window: for each use of a descriptor, its number, its socket, and
+    its first and last position (None: it lasts to the window's end or longer); and for each goroutine, the socket that
+    it uses most."""
 
     def __init__(self, recording: Recording, window: Window) -> None:
         self._window, notes = window, book_of(recording).notes
@@ -39,7 +40,8 @@ class Connections:
                 self._touched.setdefault(g, {})[s] = many
 
     def groups(self, runs: Runs) -> dict[int, int]:
-        """The socket of each goroutine: the one at which it waits for the most steps, or makes the most."""
+        """The socket of each goroutine: the one with the most steps, counting those that the goroutine makes there and
+        those that it waits there."""
         for cell, run in runs.items():
             if cell.startswith("gor "):
                 ends = [begins for begins, _ in run[1:]] + [self._window.last + 1]
@@ -48,7 +50,7 @@ class Connections:
         return {g: max(counts, key=counts.__getitem__) for g, counts in self._touched.items()}
 
     def _waits(self, g: int, status: list[str], position: int, steps: int) -> None:
-        """Counts the steps of a status at its socket."""
+        """Counts the steps of a status for its socket."""
         if len(status) < 3:
             return
         socket = int(status[1])
@@ -60,7 +62,7 @@ class Connections:
 
 
 def wakes_of(recording: Recording, runs: Runs) -> list[list[Any]]:
-    """Each wake-up: its step, the goroutine that was woken, the goroutine that woke it or None, the place where it
+    """Each wake-up: its step, the goroutine that was woken, the goroutine that woke it (or None), the place where it
     slept, and the step's kind."""
     wakes: list[list[Any]] = []
     for cell, run in runs.items():
@@ -77,8 +79,8 @@ def wakes_of(recording: Recording, runs: Runs) -> list[list[Any]]:
 
 
 def lines_data(recording: Recording, window: Window) -> Data:
-    """The program's lines: each once, and for each step from the first position on the index of its line; nothing
-    without lines."""
+    """The program's lines, each stored once, and for each step from the first position on the index of its line; empty
+    if the recording has no lines."""
     if not recording.lines:
         return {}
     texts: dict[str, int] = {"": 0}
@@ -102,8 +104,8 @@ def marks_of(listed: list[Listed], recording: Recording, window: Window, runs: R
 
 
 def ticks_of(changes: RecordedChanges) -> list[list[int]]:
-    """The steps at which the clock advanced, each with its time; if they are too many, some at regular distances,
-    with the last."""
+    """The steps at which the clock advanced, each with its time; if there are too many, some at regular distances, and
+    the last one."""
     ticks = changes.changes_of("clock")
     every = -(-len(ticks) // MOST_TICKS) or 1
     shown = [*ticks[::every], *(ticks[-1:] if (len(ticks) - 1) % every else [])]
@@ -111,9 +113,9 @@ def ticks_of(changes: RecordedChanges) -> list[list[int]]:
 
 
 def times_of(recording: Recording, window: Window, most: int) -> Data:
-    """The recorder's times after the steps of a window: after each, or in a long window after some at equal distances. `every` is
-    that distance, from the first position, and `ns` the difference of each time to the one before. Empty if the recorder had no
-    times."""
+    """The recorder's times after the steps of a window: after each step, or, in a long window, after steps at equal
+    distances. `every` is that distance, counted from the first position, and `ns` the difference between each time and
+    the previous one. Empty if the recorder had no times."""
     times = recording.lines.times
     if not times:
         return {}

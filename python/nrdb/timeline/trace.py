@@ -1,10 +1,10 @@
-"""The run as Chrome's trace events in JSON, for Perfetto: a thread for each goroutine, with slices for its calls,
-statuses and steps, and flows from the step that woke a goroutine to its next status; deadlines, the clock, and
-what went wrong. A step takes a microsecond. If a recording begins in the middle of a run, the trace begins there
-too.
+"""The run as Chrome's trace events in JSON, for Perfetto. Each goroutine is a thread, with slices for its calls,
+statuses and steps, and flows from the step that woke a goroutine to its next status; the trace also has deadlines, the
+clock, and what went wrong. Each step takes a microsecond. If a recording begins in the middle of a run, the trace
+begins there too.
 
-The statuses, deadlines and the clock are from netrev's list of changes; at some positions netrev's statuses of all
-goroutines are compared. Calls and suspects are nrdb's own.
+The statuses, the deadlines and the clock are from netrev's list of changes; at some positions, the statuses of all
+goroutines are compared with netrev's answers. Calls and suspects are nrdb's own.
 """
 
 import gzip
@@ -38,13 +38,13 @@ SOCKETS = 10  # the number of the first socket's thread
 BY_A_GOROUTINE = frozenset(OF_A_GOROUTINE)
 QUIET = frozenset(("idle", "gone"))
 AT_ONCE = 1_024  # events that are written together
-END = (str(2**64), "", "")  # the entry after the last change
+END = (str(2**64), "", "")  # an entry after the last change
 
 Statuses = dict[int, str]  # of goroutines
 
 
 def write_trace(session: Session, path: str) -> str:
-    """Writes the trace; returns the line about it."""
+    """Writes the trace, and returns the line about it."""
     recording, scout = session.text(), session.looks()
     tracing = Tracing(recording, session.changes())
     compared = _compared(scout, recording, session.changes())
@@ -58,7 +58,7 @@ def write_trace(session: Session, path: str) -> str:
 
 @contextmanager
 def packed(path: str, recording: str) -> Iterator[IO[str]]:
-    """A file to write, compressed with gzip if its name ends so."""
+    """A file to write, compressed with gzip if its name ends in .gz."""
     if not path.endswith(".gz"):
         with writing(path, recording) as file:
             yield file
@@ -84,7 +84,7 @@ def write_events(file: IO[str], events: Iterator[list[str]]) -> None:
 
 
 def _compared(scout: Scout, recording: Recording, changes: RecordedChanges) -> int:
-    """The number of positions at which netrev shows the same statuses as its changes; Misused if one differs."""
+    """The number of positions at which netrev shows the same statuses as its changes; raises Misused if one differs."""
     every = max(changes.length // COMPARED, 1)
     compared = sorted({*range(every, changes.length + 1, every), changes.length} - {0})
     spawned = sum(1 for _ in recording.steps_of(("spawn",), changes.length))
@@ -112,14 +112,15 @@ class Tracing:
         self.slices = self.flows = 0
         self._has_answers = recording.has_answers
         self._statuses: Statuses = {}
-        self._since: dict[int, int] = {}  # for each goroutine that does something, since when
+        # for each goroutine with a status that is traced, the step since which it has had it
+        self._since: dict[int, int] = {}
 
     def events(self, name: str, check: Callable[[], None]) -> Iterator[str]:
         """All events, one after the other."""
         return chain.from_iterable(self.events_together(name, check))
 
     def events_together(self, name: str, check: Callable[[], None]) -> Iterator[list[str]]:
-        """All events in groups: names first, then slices and flows step by step. Each time it calls `check`."""
+        """All events in groups: names first, then slices and flows step by step. Calls `check` for each group."""
         yield list(map(of_json, self._names(name)))
         rows = zip(self.recording.rows(self._told), told_lines(self.recording.lines, self.recording.length))
         steps = islice(rows, self.begins, None)
@@ -135,7 +136,8 @@ class Tracing:
             check()
             events: list[str] = []
             for number, ((mine, where, begin, what), line) in enumerate(islice(steps, AT_ONCE), first):
-                # (there are a million of these, so the text is concatenated here, and its parts are made once for similar lines)
+                # (there are a million of these, so the text is concatenated here from parts that are made once for
+                # similar lines)
                 step = str(number)
                 events.append(f"{begin}{before}{what}{step}{clock}{line}")
                 if number == upcoming:
@@ -151,7 +153,8 @@ class Tracing:
             yield [self._status(g, self._statuses[g], self.recording.length + 1) for g in sorted(self._since)]
 
     def _told(self, values: list[Any]) -> tuple[Optional[int], str, str, str]:
-        """For a step's line, its goroutine, its slice, and the parts of its text: up to the time, and up to the number."""
+        """For a step's line: its goroutine, its thread in the trace, and the two parts of its text, up to the time and
+        up to the number."""
         words = values[:-1] if self._has_answers else values
         kind = words[0]
         mine: Optional[int] = words[1] if kind in BY_A_GOROUTINE else None
@@ -164,7 +167,7 @@ class Tracing:
         return mine, where, f'{{"ph":"X",{where},"ts":', what
 
     def _changed(self) -> Iterator[tuple[int, Statuses, str]]:
-        """Each step that changed a status or the clock, with the statuses and the new time; finally no step."""
+        """Each step that changed a status or the clock, with the statuses and the new time; at the end, step 0."""
         last, clock = "", ""
         statuses: Statuses = {}
         for step, cell, value in searched(self.changes, STATUSES_AND_CLOCK):
@@ -181,7 +184,7 @@ class Tracing:
         yield 0, {}, ""
 
     def _is_led_to(self, statuses: Statuses) -> None:
-        """Takes statuses of a step before the first traced one: they begin there."""
+        """Takes over statuses from before the first traced step; their slices begin there."""
         self._statuses |= statuses
         for g, status in statuses.items():
             if status in QUIET:
@@ -198,7 +201,7 @@ class Tracing:
             if g not in known:
                 known[g] = value_at_start(f"gor {g}")
         if len(order) > 1:
-            # (a sleeping goroutine is woken by another one; of two at a descriptor, the reader first)
+            # (a sleeping goroutine is woken by another one; of two goroutines at a descriptor, the reader comes first)
             order.sort(key=lambda g: (g == mine, known[g].split()[-1]))
         for g in order:
             before, now = known[g], statuses[g]
@@ -211,13 +214,13 @@ class Tracing:
             known[g] = now
 
     def _status(self, g: int, words: str, until: int) -> str:
-        """The slice of a status that ends."""
+        """The slice of a status that has ended."""
         since = self._since.pop(g)
         self.slices += 1
         return f'{{"ph":"X","pid":{GOROUTINES},"tid":{g},"ts":{since},"dur":{until - since},"name":"{words}","cat":"status"}}'
 
     def _flow(self, number: int, where: str, woken: int, events: list[str]) -> None:
-        """The flow from the step that wakes a goroutine to the status in which the goroutine continues."""
+        """Adds the flow from the step that wakes a goroutine to the status in which the goroutine continues."""
         self.flows += 1
         about = f'"id":{self.flows},"name":"wakes","cat":"wake"'
         events.append(f'{{"ph":"s",{where},"ts":{number - 1},{about}}}')
@@ -239,14 +242,14 @@ class Tracing:
 
 
 def _thread(kind: str, arguments: list[Any]) -> int:
-    """The thread of a step that no goroutine makes."""
+    """The thread of a step that isn't made by a goroutine."""
     if kind in ("arrive", "drain", "peerclose"):
         return SOCKETS + int(arguments[0])
     return {"pollevent": POLLER, "pop": TIMERS, "fire": TIMERS}.get(kind, CLOCK)
 
 
 def told_lines(lines: Lines, length: int) -> Iterator[str]:
-    """The text at the end of each step's slice, with the program's line if known; each stack's text is made once."""
+    """The end of each step's slice as text, with the program's line if known; each stack's text is made only once."""
     texts = {number: stack.words() for number, stack in lines.stacks.items()}
     told = {number: f',"line":{of_json(plain(text))}}}}}' if text else "}}" for number, text in texts.items()}
     return chain(map(told.__getitem__, lines.steps), repeat("}}", length - len(lines.steps)))

@@ -1,4 +1,4 @@
-"""The waits outside of the poller as the page draws them, also those of goroutines that touch no socket."""
+"""The waits outside the poller as the page draws them, including those of goroutines that use no socket."""
 
 from typing import Any
 
@@ -10,14 +10,14 @@ from ..waits import Name, Waiting, waits_of
 from ..where import OF_THE_PROGRAM
 from .calls import Data, Texts, program_calls, runs_in
 
-MOST_ROWS, MOST_WAITS = 200, 20_000  # goroutines without steps that have a row, and waits
+MOST_ROWS, MOST_WAITS = 200, 20_000  # the most rows for goroutines without steps, and the most waits
 
 
 def waits_data(recording: Recording) -> Data:
-    """The waits of a recording: `rows`, each with its goroutine, the step after which it begins and the one up to
-    which it lasts (0: it doesn't end), and what the goroutine does, its line and its stack, as indices of
-    `texts`. A goroutine without steps is in `others`, by Go's number with the function that it runs, and has the
-    number -1 minus its index there. `left_out` are goroutines and waits that don't fit on a page: the waits that
+    """The waits of a recording. `rows` has, for each wait, its goroutine, the step after which it begins, the step up
+    to which it lasts (0: it doesn't end), and what the goroutine does, its line and its stack, as indices into `texts`.
+    A goroutine without steps is in `others`, by Go's number with the function that it runs; its number in `rows` is -1
+    minus its index there. `left_out` counts the goroutines and waits that don't fit on a page, on which waits that
     don't end come first, then the newest."""
     waits, texts = waits_of(recording), Texts({"": 0})
     shown = {name: list(filter(is_long, some)) for name, some in waits.of.items()}
@@ -44,7 +44,7 @@ def waits_data(recording: Recording) -> Data:
 
 
 def requests_data(recording: Recording) -> dict[int, list[str]]:
-    """For each socket on which net/http's client wrote requests, the lines of these, each once."""
+    """For each socket on which net/http's client wrote requests, the lines of these requests, each once."""
     found: dict[int, dict[str, None]] = {}
     for request in requests_of(index_of(recording)):
         found.setdefault(request.socket, {})[place_in(request.stack).strip().removeprefix("at ")] = None
@@ -52,15 +52,15 @@ def requests_data(recording: Recording) -> dict[int, list[str]]:
 
 
 def is_long(wait: Waiting) -> bool:
-    """Whether a wait was under way at some position."""
+    """Whether a wait was in progress at some position."""
     return wait.last is None or wait.last > wait.first
 
 
 def rank(waits: list[Waiting]) -> tuple[bool, int]:
-    """The goroutines that wait at the end come first, then those that waited last."""
+    """The sort key of goroutines: those that wait at the end come first, then those that waited last."""
     return waits[-1].last is not None, -waits[-1].first
 
 
 def runs(waits: list[Waiting]) -> str:
-    """The outermost function of the program that a goroutine is in; empty if it is in none."""
+    """The outermost function of the program that a goroutine is in; empty if there is none."""
     return short(next((found for wait in waits if (found := runs_in(wait.stack, OF_THE_PROGRAM))), ""))
