@@ -1,5 +1,5 @@
-"""Goroutines that wait at the end for something that has come: they are parked for reading, although bytes are unread or the peer
-has closed."""
+"""Goroutines that wait at the end for something that has already come: they are parked for reading although bytes are
+unread or the peer has closed."""
 
 from typing import Iterator, NamedTuple
 
@@ -9,7 +9,8 @@ from .run import Run
 
 
 class Waiting(NamedTuple):
-    """A goroutine that is parked for reading: since which step, what came as text, and the step at which that came."""
+    """A goroutine that is parked for reading: the step since which it is parked, what came (as text), and the step at
+    which that came."""
 
     goroutine: int
     use: Use
@@ -19,20 +20,20 @@ class Waiting(NamedTuple):
 
     @property
     def begins(self) -> str:
-        """The beginning of a sentence about it."""
+        """The beginning of a sentence about this wait."""
         return f"goroutine {self.goroutine} is parked for reading since step {self.since}, {self.lies}"
 
     @property
     def has_event(self) -> bool:
-        """Whether an event reported it."""
+        """Whether an event reported what came."""
         return self.use.last_event("r") >= self.came
 
     def has_stale_event(self, run: Run) -> bool:
-        """Whether an event that came for it was dropped."""
+        """Whether an event that reported what came was dropped."""
         return not self.has_event and run.notes.stale.get(self.use.descriptor, (0, 0))[0] > self.came
 
     def suspect(self, run: Run, step: int, weight: int, says: list[str]) -> Suspect:
-        """A suspect about the goroutine that hangs."""
+        """A suspect about a goroutine that hangs in this way."""
         shown = Evidence(run.end, f"gor {self.goroutine}", run.notes.now[f"gor {self.goroutine}"])
         d, s = self.use.descriptor, self.use.socket
         suspect = Suspect(step, weight, says, goroutine=self.goroutine, descriptor=d, socket=s, evidence=[shown])

@@ -1,4 +1,5 @@
-"""A rule's finding: a suspect, with the step at fault, its sentence, its weights, and the questions for netrev."""
+"""A rule's finding: a suspect with the step at fault, its sentence, its weight, and the queries to netrev that support
+it."""
 
 from dataclasses import dataclass, field
 from enum import IntEnum
@@ -6,7 +7,7 @@ from typing import NamedTuple, Optional
 
 
 class Weight(IntEnum):
-    """The weight of a suspect. Suspects below SHOWN are counted and not shown."""
+    """The weight of a suspect. Suspects below SHOWN are counted but not shown."""
 
     CERTAIN = 95  # a goroutine hangs or a reference leaks because of it, and nothing else explains that
     STRONG = 85
@@ -16,12 +17,13 @@ class Weight(IntEnum):
     DOUBTFUL = 10
 
 
-# the weight that is added if a suspect's goroutine hangs there, is still there, or went on; and if a call timed out by it
+# what is added to the weight if the suspect's goroutine hangs there, is still there, or went on, and if a call timed
+# out because of it
 HANGS, STILL_THERE, WENT_ON, TIMED_OUT = 50, 40, -30, 20
 
 
 class Evidence(NamedTuple):
-    """A question to netrev at a position, and the answer that the rule expects; None if any answer will do."""
+    """A query to netrev at a position, and the answer that the rule expects; None if any answer will do."""
 
     position: int
     cell: str
@@ -30,7 +32,7 @@ class Evidence(NamedTuple):
 
 @dataclass
 class Suspect:
-    """A suspected bug. Its sentence consists of clauses, the first of which is complete."""
+    """A suspected bug. Its sentence consists of clauses; the first one is complete by itself."""
 
     step: int
     weight: int
@@ -42,20 +44,20 @@ class Suspect:
     evidence: list[Evidence] = field(default_factory=list)
     looks: list[str] = field(default_factory=list)
     steps: list[int] = field(default_factory=list)  # the steps that it names, in the order of events
-    rule: str = ""  # by the rule's name
+    rule: str = ""  # the name of the rule that found it
 
     @property
     def is_shown(self) -> bool:
-        """Whether its weight is enough to be shown."""
+        """Whether the suspect's weight is enough to be shown."""
         return self.weight >= Weight.SHOWN
 
     @property
     def subject(self) -> tuple[object, ...]:
-        """The rule and its object: of several suspects with the same subject, one is shown."""
+        """The rule and its object; only one of several suspects with the same subject is shown."""
         return self.rule, self.goroutine, self.descriptor, self.socket
 
     def has_line(self, line: str) -> None:
-        """netrev's own line about it; empty if netrev printed none."""
+        """Adds netrev's own line about the suspect, unless it is empty."""
         self.listed += [line] if line else []
 
     def sentence(self) -> str:

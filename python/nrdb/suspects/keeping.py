@@ -1,4 +1,5 @@
-"""References that are still held at the end: their holders are gone, have stopped, or have gone on to other work."""
+"""References that are still held at the end although their holders are gone, have stopped, or have gone on to other
+work."""
 
 from typing import Iterator, NamedTuple
 
@@ -9,12 +10,12 @@ from ..words import SIDES as NAMES
 from .found import Evidence, Suspect, Weight
 from .run import TWICE, Run
 
-BRIEF = 20  # a reference that was held for so few steps proves nothing
+BRIEF = 20  # holding a reference for at most this many steps proves nothing
 
 
 class Kept(NamedTuple):
-    """A reference of a socket that is held at the end: whether its holder is gone or idle, how long it has paused
-    if that is too long, and how long it has held the reference if that is too long."""
+    """A reference of a socket that is held at the end: whether its holder is gone (else it is idle), how long the
+    holder has paused if that is too long, and how long it has held the reference if that is too long."""
 
     socket: int
     hold: Hold
@@ -23,12 +24,12 @@ class Kept(NamedTuple):
     age: str
 
     def is_unevicted(self, run: Run) -> bool:
-        """Whether it belongs to a close that hasn't evicted its descriptor."""
+        """Whether the reference belongs to a close that hasn't evicted its descriptor."""
         is_of_close = self.hold.kind == "increfclose" and self.socket not in run.notes.evicted
         return not self.is_gone and is_of_close and bool(self.pause or self.age)
 
     def suspect(self, run: Run, how: str, open_and_closed: tuple[Weight, Weight]) -> Suspect:
-        """The suspect: how the reference is held, and its weights for an open and for a closed socket."""
+        """The suspect, from how the reference is held and the weights for an open and for a closed socket."""
         (g, step, kind, side), s, notes = self.hold, self.socket, run.notes
         lock = f" {NAMES[side]}" if side else ""
         says = [f"goroutine {g} holds a reference of socket {s} since step {step} ({kind}{lock}) {how}"]

@@ -1,4 +1,4 @@
-"""The suspects of a recording by all rules, the worst first, one of several with the same subject."""
+"""The suspects of a recording by all rules, worst first, and only one of several with the same subject."""
 
 from typing import Iterable, NamedTuple
 
@@ -12,20 +12,20 @@ from .run import Run
 
 
 class Ranked(NamedTuple):
-    """The suspects of a recording, the worst first, and the calls that ended with a timeout."""
+    """The suspects of a recording, worst first, and the calls that ended with a timeout."""
 
     suspects: list[Suspect]
     timeouts: list[Timeout]
 
 
 def suspects_of(recording: Recording) -> Ranked:
-    """The suspects of the rules about cells, which are all but those about calls."""
+    """The suspects by the rules about cells, which are all rules except those about calls."""
     prepare(recording)
     return by_cells(Run(Notes(recording)))
 
 
 def all_suspects_of(recording: Recording) -> Ranked:
-    """The suspects of all rules; those about calls come last."""
+    """The suspects by all rules; those about calls come last."""
     prepare(recording)
     run = Run(book_of(recording).notes)
     ranked = by_cells(run)
@@ -33,7 +33,7 @@ def all_suspects_of(recording: Recording) -> Ranked:
 
 
 def prepare(recording: Recording) -> None:
-    """Starts netrev's own list, if it is used."""
+    """Starts `netrev suspects`, if its list is used."""
     if recording.suspects:
         recording.suspects.prepare()
 
@@ -48,7 +48,7 @@ def found(rules: Iterable[Rule], run: Run) -> list[Suspect]:
 
 
 def one_of_each(suspects: list[Suspect]) -> list[Suspect]:
-    """The worst suspect of each subject, with the number of others like it; the worst of all first."""
+    """The worst suspect of each subject, with the number of others like it, worst first."""
     kept: dict[tuple[object, ...], list[Suspect]] = {}
     for suspect in sorted(suspects, key=lambda one: (-one.weight, one.step)):
         kept.setdefault(suspect.subject, []).append(suspect)

@@ -1,5 +1,4 @@
-"""A recorded run for the rules: a recording's changes, notes and Go's calls, with the facts that several rules
-need."""
+"""A recorded run for the rules: a recording's changes, notes and Go calls, with the facts that several rules need."""
 
 from bisect import bisect_right
 from collections import defaultdict
@@ -18,12 +17,12 @@ from ..suspect_list import Listed
 from .reckoned import by_the_notes
 
 SIDES = {"Read": "r", "Write": "w"}  # for calls that a deadline ends
-SHORT = 10  # a pause of so few steps proves nothing, however long others were
-TWICE = 2  # how many times as long as the longest ended one a pause or a hold must be to count as too long
+SHORT = 10  # a pause of at most this many steps proves nothing, whatever the others were
+TWICE = 2  # a pause or a hold counts as too long if it is more than this many times as long as the longest that ended
 
 
 class Run:
-    """A recorded run, as the rules need it."""
+    """A recorded run, in the form that the rules need."""
 
     def __init__(self, notes: Notes) -> None:
         self.notes, self.changes, self.recording = notes, notes.changes, notes.recording
@@ -31,12 +30,12 @@ class Run:
 
     @cached_property
     def facts(self) -> Listed:
-        """The list of `netrev suspects`, or the same facts from the notes, if netrev is missing or older."""
+        """The list of `netrev suspects`, or, if netrev is missing or older, the same facts from the notes."""
         listed = self.recording.suspects.of(self.end) if self.recording.suspects else None
         return listed or by_the_notes(self.notes)
 
     def asleep(self, g: int, d: int, side: str) -> str:
-        """netrev's line about a goroutine that sleeps at a side that has to be answered; empty if netrev printed none."""
+        """netrev's line about a goroutine that sleeps at a side that must be answered; empty if netrev printed none."""
         return self.facts.asleep.get((g, d, side), "")
 
     @cached_property
@@ -71,11 +70,11 @@ class Run:
         return [(g, words) for g, (at, *words) in found if at == place]
 
     def since(self, g: int) -> int:
-        """The step since which a goroutine has had its last status."""
+        """The step since which a goroutine has had its status at the end."""
         return self.notes.goroutines[g].since
 
     def inside(self, use: Use, side: str, position: int) -> Optional[int]:
-        """The goroutine that is inside the wait of a side."""
+        """The goroutine that is inside the wait of a side; None if there is none."""
         wait = next((one for one in reversed(use.waits[AT[side]]) if one.step <= position), None)
         if wait is None:
             return None
@@ -83,14 +82,14 @@ class Run:
         return wait.goroutine if place in INSIDE and at == [str(use.descriptor), side] else None
 
     def unread(self, s: int) -> str:
-        """A socket's unread bytes at the end, or the close by its peer, as text; empty if it has neither."""
+        """A socket's unread bytes at the end, or its peer's close, as text; empty if it has neither."""
         if number := int(self.notes.now[f"in {s}"]):
             return f"{counted(number, 'byte')} unread"
         return f"the peer closed at step {self.notes.peer[s]}" if s in self.notes.peer else ""
 
     def stalled(self, g: int) -> str:
-        """How long a goroutine that could continue has paused, if that is longer than any pause in its status that ended; otherwise
-        empty."""
+        """How long a goroutine that could continue has paused, if that is too long compared with the pauses in its
+        status that ended; otherwise empty."""
         known = self.notes.pauses.get(self.notes.status(g))
         longest = known.longest if known and known.count >= MANY else None
         pause = self.end - max(self.notes.goroutines[g].last, self.since(g))

@@ -12,11 +12,11 @@ from ..where import OF_GO
 from .found import Suspect
 from .ranking import Ranked, all_suspects_of
 
-MOST = 12  # suspects that are shown
+MOST = 12  # the most suspects that are shown
 
 
 def suspects_table(scout: Scout, recording: Recording, ranked: Optional[Ranked] = None) -> Table:
-    """The suspects, the worst first, each with netrev's answers at the positions in question."""
+    """The table of the suspects, worst first, each with netrev's answers at the positions in question."""
     ranked = ranked or all_suspects_of(recording)
     shown = shown_of(ranked)
     rows = [row for at, suspect in enumerate(shown, 1) for row in _rows(scout, recording, at, suspect)]
@@ -30,8 +30,8 @@ def shown_of(ranked: Ranked) -> list[Suspect]:
 
 
 def is_by_go(recording: Recording, timeout: Timeout) -> bool:
-    """Whether Go's own code ended a wait of its own by a deadline in the past, as net/http ends the read between
-    two requests: the program sees no timeout then."""
+    """Whether Go's own code ended a wait of its own by a deadline in the past, as net/http ends the read between two
+    requests; the program then sees no timeout."""
     calls = recording.lines.of(timeout.step).calls
     return timeout.passing.kind == "setdeadline" and bool(calls) and all(call.of == OF_GO for call in calls)
 
@@ -59,7 +59,8 @@ def _rows(scout: Scout, recording: Recording, at: int, suspect: Suspect) -> list
 
 
 def _evidence(scout: Scout, suspect: Suspect) -> tuple[list[str], list[str]]:
-    """netrev's answers at the positions in question; and for each answer that isn't what the rule expects, a sentence."""
+    """netrev's answers at the positions in question, and a sentence for each answer that isn't what the rule
+    expects."""
     answers, doubts = [], []
     for position, cell, expected in suspect.evidence:
         answer = scout.values(position, [cell])[0]
@@ -79,7 +80,7 @@ def _lines(recording: Recording, suspect: Suspect) -> list[str]:
 
 
 def _rest(shown: int, others: int, timeouts: list[Timeout]) -> str:
-    """The remaining notes."""
+    """The line about the suspects that aren't shown, and about the timeouts."""
     rest = [] if shown else ["no suspect"]
     if others:
         rest.append(f"{others} of little weight left out")

@@ -1,5 +1,5 @@
-"""The weight of a suspect, from the fate of its goroutine: whether it hangs because of it, a call ended because of
-it, or it is in a call of Go's own."""
+"""The weight of a suspect, from the fate of its goroutine: whether it hangs because of it, whether a call ended because
+of it, or whether it is in one of Go's own calls."""
 
 from netrev_machine.machine import INSIDE
 
@@ -9,8 +9,8 @@ from .found import HANGS, STILL_THERE, TIMED_OUT, WENT_ON, Suspect, Weight
 from .run import Run
 
 METHODS = ("Read", "Pread", "ReadFrom", "ReadMsg", "Write", "Pwrite", "WriteTo", "WriteMsg", "Writev", "Accept")
-# Go's own calls that hold a lock over a system call, those that hold only a reference, and those in which a function of the program
-# runs meanwhile
+# Go's own calls that hold a lock over a system call, those that hold only a reference, and those that call a function
+# of the program meanwhile
 OF_GO = frozenset(
     (*(f"internal/poll.(*FD).{name}" for name in METHODS), "internal/poll.SendFile", "internal/poll.Splice")
 )
@@ -19,21 +19,21 @@ CONTROLS = frozenset(
 )
 OF_THE_PROGRAM = frozenset(f"internal/poll.(*FD).Raw{name}" for name in ("Read", "Write", "Control"))
 ACCEPT = "internal/poll.(*FD).Accept"
-UNSHOWN = OF_THE_PROGRAM | {ACCEPT}  # calls some or all of whose tries aren't in a recording
+UNSHOWN = OF_THE_PROGRAM | {ACCEPT}  # calls some or all of whose tries a recording doesn't show
 
 
 def of_a_holder(run: Run, suspect: Suspect) -> Suspect:
-    """The weight from the holder of a lock or a reference: doubtful if Go's own call gives it back after its system
-    call."""
+    """Weighs a suspect by the holder of a lock or a reference: it is doubtful if Go's own call gives it back after its
+    system call."""
     if is_in_a_system_call(run, suspect):
         suspect.weight = Weight.DOUBTFUL
     return suspect
 
 
 def is_in_a_system_call(run: Run, suspect: Suspect) -> bool:
-    """Whether the recording ended while the holder of a lock or a reference was in a call of Go's own, which gives
-    it up after its system call: by the program's lines, the holder took the lock in that call and has not left
-    the call since. Without lines, its last step was the `pollreset`, after which Go's own calls try."""
+    """Whether the recording ended while the holder of a lock or a reference was in one of Go's own calls, which gives
+    it up after its system call. By the program's lines, the holder took the lock in that call and hasn't left the call
+    since. Without lines, the holder's last step must be the `pollreset`, after which Go's own calls try."""
     g, recording = suspect.goroutine, run.recording
     if g is None:
         return False
@@ -45,31 +45,33 @@ def is_in_a_system_call(run: Run, suspect: Suspect) -> bool:
 
 
 def is_about_to_try(run: Run, took: int, g: int) -> bool:
-    """Whether a goroutine's last step is the `pollreset` of the call that took a lock at that step."""
+    """Whether a goroutine's last step is the `pollreset` of the call that took a lock at an earlier step."""
     holds = (hold for holds in run.notes.holds.values() for hold in holds)
     locks = (hold.step for hold in holds if hold.goroutine == g and hold.side)
     return run.notes.goroutines[g].last == run.notes.goroutines[g].reset and max(locks, default=0) == took
 
 
 def is_accepting(recording: Recording, suspect: Suspect) -> bool:
-    """Whether a listener waits in Go's own Accept, which tries again after each pollreset: no wake-up is lost in it."""
+    """Whether a listener waits in Go's own Accept, which tries again after each pollreset, so that no wake-up is
+    lost."""
     return call_of_poll(recording, suspect.steps[-1]) == ACCEPT
 
 
 def is_without_tries(recording: Recording, suspect: Suspect) -> bool:
-    """Whether a goroutine waits in a call whose tries no step shows: a function of the program makes them, or they
-    are Accept's."""
+    """Whether a goroutine waits in a call whose tries no step shows: a function of the program makes them, or they are
+    Accept's."""
     return call_of_poll(recording, suspect.steps[-1]) in UNSHOWN
 
 
 def call_of_poll(recording: Recording, step: int) -> str:
-    """The innermost of these calls that a step is in; None if it is in none, or that is unknown."""
+    """The innermost call of a step that is one of the calls listed above; empty if there is none or it is unknown."""
     known = OF_GO | CONTROLS | OF_THE_PROGRAM
     return next((call.function for call in recording.lines.of(step).calls if call.function in known), "")
 
 
 def of_a_goroutine(run: Run, suspect: Suspect) -> Suspect:
-    """For a goroutine that was woken for nothing, or not at all: whether it hangs because of that."""
+    """Weighs a suspect whose goroutine was woken for nothing, or not at all, by whether the goroutine hangs because of
+    that."""
     g, d = suspect.goroutine, suspect.descriptor
     if g is None or d is None:
         return suspect
@@ -96,7 +98,7 @@ def hangs(run: Run, g: int, d: int) -> str:
 
 
 def of_a_deadline(run: Run, passed: OfDeadline, suspect: Suspect) -> Suspect:
-    """For a deadline that passed: whether a call ended with that timeout."""
+    """Weighs a deadline that passed by whether a call ended with that timeout."""
     due = passed.descriptor, passed.side, passed.setting
     for timeout in run.facts.timeouts.values():
         if (timeout.descriptor, timeout.side, timeout.setting) == due:

@@ -8,7 +8,8 @@ from ..found import Evidence, Suspect, Weight
 from ..run import Run
 from ..weighing import of_a_goroutine
 
-NOT_LOOKED = ("armed", "parking", "swapping", "checking")  # inside a wait, before the check why it was woken
+# statuses inside a wait, before the check of why the goroutine was woken
+NOT_LOOKED = ("armed", "parking", "swapping", "checking")
 
 
 def rule(run: Run) -> Iterator[Suspect]:
@@ -23,7 +24,7 @@ def rule(run: Run) -> Iterator[Suspect]:
 
 
 def not_looked(run: Run, use: Use, side: str, position: int) -> Optional[int]:
-    """The goroutines that a side's passed deadline woke and that haven't checked why."""
+    """The goroutine that a side's passed deadline woke and that hasn't checked why yet; None if there is none."""
     who, word = run.inside(use, side, position), run.changes.value(f"{side}g {use.descriptor}", position)
     place = "" if who is None else run.status(who, position)[0]
     is_woken = place in ("swapping", "checking") or word == "nil"

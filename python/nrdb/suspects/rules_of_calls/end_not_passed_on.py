@@ -9,7 +9,7 @@ from ..run import Run
 
 
 def rule(run: Run) -> Iterator[Suspect]:
-    for end in unpassed_ends(run.calls):  # (if the recording says which sockets are two ends of a connection)
+    for end in unpassed_ends(run.calls):  # (only if the recording says which sockets are the two ends of a connection)
         yield suspect_of(run, end)
 
 

@@ -12,7 +12,7 @@ SINCE = 50
 
 
 def rule(run: Run) -> Iterator[Suspect]:
-    for cause in left_open(run.calls):  # (if the recording says which sockets are two ends of a connection)
+    for cause in left_open(run.calls):  # (only if the recording says which sockets are the two ends of a connection)
         if run.end - cause.steps[-1] >= SINCE:
             yield suspect_of(run.end, cause)
 

@@ -26,7 +26,7 @@ def rule(run: Run) -> Iterator[Suspect]:
 
 
 def is_next(last: Call, call: Call) -> bool:
-    """Whether a call timed out by the same deadline as the one before it, of the same goroutine."""
+    """Whether a call timed out by the same deadline as the previous call of the same goroutine."""
     are_late = last.outcome is call.outcome is Outcome.TIMED_OUT
     return are_late and last.cause == call.cause > 0 and last.goroutine == call.goroutine
 

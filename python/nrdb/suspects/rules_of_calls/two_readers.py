@@ -11,7 +11,7 @@ from ..run import Run
 
 
 def rule(run: Run) -> Iterator[Suspect]:
-    index = run.calls  # (which sockets are streams is known by their other ends or names)
+    index = run.calls  # (other ends and names show which sockets are streams)
     for socket, calls in index.by_socket.items():
         if index.other_end(socket) is None:
             continue
