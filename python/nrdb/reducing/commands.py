@@ -15,7 +15,7 @@ USAGE = "reduce OUT.jsonl [N | CELL VALUE]"
 
 
 def reduced_file(session: Session, words: list[str]) -> str:
-    """Reduces the recording to the file that the first word names; returns the lines about it."""
+    """Reduces the recording to the file that the first word names, and returns the lines about it."""
     if not words or not words[0].endswith(".jsonl"):
         raise Misused(messages.REDUCE.format(usage=USAGE))
     made = reduced(session, words[0], wanted_by(session, words[1:]))
@@ -44,7 +44,7 @@ def answer_report(session: Session, words: list[str]) -> None:
 
 
 def has_suspects(session: Session) -> bool:
-    """Whether a rule about cells finds a suspect, to which a recording can be reduced."""
+    """Whether a rule about cells finds a suspect to which the recording can be reduced."""
     return any(suspect.is_shown for suspect in suspects_of(session.text()).suspects)
 
 

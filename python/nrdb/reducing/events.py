@@ -1,6 +1,5 @@
-"""A recording's steps with the objects that they name: a goroutine and a socket by number, a descriptor by its use,
-because its number is reused, and a timer by the use and the side. So a step keeps its meaning if other steps are
-removed."""
+"""A recording's steps with the objects that they name: goroutines and sockets by number, descriptors by use (because
+their numbers are reused), and timers by use and side. A step therefore keeps its meaning if other steps are removed."""
 
 from functools import partial
 from typing import Any, NamedTuple, Optional
@@ -17,8 +16,8 @@ NUMBERED = ("spawn", "sockopen", "pollopen")  # kinds whose answer is the number
 
 
 class Event(NamedTuple):
-    """A step: its number, its kind, its arguments with uses instead of descriptors, its answer, the timer of a `pop` or a `fire`,
-    and the difference between an event's tag and the descriptor's own."""
+    """A step: its number, its kind, its arguments with uses in place of descriptors, its answer, the timer of a `pop`
+    or a `fire`, and the difference between an event's tag and the descriptor's own."""
 
     number: int
     kind: str
@@ -34,14 +33,14 @@ class Event(NamedTuple):
 
 
 class Rest(NamedTuple):
-    """The state of a step's goroutine after it: whether it is idle or gone, and how many references it holds."""
+    """The state of a step's goroutine after the step: whether it is idle or gone, and how many references it holds."""
 
     is_at_rest: bool
     holds: int
 
 
 class Use(NamedTuple):
-    """A use of a descriptor: its number, the socket that it is opened for, and the step that opened it."""
+    """A use of a descriptor: its number, the socket for which it is opened, and the step that opened it."""
 
     descriptor: int
     socket: int
@@ -67,19 +66,19 @@ class Events:
         self.kept_for_ever = {hold.step for holds in notes.holds.values() for hold in holds}
 
     def use_at(self, descriptor: int, step: int) -> Optional[int]:
-        """The last use of a descriptor that was opened up to that step."""
+        """The last use of a descriptor that was opened at or before a step."""
         found = [at for at, use in enumerate(self.uses) if use.descriptor == descriptor and use.opened <= step]
         return found[-1] if found else None
 
     def socket_of(self, event: Event) -> Optional[int]:
-        """The socket of an event, named by itself or by its descriptor or timer."""
+        """The socket of an event, which names it directly or by its descriptor or timer."""
         if (socket := event.named("s")) is not None:
             return socket
         use = event.timer[0] if event.timer else event.named("d")
         return None if use is None else self.uses[use].socket
 
     def _rests(self, kind: str, notes: Notes, *arguments: Any) -> Look:
-        """The function that stores the facts about the goroutine of a step."""
+        """The function that stores the facts about a step's goroutine."""
         if kind not in OF_A_GOROUTINE:
             return lambda step: self.rests.append(Rest(True, 0))
         goroutine = notes.goroutine(arguments[0])

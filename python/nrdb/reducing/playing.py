@@ -1,5 +1,5 @@
-"""Replays some of a recording's units with the machine's model, each step with new numbers. A unit with a step that
-doesn't apply, or answers differently, is removed too."""
+"""Replays some of a recording's units with the Python model of the machine, with new numbers for the objects of each
+step. A unit with a step that doesn't apply or that answers differently is removed too."""
 
 from bisect import bisect_left
 from typing import Any, Callable, Iterable, Optional
@@ -13,20 +13,21 @@ from .events import NUMBERED, Event, Events, Timer
 from .units import Needs, Unit
 
 MADE = {"spawn": "g", "sockopen": "s", "pollopen": "d"}
-COPIES = 2_000  # copies of the world to return to
+COPIES = 2_000  # the most copies of the world that are kept to return to
 DONE = ("done",)
 
 Step = tuple[Any, ...]
 
 
 class Player:
-    """The machine's model after some of the events. The last replay is kept, and one with the same beginning continues from there."""
+    """The Python model of the machine after some of the events. The last replay is kept, and a replay with the same
+    beginning continues from there."""
 
     def __init__(self, events: Events, units: list[Unit], limits: Limits, check: Callable[[], None]) -> None:
         self.events, self.units, self.limits, self.check = events, units, limits, check
         self.needs = Needs(events, units)
         self.owner = {place: at for at, unit in enumerate(units) for place in unit.events}
-        self.played = 0  # steps in all
+        self.played = 0  # the number of all steps replayed so far
         self.chosen: list[int] = []  # the events that were replayed
         self.steps: list[tuple[Step, Answer]] = []
         self.numbers: dict[str, dict[int, int]] = {"g": {0: 0}, "s": {}, "d": {}}
@@ -38,7 +39,7 @@ class Player:
         self.world = World(limits)
 
     def _identities(self) -> dict[int, int]:
-        """For each event that makes an object, the goroutine, socket or use."""
+        """For each event that makes an object, the number of the goroutine, socket or use."""
         counts = {"spawn": 1, "sockopen": 0, "pollopen": 0}
         found = {}
         for place, event in enumerate(self.events.all):
@@ -48,7 +49,7 @@ class Player:
         return found
 
     def settle(self, kept: Iterable[int]) -> set[int]:
-        """Replays these units without those that no longer apply; returns the replayed ones."""
+        """Replays these units, drops those that no longer apply, and returns the replayed ones."""
         left = set(kept)
         wanted = sorted(place for unit in left for place in self.units[unit].events)
         at = self._common(wanted)
@@ -71,7 +72,7 @@ class Player:
         return left
 
     def _common(self, wanted: list[int]) -> int:
-        """The number of first events that were replayed already."""
+        """The number of first events that the last replay has in common with this one."""
         at = 0
         for one, other in zip(self.chosen, wanted):
             if one != other:
@@ -80,7 +81,7 @@ class Player:
         return at
 
     def _rewind(self, to: int) -> None:
-        """Goes back to the state after the first events."""
+        """Goes back to the state after this many events."""
         if to >= len(self.chosen):
             return
         again = to - to % self._every
@@ -96,7 +97,7 @@ class Player:
             self._step(place)
 
     def _step(self, place: int) -> bool:
-        """Replays an event; False if it doesn't apply, or answers differently."""
+        """Replays an event; returns False if it doesn't apply or answers differently."""
         event = self.events.all[place]
         step = self._renumbered(event)
         if step is None:
@@ -125,7 +126,7 @@ class Player:
         return True
 
     def _renumbered(self, event: Event) -> Optional[Step]:
-        """The step of an event with the new numbers of its objects; None if one doesn't exist."""
+        """The step of an event with the new numbers of its objects; None if an object doesn't exist."""
         if event.kind == "pop":
             return ("pop",) if self._is_next(event) else None
         if event.kind == "fire":
@@ -142,13 +143,13 @@ class Player:
         return tuple(step)
 
     def _is_next(self, event: Event) -> bool:
-        """Whether the first due timer belongs to the event."""
+        """Whether the first timer that is due belongs to the event."""
         assert event.timer
         first = self.world.timers[0] if self.world.timers else None
         return first is not None and (self.numbers["d"].get(event.timer[0]), event.timer[1]) == (first.desc, first.side)
 
     def _tag(self, event: Event, descriptor: int) -> int:
-        """The tag of an event: as far from the descriptor's own as in the recording, if there is a descriptor."""
+        """The tag of an event: as far from the descriptor's own tag as in the recording, if there is a descriptor."""
         own = self.world.descs[descriptor].fdseq
         tag = own - event.behind
         return tag if tag >= 0 else event.arguments[1] if event.arguments[1] != own else own + 1

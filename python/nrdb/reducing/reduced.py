@@ -1,4 +1,4 @@
-"""Reduces the recording of a session to what still shows a target, and reports what was removed."""
+"""Reduces the recording of a session to the steps that still show a target, and reports what was removed."""
 
 from collections import Counter
 from fnmatch import fnmatchcase
@@ -21,8 +21,8 @@ from .writing import answered_by, taken, write_recording
 
 
 class Wanted(NamedTuple):
-    """The target: the suspect of this number, or a cell with a value, up to a step; or a hanging goroutine after steps that must
-    stay; or only these steps."""
+    """The target: the suspect with this number; or a cell with a value, up to a step; or a goroutine that hangs, after
+    steps that must stay; or only steps that must stay."""
 
     suspect: int
     cell: str
@@ -33,8 +33,8 @@ class Wanted(NamedTuple):
 
 
 class Reduced(NamedTuple):
-    """A reduced recording: its steps' numbers in the recording, how many units of each sort were removed, and
-    whether more might have been."""
+    """A reduced recording: the numbers of its steps in the original, how many units of each sort were removed, and
+    whether the reduction ran to its end."""
 
     path: str
     numbers: list[int]
@@ -42,7 +42,7 @@ class Reduced(NamedTuple):
     is_done: bool
 
     def words(self, steps: int) -> str:
-        """The size of the result, and what was removed, as text."""
+        """The size of the result and what was removed, as text."""
         said = [f"{self.left_out[sort]} {sort.value[self.left_out[sort] != 1]}" for sort in Sort if self.left_out[sort]]
         left = f"left out {', '.join(said)}" if said else "nothing could be left out"
         more = "" if self.is_done else "; stopped early, so reduce what is left once more"
@@ -65,7 +65,7 @@ def reduced(session: Session, path: str, wanted: Wanted) -> Reduced:
 
 
 def reduced_of(reducing: Reducing, path: str, wanted: Wanted) -> Reduced:
-    """Writes what remains of any recording to the path, as `reduced` does."""
+    """Writes the reduction of any recording to the path, as `reduced` does."""
     recording, of, program, check = reducing
     answered = answered_recording(program, recording, wanted.until)
     events = Events(answered)
@@ -122,8 +122,8 @@ def wanted_by(session: Session, words: list[str]) -> Wanted:
 
 
 def _last_with(session: Session, cell: str, value: str) -> int:
-    """The session's position if the cell has such a value there; otherwise the last position at which it does. A
-    missing object has no value."""
+    """The session's position if the cell has this value there; otherwise the last position at which it does. A missing
+    object has no value."""
     changes, length = session.changes(), session.text().length
 
     def is_wanted(shown: str) -> bool:

@@ -24,7 +24,7 @@ from ..timeline.stories import suspects_data
 from .reduced import Reduced, Wanted
 from .writing import answered_by
 
-MEANS = re.compile(r"([\\`*_{}\[\]<>|#&~])")  # characters with a meaning in Markdown
+MEANS = re.compile(r"([\\`*_{}\[\]<>|#&~])")  # characters that have a meaning in Markdown
 MOST_COLUMNS = 6
 
 
@@ -34,7 +34,7 @@ def shown(text: str) -> str:
 
 
 def shell_words(*words: str) -> str:
-    """A command line that its reader can type."""
+    """A command line that the report's reader can type."""
     return plain(shlex.join(words))
 
 
@@ -100,7 +100,7 @@ def _of_suspect(session: Session, table: Table, wanted: Wanted) -> list[str]:
 
 
 def _steps(recording: Recording, reduced: Reduced) -> list[str]:
-    """The rows of the steps."""
+    """The table rows of the steps."""
     steps = [recording.step(number) for number in range(1, recording.length + 1)]
     who = sorted({g for step in steps if (g := step.argument("g")) is not None})
     is_wide = len(who) <= MOST_COLUMNS
@@ -118,7 +118,7 @@ def _steps(recording: Recording, reduced: Reduced) -> list[str]:
 
 
 def _told(step: Step, is_wide: bool) -> str:
-    """A step with its answer, and without its goroutine if that has a column."""
+    """A step with its answer; without its goroutine if that has a column of its own."""
     words = str(step).split()
     if is_wide and step.kind in OF_A_GOROUTINE:
         del words[1]

@@ -1,5 +1,5 @@
-"""Removes units while the target still shows: first all but those near it, then whole goroutines, sockets and runs
-of units, half of them at a time and then fewer."""
+"""Removes units while the target still shows: first all units except those near it, then whole goroutines, sockets and
+runs of units, half of them at a time and then fewer."""
 
 from typing import Iterable, Iterator, Optional
 
@@ -8,12 +8,12 @@ from .playing import Player
 from .targets import Target
 from .units import Sort, Unit
 
-WINDOWS = (64, 512, 4_096)  # steps around the target
-MOST_PLAYED = 600_000  # replayed steps after which the best result counts
+WINDOWS = (64, 512, 4_096)  # how many steps around the target are kept at first
+MOST_PLAYED = 600_000  # how many steps are replayed before the best result so far is taken
 
 
 class NotReproduced(Exception):
-    """The target doesn't show even if the whole recording is replayed."""
+    """Raised if the target doesn't show even when the whole recording is replayed."""
 
 
 class Shrinking:
@@ -30,7 +30,7 @@ class Shrinking:
         return self.player.played >= self._budget
 
     def run(self) -> set[int]:
-        """The units that remain: none of them can be removed, or the budget is used up."""
+        """Removes units until none can be removed or the budget is used up, and returns those that remain."""
         for candidate in self._beginnings():
             if (settled := self._showing(candidate)) is not None:
                 self.kept = settled
@@ -47,12 +47,12 @@ class Shrinking:
         return self.kept
 
     def _showing(self, candidate: Iterable[int]) -> Optional[set[int]]:
-        """The units that remain after a replay, if the target still shows."""
+        """The units that remain after a replay; None if the target no longer shows."""
         settled = self.player.settle(candidate)
         return settled if self.target.shows(self.player) else None
 
     def _thin(self, candidates: Iterable[int]) -> bool:
-        """Removes as many candidates as possible, the last ones first: all at once, then halves and so on. Whether
+        """Removes as many candidates as possible, last ones first: all at once, then halves, and so on. Returns whether
         any was removed."""
         left = sorted(candidates, key=lambda unit: self.units[unit].events[0], reverse=True)
         size, has_changed = len(left), False
@@ -68,7 +68,7 @@ class Shrinking:
         return has_changed
 
     def _idle_ticks(self) -> list[int]:
-        """The ticks that another tick follows before any timer starts or any deadline is set."""
+        """The ticks that are followed by another tick before any timer starts or any deadline is set."""
         found, is_needed = [], False
         for unit in sorted(self.kept, key=lambda unit: self.units[unit].events[0], reverse=True):
             kinds = {self.events.all[place].kind for place in self.units[unit].events}
@@ -81,8 +81,8 @@ class Shrinking:
         return found
 
     def _beginnings(self) -> Iterator[set[int]]:
-        """Sets of units to begin with, small ones first: those of the target's socket and goroutine that are near
-        the target; all of them; those of all goroutines that use the socket; and all units."""
+        """Sets of units to begin with, small ones first: those of the target's socket and goroutine that are near the
+        target; all of them; those of all goroutines that use the socket; and all units."""
         near = self._about({self.target.socket}, {self.target.goroutine})
         users = {event.named("g") for event in self.events.all if self.events.socket_of(event) == self.target.socket}
         wide = self._about({self.target.socket}, users)
@@ -107,7 +107,7 @@ class Shrinking:
         return self.units[unit].events[0] < self.target.until
 
     def _window(self, scope: set[int], window: int) -> set[int]:
-        """The units that are near the steps of the target."""
+        """The units near the steps of the target."""
         first, last = min(self.target.steps) - window, max(self.target.steps) + window
         return {
             unit
@@ -116,5 +116,5 @@ class Shrinking:
         }
 
     def _whole(self, units: set[int]) -> set[int]:
-        """The units with all units that they need."""
+        """These units, with all units that they need."""
         return self.player.needs.with_needed(units)

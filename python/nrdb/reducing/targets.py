@@ -1,4 +1,4 @@
-"""What must still show in a reduced recording: a suspect, a cell with a value at the end, or some steps."""
+"""What a reduced recording must still show: a suspect, a cell with a value at the end, or some steps."""
 
 from abc import ABC, abstractmethod
 from fnmatch import fnmatchcase
@@ -33,7 +33,7 @@ class Target(ABC):
 
 
 class SuspectTarget(Target):
-    """A suspect: the same rule about the same objects, of no less weight and no lower rank."""
+    """A suspect: it must be found by the same rule about the same objects, with no less weight and no lower rank."""
 
     def __init__(self, events: Events, suspect: Suspect, rank: int) -> None:
         self.suspect, self.rank = suspect, rank
@@ -55,7 +55,7 @@ class SuspectTarget(Target):
 
 
 class CellTarget(Target):
-    """A cell that has a value after the last remaining step. Numbers in the value are those of the recording."""
+    """A cell that has a value after the last remaining step. Numbers in the value are the recording's."""
 
     def __init__(self, events: Events, cell: str, wanted: str, position: int) -> None:
         name, *number = cell.split()
@@ -73,7 +73,7 @@ class CellTarget(Target):
 
     def shows(self, player: Player) -> bool:
         number = None
-        if self.which is None and self.of is not Of.ALL:  # a use of a descriptor that doesn't exist
+        if self.which is None and self.of is not Of.ALL:  # the recording has no such use of a descriptor
             return False
         if self.which is not None:
             number = player.numbers[LETTER[self.of]].get(self.which)
@@ -113,7 +113,7 @@ class HangTarget(CellTarget):
 
 
 class StepsTarget(Target):
-    """Steps that must remain with their answers: a call that fails, and the cause."""
+    """Steps that must remain with their answers: a call that fails, and the cause of that."""
 
     def __init__(self, events: Events, steps: Sequence[int]) -> None:
         self.steps, self.until = list(steps), len(events.all)
@@ -125,5 +125,5 @@ class StepsTarget(Target):
 
 
 def _back(numbers: dict[int, int], number: int) -> int:
-    """The object with this number, the last one if several had it."""
+    """The object with this number; the last one if several had it."""
     return max(which for which, its in numbers.items() if its == number)

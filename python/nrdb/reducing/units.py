@@ -1,5 +1,5 @@
-"""Units: steps that are removed together. A goroutine's call, from rest to rest; bytes that come or go, with their
-event; a timer that starts, with the run of its function; and each other step alone."""
+"""Units: steps that are removed together. They are a goroutine's call, from rest to rest; bytes that come or go, with
+their event; a timer that starts, with the run of its function; and any other step by itself."""
 
 from enum import Enum
 from typing import Iterable, NamedTuple, Optional
@@ -13,7 +13,7 @@ SIDE_OF = {"arrive": "r", "peerclose": "r", "drain": "w"}
 
 
 class Sort(Enum):
-    """The sorts of units, with a text for one and for several."""
+    """The sorts of units, each with its singular and plural as text."""
 
     CALL = "call", "calls"
     GOROUTINE = "goroutine", "goroutines"
@@ -37,8 +37,8 @@ def units_of(events: Events) -> list[Unit]:
 
 
 def _calls(events: Events) -> list[Unit]:
-    """Each goroutine's calls. A call has ended if the goroutine is at rest and holds no reference, except those that are never
-    given back; freeing the descriptor belongs to the call that gave back the last reference."""
+    """Each goroutine's calls. A call has ended when the goroutine is at rest and holds no reference, except references
+    that are never given back; freeing the descriptor belongs to the call that gave back the last reference."""
     calls: dict[int, list[Unit]] = {}
     kept: dict[int, int] = {}
     has_ended: dict[int, bool] = {}
@@ -56,7 +56,7 @@ def _calls(events: Events) -> list[Unit]:
 
 
 def _frees(events: Events, calls: Optional[list[Unit]], event: Event) -> bool:
-    """Whether the event frees the descriptor whose last reference the goroutine's last call gave up."""
+    """Whether the event frees the descriptor whose last reference was given up by the goroutine's last call."""
     return event.kind == "pollclose" and calls is not None and events.all[calls[-1].events[-1]].answer == LAST
 
 
@@ -64,7 +64,7 @@ def _others(events: Events) -> list[Unit]:
     """The units of the network, of timers and of new objects."""
     units: list[Unit] = []
     came: dict[tuple[int, str], list[int]] = {}
-    firings: list[Unit] = []  # the firings that wait to run, in the machine's order
+    firings: list[Unit] = []  # the firings that are yet to run, in the machine's order
     for place, event in enumerate(events.all):
         if event.kind in SIDE_OF:
             came.setdefault((event.arguments[0], SIDE_OF[event.kind]), []).append(place)
@@ -86,15 +86,15 @@ def _others(events: Events) -> list[Unit]:
 
 
 class Needs:
-    """The dependencies of units: a unit that names another's object depends on it."""
+    """The dependencies of units: a unit that names an object depends on the unit that makes it."""
 
     def __init__(self, events: Events, units: list[Unit]) -> None:
         maker: dict[tuple[str, int], int] = {}
         counts = {"spawn": 1, "sockopen": 0, "pollopen": 0}
         forms = {"spawn": "g", "sockopen": "s", "pollopen": "d"}
         owner = {place: at for at, unit in enumerate(units) for place in unit.events}
-        self.by: list[set[int]] = [set() for _ in units]  # units that need a unit
-        self.of: list[set[int]] = [set() for _ in units]  # units that a unit needs
+        self.by: list[set[int]] = [set() for _ in units]  # for each unit, the units that need it
+        self.of: list[set[int]] = [set() for _ in units]  # for each unit, the units that it needs
         for place, event in enumerate(events.all):
             unit = owner[place]
             if event.kind in counts:
@@ -108,11 +108,11 @@ class Needs:
                     self.of[unit].add(made_by)
 
     def with_needed(self, units: Iterable[int]) -> set[int]:
-        """The units with all units that they need."""
+        """These units, with all units that they need."""
         return _closure(units, self.of)
 
     def with_needing(self, units: Iterable[int]) -> set[int]:
-        """The units with all units that need them."""
+        """These units, with all units that need them."""
         return _closure(units, self.by)
 
 

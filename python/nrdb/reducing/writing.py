@@ -1,4 +1,4 @@
-"""Writes a reduced recording, which netrev accepts, and NAME.where beside it if the recording has one."""
+"""Writes a reduced recording that netrev accepts, with NAME.where beside it if the original has one."""
 
 import json
 import os
@@ -20,7 +20,7 @@ from .playing import Player
 
 
 def answered_by(program: str, command: str, data: bytes) -> tuple[int, bytes]:
-    """netrev's exit status and output, of `netrev COMMAND` on a file with these data."""
+    """The exit status and the output of `netrev COMMAND` on a file with these data."""
     handle, path = tempfile.mkstemp(suffix=".jsonl")
     try:
         with open(handle, "wb") as file:
@@ -32,7 +32,8 @@ def answered_by(program: str, command: str, data: bytes) -> tuple[int, bytes]:
 
 
 def taken(program: str, player: Player, has_answers: bool) -> bytes:
-    """The text of the replayed steps, as netrev accepts it, with netrev's own answers if the recording has answers."""
+    """The text of the replayed steps, in the form that netrev accepts, with netrev's own answers if the recording has
+    answers."""
     text = text_of(player.world, player.limits.buf, player.steps, has_answers)
     status, said = answered_by(program, "upgrade" if has_answers else "check", text)
     if status:
@@ -52,7 +53,7 @@ def text_of(world: World, buf: int, steps: Sequence[tuple[Step, Answer]], has_an
 
 
 def _needs_answers(steps: Sequence[tuple[Step, Answer]]) -> bool:
-    """Whether a step occurs that only recordings of version 2 have."""
+    """Whether there is a step that only recordings of version 2 have."""
     return any(step[0] == "closewrite" for step, _ in steps)
 
 
@@ -84,7 +85,7 @@ def where_text(lines: Lines, numbers: Sequence[int]) -> str:
 
 
 def write_recording(path: str, of: str, data: bytes, lines: Lines, numbers: Sequence[int]) -> None:
-    """Writes a recording of these steps of the recording `of`, with NAME.where beside it. An existing NAME.where is removed,
+    """Writes a recording of these steps of the recording `of`, with its NAME.where. An existing NAME.where is removed,
     because it belongs to another recording."""
     beside = Path(path).with_suffix(".where")
     spare(str(beside), of)
