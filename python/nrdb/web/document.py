@@ -1,4 +1,5 @@
-"""The page: one file with its own style and script, and the policy by which a browser accepts no others."""
+"""The page: one file with its own style and script, and the policy by which a browser accepts no other style or
+script."""
 
 import base64
 import hashlib
@@ -8,12 +9,12 @@ from functools import lru_cache
 from ..timeline.page import SCRIPTS, read_part
 
 FORBIDDEN = "default-src 'none'; base-uri 'none'; form-action 'none'; frame-ancestors 'none'"
-TYPES = "require-trusted-types-for 'script'; trusted-types 'none'"  # so no text can become elements or a script
+TYPES = "require-trusted-types-for 'script'; trusted-types 'none'"  # so that no text can become an element or a script
 
 
 @dataclass(frozen=True)
 class Document:
-    """The page's bytes, and the policy that goes with all answers."""
+    """The page's bytes, and the policy that is sent with every answer."""
 
     data: bytes
     policy: str

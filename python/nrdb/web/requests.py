@@ -1,5 +1,5 @@
-"""Checks requests: a request must be one of six, come from this machine's own page, and have the token; all others
-are rejected."""
+"""Checks requests: a request must be one of six, come from this machine's own page, and carry the token; all others are
+rejected."""
 
 import hmac
 import re
@@ -9,11 +9,12 @@ from typing import Mapping
 
 from ..messages import browsers as texts
 
-LONGEST_LINE = 256  # bytes of a line, as netrev accepts it
+LONGEST_LINE = 256  # the most bytes of a line that netrev accepts
 TOKEN, BROWSER, POSITIONS = "netrev-token", "netrev-browser", "netrev-positions"  # headers that the page's script sends
 PAGE, EVENTS, TIMELINE, PART, LINE, COMPLETE = "/", "/events", "/timeline", "/part", "/line", "/complete"
 METHODS = {PAGE: "GET", EVENTS: "GET", TIMELINE: "GET", PART: "GET", LINE: "POST", COMPLETE: "POST"}
-BY_ADDRESS = (PAGE, EVENTS)  # requests with the token in the address, because the browser can't set a header for them
+# requests that carry the token in the address, because the browser can't set a header for them
+BY_ADDRESS = (PAGE, EVENTS)
 
 FIRST_LINE = re.compile(r"([A-Z]{1,20}) (/[!-~]*) HTTP/1\.[01]")
 HEADER = re.compile(r"([!#$%&'*+.^_`|~0-9A-Za-z-]+):[ \t]*([^\x00-\x08\x0a-\x1f\x7f]*)")
@@ -22,7 +23,7 @@ FROM_TO = re.compile(r"(\d{1,18})-(\d{1,18})")
 
 
 class Rejected(Exception):
-    """A rejected request: the status, and the reason."""
+    """Raised for a rejected request, with the status and the reason."""
 
     def __init__(self, status: HTTPStatus, why: str):
         super().__init__(why)
@@ -40,8 +41,8 @@ class Request:
 
     @classmethod
     def of(cls, head: bytes) -> "Request":
-        """The request in the bytes up to the empty line; raises Rejected if it is malformed. A header must not
-        occur twice, because two parsers could choose different ones."""
+        """The request in the bytes up to the empty line; raises Rejected if it is malformed. A header must not occur
+        twice, because two parsers could choose different ones."""
         first, *lines = head.decode("latin-1").removesuffix("\r\n\r\n").split("\r\n")
         asked = FIRST_LINE.fullmatch(first)
         found = [HEADER.fullmatch(line) for line in lines]
@@ -52,7 +53,7 @@ class Request:
         return cls(asked[1], path, query, headers)
 
     def length(self) -> int:
-        """The length of its body; raises Rejected if it is missing or too large."""
+        """The length of the request's body; raises Rejected if it is missing or too large."""
         said = self.headers.get("content-length", "" if self.method == "POST" else "0")
         if "transfer-encoding" in self.headers or not said:
             raise Rejected(HTTPStatus.LENGTH_REQUIRED, texts.NO_LENGTH)
@@ -64,14 +65,14 @@ class Request:
 
 
 class Gate:
-    """Admits requests for the address that nrdb printed."""
+    """Admits requests to the address that nrdb printed."""
 
     def __init__(self, port: int, token: str):
         self._hosts = [f"{name}:{port}" for name in ("127.0.0.1", "localhost")]
         self._token = token.encode("ascii")
 
     def check(self, request: Request) -> None:
-        """Raises Rejected unless the request is one of those that are answered."""
+        """Raises Rejected unless the request is admitted."""
         if request.headers.get("host") not in self._hosts:
             raise Rejected(HTTPStatus.FORBIDDEN, texts.OTHER_HOST)
         if request.headers.get("origin", f"http://{self._hosts[0]}") not in [f"http://{host}" for host in self._hosts]:
@@ -85,7 +86,7 @@ class Gate:
             raise Rejected(HTTPStatus.FORBIDDEN, texts.NO_TOKEN)
 
     def _has_token(self, request: Request) -> bool:
-        """Whether the token is in its only allowed place."""
+        """Whether the token is in the only place that is allowed for it."""
         given = request.headers.get(TOKEN, "")
         if request.path in BY_ADDRESS:
             name, _, given = request.query.partition("=")

@@ -1,5 +1,5 @@
-"""Runs the page's session in the calling thread: answers lines one after the other, checks for moves of others, and
-reports while netrev is gone."""
+"""Runs the page's session in the calling thread: answers lines one after the other, checks whether other users have
+moved, and reports while netrev is gone."""
 
 import json
 import queue
@@ -28,15 +28,16 @@ from .shared import Shared
 from .streams import Streams
 
 DONE, FAILED = 0, 3
-MOST_WAITING = 32  # lines that wait for those before them
-EVERY = 1.0  # seconds between two checks for moves of others
-LATEST = 30.0  # seconds between two attempts to reconnect to netrev; the first are shorter
+MOST_WAITING = 32  # the most lines that wait for earlier ones
+EVERY = 1.0  # seconds between two checks for moves by others
+LATEST = 30.0  # the most seconds between two attempts to reconnect to netrev; the first intervals are shorter
 GONE = "netrev has ended"
 Opening = Callable[[Printer], Netrev]
 
 
 def serve_page(session: Session, port: int, opened: Opening) -> int:
-    """Serves the page of a session until Ctrl-C; the exit status. `opened` opens the same netrev again."""
+    """Serves the page of a session until Ctrl-C, and returns the exit status. `opened` opens another connection to the
+    same netrev."""
     streams = Streams(Path(session.path).name if session.path else "")
     try:
         at = listening(port)
@@ -79,13 +80,14 @@ class Running:
     # --- for the server's thread
 
     def post(self, who: str, line: str) -> None:
-        """Queues a line, which is answered by events; raises Unavailable if netrev is gone, or too many lines wait."""
+        """Queues a line, which events will answer; raises Unavailable if netrev is gone or too many lines are
+        waiting."""
         if self._gone:
             raise Unavailable(self._gone)
         self._take(lambda: self._answer(who, line))
 
     def complete(self, line: str) -> "Future[bytes]":
-        """The completions of the last word of a line, as JSON; raises Unavailable if too many lines wait."""
+        """The completions of the last word of a line, as JSON; raises Unavailable if too many lines are waiting."""
         wanted: "Future[bytes]" = Future()
 
         def answer() -> None:
@@ -122,13 +124,13 @@ class Running:
     # --- for the session's thread
 
     def run(self) -> None:
-        """Answers requests, until Ctrl-C."""
+        """Answers requests until Ctrl-C."""
         self._look()
         while True:
             self.turn()
 
     def turn(self) -> None:
-        """Answers the next line. If none comes for a while, checks for moves of others, if a browser listens."""
+        """Answers the next line. If none comes for a while and a browser listens, checks for moves by others."""
         try:
             work = self._work.get(timeout=EVERY)
         except queue.Empty:
@@ -138,7 +140,7 @@ class Running:
         work()
 
     def _answer(self, who: str, line: str) -> None:
-        """Answers a line, or reports that it isn't answered."""
+        """Answers a line, or reports that it can't be answered."""
         self._streams.tell("line", who=who, line=line)
         if not self._gone:
             self._guarded(lambda: self.session.run_for(who, line))
@@ -148,7 +150,7 @@ class Running:
             self._streams.tell("answered", who=who, line=line)
 
     def _look(self) -> None:
-        """Checks for moves of others; if netrev is gone, whether it is back."""
+        """Checks for moves by others, or, if netrev is gone, whether it is back."""
         if not self._gone:
             self._guarded(self.session.look_round)
         elif time.monotonic() >= self._next_try:
@@ -175,7 +177,7 @@ class Running:
         self._streams.tell("netrev", there=False, says=self._gone)
 
     def _try_again(self) -> None:
-        """Continues with another netrev, if one can be started or reached."""
+        """Continues with another netrev if one can be started or reached."""
         self._pause = min(2 * self._pause, LATEST)
         self._next_try = time.monotonic() + self._pause
         try:

@@ -1,5 +1,5 @@
-"""The page's server: it listens on the loopback only, in a thread of its own, and answers six requests. It passes
-everything about the session to the thread that runs it."""
+"""The page's server: it listens only on the loopback, in a thread of its own, and answers six requests. It passes
+everything about the session to the thread that runs the session."""
 
 import asyncio
 import socket
@@ -17,21 +17,22 @@ from .wire import EVENT_STREAM, JSON, LONGEST_HEAD, Wire
 
 LOOPBACK = "127.0.0.1"
 MOST_CONNECTIONS = 64
-PULSE = 15.0  # seconds after which a browser is sent something, to detect that it has gone
-LAST, ENDING = 0.02, 4.0  # seconds for connections that were accepted already to arrive; seconds for the end
+PULSE = 15.0  # seconds after which something is sent to a browser, to detect that it has gone
+# the seconds in which connections accepted already may arrive, and the seconds in which the server ends
+LAST, ENDING = 0.02, 4.0
 BEGINNING = b"retry: 1000\n\n"
 UNAVAILABLE = HTTPStatus.SERVICE_UNAVAILABLE
 
 
 class Unavailable(Exception):
-    """The requested data aren't available now: the reason."""
+    """Raised, with the reason, if the requested data aren't available now."""
 
 
 class Runner(Protocol):
-    """Runs the session. Each call returns at once."""
+    """The part of a session's runner that the server calls. Each call returns at once."""
 
     def post(self, who: str, line: str) -> None:
-        """Queues a line, which is answered by events; raises Unavailable if that isn't possible."""
+        """Queues a line, which events will answer; raises Unavailable if that isn't possible."""
 
     def complete(self, line: str) -> "Future[bytes]":
         """The completions of the last word of a line, as JSON; raises Unavailable if none can be found."""
@@ -66,18 +67,18 @@ class Server:
         self._socket, self._gate, self._document = at, gate, document
         self._streams, self._session = streams, session
         self._open: dict[asyncio.Task[None], asyncio.StreamWriter] = {}
-        self._asking: dict[asyncio.Task[None], None] = {}  # connections whose requests are incomplete, the oldest first
-        self._closing: dict[asyncio.Task[None], None] = {}  # that were answered
+        self._asking: dict[asyncio.Task[None], None] = {}  # connections whose requests are incomplete, oldest first
+        self._closing: dict[asyncio.Task[None], None] = {}  # connections that were answered
         self._ready = threading.Event()
         self._thread = threading.Thread(target=lambda: asyncio.run(self._serve()), daemon=True)
 
     def start(self) -> None:
-        """Serves from now on."""
+        """Starts serving."""
         self._thread.start()
         self._ready.wait()
 
     def stop(self) -> None:
-        """Ends all connections, and stops serving. It takes no longer than a fixed time."""
+        """Ends all connections and stops serving. It takes no longer than a fixed time."""
         self._loop.call_soon_threadsafe(self._ended.set)
         self._thread.join(ENDING)
 
@@ -87,7 +88,7 @@ class Server:
         server = await asyncio.start_server(self._accept, sock=self._socket, limit=LONGEST_HEAD)
         self._ready.set()
         await self._ended.wait()
-        # (closed at once, the server would lose connections that it has just accepted)
+        # (if it were closed at once, the server would lose connections that it has just accepted)
         self._loop.remove_reader(self._socket)
         await asyncio.sleep(LAST)
         server.close()
@@ -98,7 +99,8 @@ class Server:
             await asyncio.sleep(0)
 
     def _accept(self, reader: asyncio.StreamReader, writer: asyncio.StreamWriter) -> None:
-        """Accepts a connection. If there are too many, one is closed: an answered one, or the one that has taken longest to ask."""
+        """Accepts a connection. If there are too many, one is closed: one that was answered, or else the one that has
+        taken longest to send its request."""
         is_full = len(self._open) >= MOST_CONNECTIONS
         if is_full and (spared := self._closing or self._asking):
             longest = next(iter(spared))
@@ -155,7 +157,7 @@ class Server:
             await wire.answer(HTTPStatus.OK, await asyncio.wrap_future(made), JSON)
 
     async def _tell(self, wire: Wire, stream: Stream) -> None:
-        """Sends events to a browser until it leaves or falls too far behind."""
+        """Sends events to a browser until it disconnects or falls too far behind."""
         await wire.begin(HTTPStatus.OK, EVENT_STREAM)
         await wire.send(BEGINNING)
         gone = asyncio.create_task(wire.gone())
@@ -167,4 +169,4 @@ class Server:
                 await wire.send(stream.take() or b":\n\n")
         finally:
             gone.cancel()
-            await asyncio.wait({gone})  # (two must not read at the same time)
+            await asyncio.wait({gone})  # (because two tasks must not read at the same time)

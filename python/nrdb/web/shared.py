@@ -1,6 +1,5 @@
-"""The session that the page's browsers share: nrdb's own, which also reports which browser moved and to which
-position. netrev reports nothing about other fronts but the position, so their moves are noticed at the next
-check."""
+"""The session that the page's browsers share: nrdb's own, which also reports which browser moved it, and to which
+position. netrev reports only the position of a session, so moves by other fronts are noticed at the next check."""
 
 from dataclasses import dataclass, field, fields
 from typing import Any, Optional, Protocol, Sequence
@@ -37,14 +36,14 @@ def refusing(why: str) -> Answering:
 OF_THE_PAGE = {
     **ANSWERS,
     **{name: refusing(texts.NO_FILES) for name in WITH_FILES},
-    "list": answer_list,  # of steps alone
+    "list": answer_list,  # shows only steps, not source
     "commands": refusing(texts.NO_COMMANDS),
     "condition": refusing(texts.NO_CONDITIONS),
 }
 
 
 class Saying(Collecting):
-    """Sends nrdb's output, as text, in events."""
+    """Sends nrdb's output in events, as text."""
 
     def __init__(self, streams: Telling):
         super().__init__()
@@ -77,23 +76,23 @@ class Saying(Collecting):
 
 @dataclass
 class Shared(Session):
-    """A session whose lines come from several people."""
+    """A session that answers lines of several users."""
 
     streams: Telling = field(kw_only=True)
     who: str = ""
-    part: str = ""  # the part of a line that is being answered
+    part: str = ""  # the command of the line that is being answered
     told: Optional[Position] = None
     told_marks: Optional[list[Listed]] = None
 
     @classmethod
     def over(cls, session: Session, streams: Telling) -> "Shared":
-        """The same session, for the page."""
+        """The session in the form that the page uses."""
         made = cls(**{one.name: getattr(session, one.name) for one in fields(session)}, streams=streams)
         made.printer, made.answers = Saying(streams), OF_THE_PAGE
         return made
 
     def run_for(self, who: str, line: str) -> None:
-        """Answers a line of a browser, and then checks the session's state."""
+        """Answers a line from a browser, and then checks the session's state."""
         self.who = who
         self.run(line)
         self.look_round()
@@ -115,8 +114,8 @@ class Shared(Session):
         self.look_round()
 
     def look_round(self) -> None:
-        """Reads the session's position and marks. If the position has changed, another user has moved the session.
-        If netrev has no memory for the query, the next check notices it."""
+        """Reads the session's position and marks. If the position has changed, another user has moved the session. If
+        netrev lacks the memory for the query, the next check notices the change."""
         try:
             now = self.stands()
             marks = self.netrev.marks()
@@ -133,14 +132,14 @@ class Shared(Session):
             self.streams.tell("marks", marks=listed)
 
     def begin_anew(self, netrev: Netrev) -> None:
-        """Continues with another netrev, at its position."""
+        """Continues with another netrev, at that netrev's position."""
         self.netrev, self.told, self.told_marks = netrev, None, None
         self.attached.pending.clear()
         self.begin(self.ask("info position"))
         self.look_round()
 
     def _tell_move(self, who: str, line: Optional[str], position: int) -> None:
-        """Reports a move, if it is one."""
+        """Reports a move, if the position has changed."""
         if position == self.stood:
             return
         self.streams.tell("moved", who=who, line=line, **{"from": self.stood, "to": position})

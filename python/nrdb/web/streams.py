@@ -1,5 +1,5 @@
-"""Sends the events of a session, as JSON, to all browsers that listen. A new browser gets the latest ones first. All functions but
-`tell` are called in the server's own thread."""
+"""Sends the events of a session, as JSON, to all browsers that listen. A new browser first gets the latest ones. All
+functions but `tell` are called in the server's own thread."""
 
 import asyncio
 from collections import deque
@@ -13,20 +13,20 @@ from ..timeline.page import plain_json
 from .requests import Rejected
 
 MOST_STREAMS = 16
-MOST_KEPT, KEPT_BYTES = 400, 2**20  # events that a later browser gets, and their bytes
-WAITING_BYTES = 8 * 2**20  # bytes that may wait for a slow browser
-STATES = ("stands", "marks", "netrev", "picture")  # events of which only the last one matters
+MOST_KEPT, KEPT_BYTES = 400, 2**20  # the most events that are kept for later browsers, and their most bytes
+WAITING_BYTES = 8 * 2**20  # the most bytes that may wait for a slow browser
+STATES = ("stands", "marks", "netrev", "picture")  # events of which only the latest one matters
 
 Event = dict[str, Any]
 
 
 def message(event: Event) -> bytes:
-    """An event in the form that is sent, with each text in it escaped."""
+    """An event in the form in which it is sent, with each text in it escaped."""
     return f"data: {plain_json(event)}\n\n".encode("ascii")
 
 
 class Stream:
-    """A browser that listens, by its number."""
+    """A browser that listens, with its number."""
 
     def __init__(self, number: int) -> None:
         self.number = number
@@ -41,7 +41,8 @@ class Stream:
         return f"browser {self.number}"
 
     def put(self, data: bytes) -> None:
-        """Queues data for the browser, unless too much waits already: then the browser is too slow, and its stream ends."""
+        """Queues data for the browser, unless too much is waiting already: then the browser is too slow, and its stream
+        ends."""
         if self._waiting and self._bytes + len(data) > WAITING_BYTES:
             self.is_behind = True
         else:
@@ -50,7 +51,7 @@ class Stream:
         self._came.set()
 
     async def come(self) -> None:
-        """Returns when there is data to send."""
+        """Waits until there is data to send."""
         await self._came.wait()
 
     def take(self) -> bytes:
@@ -75,7 +76,7 @@ class Streams:
         self._soon: Callable[[Event], object] = self._tell
 
     def begin(self, loop: asyncio.AbstractEventLoop) -> None:
-        """From now on events are sent in this loop."""
+        """Sends events in this loop from now on."""
         self._soon = lambda event: loop.call_soon_threadsafe(self._tell, event)
 
     def tell(self, event: str, **values: Any) -> None:
@@ -93,7 +94,7 @@ class Streams:
 
     @contextmanager
     def joined(self) -> Iterator[Stream]:
-        """A browser's stream, for as long as it listens; raises Rejected if there are too many."""
+        """Context with the stream of a browser while it listens; raises Rejected if there are too many."""
         if len(self._streams) >= MOST_STREAMS:
             raise Rejected(HTTPStatus.SERVICE_UNAVAILABLE, texts.TOO_MANY_BROWSERS.format(most=MOST_STREAMS))
         stream = Stream(next(self._numbers))

@@ -1,4 +1,5 @@
-"""Reads a request from a connection and answers it, one for each connection. A slow or too long request is rejected in time."""
+"""Reads a request from a connection and answers it; each connection has one request. A request that is too slow or too
+long is rejected."""
 
 import asyncio
 from contextlib import suppress
@@ -8,8 +9,8 @@ from ..messages import browsers as texts
 from .requests import Request, Rejected
 
 LONGEST_HEAD = 8_192  # the most bytes before a body
-IN_TIME = 5.0  # seconds for a request to arrive completely, and for a part of an answer to be accepted
-TAKEN_STILL, STILL = 65_536, 0.3  # bytes that are read after an answer, and seconds for all of them
+IN_TIME = 5.0  # seconds in which a request must arrive completely, and in which a part of an answer must be accepted
+TAKEN_STILL, STILL = 65_536, 0.3  # the most bytes that are read after an answer, and the seconds for reading them
 PLAIN, JSON, EVENT_STREAM = "text/plain; charset=utf-8", "application/json", "text/event-stream"
 ALWAYS = {
     "Cache-Control": "no-store",
@@ -30,8 +31,8 @@ class Wire:
         self._headers = ALWAYS | {"Content-Security-Policy": policy}
 
     async def head(self) -> Request:
-        """The request, up to its body; raises Rejected if it doesn't arrive completely in time, EOFError if nothing
-        arrives."""
+        """The request without its body; raises Rejected if it doesn't arrive completely in time, and EOFError if
+        nothing arrives."""
         try:
             head = await asyncio.wait_for(self._reader.readuntil(b"\r\n\r\n"), IN_TIME)
         except asyncio.LimitOverrunError:
@@ -45,7 +46,7 @@ class Wire:
         return Request.of(head)
 
     async def body(self, length: int) -> bytes:
-        """This many bytes; raises Rejected if they don't come in time."""
+        """The next bytes of the body, this many; raises Rejected if they don't arrive in time."""
         try:
             return await asyncio.wait_for(self._reader.readexactly(length), IN_TIME)
         except (asyncio.TimeoutError, asyncio.IncompleteReadError):
@@ -57,13 +58,13 @@ class Wire:
         await self.send(body)
 
     async def begin(self, status: HTTPStatus, sort: str, more: dict[str, str] = {}) -> None:
-        """Begins an answer, to be continued."""
+        """Begins an answer whose data follow."""
         lines = [f"HTTP/1.1 {status.value} {status.phrase}"]
         lines += [f"{name}: {value}" for name, value in ({"Content-Type": sort} | self._headers | more).items()]
         await self.send("\r\n".join([*lines, "", ""]).encode("ascii"))
 
     async def send(self, data: bytes) -> None:
-        """Sends these bytes; ConnectionError if the other end doesn't take them in time."""
+        """Sends these bytes; raises ConnectionError if the other end doesn't take them in time."""
         self._writer.write(data)
         try:
             await asyncio.wait_for(self._writer.drain(), IN_TIME)
@@ -72,12 +73,12 @@ class Wire:
             raise ConnectionAbortedError from None
 
     async def gone(self) -> None:
-        """Returns when the other end has gone, or sends more than its request."""
+        """Returns when the other end has gone or sends more than its request."""
         with suppress(ConnectionError):
             await self._reader.read(1)
 
     async def close(self) -> None:
-        """Ends the connection. It reads on for a moment, so that a reset doesn't destroy the answer."""
+        """Ends the connection. It keeps reading for a moment, so that a reset doesn't destroy the answer."""
         with suppress(OSError, asyncio.TimeoutError):
             self._writer.write_eof()
             await asyncio.wait_for(self._take_rest(), STILL)
