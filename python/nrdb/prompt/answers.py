@@ -1,5 +1,6 @@
-"""nrdb's own commands, a function for each. Each gets the session and the words after the command, and raises Misused if they are
-wrong. Modules that most sessions don't need are imported when they are used, so that the prompt appears sooner."""
+"""nrdb's own commands, one function each. Each function gets the session and the words after the command, and raises
+Misused if they are wrong. Modules that most sessions don't need are imported on first use, so that the prompt appears
+sooner."""
 
 import re
 from fnmatch import fnmatchcase
@@ -29,7 +30,7 @@ UNITS = {"ns": 1, "us": 1_000, "ms": 1_000_000, "s": 1_000_000_000}
 
 
 def taken_number(name: str, words: list[str]) -> int:
-    """The number that is a command's only argument."""
+    """The only argument of a command, which must be a number."""
     number = number_of(words[0]) if len(words) == 1 else None
     if number is None:
         raise Misused(messages.NUMBER.format(usage=usage(name)))
@@ -37,7 +38,7 @@ def taken_number(name: str, words: list[str]) -> int:
 
 
 def taken_cell(name: str, words: list[str]) -> tuple[str, list[str]]:
-    """The cell at the beginning of the words, and the words after it."""
+    """The cell that these words begin with, and the words after it."""
     for length in (2, 1):
         if len(words) >= length and (cell := cell_of(words[:length])):
             return cell, words[length:]
@@ -58,7 +59,8 @@ def answer_help(session: Session, words: list[str]) -> None:
 
 
 def help_of(words: list[str]) -> Iterator[str]:
-    """The meaning of a word: as a command, as a kind of step, as a cell, as a reason's number; empty if it has none."""
+    """The meaning of a word as a command, as a kind of step, as a cell, or as the number of a reason; empty if it has
+    none."""
     word, name = " ".join(words), whole_command(words[0])
     reason = number_of(word)
     is_other = word in KINDS or word in CELLS
@@ -141,8 +143,8 @@ def answer_goto(session: Session, words: list[str]) -> None:
 
 
 def taken_position(session: Session, words: list[str]) -> int:
-    """The position that `goto` names: a number, the start, the end, or the last one at which the clock isn't past a
-    time."""
+    """The position that `goto` names: a number, the start, the end, or the last position at which the clock isn't past
+    a time."""
     word = words[0] if len(words) == 1 else ""
     if word in ("start", "end"):
         return session.length if word == "end" else 0

@@ -1,4 +1,4 @@
-"""Answers about calls and about what happened here, a function for each command, as in `answers.py`."""
+"""Answers about calls and about what happened at the position, one function for each command, as in `answers.py`."""
 
 from typing import Optional
 
@@ -29,7 +29,7 @@ def usage(name: str) -> str:
 
 
 def taken_most(name: str, words: list[str]) -> Optional[int]:
-    """The most rows: the default, a number from 1, or all, which is None."""
+    """The most rows to show: the default, a number from 1, or None for all."""
     most = None if words == ["all"] else number_of(words[0]) if len(words) == 1 else MOST
     if len(words) > 1 or most == 0 or (most is None and words != ["all"]):
         is_topic = name not in COMMANDS
@@ -69,7 +69,7 @@ def answer_errors(session: Session, words: list[str]) -> None:
 
 
 def moved_by_call(name: str) -> Answering:
-    """The answer of a command that moves by calls."""
+    """The answer to a command that moves by calls."""
 
     def answer(session: Session, words: list[str]) -> None:
         number = number_of(words[0]) if len(words) == 1 else None
@@ -98,8 +98,8 @@ def answer_commands(session: Session, words: list[str]) -> None:
 
 
 def answer_condition(session: Session, words: list[str]) -> None:
-    """Gives a mark a condition, or removes it. Without a number it is the mark that was set last, as `save
-    breakpoints` writes it."""
+    """Sets or removes the condition of a mark. Without a number, that is the mark set last, as in what `save
+    breakpoints` writes."""
     marks = {mark.number: mark.sort for mark in session.netrev.marks()}
     standing = [*marks, *session.breaks.standing]
     is_named = bool(words) and words[0] in standing

@@ -1,5 +1,5 @@
-"""Commands of nrdb that write files or explore other schedules. Most sessions don't need them, so their modules are imported when
-they are used."""
+"""Commands of nrdb that write files or explore other schedules. Most sessions don't need them, so their modules are
+imported on first use."""
 
 from netrev_words.vocabulary import number_of
 

@@ -1,5 +1,5 @@
-"""Commands about the session's position and one goroutine: `goroutine N` shows its stack and the source, which
-`where`, `frame`, `up` and `down` use afterwards."""
+"""Commands about one goroutine at the session's position: `goroutine N` shows the goroutine's stack and its source, and
+`where`, `frame`, `up` and `down` then use that stack."""
 
 from typing import Optional
 
@@ -27,7 +27,7 @@ def answer_where(session: Session, words: list[str]) -> None:
 
 
 def answer_goroutine(session: Session, words: list[str]) -> None:
-    """Chooses a goroutine; without words, the chosen one, else that of the last step."""
+    """Chooses a goroutine; without words, shows the chosen one, or else that of the last step."""
     recording, position = session.text(), session.stands().position
     name = named(words) if words else session.goroutine or of_step(session, position)
     if name is None:
@@ -42,12 +42,12 @@ def answer_goroutine(session: Session, words: list[str]) -> None:
 
 
 def show(session: Session, found: GoroutineStack) -> None:
-    """The line of a goroutine, and its stack."""
+    """Prints the line about a goroutine, and its stack."""
     session.printer.note("\n".join([found.words(), *stack_lines(found.stack)]))
 
 
 def named(words: list[str]) -> Optional[Name]:
-    """The goroutine that words name: `12`, or `goid 34` for one that has no step."""
+    """The goroutine that these words name: `12`, or `goid 34` for a goroutine without a step."""
     number = number_of(words[-1])
     is_goid = len(words) == 2 and words[0] == "goid"
     return None if number is None or len(words) > 1 + is_goid else Name(number, is_goid)

@@ -1,4 +1,4 @@
-"""Commands with a line or a function of the program, and commands about frames."""
+"""Commands that take a line or a function of the program, and commands about frames."""
 
 from typing import Optional
 
@@ -16,7 +16,7 @@ MOST = 40
 
 
 def place_of(session: Session, spelled: str) -> Place:
-    """The place that a word names; Misused if no step comes from there."""
+    """The place that a word names; raises Misused if no step comes from it."""
     recording = session.text()
     if not recording.lines:
         raise Misused(messages.NO_LINES)
@@ -27,7 +27,7 @@ def place_of(session: Session, spelled: str) -> Place:
 
 
 def of_place(name: str, otherwise: Answering) -> Answering:
-    """The answer of a command that also accepts a place."""
+    """The answer to a command that also accepts a place."""
 
     def answer(session: Session, words: list[str]) -> Optional[bool]:
         return (OF_PLACES[name] if is_place(session.recording, words) else otherwise)(session, words)
@@ -36,7 +36,7 @@ def of_place(name: str, otherwise: Answering) -> Answering:
 
 
 def break_at(is_temporary: bool) -> Answering:
-    """The answer of `break` and `tbreak` with a place."""
+    """The answer to `break` and `tbreak` with a place."""
 
     def answer(session: Session, words: list[str]) -> None:
         made = session.breaks.add(place_of(session, words[0]), is_temporary)
@@ -54,7 +54,7 @@ def answer_delete(session: Session, words: list[str]) -> None:
 
 
 def delete_all(session: Session) -> None:
-    """Deletes netrev's marks and the breaks at places of the program, and lists them."""
+    """Deletes netrev's marks and the breaks at places of the program, and prints what was deleted."""
     gone = []
     for mark in session.netrev.marks():
         if not session.ask(f"delete {mark.number}").startswith("fault"):
@@ -67,7 +67,7 @@ def delete_all(session: Session) -> None:
 
 
 def go_to_place(name: str, forwards: bool) -> Answering:
-    """The answer of `until`, `goto` and `reverse-until` with a place."""
+    """The answer to `until`, `goto` and `reverse-until` with a place."""
 
     def answer(session: Session, words: list[str]) -> None:
         place, position = place_of(session, words[0]), session.stands().position
@@ -81,7 +81,7 @@ def go_to_place(name: str, forwards: bool) -> Answering:
 
 
 def answer_history(session: Session, words: list[str]) -> None:
-    """The times that goroutines came to a place, up to the position."""
+    """Lists the times at which goroutines reached a place, up to the position."""
     recording, place, position = session.text(), place_of(session, words[0]), session.stands().position
     past = [one for one in place.positions if one <= position]
     rows = [row_of(recording, one) for one in past[-MOST:]]
@@ -97,7 +97,7 @@ def row_of(recording: Recording, position: int) -> Row:
 
 
 def answer_list(session: Session, words: list[str]) -> None:
-    """The source around a line, or around the first recorded line of a function."""
+    """Shows the source around a line, or around the first recorded line of a function."""
     if found := OF_A_LINE.fullmatch(words[0]):
         return show_source(session, found[1], int(found[2]))
     calls = [call for call in calls_of(session.text()) if is_function(call, words[0])]
@@ -120,7 +120,8 @@ def calls_of(recording: Recording) -> list[Call]:
 
 
 def stack_at(session: Session) -> Stack:
-    """The stack of the chosen goroutine, else that of the last step, and before a place of the program that of the next."""
+    """The stack of the chosen goroutine; else that of the last step, or, before a place of the program, of the next
+    step."""
     if session.goroutine:
         found = stack_of(session.text(), session.goroutine, session.stands().position)
         return found.stack if found else Stack((), None)
@@ -128,7 +129,7 @@ def stack_at(session: Session) -> Stack:
 
 
 def frame_by(move: int) -> Answering:
-    """The answer of `frame [N]`, `up` and `down`: a call of the stack, and the source around it."""
+    """The answer to `frame [N]`, `up` and `down`, which shows a call of the stack and the source around it."""
 
     def answer(session: Session, words: list[str]) -> None:
         stack = stack_at(session)
@@ -152,7 +153,7 @@ def own_frame(stack: Stack) -> int:
 
 
 def show_frame(session: Session, stack: Stack, wanted: Optional[int]) -> None:
-    """Chooses a frame, the program's own by default, and shows it with the source around it."""
+    """Chooses a frame, which is the program's own by default, and shows it with the source around it."""
     session.frame = own_frame(stack) if wanted is None else wanted
     call = stack.calls[session.frame]
     session.printer.note(f"frame {session.frame}: {call.function} at {call.place()}")

@@ -23,8 +23,8 @@ VALUES = {"gor": STATUSES, "rg": ["nil", "ready", "wait"], "wg": ["nil", "ready"
 
 
 def completions(line: str, session: Session) -> list[str]:
-    """The completions of the last word of a line, which may have other commands before it, separated by `;`. While
-    netrev answers, no numbers are offered."""
+    """The completions of the last word of a line; other commands, separated by `;`, may precede it. While netrev is
+    answering, no numbers are offered."""
     words = line.rpartition(";")[2].split(" ")
     *before, last = words
     found = candidates(
@@ -50,7 +50,8 @@ def places_in(recording: Optional[Recording]) -> list[str]:
 def candidates(
     before: list[str], numbers: Callable[[Of], list[str]], places: Callable[[], list[str]] = list
 ) -> list[str]:
-    """The words that can follow these; `numbers` gives the numbers in use, `places` the functions and lines of the program."""
+    """The words that can follow these words; `numbers` gives the numbers in use, and `places` the functions and lines
+    of the program."""
     if not before:
         return list(COMMANDS)
     try:
@@ -91,7 +92,7 @@ def candidates(
 
 
 def of_cell(rest: list[str], numbers: Callable[[Of], list[str]]) -> list[str]:
-    """The words that can follow these words of a cell."""
+    """The words that can follow these words, which begin a cell."""
     if not rest:
         return list(CELLS)
     cell = CELLS.get(rest[0])

@@ -1,5 +1,4 @@
-"""The pager: if the output is longer than the screen, it waits for a key, as GDB does. `pagination off` turns it
-off."""
+"""The pager: output that is longer than the screen waits for a key, as in GDB. `pagination off` turns it off."""
 
 import io
 import os
@@ -7,19 +6,19 @@ import signal
 from typing import Callable, TextIO
 
 MORE = "--return for more, q to leave out the rest, c to go on without stopping--"
-LEAST = 4  # lines of the smallest screen at which the pager stops
+LEAST = 4  # the fewest lines of a screen at which the pager stops
 
 
 class Paged(io.TextIOBase):
-    """Writes to a terminal, one screen at a time. `q` skips the rest of an answer, but doesn't stop the work that
-    is in progress."""
+    """Writes to a terminal, one screen at a time. `q` skips the rest of an answer, but doesn't stop the work in
+    progress."""
 
     def __init__(self, out: TextIO, answer: Callable[[], str], is_on: Callable[[], bool]):
         self._out, self._answer, self._is_on = out, answer, is_on
         self._lines, self._is_left_out, self._goes_on = 0, False, False
 
     def begins(self) -> None:
-        """Another answer begins."""
+        """Starts another answer."""
         self._lines, self._is_left_out, self._goes_on = 0, False, False
 
     def write(self, text: str) -> int:
@@ -29,7 +28,7 @@ class Paged(io.TextIOBase):
         return len(text)
 
     def _write(self, line: str) -> None:
-        """Writes a line, or the rest of one; asks first if the screen is full."""
+        """Writes a line, or the rest of one, and asks first if the screen is full."""
         rows, columns = self._screen()
         if rows >= LEAST and self._lines >= rows - 1 and not self._goes_on and self._is_on():
             self._ask()

@@ -1,4 +1,4 @@
-"""`save breakpoints FILE`: writes lines that set the current marks again, for `source FILE`."""
+"""`save breakpoints FILE`: writes lines that set the current marks again when `source FILE` runs them."""
 
 from typing import Iterator
 

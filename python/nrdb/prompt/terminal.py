@@ -21,22 +21,22 @@ from ..shapes import Strange
 
 try:
     import readline
-except ImportError:  # a Python without readline has no line editing
+except ImportError:  # without readline there is no line editing
     readline = None  # type: ignore[assignment]
 
-PROMPT, TAKING = "(netrev) ", "> "  # the second for the lines of `commands`
+PROMPT, TAKING = "(netrev) ", "> "  # the second is for the lines of `commands`
 FIRST = "what went wrong: info suspects; what hangs: info hangs; what failed: info errors; all commands: help"
-MOST_STEPS = 200_000  # of a recording whose causes are found within seconds
+MOST_STEPS = 200_000  # the most steps of a recording whose causes are found within seconds
 KEPT = 1000
 
 
 def history_file() -> Path:
-    """The file of the typed lines: NETREV_HISTORY, or .netrev_history in the home folder."""
+    """The path of the history file: NETREV_HISTORY, or .netrev_history in the home folder."""
     return Path(os.environ.get("NETREV_HISTORY") or Path.home() / ".netrev_history")
 
 
 class Terminal:
-    """The history file: NETREV_HISTORY, or .netrev_history in the home folder."""
+    """The prompt at a terminal, with its history file: NETREV_HISTORY, or .netrev_history in the home folder."""
 
     def __init__(self, session: Session):
         self.session = session
@@ -57,7 +57,7 @@ class Terminal:
             self._save()
 
     def _open(self) -> None:
-        """Prints what failed or hangs in the whole recording, at any position."""
+        """Prints what failed or hangs in the whole recording, whatever the position is."""
         recording = self.session.recording
         if recording is None or recording.length > MOST_STEPS:
             return
@@ -67,19 +67,19 @@ class Terminal:
             with self.session.interrupts.held():
                 lines = opening_words(recording)
         except (Interrupted, Lost, Mismatched, NoRecording, Strange):
-            return  # (a command that needs them reports the reason)
+            return  # (a command that needs the causes reports the reason)
         if lines:
             self.session.printer.note("\n".join(lines))
 
     def _page(self) -> None:
-        """From now on output pauses when the screen is full, if the output is a terminal that can pause."""
+        """Lets output pause when the screen is full, if the output is a terminal that can pause."""
         printer = self.session.printer
         if isinstance(printer, TextPrinter) and printer.out.isatty() and os.environ.get("TERM") != "dumb":
             self._pager = Paged(printer.out, sys.stdin.readline, lambda: printer.is_paged)
             printer.out = cast(TextIO, self._pager)
 
     def _turn(self) -> bool:
-        """Reads and answers one line. False if the session has ended."""
+        """Reads and answers one line. Returns False if the session has ended."""
         if self._pager is not None:
             self._pager.begins()
         try:
@@ -118,7 +118,7 @@ class Terminal:
             pass
 
     def _complete(self, text: str, at: int) -> Optional[str]:
-        """The candidate of this number, or None after the last one, as readline expects."""
+        """The candidate with this number; None after the last one, as readline expects."""
         if at == 0:
             before = readline.get_line_buffer()[: readline.get_begidx()].split()
             with self.session.interrupts.held():
@@ -130,12 +130,12 @@ class Terminal:
         """The numbers in use at the position."""
         try:
             return numbers_in(self.session, of)
-        except (Ended, Interrupted):  # (readline would swallow it)
+        except (Ended, Interrupted):  # (readline would swallow the exception)
             return []
 
 
 def repeats(line: str) -> bool:
-    """Whether an empty line after this one repeats it, because it steps."""
+    """Whether an empty line after this line repeats it, because it steps."""
     try:
         first = whole_words(line.split())[0]
     except Ambiguous:
