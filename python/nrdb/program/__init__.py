@@ -1,1 +1,2 @@
-"""Lines and functions of the program as places for breaks and moves, by NAME.where: `break main.go:39`, `until main.echo`."""
+"""Lines and functions of the program as places for breaks and moves, found by NAME.where: `break main.go:39`, `until
+main.echo`."""

@@ -1,5 +1,5 @@
-"""The breaks at places of the program. They are nrdb's own, and use none of netrev's marks: after a move of netrev
-past one, nrdb goes back to it."""
+"""The breaks at places of the program. They are nrdb's own and use none of netrev's marks: after a move of netrev past
+one, nrdb goes back to it."""
 
 import re
 from bisect import bisect_left, bisect_right
@@ -9,13 +9,13 @@ from typing import Callable, Optional
 from ..recording import Recording
 from .index import Place, is_place
 
-LETTER = "p"  # the prefix of their numbers, which netrev's don't have
+LETTER = "p"  # the prefix of their numbers, which netrev's numbers don't have
 NUMBER = re.compile(rf"{LETTER}\d+")
 
 
 @dataclass
 class Break:
-    """A break: its number, its place, and whether its first stop deletes it."""
+    """A break: its number, its place, and whether it is deleted at its first stop."""
 
     number: str
     place: Place
@@ -44,12 +44,12 @@ class Breaks:
         return made
 
     def nearest(self, position: int, forwards: bool) -> Optional[int]:
-        """The nearest position in that direction at which one of them stops."""
+        """The nearest position in a direction at which a break stops."""
         near = [one for mark in self.standing.values() if (one := self._next(mark, position, forwards)) is not None]
         return (min if forwards else max)(near, default=None)
 
     def _next(self, mark: Break, position: int, forwards: bool) -> Optional[int]:
-        """The next position in that direction at which a break stops."""
+        """The next position in a direction at which this break stops."""
         near = beyond(mark.place, position, forwards)
         while near is not None and not self.is_met(mark.number, near):
             near = beyond(mark.place, near, forwards)
@@ -61,7 +61,7 @@ class Breaks:
         return [one for one in here if self.is_met(one.number, position)]
 
     def hit(self, position: int) -> list[Break]:
-        """The breaks that stop at a position; the temporary ones among them are deleted."""
+        """The breaks that stop at a position; also deletes the temporary ones among them."""
         found = self.at(position)
         for one in found:
             if one.is_temporary:
@@ -70,7 +70,8 @@ class Breaks:
 
 
 def names_a_place(recording: Optional[Recording], words: list[str]) -> bool:
-    """Whether a command of netrev names a place of the program, or a break at one, or all marks: then nrdb answers."""
+    """Whether a command of netrev names a place of the program, a break at a place, or all marks, so that nrdb answers
+    it."""
     name, *rest = words
     if name in ("break", "tbreak"):
         return is_place(recording, rest)
@@ -78,7 +79,7 @@ def names_a_place(recording: Optional[Recording], words: list[str]) -> bool:
 
 
 def beyond(place: Place, position: int, forwards: bool) -> Optional[int]:
-    """The first position of a place in that direction from a position."""
+    """The first position of a place in a direction from a position."""
     rows = place.positions
     at = bisect_right(rows, position) if forwards else bisect_left(rows, position) - 1
     return rows[at] if 0 <= at < len(rows) else None

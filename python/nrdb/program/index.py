@@ -1,4 +1,4 @@
-"""The positions at which goroutines come to a line or a function of the program, by the stacks of NAME.where."""
+"""The positions at which goroutines reach a line or a function of the program, by the stacks of NAME.where."""
 
 import re
 from functools import lru_cache
@@ -14,11 +14,12 @@ from ..where import Call, Stack
 OF_A_LINE = re.compile(r"(.+):(\d{1,9})\Z")
 Key = TypeVar("Key", bound=Hashable)
 POINTER = re.compile(r"\(\*([^()]*)\)")  # a pointer receiver
-MOST_NEAR = 5  # lines that are named if the requested one has no step
+MOST_NEAR = 5  # how many lines are named if the requested line has no step
 
 
 class Place(NamedTuple):
-    """A line or a function as it was spelled, and the positions before the steps at which a goroutine comes there, rising."""
+    """A line or a function as it was typed, and the positions before the steps at which a goroutine reaches it,
+    rising."""
 
     spelled: str
     positions: list[int]
@@ -34,17 +35,17 @@ class Places:
         self._begins = {call.first for call in book.calls}
 
     def place(self, spelled: str) -> Optional[Place]:
-        """The place that a word names; None if no recorded step comes from there."""
+        """The place that a word names; None if no recorded step comes from it."""
         found = OF_A_LINE.fullmatch(spelled)
         positions = self._of_line(found[1], int(found[2])) if found else self._of_function(spelled)
         return Place(spelled, positions) if positions else None
 
     def lines_of(self, is_meant: Callable[[str], bool]) -> dict[int, list[int]]:
-        """For each line of the named files, the positions at which a goroutine comes there."""
+        """For each line of the matching files, the positions at which a goroutine reaches it."""
         return self._positions(lambda stack: {call.line for call in stack.calls if is_meant(call.file)})
 
     def near(self, spelled: str) -> list[str]:
-        """The lines with steps that are nearest to one that has none."""
+        """The lines with steps that are nearest to a line without steps."""
         found = OF_A_LINE.fullmatch(spelled)
         if not found:
             return []
@@ -59,8 +60,8 @@ class Places:
         return found.get(name, [])
 
     def _positions(self, keys: Callable[[Stack], set[Key]]) -> dict[Key, list[int]]:
-        """For each key the positions before the steps at which a goroutine comes to a stack that has it. A goroutine
-        that was there at its previous step comes there anew if a call of its own begins."""
+        """For each key, the positions before the steps at which a goroutine reaches a stack that has the key. A
+        goroutine that was there at its previous step reaches it anew if one of its calls begins."""
         of_stack = {number: keys(stack) for number, stack in self._lines.stacks.items()}
         found: dict[Key, list[int]] = {}
         before: dict[int, set[Key]] = {}
@@ -75,21 +76,21 @@ class Places:
 
 
 def near_lines(file: str, wanted: int, lines: Iterable[int]) -> list[str]:
-    """Those of the lines of a file that are nearest to one."""
+    """The lines of a file that are nearest to this one."""
     near = sorted(lines, key=lambda line: abs(line - wanted))[:MOST_NEAR]
     return [f"{file}:{line}" for line in sorted(near)]
 
 
 def no_step_from(spelled: str, near: Sequence[str]) -> str:
-    """The message about a line or function that no step comes from, with the nearest lines that steps come from."""
+    """The message about a line or a function that no step comes from, with the nearest lines that have steps."""
     if near:
         return messages.NO_STEP_FROM_BUT.format(place=spelled, near=", ".join(near))
     return messages.NO_STEP_FROM.format(place=spelled)
 
 
 def is_place(recording: Optional[Recording], words: list[str]) -> bool:
-    """Whether the words after a command are a place of the program and nothing else: FILE:LINE, a function with its package or
-    receiver, or any other function of the recording."""
+    """Whether the words after a command name a place of the program and nothing else: FILE:LINE, a function with its
+    package or receiver, or any other function of the recording."""
     if len(words) != 1 or words[0] in KINDS or words[0].isdecimal() or words[0].startswith("@") or cell_of(words):
         return False
     if OF_A_LINE.fullmatch(words[0]):
@@ -103,8 +104,8 @@ def is_file(known: str, spelled: str) -> bool:
 
 
 def is_function(call: Call, name: str) -> bool:
-    """Whether a call is of the function that is spelled: the whole name, or without the package or its path. `hub.broadcast` is
-    `(*hub).broadcast` too."""
+    """Whether a call is of the function with this name, which may lack the package or its path. `hub.broadcast` also
+    matches `(*hub).broadcast`."""
     return any(
         function == spelled or function.endswith((f"/{spelled}", f".{spelled}"))
         for function, spelled in ((call.function, name), (without_pointer(call.function), name))
@@ -112,7 +113,8 @@ def is_function(call: Call, name: str) -> bool:
 
 
 def without_pointer(function: str) -> str:
-    """A function's name with a pointer receiver as one without: `main.hub.broadcast` of `main.(*hub).broadcast`."""
+    """A function's name with a pointer receiver spelled as a value receiver: `main.hub.broadcast` of
+    `main.(*hub).broadcast`."""
     return POINTER.sub(r"\1", function)
 
 
