@@ -102,7 +102,7 @@ class Prompt(unittest.TestCase):
         self.assertIn("tick", self.told("where"))
         self.told("goto start")
         self.assertEqual(self.session.stood, 0)
-        self.assertIn("no goroutine comes to", self.told(f"reverse-until {READS}"))
+        self.assertIn("no goroutine reaches", self.told(f"reverse-until {READS}"))
 
     def test_where_no_step_comes_from_the_nearest_lines_are_told(self) -> None:
         self.assertRegex(

@@ -20,7 +20,7 @@ TOO_MANY_BROWSERS = "{most} browsers are connected already"
 TOO_MANY_LINES = "{most} lines wait for their replies already"
 TOO_MANY_PICTURES = "{most} pictures are waiting already"
 
-# What the page can't do.
+# Limits of the page.
 NO_FILES = "the page can't read or write files: use nrdb's prompt"
 NO_COMMANDS = "the page takes one line at a time: use `commands` at nrdb's prompt"
 NO_CONDITIONS = "use `condition` at nrdb's prompt, where Ctrl-C stops a move past many marks"

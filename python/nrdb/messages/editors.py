@@ -35,9 +35,9 @@ FILTERS = "filters must be a list of strings"
 NOT_A_FILTER = "{name} isn't a filter"
 NO_EXCEPTION = "no filter stopped here"
 
-# Moves and values.
+# Moves, stacks and values.
 NO_CALLS = "the network and the clock make no calls"
-NO_STEP = "no step is in this line or after it"
+NO_STEP = "there is no step on this line or after it"
 HAS_STEPS = "the recording has {steps} steps"
 SOMEONE_MOVED = "someone else has moved: at {position}"
 NETREV_ANSWERED = "netrev answered: {fault}; {hint}"

@@ -71,7 +71,7 @@ CALL_HANGS = "goroutine {goroutine}'s call doesn't end in this recording: {call}
 IN_NO_CALL = "goroutine {goroutine} isn't in a call"
 NO_RETURN = "goroutine {goroutine} isn't in a call, and makes no step after {function} returns"
 NO_OTHER_STEP = "goroutine {goroutine} makes no {way} step"
-NOT_REACHED = "no goroutine comes to {place} {way}"
+NOT_REACHED = "no goroutine reaches {place} {way}"
 SOMEONE_MOVED = "someone else has moved: from {before} to {now}"
 
 # Marks.

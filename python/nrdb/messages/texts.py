@@ -1,6 +1,6 @@
 """Hints about a line or a step of a recording that netrev rejects."""
 
-MAGIC = {  # by the first bytes
+MAGIC = {  # formats by their first bytes
     b"\x1f\x8b": "this is gzip: gunzip it first",
     b"(\xb5/\xfd": "this is zstd: unzstd it first",
     b"\xff\xfe": "this is UTF-16: iconv -f utf-16 -t utf-8",
@@ -9,7 +9,7 @@ MAGIC = {  # by the first bytes
     b"\xd4\xc3\xb2\xa1": "this is a packet capture (pcap); a recording is text, one line of JSON a step",
     b"PK": "this is a zip archive: unzip it first",
 }
-GO_NAMES = {  # functions of Go instead of a kind
+GO_NAMES = {  # functions of Go that were given in place of a kind
     "netpollblock": "its steps are blockarm, blockcheck, parkcommit and blockswap",
     "netpollblockcommit": "did you mean parkcommit?",
     "netpollunblock": "it is part of pollevent, setdeadline, evict and fire",
@@ -26,10 +26,10 @@ GO_NAMES = {  # functions of Go instead of a kind
     "go": "did you mean spawn?",
     "goexit": "did you mean exit?",
 }
-REASONS = {  # what to check if a step can't happen, by the reason's number
+REASONS = {  # what to check if a step can't happen, by the number of the reason
     1: "was it spawned, or did it exit before? Goroutines are numbered from 0, not by Go's own numbers",
     2: "a step before it is missing: the goroutine's status says what it still has to do",
-    3: "the header's limit is too low: it must count all that the run makes, and of descriptors those open at once",
+    3: "the header's limit is too low: it must count every object that the run makes, or the descriptors open at once",
     4: "is its sockopen missing? Sockets are numbered from 0, not by the kernel's file descriptors",
     5: "is its pollopen missing, or was it freed before?",
     7: "a decref or rwunlock too many, or two steps in the wrong order",
