@@ -1,1 +1,1 @@
-"""Tests of the built program from outside, for what no contract states. `NETREV` names another program."""
+"""Tests of the built program from outside, of what no contract states. `NETREV` names another program."""

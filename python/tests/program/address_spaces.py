@@ -48,7 +48,7 @@ LOOKS = [line for line in WALK.splitlines() if line.startswith(("print", "dump")
 
 
 def ended(process, given=None):
-    """Waits for the end of a process, and gives its status, its output and its errors."""
+    """Waits for the end of a process, and returns its status, its output and its errors."""
     try:
         output, errors = process.communicate(given, timeout=PATIENCE)
     except subprocess.TimeoutExpired:
@@ -65,7 +65,7 @@ def limit_memory(size):
 
 
 def loader_in(size):
-    """The status of the system's loader with this address space: it maps the program and doesn't start it."""
+    """The status of the system's loader in this address space: the loader maps the program and doesn't start it."""
     traced = {**os.environ, "LD_TRACE_LOADED_OBJECTS": "1"}
     null = subprocess.DEVNULL
     limit = lambda: limit_memory(size)  # noqa: E731
@@ -78,14 +78,14 @@ def loader_in(size):
 
 
 def refused_start(failed):
-    """A status for a program that the system refused to start, if it did so for memory."""
+    """The status for a program that the system refused to start for lack of memory; raises any other error."""
     if failed.errno in (errno.ENOMEM, errno.E2BIG):
         return 127
     raise failed
 
 
 def loads_in():
-    """The least size, to 4 KB, that the system can load the program in."""
+    """The smallest address space, to 4 KB, in which the system can load the program."""
     if not LOADS:
         low, high = 0, 256 * MEGABYTE
         expect("status of the system's loader", 0, loader_in(high))
@@ -97,15 +97,15 @@ def loads_in():
 
 
 def expect_walk(recording, replies):
-    """Checks that each line has the right reply. Returns how many commands were placed, and the position then."""
+    """Checks that each line has the right reply. Returns how many commands were placed, and the final position."""
     expect("how many replies", WALK.count("\n"), len(replies))
     return expect_beginning(recording, replies)
 
 
 def expect_beginning(recording, replies):
     """Checks that each reply is right, or that memory ran out for it as docs/reference/COMMANDS.md says: for a query,
-    which may be repeated, or for a search, whose reply `resume` gives once. Returns how many
-    commands were placed, and the position then."""
+    which may be repeated, or for a search, whose reply `resume` gives once. Returns how many commands were placed, and
+    the final position."""
     state, placed, owed = State(), 0, None
     for line, came in zip(WALK.splitlines(), replies):
         asked = read_line(line.encode())
@@ -127,7 +127,7 @@ def expect_beginning(recording, replies):
 
 
 def expect_begun(right, output):
-    """Checks that the first lines of the right text were printed, all whole, and then that memory ran out."""
+    """Checks that whole first lines of the right text were printed, and that memory ran out then."""
     lines = right.splitlines(keepends=True)[: output.count(b"\n") - 1]
     expect("output", b"".join(lines) + NO_MEMORY, output)
 
@@ -144,8 +144,8 @@ def ended_in(size, words, text):
 
 
 def play_memory(word, recording, right=b""):
-    """A hundred sizes up to twice what the right replies take, and those near the least in which the program loads. For
-    `upgrade` and `suspects` the right text must be given."""
+    """A hundred sizes: up to twice what the right replies take, and near the smallest in which the program loads.
+    `upgrade` and `suspects` need the right text."""
 
     def play(size):
         try:
@@ -161,7 +161,8 @@ def play_memory(word, recording, right=b""):
 
     def judge(size, status, output, errors):
         if size < loads_in():
-            # (the system ends what it can't map by a signal, and its loader says what it can't load by status 127)
+            # (if the system can't map a program, it ends it by a signal; if its loader can't load a library, the status
+            # is 127)
             refused = status in (127, -signal.SIGSEGV, -signal.SIGKILL) and output == b""
             expect("whether the system refused to start it", True, refused)
             return "unloaded"
@@ -191,7 +192,7 @@ def play_memory(word, recording, right=b""):
 
 
 def kinds_met(play):
-    """The results at a hundred sizes. If a stack has to grow and the address space has no room for it, the system
+    """The outcomes at a hundred sizes. If a stack must grow and the address space has no room for that, the system
     kills netrev; with more room it doesn't."""
     met = set()
     for size in a_hundred_sizes(play):
@@ -205,7 +206,7 @@ def kinds_met(play):
 
 
 def a_hundred_sizes(play):
-    """Eighty sizes up to one that is found to be ample, and twenty near the smallest in which the program loads."""
+    """Eighty sizes up to an ample one, and twenty near the smallest in which the program loads."""
     least = loads_in()
     ample = least
     while play(ample) != "whole":
@@ -217,7 +218,7 @@ def a_hundred_sizes(play):
 
 
 def play_memory_of_serve(recording):
-    """A hundred sizes of a session that two callers share, one after the other."""
+    """A hundred sizes for a session that two callers share, one after the other."""
 
     def play(size):
         try:
@@ -233,7 +234,7 @@ def play_memory_of_serve(recording):
             return judge(size, replies, shown, *server.ended())
 
     def said(caller, lines):
-        """The replies to a caller, or nothing if netrev ended before it served."""
+        """The replies to a caller; none if netrev ended before it served the caller."""
         try:
             return talk(caller, lines) if caller else []
         except ConnectionError:

@@ -1,5 +1,5 @@
-"""Compares netrev with netrev_plain, whose world is made of lists, on the same recordings and lines: both must print the same bytes. The
-name of each case begins with its sort:
+"""Compares netrev with netrev_plain, whose world is made of lists, on the same recordings and lines: both must print
+the same bytes. The name of each case begins with its sort:
 
     recording  each stored recording is checked, upgraded and walked in both directions
     bad        refused recordings, one for each fault in `tests/program/hostile.py`
@@ -8,8 +8,8 @@ name of each case begins with its sort:
     random     random cases of the fuzzer: each cell at each position in both directions, random lines, damaged recordings, upgrades;
                `--random N` sets their number (`pytest python/tests/program/agree.py`), and `--seed` the first seed
 
-Both are proved against the same text. This compares what compilers made of the two worlds: a mistake in one of them shows as a
-difference.
+Both programs are proved against the same specification. These tests compare what the compiler made of the two worlds: a
+mistake in one of them shows as a difference.
 """
 
 import os
@@ -33,33 +33,33 @@ from .upgrades import RECORDINGS
 
 PLAIN = os.path.abspath(os.environ.get("NETREV_PLAIN", ROOT / "crates/netrev_plain/out/netrev_plain"))
 WAITS = 300  # seconds
-SHORT = 300  # steps up to which each cell is printed at each position
-MANY = 1_000  # random cases, with each kind of step and each cell
+SHORT = 300  # the most steps of a recording whose cells are printed at each position
+MANY = 1_000  # the number of random cases that have every kind of step and every cell
 SHOWN = re.compile(rb"^(\w+)(?: \d+)? = ", re.MULTILINE)  # a cell with its value
-RUN_ALONE = ("full_journal", "many_steps")  # sorts of cases that take long, which `sizes` has
+RUN_ALONE = ("full_journal", "many_steps")  # sorts of cases that take long; program/sizes.py has them
 
 
 def ended(program: str, words: Sequence[object], script: bytes) -> tuple[int, bytes]:
-    """The status of a program, and its output."""
+    """The status and the output of a program."""
     ran = subprocess.run([program, *map(str, words)], input=script, capture_output=True, timeout=WAITS, check=False)
     return ran.returncode, ran.stdout
 
 
 def agree(words: Sequence[object], script: bytes = b"") -> tuple[int, bytes]:
-    """Checks that both programs print the same and end with the same status; returns both."""
+    """Checks that both programs print the same text and end with the same status, and returns both."""
     came = ended(NETREV, words, script)
     expect("what the world of lists shows", came, ended(PLAIN, words, script))
     return came
 
 
 def walk(steps: Sequence[Step], seed: str) -> bytes:
-    """Lines that go to the end and back, and random ones."""
+    """Lines that go to the end and back, followed by random ones."""
     return b"continue\nreverse-continue\n" + Speaker(random.Random(seed), steps).script(60)
 
 
 @pytest.fixture(autouse=True)
 def plain() -> None:
-    """Both are built, or the test fails with the name of the missing one."""
+    """Fails, with the name of the missing program, unless both are built."""
     assert is_program(PLAIN), f"{PLAIN} is no program: `make agree` builds it, and NETREV_PLAIN=FILE names another"
 
 
@@ -77,7 +77,7 @@ def test_recording(path: Path) -> None:
 
 
 def bad_texts() -> list[bytes]:
-    """The recordings that the rows of hostile.py refuse."""
+    """The texts of the refused recordings in hostile.py."""
     rows = (*refused_steps(), *faulty_lines(), *faulty_headers(), *versions_and_answers())
     return [text_of(row.values[0]) for row in rows]
 
@@ -105,7 +105,7 @@ def sizes() -> list[str]:
 
 @pytest.mark.long
 def test_sizes(folder: Path) -> None:
-    """As much of everything as version 1 allows, and the largest buffers, which version 2 has."""
+    """As much of everything as version 1 allows, and the largest buffers, which only version 2 has."""
     path, last = folder / "greatest.jsonl", SOCKETS - 1
     path.write_text("\n".join((HEADER % (1, GOROUTINES, SOCKETS, DESCRIPTORS, PIECE), *sizes())) + "\n", "ascii")
     looks = f"print in {last}\nprint out {last}\nprint timers\nprint gor {GOROUTINES - 1}\n"
@@ -118,7 +118,8 @@ def test_sizes(folder: Path) -> None:
     assert agree(["run", path], lines or b"")[0] == 0
 
 
-# A program that confuses sides shows one of the two semaphores for the other; and a firing that was put back at the front is taken for another.
+# If a program confuses sides, it shows one of the two semaphores in place of the other, and takes another firing for
+# the one that was put back at the front.
 SIDES = """{"netrev":1,"gor":4,"sock":2,"desc":2,"buf":16}
 ["spawn"]
 ["sockopen",16,16]
@@ -147,7 +148,8 @@ def test_sides(folder: Path) -> None:
     recording = read_text(path.read_bytes())
     status, output = agree(["run", path], every_cell(recording.limits, len(recording.steps), True))
     assert status == 0 and b"wsem 0 = 1" in output and b"rsem 0 = 1" not in output
-    again = b"stepi 18\nprint clock\nreverse-stepi 2\nprint clock\nstepi\nprint rd 0\n"  # (a walk begins at a query)
+    # (a walk must begin at a query)
+    again = b"stepi 18\nprint clock\nreverse-stepi 2\nprint clock\nstepi\nprint rd 0\n"
     assert agree(["run", path], again) == (0, b"at 18\nclock = 10\nat 16\nclock = 10\nat 17\nrd 0 = 5\n")
 
 
@@ -160,7 +162,7 @@ def case(seed: str) -> tuple[str, Made]:
 
 
 def test_random(folder: Path, request: pytest.FixtureRequest) -> None:
-    """Random cases. The seed of a case that differs is printed."""
+    """Random cases. If a case differs, its seed is printed."""
     first, count = request.config.getoption("--seed"), request.config.getoption("--random")
     path = folder / "random.jsonl"
     kinds: set[str] = set()

@@ -1,8 +1,8 @@
-"""Tests every beginning of each short recording, byte by byte, for hostile.py: it is accepted if it ends with a line, else refused at its
-last line.
+"""Tests every beginning of each short recording, byte by byte, for hostile.py: netrev accepts a beginning if it ends
+with a line, and else refuses it at its last line.
 
-There are some thirty thousand, and Python takes longer to start netrev than netrev to check one. So a shell runs many in a row, and as
-many shells run as the machine has processors.
+There are some thirty thousand beginnings, and Python takes longer to start netrev than netrev takes to check one. So
+each shell runs many in a row, with as many shells as the machine has processors.
 """
 
 import os
@@ -22,7 +22,7 @@ BEGUN = tuple(
     for pattern in ("*.jsonl", "real/*.jsonl")
     for path in sorted((ROOT / "examples").glob(pattern))
 ) + (WALK,)
-# the steps whose recorded answers aren't the machine's
+# the steps whose recorded answers differ from the machine's
 DIFFERS = {f"examples/{name}.jsonl": step for name, step in REFUSED.items()}
 IN_A_ROW = 64
 # netrev's output for each file, on both streams, and its status
@@ -37,8 +37,8 @@ def wanted_of(place: object, fault: object) -> Printed:
 
 
 def beginning(text: bytes, differs: Optional[int]) -> Printed:
-    """The output for a beginning: its last line is whole, or malformed. If all are whole, a step may answer
-    otherwise."""
+    """The output for a beginning: its last line is whole or malformed. If all lines are whole, a step's recorded answer
+    may differ from the machine's."""
     lines = text.split(b"\n")
     if not lines[-1] and len(lines) > 1:
         steps = len(lines) - 2
@@ -49,7 +49,7 @@ def beginning(text: bytes, differs: Optional[int]) -> Printed:
 
 
 def every_beginning(folder: Path, whole: bytes, differs: Optional[int]) -> None:
-    """Cuts the text at each byte. A line that lacks only its line feed is read with the rest."""
+    """Cuts the text at each byte. A line that lacks only its line feed is read like the others."""
 
     def cut(sizes: range) -> None:
         paths = [folder / f"beginning-{size}.jsonl" for size in sizes]
@@ -77,7 +77,7 @@ def expect_in_turn(sizes: Sequence[int], wanted: Sequence[str], came: str) -> No
 
 
 def printed_in_turn(paths: Sequence[Path]) -> str:
-    """What netrev prints of each file, with its status."""
+    """What netrev prints for each file, with its status."""
     words = ["sh", "-c", EACH, "sh", NETREV, *map(str, paths)]
     with subprocess.Popen(words, stdin=subprocess.DEVNULL, stdout=subprocess.PIPE, start_new_session=True) as shell:
         try:

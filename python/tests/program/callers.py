@@ -1,4 +1,4 @@
-"""The callers of system.py: they reset, are silent, send a byte from time to time, or are too many for the system."""
+"""The callers for system.py: they reset, stay silent, send a byte from time to time, or are too many for the system."""
 
 import socket
 import time
@@ -20,13 +20,14 @@ def callers():
 
 
 def ask_much(caller):
-    """Requests 12 MB of replies, and reads the first bytes, so that netrev is still writing them."""
+    """Requests 12 MB of replies and reads only the first bytes, so that netrev is still writing them."""
     caller.sendall(b"dump in 0\n" * 100)
     expect("a reply's beginning", b"in 0 = ab", caller.recv(9))
 
 
 def end_and_reset(caller):
-    """netrev has read the end of the lines when the reset comes: then its write fails as one to a closed pipe does."""
+    """Resets after netrev has read the end of the lines, so that netrev's write fails as a write to a closed pipe
+    does."""
     caller.shutdown(socket.SHUT_WR)
     reset(caller)
 
@@ -49,8 +50,8 @@ def play_reset(folder):
 
 
 def play_no_descriptor(_folder):
-    """Four fronts that wait for callers take seven descriptors, and each caller two. With room for nine some front
-    finds none, and ends as one that failed; the others are served."""
+    """Four fronts that wait for callers take seven descriptors, and each caller takes two. If there is room for nine,
+    some front finds none and ends as a failed one; the others are served."""
     through = ["sh", "-c", 'ulimit -n 9; exec "$@"', "sh"]
     with Server(FIRST, fronts=4, through=through) as server:
         served = [caller for front in range(4) if (caller := answered(server.port + front)) is not None]
@@ -61,7 +62,7 @@ def play_no_descriptor(_folder):
 
 
 def answered(port):
-    """A caller that has the reply to a step; None if the port isn't open, or no longer."""
+    """A caller that has got the reply to a step; None if the port isn't open yet, or isn't any more."""
     for _ in range(50):
         try:
             caller = socket.create_connection((LOOPBACK, port), timeout=PATIENCE)
@@ -78,7 +79,7 @@ def answered(port):
 
 
 def play_ended_front(_folder):
-    """A front that has ended has no port any more: a later caller is refused, and doesn't wait for the other front's
+    """A front that has ended has no port any more, so a later caller is refused and doesn't wait for the other front's
     end."""
     with Server(FIRST, fronts=2) as server:
         with server.call(1) as other:
@@ -89,7 +90,7 @@ def play_ended_front(_folder):
 
 
 def what_comes_of_calling(port):
-    """Whether callers are finally refused; some may be accepted before the port is closed."""
+    """Whether callers are refused in the end; some may be accepted before the port is closed."""
     limit = time.monotonic() + PATIENCE
     while time.monotonic() < limit:
         with socket.socket() as caller:
@@ -104,7 +105,7 @@ def what_comes_of_calling(port):
 
 
 def play_only_port_taken(_folder):
-    """A port in use, as docs/guide/sharing.md describes it: netrev ends at once, without a reason."""
+    """A port that is in use, as docs/guide/sharing.md describes it: netrev ends at once without giving a reason."""
     taken = socket.socket()
 
     def take(first):
@@ -116,8 +117,8 @@ def play_only_port_taken(_folder):
 
 
 def play_late(folder):
-    """A front whose first caller comes when another has searched for a long time: it makes all of that first, and
-    then gives the right replies, while the other front gets its own."""
+    """A front whose first caller comes after another caller has searched for a long time: the front first makes all
+    those steps and then gives the right replies, while the other front goes on with its own."""
     turns = 100
     with Server(file_of("large", LARGE.encode())(folder).decode(), fronts=2) as server:
         first = server.call(0)
@@ -138,8 +139,8 @@ def play_late(folder):
 
 
 def play_gone_with_lines(_folder):
-    """A caller that resets while another is served: its lines are still read, and its first replies can't be
-    written. Then no more of its lines run."""
+    """A caller that resets while another is served: netrev still reads its lines, but can't write its first replies.
+    After that, none of its further lines run."""
     lines = 2000
     with Server(FIRST, fronts=1, connections=3) as server:
         with server.call(0) as first:
@@ -158,8 +159,8 @@ def play_gone_with_lines(_folder):
 
 
 def play_request_of_a_page(_folder):
-    """The warning of docs/guide/sharing.md: the lines of an HTTP request aren't commands, but those of its body
-    are."""
+    """The warning of docs/guide/sharing.md: the header lines of an HTTP request aren't commands, but the lines of its
+    body are."""
     body = "\nstepi 3\nwatch lock 0\nquit\n"
     lines = ["POST / HTTP/1.1", "Host: 127.0.0.1", f"Content-Length: {len(body)}", "Origin: https://example.org", ""]
     with Server(FIRST, connections=2) as server:
@@ -174,7 +175,8 @@ def play_request_of_a_page(_folder):
 
 
 def play_crowd(folder):
-    """A third each of 64 fronts: slow callers get right replies, and so do silent ones when they speak."""
+    """64 fronts, with a third of the callers silent, a third slow and a third that leave badly: the slow callers get
+    the right replies, and so do the silent ones when they speak."""
     with Server(file_of("large", LARGE.encode())(folder).decode(), fronts=64) as server:
         connected = [server.call(front, SO_RCVBUF=4096) for front in range(64)]
         silent, slow, leaves = (connected[first::3] for first in range(3))

@@ -23,7 +23,7 @@ from netrev_words.writing import write_plain
 from .sharing import ROOT, expect
 from .upgrades import RECORDINGS, USAGE, ended, played
 
-SHORT = 300  # steps, up to which each cell is printed at each position
+SHORT = 300  # the most steps of a recording whose cells are printed at each position
 MADE_BY = {Of.GOROUTINE: "spawn", Of.SOCKET: "sockopen", Of.DESCRIPTOR: "pollopen"}
 
 READS = ROOT / "scripts/recordings/woken-by-an-event.jsonl"
@@ -70,7 +70,7 @@ def cells_of(recording: Recording) -> list[str]:
 
 
 def changes_by_prints(path: Path, recording: Recording) -> bytes:
-    """The lines that follow from the values at each position, and the last one."""
+    """The lines that follow from the printed values at each position, and the last line."""
     cells = cells_of(recording)
     prints = "".join(f"print {cell}\n" for cell in cells)
     script = prints + f"stepi\n{prints}" * len(recording.steps)
@@ -87,7 +87,8 @@ def changes_by_prints(path: Path, recording: Recording) -> bytes:
 
 
 def compare(path: Path) -> None:
-    """Checks that the lines of a recording are the model's, and for a short one those of the printed values."""
+    """Checks that the lines for a recording are the model's, and, if it is short, those that follow from the printed
+    values."""
     text = path.read_bytes()
     right = printed("changes", text, b"", Observer())
     assert right is not None, "the model has an opinion on each recording that is here"
@@ -103,7 +104,7 @@ def test_recording(path: Path) -> None:
 
 
 def test_random(folder: Path, request: pytest.FixtureRequest) -> None:
-    """Random recordings: first those of the least limits, then of others."""
+    """Random recordings: first with the least limits, then with others."""
     for seed in range(request.config.getoption("--random")):
         dice = random.Random(f"changes {seed}")
         recording, _ = Author(dice).recording(dice.choice([3, 12, 40, 120]))

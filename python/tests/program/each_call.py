@@ -1,12 +1,13 @@
-"""Tests each call that takes memory while its requests for memory are refused, one after the other.
+"""Tests each call that takes memory, with its requests for memory refused one after the other.
 
-The program is crates/nr_refused, or the one that NR_REFUSED names. It makes the call of that name, and then again with memory;
-scripts/refused.c is loaded before the C library. In the first run the first request of the first call is refused, in the next run the
-second, and so on until no request is left; then each together with all later ones. The program compares the results of both calls with
-the right answer and, after a refusal, the values that must stay unchanged. So a refused call must report it, and must be right
-then or the next time; and a call without any memory must be refused, unless it takes none.
+The program is crates/nr_refused, or the program that NR_REFUSED names. It makes the call that it is given, and then
+makes it again with memory; scripts/refused.c is loaded before the C library. In the first run, the first request of the
+first call is refused; in the next run, the second one; and so on until no request is left. Then each request is refused
+together with all later ones. The program compares the results of both calls with the right answer and, after a refusal,
+compares the values that must stay unchanged. A call whose request is refused must therefore report that, or be right at
+once or the next time; and a call without any memory must be refused, unless it takes none.
 
-Each test prints how many requests its call makes, and how often it could do without, which `pytest -rP` shows.
+Each test prints how many requests its call makes, and how often it could do without one; `pytest -rP` shows this.
 """
 
 import os
@@ -25,9 +26,9 @@ RIGHT, REFUSED = "right", "refused, then right"
 
 # calls that take no memory
 WITHOUT = {"restored-in-place", "restored-in-place-plain", "goto-a-copy", "journal-split"}
-# calls whose lines are sent again within the first call, so that one of them alone can be refused
+# calls whose lines are sent again within the first call, so that one line alone can be refused
 LINES = {"six-lines"}
-# calls with threads, which don't always make as many requests
+# calls with threads, whose number of requests varies
 WITH_THREADS = {"search-forward-by-three", "search-backward-by-three", "serve-bytes"}
 IN_A_ROW = 8
 
@@ -38,7 +39,7 @@ if not is_program(PROGRAM):
 
 @dataclass
 class Tally:
-    """The number of refused requests, and of those after which the call reported it."""
+    """The number of refused requests, and the number of those after which the call reported the refusal."""
 
     refused: int = 0
     told: int = 0
@@ -49,7 +50,7 @@ class Tally:
 
 
 class Player:
-    """Plays calls, with a library that refuses memory."""
+    """Makes calls with a library that refuses memory."""
 
     def __init__(self, folder):
         self.library = library_of("refused", folder)

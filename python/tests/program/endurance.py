@@ -1,8 +1,8 @@
 """Runs the built program for many steps, copies and interruptions.
 
-No contract counts memory, or how often a call may be interrupted. So these tests make many steps back and forth over a read, and many
-copies of a large state, in an address space with room for one; and interrupt reads and writes repeatedly, as signals do, for which
-they need a C compiler.
+No contract says how much memory a run takes, or how often a call may be interrupted. So these tests step back and forth
+over a read many times, and make many copies of a large state, in an address space with room for only one. They also
+interrupt reads and writes repeatedly, as signals do, for which they need a C compiler.
 """
 
 import subprocess
@@ -17,12 +17,12 @@ from .sharing import NETREV, PATIENCE, Wrong, expect, library_of
 PIECE, BUFFER, EACH_COPY = 65_536, 1_048_576, 1_024
 TIMES = 10_000  # to and fro
 ROOM = 200 * MEGABYTE
-HELD, COPIES = 8, 200  # megabytes that are held, and copies
-INTERRUPTED = 150  # times, before each read and each write
+HELD, COPIES = 8, 200  # the megabytes that are held, and the number of copies
+INTERRUPTED = 150  # how often each read and each write is interrupted before it succeeds
 
 
 def replies(words: list[str], script: str, room: int = 0, through: Sequence[str] = ()) -> tuple[int, str, str]:
-    """netrev's status, output and errors, with this address space. The words of `through`, if any, start it."""
+    """The status, output and errors of netrev in this address space. The command `through`, if any, starts it."""
     ran = subprocess.run(
         [*through, NETREV, *words],
         input=script,
@@ -36,7 +36,7 @@ def replies(words: list[str], script: str, room: int = 0, through: Sequence[str]
 
 
 def same(script: str, right: str, came: tuple[int, str, str]) -> None:
-    """Checks that the replies are right; prints the first difference."""
+    """Checks that the replies are right, and prints the first difference."""
     status, output, errors = came
     lines = list(zip([*script.splitlines(), "the end"], [*right.splitlines(), ""], [*output.splitlines(), ""]))
     wrong = next(
@@ -53,7 +53,7 @@ def same(script: str, right: str, came: tuple[int, str, str]) -> None:
 
 
 def test_steps_to_and_fro_over_a_read_take_no_more_memory(folder: Path) -> None:
-    """20,000 steps over a read of 65,536 bytes: each delta has them, and the next one frees them."""
+    """20,000 steps over a read of 65,536 bytes: each delta holds the bytes, and the next delta frees them."""
     path = folder / "read.jsonl"
     lines = [f'["sockopen",{PIECE},{PIECE}]', f'["arrive",0,"{"ab" * PIECE}"]', f'["sysread",0,0,{PIECE}]']
     path.write_text("\n".join(['{"netrev":1,"gor":1,"sock":1,"desc":1,"buf":65536}', *lines, ""]), encoding="ascii")
@@ -63,7 +63,7 @@ def test_steps_to_and_fro_over_a_read_take_no_more_memory(folder: Path) -> None:
 
 
 def test_copies_share_what_stays_as_it_is(folder: Path) -> None:
-    """Copies share unchanged contents: unshared they would need eight times the address space."""
+    """Copies share unchanged contents: without sharing they would need eight times the address space."""
     path = folder / "held.jsonl"
     last = COPIES * EACH_COPY
     with open(path, "w", encoding="ascii") as file:
@@ -80,9 +80,9 @@ def test_copies_share_what_stays_as_it_is(folder: Path) -> None:
 
 
 def test_reads_and_writes_that_are_interrupted_go_on(folder: Path) -> None:
-    """Each of them, however often it was interrupted."""
+    """Each read and write completes, however often it was interrupted."""
     library, told = library_of("interrupted", folder), folder / "told"
-    # (the library reports each interruption at this descriptor)
+    # (the library writes each interruption to this descriptor)
     through = ["sh", "-c", 'told=$1; shift; exec env "$@" 9> "$told"', "sh", str(told)]
     through += [f"LD_PRELOAD={library}", f"INTERRUPTED={INTERRUPTED}"]
     script = "si 6\np lock 0\nwatch lock 0\nc\nrc\nquit\n"

@@ -1,4 +1,4 @@
-"""Fresh places for trying netrev's commands: a clone without build results, and a toolchain that compiles in no
+"""Fresh places in which to try netrev's commands: a clone without build results, and a toolchain that compiles in no
 time."""
 
 import os
@@ -23,8 +23,8 @@ SETTINGS = (
     "NO_COLOR",
 )
 
-# A toolchain that has already compiled. Like the real one, `rt try` runs the program in a temporary folder, as a child, and
-# removes both when it is interrupted. It notes each of its calls.
+# A toolchain that has already compiled. Like the real toolchain, `rt try` runs the program in a temporary folder, as a
+# child, and removes both when it is interrupted. It records each of its calls.
 RT = """#!/bin/sh
 echo "$*" >> "{calls}"
 case $1 in
@@ -46,7 +46,7 @@ wait $program
 
 
 def environment(**settings: str) -> dict[str, str]:
-    """The environment of a user who has set nothing of netrev's, with these settings."""
+    """The environment of a user who has set none of netrev's variables, with these settings."""
     return {name: value for name, value in os.environ.items() if name not in SETTINGS} | settings
 
 
@@ -78,7 +78,7 @@ class Toolchain:
 
 
 def make(clone: Path, *words: str, lines: str = "", **settings: str) -> "subprocess.CompletedProcess[str]":
-    """Runs make in a clone, with these lines for its input."""
+    """Runs make in a clone, with these lines as its input."""
     command = ["make", "--no-print-directory", *words]
     return subprocess.run(
         command,

@@ -17,17 +17,17 @@ from .sharing import ROOT
 
 
 def upgrade_of(text: bytes) -> bytes:
-    """The model's upgrade of a recording's text, or its fault."""
+    """The model's upgrade of a recording's text, or the fault that it finds."""
     return output_of("upgrade", text)
 
 
 def suspects_of(text: bytes) -> bytes:
-    """The lines that the model prints of a recording's suspects, or its fault."""
+    """The lines that the model prints about a recording's suspects, or the fault that it finds."""
     return output_of("suspects", text)
 
 
 def output_of(program: str, text: bytes) -> bytes:
-    """What a program prints over a recording, as the model has it."""
+    """What the model says that a program prints for a recording."""
     right = printed(program, text, b"", Observer())
     assert right, "the model has an opinion on each recording that is here"
     return right.output
@@ -40,7 +40,7 @@ ROOM = '{"netrev":1,"gor":4096,"sock":256,"desc":256,"buf":65536}\n'
 TICKS = ROOM + "".join(f'["tick",{time}]\n' for time in range(1, 50_001))
 LARGE = ROOM + '["spawn"]\n' * 5 + '["sockopen",65536,65536]\n' * 256
 LARGE += f'["arrive",0,"{"ab" * 60_000}"]\n["arrive",255,"6869"]\n' + '["tick",1]\n' * 40 + '["sysread",0,0,60000]\n'
-ARRIVED, LAST = 262, 304  # the part of LARGE with the bytes, and its last position
+ARRIVED, LAST = 262, 304  # the part of LARGE in which the bytes arrive, and its last position
 LOST_AFTER = """["pollopen",0,0]
 ["pollevent",0,1,"r",0]
 ["pollreset",0,0,"r"]
@@ -48,7 +48,7 @@ LOST_AFTER = """["pollopen",0,0]
 ["blockarm",0]
 ["blockcheck",0]
 ["parkcommit",0]
-"""  # after LARGE: a lost wake-up
+"""  # to follow LARGE: a lost wake-up
 UPGRADED_TICKS = b'{"buf":65536,"desc":256,"gor":4096,"netrev":2,"sock":256}\n' + b"".join(
     b'["tick",%d,"done"]\n' % time for time in range(1, 50_001)
 )
@@ -57,7 +57,7 @@ POSITION = b"at 0 of 10 forward\n"
 
 @dataclass
 class Function:
-    """A case that is a function."""
+    """A case that is run by a function."""
 
     name: str
     play: Callable[[Path], None]
@@ -65,7 +65,7 @@ class Function:
 
 
 def file_of(name: Union[str, bytes], text: bytes) -> Callable[[Path], bytes]:
-    """A file with this name, which may be bytes, and this text."""
+    """A file with this name (which may be bytes) and this text."""
 
     def make(folder: Path) -> bytes:
         path = os.path.join(os.fsencode(folder), name if isinstance(name, bytes) else name.encode())
@@ -77,7 +77,7 @@ def file_of(name: Union[str, bytes], text: bytes) -> Callable[[Path], bytes]:
 
 
 def rest_of(caller: socket.socket) -> bytes:
-    """The bytes that a caller reads before netrev has ended, or resets."""
+    """The bytes that a caller reads until netrev ends or resets the connection."""
     came = b""
     with caller:
         try:

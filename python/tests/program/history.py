@@ -1,14 +1,15 @@
 """Finds a history for the replies of all fronts of a session, or reports that none exists.
 
-A history is an order of all lines that keeps each front's own order, in which a line comes before another if its reply was read before
-the other was sent, and in which each reply is that of netrev_machine's debugger after the commands before it. So a query shows a state
-between its sending and its reply, and none older than its front has seen; and once the journal is full, each further command gets that
-reply.
+A history is an order of all lines that keeps each front's own order, in which a line comes before another if its reply
+was read before the other was sent, and in which each reply is the one that netrev_machine's debugger gives after the
+commands before it. So a query shows a state from between its sending and its reply, and no state older than its front
+has seen; and once the journal is full, each further command gets the reply that says so.
 
-The search goes from the beginning and asks which front's line is next. A query or a fault that fits is taken at once, which loses no
-history, because it changes nothing and could come as early in any of them. If several commands fit, those whose reply shows where they
-began, such as that of `stepi`, are tried first. The search doesn't leave a position that remaining lines need and can't reach again, nor
-delete a mark that another line still shows. It doesn't enter the same state with the same lines twice.
+The search goes from the beginning, and decides at each point which front's line comes next. A query or a fault that
+fits is taken at once. This loses no history, because the line changes nothing and could come this early in any of them.
+If several commands fit, those whose replies show where they began (such as the reply to `stepi`) are tried first. The
+search doesn't leave a position that remaining lines need and can't reach again, and doesn't delete a mark that another
+line still shows. It doesn't enter the same state with the same remaining lines twice.
 """
 
 from __future__ import annotations
@@ -28,18 +29,18 @@ CHECKPOINT = re.compile(r"checkpoint (\d+) at (\d+)$")
 POSITION = re.compile(r"at (\d+) of \d+ (forward|reverse)$")
 DELETED = re.compile(r"deleted (mark|checkpoint) (\d+)$")
 
-Name = tuple[str, int]  # a mark or a checkpoint, by its number
+Name = tuple[str, int]  # a mark or a checkpoint, by its sort and number
 Choice = tuple[int, State]  # a front, and the state after its next line
 
 
 class Clue(NamedTuple):
-    """The constraints that a reply puts on its place in a history, whatever the lines before it are."""
+    """The constraints that a reply puts on its place in a history, whatever lines come before it."""
 
     leads_to: Optional[int] = None  # the position after it
     stands_at: frozenset[int] = frozenset()  # the positions at which it may have been answered, if there are few
-    moves: bool = False  # from there to another
-    shows: frozenset[Name] = frozenset()  # marks and checkpoints that exist
-    takes_away: Optional[Name] = None  # a mark or a checkpoint
+    moves: bool = False  # whether it moves from there to another position
+    shows: frozenset[Name] = frozenset()  # the marks and checkpoints that it shows to exist
+    takes_away: Optional[Name] = None  # the mark or checkpoint that it deletes
 
     @staticmethod
     def of(exchange: Exchange) -> Clue:
@@ -72,17 +73,18 @@ class Clue(NamedTuple):
 
 
 def earliest(numbers: list[int]) -> list[int]:
-    """For each place the least number from that place on."""
+    """For each place, the least number from that place on."""
     least: list[int] = list(accumulate(reversed(numbers), lambda one, other: min(one, other)))
     return least[::-1]
 
 
 class GaveUp(Exception):
-    """The search tried too many orders."""
+    """Raised if the search has tried too many orders."""
 
 
 class Search:
-    """A search for the history of what some fronts exchanged, each list in the order of that front's lines."""
+    """A search for the history of what some fronts exchanged, given as one list for each front, in the order of its
+    lines."""
 
     def __init__(
         self, recording: Recording, fronts: Sequence[Sequence[Exchange]], room: int, most: int = 1_000_000
@@ -90,14 +92,14 @@ class Search:
         self.recording = recording
         self.fronts = [list(front) for front in fronts]
         self.left = most
-        # for each line, when a reply to it or to a later one of its front was first read
+        # for each line, the time at which a reply to it or to a later line of its front was first read
         self.known = [earliest([one.read for one in front]) for front in self.fronts]
         self.state = State()
         self.order: list[int] = []
         self.taken = [0] * len(fronts)
         self.clues = self.read_clues()
-        # of the lines that are left: how many have to be placed; lead to a position, leave it, are answered there; and
-        # show a mark or checkpoint
+        # of the remaining lines: how many must be placed; how many lead to a position, leave it, or are answered there;
+        # and how many show a mark or checkpoint
         self.unplaced = 0
         self.entries: Counter[Optional[int]] = Counter()
         self.leaves: Counter[int] = Counter()
@@ -136,14 +138,14 @@ class Search:
         return self.clues[front][self.taken[front]]
 
     def open_fronts(self) -> list[int]:
-        """The fronts whose next line may come now: when it was sent, no reply to a line that is still to come had
+        """The fronts whose next line may come now: when it was sent, no reply to any line that is still to come had
         been read."""
         left = [front for front, at in enumerate(self.taken) if at < len(self.fronts[front])]
         first: int = min((self.known[front][self.taken[front]] for front in left), default=0)
         return [front for front in left if self.next_of(front).sent < first]
 
     def behind(self, front: int) -> Optional[State]:
-        """The state after the front's next line if it fits now, else None."""
+        """The state after the front's next line if the line fits now, else None."""
         self.left -= 1
         if self.left < 0:
             raise GaveUp
@@ -184,7 +186,7 @@ class Search:
         self.state = state
 
     def choices(self) -> list[Choice]:
-        """Takes all lines that fit and change nothing, and returns those that fit then, the best last."""
+        """Takes all lines that fit and change nothing, and returns the lines that fit then, best last."""
         while True:
             fitting = [(front, state) for front in self.open_fronts() if (state := self.behind(front)) is not None]
             calm = [choice for choice in fitting if self.next_of(choice[0]).is_calm()]
@@ -195,21 +197,23 @@ class Search:
                 self.take(*choice)
 
     def may_go_now(self, front: int) -> bool:
-        """Whether the front's next line deletes a mark or checkpoint that no remaining line shows or needs to be full:
-        it may come as early as it fits."""
+        """Whether the front's next line may come as soon as it fits: it deletes a mark or checkpoint that no remaining
+        line shows, and no remaining line needs all places to be taken."""
         return bool(self.clue_of(front).takes_away) and not self.are_full
 
     def worth(self, choice: Choice) -> tuple[bool, int]:
-        """The priority of a line: lines that show where they began come first, and of these the one read first."""
+        """The priority of a line: lines that show where they began come first, ordered by the time at which they were
+        read."""
         front, _ = choice
         return bool(self.clue_of(front).stands_at), -self.next_of(front).read
 
     def find(self) -> Optional[list[int]]:
-        """The fronts in the order of a history, or None if there is none."""
+        """The fronts in the order of a history; None if there is none."""
         if not self.fits_in:
             return None
         seen = set()
-        # where it may go on: the count of lines taken, the state, and what is left to try, if that is known yet
+        # the points at which the search may go on: the count of lines taken, the state, and the choices left to try, if
+        # known yet
         forks: list[tuple[int, State, Optional[list[Choice]]]] = [(0, self.state, None)]
         while forks:
             length, state, choices = forks.pop()

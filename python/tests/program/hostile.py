@@ -24,7 +24,7 @@ DESCRIPTOR = '["pollopen",0,0]'
 WAIT = '["waitbegin",0,0,"r"]'
 LATE = ['["setdeadline",0,0,"r",1]', '["tick",{}]', '["pop"]']
 
-# a reason's number, and steps of which the last is refused for it
+# the number of a reason, and steps of which the last is refused for that reason
 REASONS = (
     (1, ['["exit",1]']),
     (2, [OPEN, '["blockarm",0]']),
@@ -46,7 +46,7 @@ REASONS = (
     (20, [OPEN, '["peerclose",0]', '["peerclose",0]']),
 )
 
-# line 2, and its fault; or the number of steps that are read
+# line 2 and its fault, or the number of steps that are read
 LINES = (
     ('["spawn",1]', "104 arguments"),
     ('["tick",-1]', "104 arguments"),
@@ -152,13 +152,13 @@ HEADERS = (
     (HEADER.replace("16", "65536"), 0),
 )
 
-# the lines after a header, the number of the faulty one (blank ones count), and its fault
+# the lines after a header, the number of the faulty line (counting blank ones), and its fault
 PLACES = (
     (["", " \t\r", '["jump"]'], 4, "103 unknown step"),
     (['["spawn"]', '["spawn"]]', "["], 3, "102 not JSON"),
 )
 
-# a recording's lines, with the place and the fault that are printed, or the number of steps
+# the lines of a recording, with the printed place and fault, or with the number of steps
 SECOND = HEADER.replace('"netrev":1', '"netrev":2')
 LARGE = SECOND.replace('"buf":16', '"buf":1048576')
 VERSIONS = (
@@ -257,7 +257,7 @@ COMMANDS = (
 
 
 def printed(words, text=b""):
-    """netrev's status and its last lines."""
+    """netrev's status, and the last lines that it prints."""
     ran = subprocess.run([NETREV, *words], input=text, stdout=subprocess.PIPE, stderr=subprocess.PIPE, timeout=PATIENCE)
     expect("errors", b"", ran.stderr)
     return ran.returncode, ran.stdout.decode()
@@ -300,7 +300,7 @@ def faulty_headers():
 
 
 def versions_and_answers():
-    """The rows of version 2, and the rows of version 1 that version 2 rejects."""
+    """The rows of version 2, and rows of version 1 that version 2 rejects."""
     rows = [(f"version: {name}", *row) for name, *row in VERSIONS]
     rows += [(f"answer {name}", [SECOND, *steps], *fault) for name, steps, *fault in ANSWERS]
     for text in NO_ANSWERS:
@@ -323,7 +323,7 @@ def test_check(folder, lines, wanted):
 
 @pytest.mark.parametrize("lines, wanted", versions_and_answers())
 def test_check_and_upgrade(folder, lines, wanted):
-    """The output of `check` for a text, and that of `upgrade` if it is a fault."""
+    """The output of `check` for a text, and the output of `upgrade` if it is a fault."""
     expect("check", wanted, check(folder, text_of(lines)))
     if wanted[0]:
         expect("upgrade", wanted, printed(["upgrade", folder / "recording.jsonl"]))

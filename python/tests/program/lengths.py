@@ -28,7 +28,7 @@ def ticks(first: int, last: int) -> str:
 
 @dataclass
 class Case:
-    """A recording, the lines that are sent, unless it is only checked, and the output."""
+    """A recording, the lines that are sent unless it is only checked, and the output."""
 
     name: str
     recording: str

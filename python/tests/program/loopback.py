@@ -27,7 +27,7 @@ from dataclasses import replace
 from pathlib import Path
 
 import pytest
-from netrev_machine.debugger import FULL, Recording, is_command, read_line  # (Python needs it to find nrdb)
+from netrev_machine.debugger import FULL, Recording, is_command, read_line  # (Python needs this to find nrdb)
 from tests.program.history import GaveUp, Search
 from netrev_words.vocabulary import CELLS, DUMPS, KINDS, MOST, Of
 
@@ -83,8 +83,8 @@ def lives(kept):
 
 
 class Lines:
-    """Random lines over a recording. Most commands have replies that show where they began; otherwise too many orders
-    would have to be tried."""
+    """Random lines over a recording. Most of the commands have replies that show where they began; otherwise too many
+    orders would have to be tried."""
 
     def __init__(self, dice, recording):
         self.dice = dice
@@ -92,7 +92,7 @@ class Lines:
         self.kinds = sorted(set(recording.kinds)) + list(KINDS)[:2]
 
     def number(self):
-        """The number of a mark or checkpoint, which may exist or not."""
+        """The number of a mark or checkpoint that may exist or not."""
         return self.dice.randint(0, self.dice.choice([12, 120]))
 
     def step(self):
@@ -168,9 +168,9 @@ def commands_in(lines):
 
 
 def share_lines(recording, fronts, journal=4096, workers=1, windows=(1,), at_once=None):
-    """Sends the lines of each front's connections, each caller with one of the windows, and returns each front's
-    exchange. All callers connect at the beginning. The first one talks alone; then the given number of fronts do
-    so at the same time, or all."""
+    """Sends the lines of each front's connections, each caller with one of the windows, and returns what each front
+    exchanged. All callers connect at the beginning. The first caller talks alone; then the callers of this many fronts,
+    or of all, talk at the same time."""
     at_once = at_once or len(fronts)
     with Server(recording.path, len(fronts), len(fronts[0]), journal, workers) as server:
         talkers = [
@@ -187,7 +187,7 @@ def share_lines(recording, fronts, journal=4096, workers=1, windows=(1,), at_onc
 
 
 def history_of(recording, exchanged, journal=4096):
-    """The order of a history that gives all replies."""
+    """The order of a history that explains all replies."""
     order = Search(recording, exchanged, journal).find()
     if order is None:
         raise Wrong(f"no history gives the replies of these fronts:\n{as_text(exchanged)}")
@@ -195,7 +195,7 @@ def history_of(recording, exchanged, journal=4096):
 
 
 def as_text(exchanged):
-    """What the fronts exchanged, a line each."""
+    """What the fronts exchanged, one line each."""
     return "\n".join(
         f"  front {front}: {one.line!r} (sent {one.sent}) {' / '.join(one.reply)} (read {one.read})"
         for front, exchanges in enumerate(exchanged)
@@ -207,7 +207,7 @@ def as_text(exchanged):
 
 
 def test_table(parked):
-    """Replies that are known: with room for one command, and for four."""
+    """Known replies: with room for one command, and for four."""
     for journal, placed, moved in (
         (1, 1, ["fault 303 journal full", "at 3 of 12 forward"]),
         (4, 2, ["at 2", "at 2 of 12 forward"]),
@@ -236,7 +236,7 @@ def test_turns(parked):
 
 
 def test_stopped(parked):
-    """A signal ends a server that serves without end, also while a caller is connected, and leaves no port in use."""
+    """A signal ends a server that serves without end, even while a caller is connected, and no port stays in use."""
     for stop in (signal.SIGTERM, signal.SIGKILL):
         with Server(parked.path, fronts=2, connections=None) as server:
             for _ in range(3):
@@ -253,7 +253,7 @@ def test_stopped(parked):
 
 
 def test_elsewhere(parked):
-    """Each port is one of 127.0.0.1 only."""
+    """Each port is open at 127.0.0.1 only."""
     with Server(parked.path, fronts=2) as server:
         callers = [server.call(front) for front in range(2)]
         for front in range(2):
@@ -268,15 +268,15 @@ def test_elsewhere(parked):
 
 
 def other_addresses():
-    """Addresses of this machine other than 127.0.0.1: all of 127.0.0.0/8, and those of its network."""
+    """This machine's addresses other than 127.0.0.1: further ones of 127.0.0.0/8, and those of its network."""
     found = [(socket.AF_INET, "127.0.0.2"), (socket.AF_INET, "127.255.255.254")]
-    # nothing is sent: these only ask which address it would come from
+    # nothing is sent: this only finds the address from which it would be sent
     for family, far in ((socket.AF_INET, "192.0.2.1"), (socket.AF_INET6, "2001:db8::1"), (socket.AF_INET6, "::1")):
         try:
             with socket.socket(family, socket.SOCK_DGRAM) as one:
                 one.connect((far, 9))
                 found.append((family, one.getsockname()[0]))
-        except OSError:  # it has none
+        except OSError:  # the machine has no such address
             continue
     return found
 
@@ -305,13 +305,13 @@ def test_silent(parked, dice):
 
 
 def reset(caller):
-    """Leaves so that the other side's reads and writes fail."""
+    """Disconnects so that the other side's reads and writes fail."""
     caller.setsockopt(socket.SOL_SOCKET, socket.SO_LINGER, RESET)
     caller.close()
 
 
 def half_a_line(caller):
-    """The last line may lack its end, so this is a command, whose reply is not read."""
+    """Sends a last line without its end, which still counts as a command; its reply isn't read."""
     caller.sendall(b"stepi 2\n")
     expect("a reply", b"at 2\n", caller.recv(100))
     caller.sendall(b"stepi")
@@ -319,7 +319,7 @@ def half_a_line(caller):
 
 
 def half_a_line_and_reset(caller):
-    """An unfinished line isn't a line if the read fails."""
+    """Sends an unfinished line and resets: the line doesn't count if the read fails."""
     caller.sendall(b"stepi 3\n")
     expect("a reply", b"at 3\n", caller.recv(100))
     caller.sendall(b"stepi 3")
@@ -327,7 +327,7 @@ def half_a_line_and_reset(caller):
 
 
 def line_without_end(caller):
-    """Ten million bytes without a line feed count as one fault."""
+    """Sends ten million bytes without a line feed, which count as one fault."""
     caller.sendall(b"x" * 10_000_000)
     caller.shutdown(socket.SHUT_WR)
     expect("the reply", ["fault 203 line too long"], read_to_end(caller))
@@ -348,13 +348,13 @@ def reads_nothing(caller):
 
 
 def more_behind_quit(caller):
-    """Lines after `quit` aren't answered, and the caller still gets the last reply."""
+    """Sends lines after `quit`: they aren't answered, and the caller still gets the last reply."""
     caller.sendall(b"quit\n" + b"stepi\n" * 1000)
     expect("the replies", ["bye"], read_to_end(caller))
 
 
 def no_end_behind_quit(caller):
-    """netrev takes some of it, and closes."""
+    """Sends without end after `quit`: netrev takes some of it, and closes."""
     caller.sendall(b"quit\n")
     expect("the reply", b"bye\n", caller.recv(100))
     try:
@@ -366,7 +366,7 @@ def no_end_behind_quit(caller):
 
 
 def stays_behind_quit(caller):
-    """A caller that reads the end of the replies and neither closes nor sends is left alone."""
+    """Reads to the end of the replies and then neither closes nor sends; netrev leaves the caller alone."""
     caller.sendall(b"quit\n")
     expect("the reply", b"bye\n", caller.recv(100))
     expect("the end of the replies", b"", caller.recv(100))
@@ -374,7 +374,7 @@ def stays_behind_quit(caller):
 
 
 def test_hostile(parked):
-    """Each of these callers leaves badly. The next caller of the front is served at the front's position, and the
+    """Each of these callers disconnects badly. The next caller of the front is served at the front's position, and the
     session ends."""
     for leave, status, position, placed in (
         (half_a_line, 0, 3, 2),
@@ -395,7 +395,7 @@ def test_hostile(parked):
 
 
 def play_taken_port(parked):
-    """The middle one of three ports is in use: the others are served."""
+    """The middle one of three ports is in use: the other two are served."""
     taken = socket.socket()
 
     def take(first):
@@ -409,15 +409,15 @@ def play_taken_port(parked):
 
 
 def race_forwards(lives, dice, fronts, connections):
-    """The exchanges of this many fronts that go forwards at the same time, with queries."""
+    """What this many fronts exchange that step forwards at the same time, with queries in between."""
     lines = Lines(dice, lives)
     some = [[lines.some_forwards(10) for _ in range(connections)] for _ in range(fronts)]
     return share_lines(lives, some, windows=(1, 4, 1000))
 
 
 def play_mixed(lives, dice, windows, workers):
-    """Lines of all sorts at 64 fronts, whose `continue` has this many workers. If the search for a history gives up, it
-    is repeated with other lines, twice at most."""
+    """Lines of all sorts at 64 fronts, with this many workers for each `continue`. If the search for a history gives
+    up, the session is repeated with other lines, at most twice."""
     lines = Lines(dice, lives)
     for left in (2, 1, 0):
         mixed = [[lines.some(15) for _ in range(2)] for _ in range(64)]
@@ -430,7 +430,7 @@ def play_mixed(lives, dice, windows, workers):
 
 
 def test_histories(parked, lives, dice):
-    """Random lines at many fronts: one history."""
+    """Random lines at many fronts have a history."""
     history_of(lives, race_forwards(lives, dice, fronts=64, connections=2))
     for windows, workers in ((1,), 1), ((1, 4), 3):
         play_mixed(lives, dice, windows, workers)
@@ -441,7 +441,7 @@ def test_histories(parked, lives, dice):
 
 
 def other_reply(reply):
-    """A reply with its last number raised, or, without a number, with one more word."""
+    """A reply with its last number raised, or, if it has no number, with one more word."""
     *front, last = reply
     words = last.split(" ")
     numbers = [at for at, word in enumerate(words) if word.isdigit()]
@@ -453,16 +453,17 @@ def other_reply(reply):
 
 
 def test_altered(parked, lives, dice):
-    """If two callers talk one after the other, only one history exists, so an altered reply leaves none. Commands with
-    rising positions have only one possible order, so an altered reply of a command leaves none either. An altered query
-    may have a place earlier or later."""
+    """If two callers talk one after the other, there is only one history, so an altered reply leaves none. Commands
+    with rising positions have only one possible order, so altering the reply to a command leaves no history either. An
+    altered query may fit earlier or later."""
     two = [[Lines(dice, parked).some(20)] for _ in range(2)]
     expect_no_other(parked, share_lines(parked, two, at_once=1), lambda one: True)
     expect_no_other(lives, race_forwards(lives, dice, fronts=8, connections=1), lambda one: is_command(one.asked))
 
 
 def expect_no_other(recording, exchanged, has_one_place):
-    """Checks that there is a history, and none if the reply of any line with only one possible place is altered."""
+    """Checks that there is a history, and that there is none if the reply to any line with only one possible place is
+    altered."""
     history_of(recording, exchanged)
     for front, exchanges in enumerate(exchanged):
         for at, one in enumerate(exchanges):

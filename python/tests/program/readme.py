@@ -1,8 +1,8 @@
 """Runs README.md's commands as a reader would, and compares their output with README.
 
-A block of README has four blanks before each line. `$ ` begins a command, and `(netrev) ` a line at the prompt that the last command
-opened. Other lines are output, and `...` is any lines. If the text above a block says that numbers differ from run to run, any number
-matches any other. A command without shown output only has to succeed.
+A block of README has four blanks before each line. `$ ` begins a command, and `(netrev) ` begins a line at the prompt
+that the last command opened. Other lines are output, and `...` matches any lines. If the text above a block says that
+numbers differ from run to run, any number matches any other. A command without shown output only has to succeed.
 """
 
 import re
@@ -20,12 +20,12 @@ HEADING = re.compile(r"^(?:## (.+)|\*\*(.+?)[.,]?\*\*)", re.MULTILINE)
 
 
 class ReadmeError(Exception):
-    """What README shows, and what came instead."""
+    """Raised, with what README shows and what was printed instead."""
 
 
 @dataclass
 class Typed:
-    """A line that a reader types, with the output that README shows."""
+    """A line that a reader types, with the output that README shows for it."""
 
     text: str
     line: int  # its number in README
@@ -51,17 +51,17 @@ class Typed:
 
 @dataclass
 class Command(Typed):
-    """A line for a shell, with the lines that are typed at the prompt that it opens."""
+    """A command line for a shell, with the lines that are typed at the prompt that it opens."""
 
     prompts: list[Typed] = field(default_factory=list)
 
     def fails(self) -> bool:
-        """Whether README shows that it fails, as a test does."""
+        """Whether README shows that the command fails, as a test does."""
         return "FAIL" in "".join(self.shown)
 
 
 def sections(text: str) -> dict[str, list[Command]]:
-    """The commands of README below each heading or, as in Install, below each word in bold that begins a paragraph."""
+    """The commands of README by heading, or, as in Install, by the bold words that begin a paragraph."""
     found: dict[str, list[Command]] = {}
     end = 0
     for block in BLOCK.finditer(text):
@@ -73,7 +73,7 @@ def sections(text: str) -> dict[str, list[Command]]:
 
 
 def read_block(block: str, first: int, is_varying: bool, commands: list[Command]) -> None:
-    """Adds a block, whose first line has this number, to the earlier commands."""
+    """Adds the commands of a block, whose first line has this number, to the earlier ones."""
     typed: list[Typed] = []
     for number, line in enumerate(block.splitlines(), first):
         shown = line[4:]
@@ -88,7 +88,7 @@ def read_block(block: str, first: int, is_varying: bool, commands: list[Command]
 
 
 def replies(printed: str, prompts: list[Typed]) -> Iterator[str]:
-    """A session's output: before its first prompt, and after each line that was typed."""
+    """The output of a session in parts: before its first prompt, and after each typed line."""
     rest = printed
     for typed in prompts:
         before, echo, rest = rest.partition(f"{PROMPT}{typed.text}\n")

@@ -1,4 +1,5 @@
-"""The places in which README's commands must work, each with nothing else of netrev: a clone, the archive and the Debian package.
+"""The places in which README's commands must work, each without anything else of netrev: a clone, the archive and the
+Debian package.
 
     python3 python tests.program.readme_rooms ROOT    plays README in ROOT/root, for scripts/try_deb.sh: the root of a Debian system
                                                       with the package and Go"""
@@ -33,21 +34,21 @@ DEBUG, RECORD = "Find the bug", "Record a test"  # further sections of README
 
 @dataclass
 class Room:
-    """A folder in which a shell runs commands one after another, each from where the last one left off."""
+    """A folder in which a shell runs commands one after another, each from the folder in which the last one ended."""
 
     folder: Path
     settings: dict[str, str]
-    through: Sequence[str] = ()  # the command that starts the shell, as chroot
-    inside: str = ""  # the folder as the shell sees it, if that is another name
-    renamed: dict[str, str] = field(default_factory=dict)  # names of commands that differ here
-    netrev: str = NETREV  # the program that checks netrev's own answers; none: they aren't checked
+    through: Sequence[str] = ()  # the command that starts the shell, such as chroot
+    inside: str = ""  # the folder's name in the shell, if different
+    renamed: dict[str, str] = field(default_factory=dict)  # the names of commands that differ here
+    netrev: str = NETREV  # the program that confirms netrev's own answers; if empty, they aren't checked
 
     def __post_init__(self) -> None:
         self.inside = self.inside or str(self.folder)
         self.current = self.inside
 
     def run(self, command: str, lines: str = "") -> tuple[int, str]:
-        """The status of a command, and its output on a terminal."""
+        """Runs a command; returns its status, and its output on a terminal."""
         for name, other in self.renamed.items():
             command = command.replace(name, other)
         before = f"[ ! -e {self.inside}/.exported ] || . {self.inside}/.exported\ncd {quote(self.current)} || exit"
@@ -66,8 +67,8 @@ class Room:
         return ran.returncode, ran.stdout
 
     def play(self, command: Command) -> str:
-        """Runs a command of README, compares the output with README's, and returns it. Each command after `next:`
-        must run, and each answer after `netrev:` must be netrev's."""
+        """Runs a command of README, compares its output with README's, and returns it. Each command after `next:` must
+        run, and each answer after `netrev:` must be netrev's."""
         status, printed = self.run(command.text, "".join(f"{typed.text}\n" for typed in command.prompts))
         if status != command.fails():
             raise ReadmeError(f"README.md:{command.line}: {command.text}: status {status}\n{printed}")
@@ -87,26 +88,26 @@ class Room:
                 raise ReadmeError(f"`{command}` says to type `{text}`, which ends with status {status}:\n{said}")
 
     def check_answers(self, command: Command, printed: str) -> None:
-        """Fails if what follows netrev's name isn't netrev's answer."""
+        """Fails if a text after netrev's name isn't netrev's answer."""
         recording = RECORDING.search(command.text)
         for answer in ANSWER.findall(printed):
             if not recording or not all(self.is_of_netrev(recording[0], part.strip()) for part in answer.split(";")):
                 raise ReadmeError(f"`{command.text}` gives this as netrev's answer, and it isn't: {answer}")
 
     def is_of_netrev(self, recording: str, words: str) -> bool:
-        """Whether netrev confirms it for a recording: a cell's value, or a line of its suspects."""
+        """Whether netrev confirms a text for a recording: a cell's value, or a line about its suspects."""
         value = VALUE.fullmatch(words)
         return self.is_answered(recording, *value.groups()) if value else self.is_listed(recording, words)
 
     def is_listed(self, recording: str, line: str) -> bool:
-        """Whether netrev lists this suspect, if a netrev is available."""
+        """Whether netrev lists this suspect; True if there is no netrev to ask."""
         if not self.netrev:
             return True
         command = [self.netrev, "suspects", str(Path(self.current) / recording)]
         return line in subprocess.run(command, capture_output=True, text=True, check=True).stdout.splitlines()[:-1]
 
     def is_answered(self, recording: str, position: str, cell: str, value: str) -> bool:
-        """Whether netrev gives a cell this value at a position, if a netrev is available."""
+        """Whether netrev gives a cell this value at a position; True if there is no netrev to ask."""
         if not self.netrev:
             return True
         command = [self.netrev, "run", str(Path(self.current) / recording)]
@@ -116,13 +117,14 @@ class Room:
 
 
 def commands_of_go() -> Optional[Path]:
-    """The folder of the `go` that records, if that release is on this machine."""
+    """The folder of the `go` command for recording, if that release is on this machine."""
     return fetched_go(RELEASE)
 
 
 def settings_of(home: Path, *folders: Path) -> dict[str, str]:
-    """The environment of a user with this home, who has these folders on the PATH. Go's caches are those of the user who runs the
-    tests. Logs have their own folder, so that logs that an interrupted run left in memory aren't reported."""
+    """The environment of a user with this home folder and with these folders on the PATH. Go's caches are those of the
+    user who runs the tests. Logs have a folder of their own, so that logs that an interrupted run left in memory aren't
+    reported."""
     go = commands_of_go()
     logs = home / "logs"
     logs.mkdir(exist_ok=True)
@@ -146,13 +148,13 @@ def clone_room(folder: Path) -> tuple[Room, Toolchain]:
 
 
 def archive_room(folder: Path, archive: Path) -> Room:
-    """A folder with the archive."""
+    """A folder with the contents of the archive."""
     shutil.copy(archive, folder)
     return Room(folder, settings_of(folder))
 
 
 def deb_room(folder: Path, deb: Path) -> Room:
-    """A folder with the Debian package, unpacked below it instead of the system's root."""
+    """A folder with the Debian package, unpacked into it instead of the system's root."""
     shutil.copy(deb, folder)
     root = folder / "root"
     installed = {
@@ -164,7 +166,7 @@ def deb_room(folder: Path, deb: Path) -> Room:
 
 
 def played(room: Room, *names: str) -> Iterator[str]:
-    """Plays these sections of README; the commands, each after it has run."""
+    """Runs the commands of these sections of README; yields each command after it has run."""
     found = sections(README.read_text(encoding="utf-8"))
     for name in names:
         for command in found[name]:

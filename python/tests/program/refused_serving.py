@@ -1,18 +1,22 @@
 """Tests `serve` of the built program with each of its allocations refused in turn.
 
-Two callers, each at its own front, send fixed lines one after the other, so the right replies are known: first over a short recording,
-which one worker searches, then over one of more than three thousand steps, which three do. There the allocations before callers are
-served aren't refused, because those that load a recording are alike. Their order is the same each time, except for those of threads
-that start; so each number is refused until as many sessions in a row as run at the same time have no such allocation. A refused
-allocation must be reported once, and in one of these ways:
+Two callers, each at its own front, send fixed lines one after the other, so the right replies are known: first over a
+short recording, which one worker searches, then over a recording of more than three thousand steps, which three
+workers search. In the second case, the allocations before callers are served aren't refused, because they are like
+those of the first. The allocations come in the same order each time, except those of threads that are starting; so
+each number is refused until, in as many successive sessions as run at the same time, there is no allocation with that
+number. A refused allocation must be reported once, and in one of these ways:
 
 - before a caller is served, as `fault 108 memory`, with status 1;
-- instead of a reply: to a query, or to a line that first has to make another's search, as `fault 301 memory`, and the line is sent again;
-  to a search as `fault 302 memory, placed N`, whose reply `resume` gives, and no other line;
-- at the end instead of `placed K`, as `fault 108 memory` with status 1.
+- in place of a reply to a query, or to a line that first has to complete another front's search,
+  as `fault 301 memory`, after which the line is sent again;
+- in place of a reply to a search, as `fault 302 memory, placed N`, after which `resume` gives the reply, and no other
+  line;
+- at the end in place of `placed K`, as `fault 108 memory` with status 1.
 
-All other replies must be right, and all of them if netrev could do without. So no command is lost or placed twice. Last, no thread can
-be started: then fronts are served one after the other, and search by themselves.
+All other replies must be right, and every reply must be right if netrev could do without the allocation. So no
+command is lost or placed twice. Finally, no thread can be started: then fronts are served one after the other, and
+each searches by itself.
 """
 
 from bisect import bisect_left
@@ -28,7 +32,7 @@ from .sharing import Server, Wrong, expect, library_of
 
 
 class Played(NamedTuple):
-    """The result of a session: whether anything was refused, how often that was reported, whether callers were served,
+    """The result of a session: whether an allocation was refused, how often that was reported, whether callers were served,
     and whether the number of their commands was reported."""
 
     refused: bool
@@ -129,7 +133,7 @@ class Session:
 
     @staticmethod
     def ask(caller, replies, line):
-        """A line's reply, or None if the connection ended."""
+        """The reply to a line; None if the connection ended."""
         try:
             caller.sendall(f"{line}\n".encode())
             return replies.readline().removesuffix("\n") or None
@@ -137,7 +141,7 @@ class Session:
             return None
 
     def expect_reply(self, caller, replies, front, at, line, right, came):
-        """Checks that a line was answered right, at once or when it was repeated."""
+        """Checks that a line was answered correctly, at once or when it was repeated."""
         asked = read_line(line.encode())
         assert asked, line
         placed = f"fault 302 memory, placed {self.placed}"
@@ -177,7 +181,7 @@ def play(folder, script, words):
 
 
 def first_served(play_number):
-    """The number of the first allocation after which callers are served: netrev loads before."""
+    """The number of the first allocation after which callers are served; before it, netrev loads."""
     most = 1
     while not play_number(most).served:
         most *= 2
@@ -185,7 +189,7 @@ def first_served(play_number):
 
 
 def play_script(folder, preload, script):
-    """Refuses each allocation in turn, several sessions at the same time."""
+    """Refuses each allocation in turn, in several sessions at the same time."""
     (folder / f"{script.name}.jsonl").write_text(script.text, encoding="ascii")
 
     def play_number(number):
@@ -204,7 +208,7 @@ def play_script(folder, preload, script):
     threadless = play(folder, script, [preload, "THREADS=0"])
     expect("with no thread: refused, told of memory, served, counted", Played(True, 0, True, True), threadless)
     if script.workers == 1:
-        # (several workers need varying amounts of memory, so the last allocation of theirs may be missed)
+        # (the workers need varying amounts of memory, so their last allocation may be missed)
         uncounted = any(one.served and not one.counted for one in played)
         expect(f"{script.name}: whether memory was refused for the history once", True, uncounted)
     return played

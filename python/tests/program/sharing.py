@@ -1,7 +1,7 @@
 """A serving netrev and callers that talk to it at the same time, for the scripts that test `netrev serve`.
 
-Nothing here waits by sleeping: for a port by connecting until it exists, for replies by the socket, for the end by the process; and each
-wait has a limit.
+Nothing here waits by sleeping: it waits for a port by connecting until the port exists, for replies by the socket, and
+for the end by the process. Each wait has a limit.
 """
 
 import os
@@ -27,7 +27,7 @@ LOOPBACK = "127.0.0.1"
 
 @dataclass
 class Exchange:
-    """A line and its reply. `sent` and `read` number the sending and reading over all fronts, in rising order."""
+    """A line and its reply. `sent` and `read` are the ordinals of its sending and reading over all fronts."""
 
     asked: Asked
     line: bytes
@@ -40,27 +40,27 @@ class Exchange:
         return is_command(self.asked) and self.reply != (FULL,)
 
     def is_calm(self) -> bool:
-        """Whether the line changes nothing, wherever it has this reply."""
+        """Whether the line changes nothing in any state in which it has this reply."""
         return not is_command(self.asked) or self.reply[0].startswith("fault ")
 
 
 class Wrong(Exception):
-    """The result isn't the expected one."""
+    """Raised if the result isn't the expected one."""
 
 
 def expect(what, expected, came):
-    """Prints the expected and the actual result if they differ."""
+    """Prints the expected and the actual result, and fails, if they differ."""
     if expected != came:
         raise Wrong(f"{what}\n  expected: {expected!r}\n  came:     {came!r}")
 
 
 def is_program(path):
-    """Whether there is a program at the path."""
+    """Whether the file at the path is a program."""
     return os.path.isfile(path) and os.access(path, os.X_OK)
 
 
 def library_of(name, folder):
-    """The library of scripts/NAME.c, which is put before the C library. It needs a C compiler."""
+    """The library of scripts/NAME.c, which is loaded before the C library. It is built by a C compiler."""
     library = folder / f"{name}.so"
     words = ["cc", "-O2", "-fPIC", "-shared", "-o", library, ROOT / f"scripts/{name}.c", "-ldl"]
     subprocess.run(words, timeout=60, check=True)
@@ -68,9 +68,10 @@ def library_of(name, folder):
 
 
 class Ports:
-    """Unused ports, none given twice. They are below those that the system gives to callers. They come from
-    blocks whose first port is held as long as this script runs, so that two scripts don't take the same ones. No
-    process may be started while a port is tried, since it would hold that port for a moment: `lock` is for both."""
+    """Unused ports, none of which is given twice. They are below the ports that the system gives to callers. They come
+    from blocks whose first port is held as long as this script runs, so that two scripts don't take the same ports. No
+    process may be started while a port is tried, since the process would hold that port for a moment: both take
+    `lock`."""
 
     BLOCK = 256
 
@@ -80,7 +81,7 @@ class Ports:
         self.left = range(0)
 
     def take(self, wanted):
-        """The first of this many free ports in a row."""
+        """The first of this many free consecutive ports."""
         while True:
             while len(self.left) >= wanted:
                 first, self.left = self.left[0], self.left[1:]
@@ -119,9 +120,9 @@ PORTS = Ports()
 
 
 class Server:
-    """A netrev that serves a recording, at its own ports, or from `port` on. `before` is called with the first port
-    before netrev is started, through the command `through`, if given. Each search uses the given number of
-    workers. Without a number of connections it serves until it is stopped."""
+    """A netrev that serves a recording at ports of its own, or from `port` on. `before` is called with the first port
+    before netrev is started; the command `through`, if given, starts netrev. Each search uses the given number of
+    workers. Without a number of connections, it serves until it is stopped."""
 
     def __init__(self, recording, fronts=1, connections=1, journal=4096, workers=1, through=(), before=None, port=None):
         self.errors = tempfile.TemporaryFile()
@@ -148,7 +149,7 @@ class Server:
         return self.process.poll() is not None
 
     def call(self, front, **options):
-        """A socket that is connected with the front, as soon as it listens; None if netrev ended before."""
+        """A socket connected to the front, as soon as the front listens; None if netrev has ended before."""
         limit = time.monotonic() + PATIENCE
         while time.monotonic() < limit:
             caller = socket.socket()
@@ -159,7 +160,7 @@ class Server:
                 caller.setsockopt(socket.IPPROTO_TCP, socket.TCP_NODELAY, 1)
                 caller.settimeout(PATIENCE)
                 return caller
-            except ConnectionError:  # refused before it listens; reset where it ends while this connects
+            except ConnectionError:  # refused before the front listens, or reset if netrev ends while this connects
                 caller.close()
             if self.has_ended():
                 return None
@@ -167,7 +168,7 @@ class Server:
         raise Wrong(f"front {front} didn't listen within {PATIENCE} s")
 
     def ended(self):
-        """Waits for its end, and returns its status, output and errors."""
+        """Waits for the end of netrev, and returns its status, output and errors."""
         try:
             output, _ = self.process.communicate(timeout=PATIENCE)
         except subprocess.TimeoutExpired:
@@ -176,18 +177,18 @@ class Server:
         return self.process.returncode, output.decode(), self.errors.read().decode()
 
     def expect_end(self, status, output):
-        """Checks that it ends by itself with this status and this output, and nothing on standard error."""
+        """Checks that netrev ends by itself with this status and this output, and with nothing on standard error."""
         expect("the end of netrev serve: status, output and errors", (status, output, ""), self.ended())
 
 
 def talk(caller, lines):
-    """Sends the lines, reads to the end, and returns the lines that came."""
+    """Sends the lines, reads to the end, and returns the lines that were received."""
     caller.sendall("".join(f"{line}\n" for line in lines).encode())
     return read_to_end(caller)
 
 
 def read_to_end(caller):
-    """Reads up to the end that netrev makes, and returns the lines that came."""
+    """Reads until netrev ends the connection, and returns the lines that were received."""
     with caller, caller.makefile("r", encoding="ascii", newline="\n") as replies:
         return replies.read().splitlines()
 
@@ -197,7 +198,7 @@ CLOCK = count(1)
 
 @dataclass
 class Talker:
-    """A caller that has at most this many unanswered lines at a time, and notes when each was sent and answered."""
+    """A caller that has at most this many unanswered lines at a time, and records when each was sent and answered."""
 
     caller: socket.socket
     lines: list
@@ -212,7 +213,7 @@ class Talker:
     ended: bool = False
 
     def wants_to_send(self):
-        """Prepares lines to be sent, as far as the window goes, and returns whether there are any."""
+        """Prepares lines for sending, as many as the window allows, and returns whether there are any."""
         while self.sent < len(self.lines) and len(self.exchanges) - self.answered < self.window:
             line = self.lines[self.sent]
             self.sent += 1
@@ -226,7 +227,7 @@ class Talker:
         self.unsent = self.unsent[self.caller.send(self.unsent) :]
 
     def receive(self):
-        """Reads what came; at its end this talker has ended."""
+        """Reads what has arrived; at the end of the stream, this talker has ended."""
         came = self.caller.recv(1 << 16)
         self.ended = not came
         *whole, self.unread = (self.unread + came).split(b"\n")
@@ -234,7 +235,7 @@ class Talker:
             self.take(line.decode("ascii"))
 
     def take(self, line):
-        """Reads a line of a reply; for the two lists, it gives the number of lines."""
+        """Reads a line of a reply; the first line of each of the two lists says how many more there are."""
         if self.answered == len(self.exchanges):
             raise Wrong(f"a reply to nothing: {line!r}")
         if not self.reply:
@@ -249,7 +250,7 @@ class Talker:
             self.reply = []
 
     def expect_whole(self):
-        """Checks that each line was answered and nothing else came."""
+        """Checks that each line was answered and that nothing else arrived."""
         expect("how many lines were answered", len(self.exchanges), self.answered)
         expect("lines sent", len(self.lines), self.sent)
         expect("what came behind the last reply", (b"", []), (self.unread, self.reply))
@@ -282,4 +283,4 @@ def converse(talkers):
 
 
 if __name__ == "__main__":
-    print(PORTS.take(int(sys.argv[1])))  # this many free ports in a row: the first
+    print(PORTS.take(int(sys.argv[1])))  # prints the first of this many free consecutive ports

@@ -1,8 +1,8 @@
 """Tests the built program at the greatest sizes of a recording and a session.
 
-A call may report that memory ran out, and a proof can't tell whether that is right. So each is tested here with ample memory and the
-most that docs/reference/RECORDING.md allows: none may report that memory ran out, and all replies must be right. It takes 1 GB of
-memory.
+A call may report that memory ran out, and a proof can't tell whether that is true. So each call is tested here with
+ample memory and at the greatest sizes that docs/reference/RECORDING.md allows: none may report that memory ran out, and
+all replies must be right. The tests need 1 GB of memory.
 """
 
 import socket
@@ -37,8 +37,8 @@ def written(path: Path, header: str, steps: Iterable[str]) -> Path:
 
 
 def ticking(folder: Path, more: Sequence[str] = ()) -> Path:
-    """As many steps as a recording may have, under the greatest limits of version 1: a file of 16 MB. The clock shows
-    the position."""
+    """As many steps as a recording may have, under the greatest limits of version 1, in a file of 16 MB. The clock
+    equals the position."""
     path = folder / f"ticking{len(more)}.jsonl"
     if not path.exists():
         header = HEADER % (1, GOROUTINES, SOCKETS, DESCRIPTORS, PIECE)
@@ -47,7 +47,7 @@ def ticking(folder: Path, more: Sequence[str] = ()) -> Path:
 
 
 def printed(words: Sequence[object], script: str = "") -> tuple[int, str, str]:
-    """The status of netrev, its output and its errors."""
+    """The status, output and errors of netrev."""
     ran = subprocess.run(
         [NETREV, *map(str, words)], input=script.encode(), capture_output=True, timeout=WAITS, check=False
     )
@@ -55,14 +55,14 @@ def printed(words: Sequence[object], script: str = "") -> tuple[int, str, str]:
 
 
 def same(what: str, right: str, came: str) -> None:
-    """Checks that a text, which may be long, is right; prints the first difference."""
+    """Checks that a text, which may be long, is right, and prints the first difference."""
     if right != came:
         at = next((at for at, (one, other) in enumerate(zip(right, came)) if one != other), min(len(right), len(came)))
         raise Wrong(f"{what}, from character {at}: expected {right[at : at + 60]!r}, came {came[at : at + 60]!r}")
 
 
 def play_replies(path: Path, exchange: Sequence[tuple[str, str]]) -> None:
-    """Sends lines to `run`, each with its reply."""
+    """Sends lines to `run`, and checks the reply to each."""
     status, output, errors = printed(["run", path], "".join(f"{line}\n" for line, _ in exchange))
     same("replies", "".join(f"{reply}\n" for _, reply in exchange), output)
     expect("status and errors", (0, ""), (status, errors))
@@ -131,8 +131,8 @@ def play_buffer(folder: Path) -> None:
 
 
 def crowd() -> tuple[list[str], int]:
-    """All goroutines, sockets, descriptors with both timers armed, a waiter at each side of a descriptor, and the rest
-    queued for one lock; and the goroutine that has that lock."""
+    """Steps that make all goroutines, sockets, and descriptors with both timers armed, put a waiter at each side of a
+    descriptor, and queue the rest for one lock; and the goroutine that has that lock."""
     steps = ['["spawn"]'] * (GOROUTINES - 1) + ['["sockopen",16,16]'] * SOCKETS
     steps += [f'["pollopen",0,{number}]' for number in range(DESCRIPTORS)]
     for number in range(DESCRIPTORS):
@@ -149,8 +149,8 @@ def crowd() -> tuple[list[str], int]:
 
 
 def crowded(folder: Path) -> tuple[Path, int, int]:
-    """A recording of that crowd, followed by ticks, so that copies of it are kept, and all timers fire. The
-    position with the crowd, and the last position."""
+    """A recording of that crowd, followed by ticks, so that copies of it are kept and all timers fire. Also returns the
+    position of the crowd, and the last position."""
     steps, _ = crowd()
     timers = 2 * DESCRIPTORS
     more = [f'["tick",{time}]' for time in range(1, 3001)] + [f'["tick",{3 * 10**9}]'] + ['["pop"]'] * timers
@@ -183,7 +183,7 @@ def play_upgraded_crowd(folder: Path) -> None:
 
 
 def asked(caller: socket.socket, lines: str) -> str:
-    """All replies to these lines, which are sent while it is read."""
+    """The replies to these lines, which are sent while the replies are read."""
     caller.settimeout(WAITS)
 
     def send() -> None:
@@ -205,7 +205,7 @@ def play_workers(folder: Path) -> None:
 
 
 def seconds_of(process: int) -> dict[str, int]:
-    """How long each thread of a process has run, in the system's ticks; the whole process by the key "all"."""
+    """How long each thread of a process has run, in the system's ticks; the key "all" has the whole process."""
     found = {"all": ticks_in(Path(f"/proc/{process}/stat"))}
     for thread in Path(f"/proc/{process}/task").iterdir():
         found[thread.name] = ticks_in(thread / "stat")
@@ -218,8 +218,8 @@ def ticks_in(file: Path) -> int:
 
 
 def play_idle_caller(folder: Path) -> None:
-    """If each worker's report finds room, the front's own thread searches nothing a second time. It may be one of
-    the workers; so it takes no more of the whole time than one of them does, and not as much as all together."""
+    """If there is room for each worker's report, the front's own thread repeats no part of the search. It may itself be
+    one of the workers, so it may take no more time than a worker does, and not as much as all of them together."""
     with Server(ticking(folder), workers=WORKERS) as server, server.call(0) as caller:
         caller.settimeout(WAITS)
         replies = caller.makefile("r", encoding="ascii", newline="\n")
@@ -249,8 +249,8 @@ def play_commands(folder: Path) -> None:
 
 
 def greatest_memory(path: Path, steps: int) -> int:
-    """The most bytes that netrev has held when it has read a recording. (The figure of `wait4` includes the memory of
-    this process from before the program began.)"""
+    """The most bytes that netrev has held when it has read a recording. (The figure of `wait4` includes this process's
+    memory from before the program began.)"""
     with subprocess.Popen([NETREV, "run", str(path)], stdin=subprocess.PIPE, stdout=subprocess.PIPE, text=True) as ran:
         assert ran.stdin and ran.stdout
         ran.stdin.write("info position\n")
@@ -263,8 +263,9 @@ def greatest_memory(path: Path, steps: int) -> int:
 
 
 def play_copies(folder: Path) -> None:
-    """The memory of a recording by docs/reference/RECORDING.md: the bytes held, once instead of once a copy if they
-    stay the same, and some for each step. (The rest is the program itself, the rings, and the growth of lists.)"""
+    """The memory for a recording according to docs/reference/RECORDING.md: the bytes held, counted once rather than
+    once for each copy if they stay the same, and some bytes for each step. (The rest is the program itself, the rings,
+    and the growth of lists.)"""
     steps = 100 * EACH_COPY
     turn = ['["sysread",0,0,1,["got",1]]', '["arrive",0,"ab","done"]']
     for pieces, turns in ((0, False), (BUFFER // PIECE, False), (BUFFER // PIECE, True)):

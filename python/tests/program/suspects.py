@@ -28,7 +28,7 @@ from .agree import bad_texts
 from .sharing import ROOT, expect
 from .upgrades import RECORDINGS, USAGE, ended, played
 
-IN_THE_GATE = 300  # random recordings
+IN_THE_GATE = 300  # how many random recordings the gate runs
 LOST, LEAKED, STALE, FIRED, ANSWERS, OTHER = (
     ROOT / f"{name}.jsonl"
     for name in (
@@ -57,7 +57,7 @@ STORED = (
     (ANSWERS, 0, b"ok 12 steps\n"),
     (OTHER, 1, b"step 11: fault 109 answer\n"),
 )
-# the words, the status, what is printed, and what is said on standard error
+# the words, the status, the output, and the text on standard error
 REFUSED = (
     ("no file named", ["suspects"], 2, b"", USAGE),
     ("two files", ["suspects", LOST, LOST], 2, b"", USAGE),
@@ -71,7 +71,7 @@ REFUSED = (
 
 
 def compare(path: Path) -> list[bytes]:
-    """Checks that the output for a recording is that of the naive reading; returns the lines of suspects."""
+    """Checks that the output for a recording is the one by the naive reading, and returns the lines about suspects."""
     right = printed("suspects", path.read_bytes(), b"", Observer())
     assert right is not None, "the model has an opinion on each recording that is here"
     played(["suspects", path], right.status, right.output)
@@ -112,7 +112,7 @@ def test_traffic(folder: Path, bug: Bug) -> None:
 
 @pytest.mark.long
 def test_random(folder: Path, request: pytest.FixtureRequest) -> None:
-    """Random recordings, among which are lines of each hunt."""
+    """Random recordings; their lines must include some of each hunt."""
     path, listed = folder / "random.jsonl", dict.fromkeys(HUNTS, 0)
     for seed in range(max(IN_THE_GATE, request.config.getoption("--random"))):
         print(f"seed {seed}")
@@ -141,7 +141,8 @@ MOST_STEPS = 1_000_000
 
 @pytest.mark.long
 def test_greatest_numbers(folder: Path) -> None:
-    """The last goroutine, socket and descriptor that there may be are listed as the first ones are, with steps up to the last."""
+    """The last possible goroutine, socket and descriptor are listed just as the first ones are, with steps up to the
+    last possible one."""
     path = folder / "greatest.jsonl"
     steps = ['["spawn"]'] * 4_095 + ['["sockopen",16,16]'] * 256 + [f'["pollopen",0,{s}]' for s in range(256)]
     event = len(steps) + 1

@@ -65,7 +65,7 @@ EMPTY = b"line 1: fault 101 header\n"
 POSITIONS = b"info position\n" * 50_000
 
 
-# ---- what standard input and output may be, and what FILE may be: each gives a file descriptor or a name ----
+# ---- standard input, standard output and FILE in unusual states: each gives a file descriptor or a name ----
 
 
 def opened(path, flags):
@@ -80,7 +80,7 @@ def gone(_folder):
 
 
 def full_pipe_that_never_waits(_folder):
-    """A full pipe whose writes fail instead of waiting. Its reader stays."""
+    """A full pipe whose writes fail instead of waiting. Its reader stays open."""
     reader, writer = os.pipe()
     os.set_blocking(writer, False)
     KEPT.append(reader)
@@ -89,7 +89,7 @@ def full_pipe_that_never_waits(_folder):
 
 
 def empty_pipe_that_never_waits(_folder):
-    """An empty pipe whose reads fail instead of waiting. Its writer stays."""
+    """An empty pipe whose reads fail instead of waiting. Its writer stays open."""
     reader, writer = os.pipe()
     os.set_blocking(reader, False)
     KEPT.append(writer)
@@ -122,7 +122,7 @@ def unreadable(folder):
 
 
 def sparse(folder):
-    """A file of 64 GB that takes no room on the disk."""
+    """A file of 64 GB that takes no space on the disk."""
     path = file_of("sparse", b"")(folder)
     os.truncate(path, 64 << 30)
     return path
@@ -151,9 +151,8 @@ FULL = opened("/dev/full", os.O_WRONLY)
 
 @dataclass
 class Case:
-    """netrev with `word` and FILE; its standard input, as bytes, one of the above or CLOSED; its standard output,
-    which is read unless named; the memory that it may have, in all or beyond that for loading; and the expected
-    end."""
+    """netrev with `word` and FILE; its standard input, given as bytes, as one of the above or as CLOSED; its standard
+    output, which is read unless named; its memory, in all or beyond what loading takes; and the expected end."""
 
     name: str
     word: str
@@ -236,7 +235,7 @@ def inputs():
     yield Function("output that is a terminal, which is gone: run", play_output_terminal_gone)
 
 
-# words that ask for a program, whose file isn't there; and words that ask for none
+# valid words with a file that doesn't exist, and words that are usage errors
 GREATEST = ["--fronts=64", "--port", "65472", "--workers=16", "--journal", "1000000"]
 ASKING: tuple[tuple[str, list[str]], ...] = (
     ("a name without letters", ["check", ""]),
@@ -390,7 +389,7 @@ RECORDINGS = (
 
 
 def lines():
-    little = 6 * MEGABYTE  # as much as loading the example takes; less than the 10 MB
+    little = 6 * MEGABYTE  # as much as loading the example takes, and less than the 10 MB
     for what, text, output in COMMANDS:
         yield Case(f"lines: a command {what}", "run", FIRST, 0, output, input=text, beside=little)
     many = POSITIONS * 4
@@ -400,12 +399,12 @@ def lines():
         yield Case(f"lines: a recording {what}", "check", file_of("lines", text), status, output, memory=40 * MEGABYTE)
 
 
-# ---- cases that are played by a function ----
+# ---- cases that a function runs ----
 
 
 @contextmanager
 def started(words, **options):
-    """A process whose output and errors are read, and which is stopped at the end."""
+    """A process whose output and errors are read; it is stopped at the end."""
     process = subprocess.Popen(words, stdout=subprocess.PIPE, stderr=subprocess.PIPE, **options)
     try:
         yield process
@@ -482,14 +481,14 @@ def play_memory_of_upgrade(folder):
 
 
 def play_reader_goes_in_an_upgrade(folder):
-    """Reads the first lines of an upgrade that is longer than a pipe's room, and closes it."""
+    """Reads the first lines of an upgrade that is longer than a pipe's capacity, and closes the pipe."""
     file_of("ticks", TICKS.encode())(folder)
     file_of("positions", b"")(folder)
     leave_pipe(folder, UPGRADED_TICKS[:100], False, "ticks", "upgrade")
 
 
 def play_output_of_serve(into, _folder):
-    """Two callers are served, though nothing can be printed at the end."""
+    """Two callers are served, although nothing can be printed at the end."""
     redirected = {CLOSED: '"$@" >&-', FULL: '"$@" > /dev/full', gone: '"$@"'}[into]
     with Server(FIRST, fronts=2, through=["sh", "-c", f"exec {redirected}", "sh"]) as server:
         if into is gone:
@@ -500,8 +499,8 @@ def play_output_of_serve(into, _folder):
 
 
 def play_nothing_open(_folder):
-    """netrev starts without open streams, so its ports and callers get their descriptors; none is written to as a
-    stream."""
+    """netrev starts without open streams, so its ports and callers get the streams' descriptors; it writes to none of
+    them as to a stream."""
     with Server(FIRST, fronts=2, through=["sh", "-c", 'exec "$@" <&- >&- 2>&-', "sh"]) as server:
         first, second = server.call(0), server.call(1)
         expect("the replies of front 0", ["at 3", "bye"], talk(first, ["stepi 3", "quit"]))
@@ -511,7 +510,7 @@ def play_nothing_open(_folder):
 
 @contextmanager
 def terminal():
-    """The two ends of a terminal, which are closed at the end: the keyboard, and the reader."""
+    """The two ends of a terminal, which are closed at the end: the keyboard's and the program's."""
     ends = list(pty.openpty())
     try:
         yield ends
@@ -522,7 +521,7 @@ def terminal():
 
 
 def play_terminal(_folder):
-    """A line is answered when it is typed, and Ctrl-D ends the input."""
+    """A line is answered when it has been typed, and Ctrl-D ends the input."""
     with terminal() as (typist, typed), started([NETREV, "run", FIRST], stdin=typed, bufsize=0) as process:
         os.write(typist, b"stepi\n")
         expect("the reply", b"at 1\n", process.stdout.readline())
@@ -531,20 +530,20 @@ def play_terminal(_folder):
 
 
 def play_terminal_gone(_folder):
-    """The keyboard is gone: that is a failed read."""
+    """The keyboard's end is closed, which counts as a failed read."""
     with terminal() as ends, started([NETREV, "run", FIRST], stdin=ends[1], bufsize=0) as process:
         os.write(ends[0], b"stepi\n")
         expect("the reply", b"at 1\n", process.stdout.readline())
         os.close(ends[0])
         ends[0] = None
         status, output, errors = ended(process)
-        # to a reader that was waiting the system reports a failed read, to others the end of the input
+        # the system reports a failed read to a reader that was waiting, and the end of the input to others
         expect("the status is 0 or 3", True, status in (0, 3))
         expect("output and errors", (b"", b""), (output, errors))
 
 
 def play_output_terminal_gone(_folder):
-    """The screen is gone: that is a failed write."""
+    """The screen's end is closed, which counts as a failed write."""
     with terminal() as ends:
         words = [NETREV, "run", FIRST]
         pipe = subprocess.PIPE
@@ -555,21 +554,22 @@ def play_output_terminal_gone(_folder):
 
 
 def play_reader_goes(folder):
-    """Reads the first of many replies, and closes it."""
+    """Reads the first of many replies, and closes the pipe."""
     file_of("positions", POSITIONS)(folder)
     for ignored in (False, True):
         leave_pipe(folder, POSITION, ignored)
 
 
 def play_reader_goes_in_a_reply(folder):
-    """Reads some of a reply that is longer than a pipe's room, and closes it."""
+    """Reads part of a reply that is longer than a pipe's capacity, and closes the pipe."""
     file_of("large", LARGE.encode())(folder)
     file_of("positions", f"stepi {ARRIVED}\ndump in 0\ninfo position\n".encode())(folder)
     leave_pipe(folder, f"at {ARRIVED}\nin 0 = abab".encode(), False, "large")
 
 
 def leave_pipe(folder, first, ignored, recording=FIRST, word="run"):
-    """Reads the first bytes of the output, and no more; with SIGPIPE ignored by the parent, or as a shell has it."""
+    """Reads the first bytes of the output and no more, with SIGPIPE either ignored by the parent or as a shell sets
+    it."""
     words = [NETREV, word, folder / recording]
     with open(folder / "positions", "rb") as commands:
         with started(words, stdin=commands, bufsize=0, restore_signals=not ignored) as process:
@@ -583,7 +583,7 @@ def leave_pipe(folder, first, ignored, recording=FIRST, word="run"):
 
 
 def play_errors(folder):
-    """The usage text can't be printed: the status shows it."""
+    """The usage text can't be printed, and the status shows that."""
     for into in (CLOSED, FULL, gone):
         stream = None if into is CLOSED else into(folder)
         close = (lambda: os.close(2)) if into is CLOSED else None
@@ -607,7 +607,7 @@ def signals():
 
 @contextmanager
 def answered_run():
-    """A `run` that has answered a line and waits for the next."""
+    """A `run` that has answered a line and waits for the next one."""
     with started([NETREV, "run", FIRST], stdin=subprocess.PIPE, bufsize=0) as process:
         process.stdin.write(b"stepi\n")
         expect("the reply", b"at 1\n", process.stdout.readline())
@@ -615,7 +615,7 @@ def answered_run():
 
 
 def play_stopped_run(stop, _folder):
-    """The answers are out, and nothing is printed about the signal."""
+    """The replies have been written, and nothing is printed about the signal."""
     with answered_run() as process:
         process.stdin.write(b"info posi")
         process.send_signal(stop)
@@ -623,8 +623,8 @@ def play_stopped_run(stop, _folder):
 
 
 def play_stopped_serve(stop, _folder):
-    """Callers with a reply, silent callers and callers that don't read are left; another server serves at once at the
-    ports."""
+    """The signal comes while there are callers with a reply, silent callers and callers that don't read; another server
+    serves at the same ports at once."""
     with Server(FIRST, fronts=3, connections=None) as server:
         answered, silent, busy = (server.call(front) for front in range(3))
         answered.sendall(b"stepi\n")
@@ -643,7 +643,7 @@ def play_stopped_serve(stop, _folder):
 
 
 def hold(process):
-    """Stops a process, as Ctrl-Z does, waits until it is stopped, and continues it."""
+    """Stops a process as Ctrl-Z does, waits until it has stopped, and continues it."""
     process.send_signal(signal.SIGSTOP)
     os.waitid(os.P_PID, process.pid, os.WSTOPPED)
     process.send_signal(signal.SIGCONT)
@@ -656,7 +656,7 @@ def play_held_run(_folder):
 
 
 def play_held_serve(_folder):
-    """One front waits for its caller, one waits for a line, and one waits for its caller to close."""
+    """One front waits for its caller, one for a line, and one for its caller's close."""
     with Server(FIRST, fronts=3) as server:
         first, last = server.call(0), server.call(2)
         last.sendall(b"quit\n")
@@ -712,7 +712,7 @@ def patience():
 
 @pytest.fixture
 def signals_of_a_terminal():
-    """In this test SIGNALS have their default handlers, even if pytest was started with them ignored."""
+    """Within this test, SIGNALS have their default handlers, even if pytest was started with them ignored."""
     before = [(one, signal.signal(one, signal.SIG_DFL)) for one in SIGNALS]
     yield
     for one, handler in before:

@@ -1,4 +1,4 @@
-"""The fuzzer finds differences, reduces them, and finds nothing if there are none."""
+"""The fuzzer finds differences and reduces them, and finds nothing if there are none."""
 
 import io
 import signal
@@ -28,7 +28,7 @@ from .sharing import NETREV
 
 
 def quietly(call, *arguments, **more):
-    """The result of a call, and its output."""
+    """Makes a call; returns its result and its output."""
     with redirect_stdout(io.StringIO()) as printed:
         return call(*arguments, **more), printed.getvalue()
 
@@ -47,7 +47,7 @@ def error_stays(world, d, mode, error):
 
 
 def sorts_compared(recorded, answer):
-    """A fault: only the sorts of recorded answers are compared, and not their numbers."""
+    """A fault: only the sorts of recorded answers are compared, not their numbers."""
     return recorded[0] != answer[0]
 
 
@@ -59,7 +59,8 @@ def shut_for_nothing(world, g, s, data):
 
 
 EVENT, WRITE = polling.event, steps.syswrite
-# the fault planted in the model, and a seed whose first cases show it (if cases are generated differently, find other seeds)
+# the fault that is planted in the model, and a seed whose first cases show it (if cases are generated differently, find
+# other seeds)
 PLANTED: dict[str, tuple[str, Callable[[], ContextManager[object]]]] = {
     "a decref with another reason": ("86", lambda: mock.patch.dict(steps.OF_KIND, decref=decref_with_another_reason)),
     "a mark that stays": ("17", lambda: mock.patch.object(polling, "event", error_stays)),
@@ -77,7 +78,7 @@ REFUSED = b"step 11: fault 109 answer\n"
 
 @contextmanager
 def planted(name, out):
-    """The model with a planted fault; the folder of the only case that differs and is kept."""
+    """Context with a fault planted in the model, and the folder of the only case that differs and is kept."""
     seed, plant = PLANTED[name]
     with plant(), mock.patch("netrev_fuzz.__main__.MOST_DIFFERENCES", 1):
         found, printed = quietly(play, NETREV, seed, Met(), cases=WITHIN, out=out)
@@ -124,10 +125,10 @@ class Finding(unittest.TestCase):
 
 
 class Companion(unittest.TestCase):
-    """Sessions of nrdb, disturbed."""
+    """Sessions of nrdb that are disturbed."""
 
     def played(self, count):
-        """The faults of this many sessions, and their events."""
+        """The faults of this many sessions, and the events in them."""
         met = Met()
         with tempfile.TemporaryDirectory() as folder:
             cases = map(visit, seeds("tested-nrdb", count))
@@ -148,7 +149,7 @@ class Companion(unittest.TestCase):
 
 
 class Pressing(unittest.TestCase):
-    """The fuzzer's Ctrl-C comes to the session for which it is pressed, and to nothing else."""
+    """The fuzzer's Ctrl-C reaches the session for which it is pressed, and nothing else."""
 
     def setUp(self):
         self.came = 0
@@ -159,7 +160,7 @@ class Pressing(unittest.TestCase):
         self.came += 1
 
     def give_up(self, happens):
-        """Sends a netrev a line while its session is given up, and ends it."""
+        """Sends netrev a line while its session is being given up, and ends it."""
         interrupts = Interrupts()
         with confined():
             netrev = Slow(NETREV, str(EXAMPLE), interrupts, happens)

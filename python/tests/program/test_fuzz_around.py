@@ -18,13 +18,13 @@ from .sharing import NETREV, ROOT
 
 FEW = {"logs": 30, "programs": 30, "views": 3, "editors": 12, "browsers": 20}
 SEED = "gate"
-IMPOSSIBLE = "gate-views-28"  # a case whose run isn't made of Go's calls
-LONG = "h65-views-11"  # a file of the program whose name is longer than a name can be
-HALF = "5-editors-2098"  # an editor whose line has half a character
+IMPOSSIBLE = "gate-views-28"  # a case with a run that isn't made of Go's calls
+LONG = "h65-views-11"  # a source file whose name is longer than the system allows
+HALF = "5-editors-2098"  # an editor that sends a line with half a character
 
 
 def played(sort: str, cases: int, seed: str = SEED) -> tuple[int, str]:
-    """The number of faulty cases among this many, and their messages."""
+    """The number of faulty cases among this many, and the messages about them."""
     with redirect_stdout(io.StringIO()) as said, redirect_stderr(said):
         counts, found = around.play(str(NETREV), around.seeds(seed, [sort], cases, time.monotonic() + 600))
     assert counts[sort] == cases or found == around.MOST_FAULTS, counts

@@ -1,5 +1,5 @@
-"""The outputs of `netrev-go test` that are made from recordings after a run: a page for each, and other schedules
-of those that passed. A script stands in for Go."""
+"""The outputs of `netrev-go test` that are made from recordings after a run: a page for each recording, and other
+schedules of those whose tests passed. A script stands in for Go."""
 
 import json
 import pathlib
@@ -22,8 +22,8 @@ from .sharing import NETREV
 HOSTILE = "</script><script>alert(1)</script>\x1b[31m"
 CALLS = {0: Calls((Call(f"main.{HOSTILE}", f"{HOSTILE}.go", 7, OF_THE_PROGRAM),), None)}
 DATA = re.compile(r'<script type="application/json" id="data">(.*?)</script>', re.DOTALL)
-GOOD = EXAMPLES / "cancelled-read.jsonl"  # of which other schedules hang
-SECONDS = "600"  # far more than its schedules take
+GOOD = EXAMPLES / "cancelled-read.jsonl"  # a recording of which other schedules hang
+SECONDS = "600"  # far more time than its schedules take
 
 
 class Behind(test_go_tests.Tested):
@@ -35,7 +35,7 @@ class Behind(test_go_tests.Tested):
             self.addCleanup(patched.stop)
 
     def lines(self) -> list[dict[str, Any]]:
-        """The lines of --json for the tests that have a recording."""
+        """The lines of --json about the tests that have a recording."""
         told = [json.loads(line) for line in (self.folder / "a.json").read_text().splitlines()]
         return [line for line in told if line["recording"]]
 
@@ -84,10 +84,10 @@ class Pages(Behind):
 
 
 class Explored(Behind):
-    """A passing run whose recording hangs in another schedule."""
+    """A run that passed, with a recording that hangs in another schedule."""
 
     def explored(self, *words: str, status: int = 0, recording: pathlib.Path = GOOD) -> tuple[int, str]:
-        """The status and the output if this becomes the recording of TestGreen."""
+        """The status and the output if this is the recording of TestGreen."""
         (self.folder / "lines").write_text(
             "1 1 5 package example.org/toy\n3 20 1 runs TestGreen\n14 20 3 ends TestGreen\n"
         )
@@ -124,7 +124,8 @@ class Explored(Behind):
 
     def test_where_it_could_not_look_that_is_said(self) -> None:
         other = self.folder / "other.jsonl"
-        steps = ['["sockopen",16,16]', '["pollopen",0,0]', '["increfclose",0,0]', '["decref",0,0]']  # never closed
+        # a descriptor that is never closed
+        steps = ['["sockopen",16,16]', '["pollopen",0,0]', '["increfclose",0,0]', '["decref",0,0]']
         other.write_text("\n".join(['{"netrev":1,"gor":2,"sock":1,"desc":1,"buf":16}', *steps, ""]))
         status, said = self.explored("--fail-on", "possible", recording=other)
         self.assertEqual(status, 0)

@@ -1,4 +1,4 @@
-"""Recordings of real Go programs: netrev accepts the stored ones, and those of made-up logs; Go's lock words equal
+"""Recordings of real Go programs: netrev accepts the stored ones and those of made-up logs; Go's lock words equal
 netrev's; and each difference from Go is found at its step."""
 
 import json
@@ -26,7 +26,7 @@ class Recorded(unittest.TestCase):
         self.name = folder_of(self) / "made.jsonl"
 
     def made(self, name: str) -> None:
-        """The recording of a stored log, with its lock words."""
+        """Writes the recording of a stored log, with its lock words."""
         log = self.name.with_suffix(".log")
         log.write_bytes(from_text((REAL / f"{name}.log").read_text())[0])
         recording = make(read_log(log))

@@ -1,4 +1,4 @@
-"""`make look` in a fresh clone: every command answers as with the built netrev, and netrev is compiled once for all of it."""
+"""`make look` in a fresh clone: every command answers as with the built netrev, and netrev is compiled only once."""
 
 import os
 import signal
@@ -42,7 +42,7 @@ def kept(clone: Path) -> list[str]:
 
 
 def looked(clone: Path, toolchain: Toolchain, *commands: str) -> str:
-    """The output of the prompt of `make look` for these commands."""
+    """The output of `make look` for these commands at its prompt."""
     lines = "".join(f"{command}\n" for command in commands)
     ran = make(clone, "look", f"FILE={RECORDING}", lines=lines, PATH=toolchain.path())
     assert ran.returncode == 0, ran.stderr
@@ -50,7 +50,7 @@ def looked(clone: Path, toolchain: Toolchain, *commands: str) -> str:
 
 
 def with_built_netrev(clone: Path, *commands: str) -> str:
-    """nrdb's output with the built netrev."""
+    """nrdb's output for these commands, with the built netrev."""
     lines = "".join(f"{command}\n" for command in commands)
     command = [str(clone / "nrdb"), "--netrev", NETREV, RECORDING]
     return subprocess.run(command, cwd=clone, input=lines, capture_output=True, text=True, check=True).stdout
@@ -137,7 +137,7 @@ def test_two_at_once_compile_once(clone: Path, toolchain: Toolchain) -> None:
 
 
 def test_it_leaves_only_plain_files_in_the_tree(clone: Path, toolchain: Toolchain) -> None:
-    """`rt ci` refuses a tree with links."""
+    """`rt ci` refuses a tree that contains links."""
     looked(clone, toolchain)
     looked(clone, toolchain)
     files = list((clone / "out").rglob("*"))

@@ -33,7 +33,7 @@ from .sharing import NETREV, ROOT
 
 TEXT = README.read_text(encoding="utf-8")
 LINK = re.compile(r"\]\((?!\w+:|#)([^)#]+)")
-UNDER_ANOTHER_NAME = {"LICENSE"}  # in the Debian package, which has /usr/share/doc/netrev/copyright
+UNDER_ANOTHER_NAME = {"LICENSE"}  # has another name in the Debian package: /usr/share/doc/netrev/copyright
 QUESTIONS = (
     "info suspects",
     "history wd 2",
@@ -45,18 +45,18 @@ QUESTIONS = (
 
 
 def play(room: Room, *names: str) -> list[str]:
-    """Runs these sections of README, and the one that records if Go is installed. Returns the commands."""
+    """Runs these sections of README, and the section about recording if Go is installed. Returns the commands."""
     return list(played(room, *names, *([RECORD] if commands_of_go() else [])))
 
 
 def skip_without_go() -> None:
-    """Says that recording was left out."""
+    """Skips the test, and says that recording was left out."""
     if not commands_of_go():
         pytest.skip(f"Go {RELEASE} isn't here, so nothing was recorded: `python3 python netrev_go.fetching {RELEASE}`")
 
 
 def by_their_paths(room: Room) -> None:
-    """Records as README does, but calls netrev-go by its path: the command after `next:` must run there too."""
+    """Records as README does, but calls netrev-go by its path; the command after `next:` must then run too."""
     if commands_of_go():
         assert room.run('export NETREV="$PWD/out/look/netrev"') == (0, "")
         command = "cp -r examples/toy other && cd other && ../tools/go/netrev-go test ./..."
@@ -90,7 +90,7 @@ def test_the_questions_that_a_look_has_to_answer_are_shown() -> None:
 
 @pytest.mark.long
 class Packages(unittest.TestCase):
-    """The archive and the Debian package of the present tree, without a passed gate."""
+    """The archive and the Debian package of the present tree, before the gate has passed."""
 
     archive: Path
     deb: Path

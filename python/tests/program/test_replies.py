@@ -1,4 +1,5 @@
-"""When `netrev run` writes its replies: those to whole lines are out before it reads on, and together in one write."""
+"""The times at which `netrev run` writes its replies: it writes the replies to whole lines before it reads on, together
+in one write."""
 
 import socket
 import subprocess
@@ -12,7 +13,7 @@ WORDS: list[str] = [NETREV, "run", str(EXAMPLES / "first.jsonl")]
 
 
 class TestWrites(unittest.TestCase):
-    """Standard output is a socket that keeps each write apart."""
+    """Standard output is a socket that keeps each write separate."""
 
     def setUp(self) -> None:
         self.output, theirs = socket.socketpair(socket.AF_UNIX, socket.SOCK_SEQPACKET)
@@ -26,7 +27,7 @@ class TestWrites(unittest.TestCase):
         self.output.close()
 
     def written_for(self, lines: bytes) -> bytes:
-        """The next write, once these bytes are sent."""
+        """The next write after these bytes have been sent."""
         assert self.program.stdin is not None
         self.program.stdin.write(lines)
         return self.output.recv(1 << 20)

@@ -1,5 +1,5 @@
-"""Text after `netrev:` was printed by netrev itself, in every output of nrdb and netrev-go; nrdb's conclusions
-follow `cause:`, and the command to type next `next:`."""
+"""In every output of nrdb and netrev-go, text after `netrev:` was printed by netrev itself; nrdb's conclusions follow
+`cause:`, and the command to type next follows `next:`."""
 
 import json
 import re
@@ -37,14 +37,14 @@ def reply_at(path: Path, position: str, cell: str) -> str:
 
 
 def foreign_words(text: str, path: Path) -> list[str]:
-    """Texts after `netrev:` in a text about a recording that aren't netrev's output."""
+    """The texts after `netrev:`, in a text about a recording, that aren't netrev's output."""
     lines = [line for program in ("check", "suspects") for line in printed(program, path).splitlines()]
     answers = [answer for found in SAYS.findall(text) for answer in found.replace("`", "").split("; ")]
     return [answer for answer in answers if not is_printed(answer, path) and answer not in lines]
 
 
 def printed(program: str, path: Path) -> str:
-    """What one of netrev's programs prints of a file."""
+    """What a program prints for a file."""
     return subprocess.run([NETREV, program, path], capture_output=True, text=True, timeout=60, check=False).stdout
 
 
@@ -54,12 +54,12 @@ def is_printed(answer: str, path: Path) -> bool:
 
 
 def labels(text: str) -> list[str]:
-    """The labels with which lines of a text begin."""
+    """The labels that begin lines of a text."""
     return [found[1] for line in text.splitlines() if (found := LABEL.match(line))]
 
 
 def told_by_netrev_go(path: Path, is_failed: bool = True) -> list[str]:
-    """netrev-go's output about a recording of a program that failed."""
+    """netrev-go's output about the recording of a program that failed."""
     recording = Recording.read(str(path))
     steps = [recording.step(number) for number in range(1, recording.length + 1)]
     last = [0] * recording.limits["gor"]
@@ -79,12 +79,12 @@ def told_by_netrev_go(path: Path, is_failed: bool = True) -> list[str]:
 
 @pytest.fixture(scope="module")
 def reported() -> dict[Path, list[str]]:
-    """What netrev-go prints of each recording."""
+    """What netrev-go prints about each recording."""
     return {path: told_by_netrev_go(path) for path in (SUSPECT, FAILED, HUNG)}
 
 
 def outputs(reported: dict[Path, list[str]], folder: Path) -> Iterator[tuple[Path, str]]:
-    """Every output in which something may carry netrev's name, with the recording that it is of."""
+    """Every output that may contain netrev's name, with the recording that it is about."""
     for path, lines in reported.items():
         yield path, "\n".join(lines)
         outcome = Told("example.org/toy", "TestRed", "failed", 1, 1)

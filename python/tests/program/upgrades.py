@@ -21,7 +21,7 @@ WOKEN = ROOT / "scripts/recordings/woken-by-an-event.jsonl"
 ANSWERS, OTHER, SHUT = (ROOT / f"examples/{name}.jsonl" for name in ("answers", "other-answer", "shut-write-side"))
 DIFFERS = f"step {examples.REFUSED['other-answer']}: fault 109 answer\n".encode()
 
-# a program and its file, the status, and what is printed: a text, or what is in a file
+# a program and its file, the status, and the output, given as a text or as a file that contains it
 STORED: tuple[tuple[str, Path, int, Union[bytes, Path]], ...] = (
     ("check", ANSWERS, 0, b"ok 12 steps\n"),
     ("upgrade", WOKEN, 0, ANSWERS),
@@ -96,13 +96,14 @@ def ended(words, given=b""):
 
 
 def played(words, status, output, errors=b""):
-    """Runs netrev with the words, and checks the status, the output and the errors."""
+    """Runs netrev with these words, and checks the status, the output and the errors."""
     expect("status, output and errors", (status, output, errors), ended(words))
 
 
 @pytest.mark.parametrize("path", [pytest.param(path, id=f"recording {path.relative_to(ROOT)}") for path in RECORDINGS])
 def test_recording(folder, path):
-    """The upgrade of a recording, and of that again; a recording that is refused has its fault in both programs."""
+    """The upgrade of a recording, and the upgrade of the result; a recording that is refused has the same fault in both
+    programs."""
     right = upgrade_of(path.read_bytes())
     if right.startswith(b"step "):
         played(["upgrade", path], 1, right)

@@ -1,4 +1,4 @@
-"""A page in a real browser: chromium opens it, a script uses it as people would, and the script's notes are read."""
+"""A page in a real browser: chromium opens it, and a script uses it as a person would and records what it sees."""
 
 import json
 import re
@@ -12,7 +12,7 @@ CHROMIUM = next(
     (path for name in ("chromium", "chromium-browser", "google-chrome") if (path := shutil.which(name))), ""
 )
 PATIENCE = 60  # seconds
-LIGHT, DARK = 1, 0  # the colour schemes that a page may get
+LIGHT, DARK = 1, 0  # the colour schemes that a browser may ask for
 
 # The tools of a script in the page: wheel, keys, pointer, text at places, and errors.
 HANDS = """
@@ -37,7 +37,7 @@ picture.setPointerCapture = () => {};
 def used(
     page: str, script: str, size: tuple[int, int] = (1280, 800), scheme: int = LIGHT, place: str = ""
 ) -> dict[str, Any]:
-    """The notes of a script that uses the page, in `told`. No error may occur meanwhile."""
+    """What a script that uses the page has recorded in `told`. No error may occur meanwhile."""
     probe = (
         f"<script>{HANDS}\nconst told = {{}};\n(async () => {{ {script} }})().catch((error) => wrong.push(String(error)))"
         '.finally(() => { const out = document.createElement("pre"); out.id = "told"; out.textContent = JSON.stringify({ told, wrong });'
@@ -60,7 +60,7 @@ def used(
 
 
 def unescaped(text: str) -> str:
-    """The text of an element, unescaped."""
+    """The text of an element, with HTML's escapes undone."""
     for written, letter in (("&lt;", "<"), ("&gt;", ">"), ("&nbsp;", "\xa0"), ("&amp;", "&")):
         text = text.replace(written, letter)
     return text

@@ -1,4 +1,4 @@
-"""An editor, as an adapter sees it: requests are sent, and the form of each message is checked."""
+"""An editor as an adapter sees it: it sends requests, and checks the form of each message."""
 
 from __future__ import annotations
 
@@ -15,11 +15,11 @@ Body = dict[str, Any]
 
 
 class Refusal(Exception):
-    """A request was refused: why."""
+    """Raised, with the reason, if a request was refused."""
 
 
 class Client:
-    """Speaks to an adapter over two streams."""
+    """Talks to an adapter over two streams."""
 
     def __init__(self, reader: BinaryIO, writer: BinaryIO) -> None:
         self._reader, self._writer = reader, writer
@@ -64,7 +64,7 @@ class Client:
         return message
 
     def event(self, name: str) -> Body:
-        """The body of the next event of that name; earlier messages are skipped."""
+        """The body of the next event with this name; earlier messages are skipped."""
         while True:
             while self.events:
                 event = self.events.pop(0)
@@ -76,32 +76,32 @@ class Client:
             self.events.append(message)
 
     def move(self, command: str, **arguments: Any) -> Body:
-        """Makes a move; the body of the `stopped` event."""
+        """Makes a move, and returns the body of the `stopped` event."""
         self.events.clear()
         self(command, **arguments)
         return self.stopped()
 
     def stopped(self) -> Body:
-        """The body of the next `stopped` event; `thread` is then the one that is shown."""
+        """The body of the next `stopped` event; afterwards `thread` is the thread that it names."""
         body = self.event("stopped")
         self.thread = body["threadId"]
         return body
 
     def begin(self, recording: str, **launch: Any) -> Body:
-        """Launches a recording; the body of the first `stopped` event."""
+        """Launches a recording, and returns the body of the first `stopped` event."""
         self("initialize", adapterID="netrev", linesStartAt1=True, columnsStartAt1=True)
         self("launch", program=recording, **launch)
         self.event("initialized")
         return self.move("configurationDone")
 
     def line(self) -> int:
-        """The line of the first frame that is shown."""
+        """The line of the first frame."""
         line: int = self("stackTrace", threadId=self.thread)["stackFrames"][0]["line"]
         return line
 
 
 class Adapter(Client):
-    """A client of an adapter of its own."""
+    """A client with an adapter of its own."""
 
     def __init__(self) -> None:
         self.process = subprocess.Popen(

@@ -97,7 +97,7 @@ def misfit_of_object(value: Any, form: dict[str, Form], where: str) -> str:
 
 
 def first_of(said: Iterable[str]) -> str:
-    """The first non-empty one, if there is one."""
+    """The first text that isn't empty; empty if there is none."""
     return next(filter(None, said), "")
 
 

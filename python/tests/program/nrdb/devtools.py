@@ -1,5 +1,5 @@
 """Chromium through its DevTools protocol: pages of several people side by side, each with a profile of its own. It uses
-a pair of pipes, so no port is open."""
+a pair of pipes, so that no port is open."""
 
 from __future__ import annotations
 
@@ -21,24 +21,24 @@ from .web_support import Web
 
 Body = dict[str, Any]
 LOADED = "document.getElementById('panel')?.innerText.includes('position')"
-TO, FROM = 3, 4  # the file descriptors that chromium speaks at
-FREE = 10  # above all numbers that are assigned
+TO, FROM = 3, 4  # the file descriptors over which chromium speaks
+FREE = 10  # above all descriptors that are in use
 ENDING = 10  # seconds
 
 
 class BrowserFailure(Exception):
-    """The browser, or a script in a page, reports an error."""
+    """Raised if the browser, or a script in a page, reports an error."""
 
 
 def moved(descriptor: int) -> int:
-    """The same file descriptor at an unused number."""
+    """The same open file at an unused descriptor."""
     number = fcntl.fcntl(descriptor, fcntl.F_DUPFD_CLOEXEC, FREE)
     os.close(descriptor)
     return number
 
 
 class Chromium:
-    """A browser, from `with` to its end."""
+    """A browser that runs until the end of its `with` block."""
 
     def __enter__(self) -> Chromium:
         self._folder = tempfile.TemporaryDirectory(ignore_cleanup_errors=True)
@@ -71,7 +71,7 @@ class Chromium:
         self._folder.cleanup()
 
     def __call__(self, method: str, session: str = "", **parameters: Any) -> Body:
-        """The answer to a command."""
+        """Sends a command, and returns the answer to it."""
         self._number += 1
         asked: Body = {"id": self._number, "method": method, "params": parameters}
         if session:
@@ -102,7 +102,7 @@ class Chromium:
         return message
 
     def page(self, address: str) -> Page:
-        """A page of a person that shares nothing with the others."""
+        """A new page for a person, which shares nothing with the others."""
         person = self("Target.createBrowserContext")["browserContextId"]
         target = self("Target.createTarget", url="about:blank", browserContextId=person)["targetId"]
         session = self("Target.attachToTarget", targetId=target, flatten=True)["sessionId"]
@@ -120,7 +120,7 @@ class Page:
         self._browser, self._session = browser, session
 
     def does(self, method: str, **parameters: Any) -> Body:
-        """The answer to a command."""
+        """Sends a command to the page, and returns the answer to it."""
         return self._browser(method, self._session, **parameters)
 
     def value(self, script: str) -> Any:
@@ -189,7 +189,7 @@ class InChromium(unittest.TestCase):
         cls.addClassCleanup(cls.chromium.__exit__)
 
     def opened(self, web: Web) -> Page:
-        """The page that is served, with its timeline."""
+        """Opens the served page, and waits for its timeline."""
         page = self.chromium.page(str(web.address))
         page.until(LOADED)
         return page

@@ -1,5 +1,5 @@
-"""The common parts of nrdb's tests: paths, nrdb run with lines, and netrev's own values at each position of a
-recording, by plain `print`s."""
+"""The common parts of nrdb's tests: paths, runs of nrdb with given lines, and netrev's own values at each position of a
+recording, from plain `print`s."""
 
 import contextlib
 import io
@@ -18,13 +18,13 @@ EXAMPLES = ROOT / "examples"
 HUNTS = EXAMPLES / "hunts"
 NRDB = str(ROOT / "nrdb")
 PATIENCE = 60  # seconds
-BESIDE = ("changed", "timer")  # topics of the tables that follow each move
+BESIDE = ("changed", "timer")  # the topics of the tables that follow each move
 
 LIMIT_OF = {Of.GOROUTINE: "gor", Of.SOCKET: "sock", Of.DESCRIPTOR: "desc"}
 
 
 def nrdb(*words, lines=(), status=0):
-    """nrdb's output with these words, and these lines as input; its exit status must be this. It runs in this process,
+    """nrdb's output for these words, with these lines as input; checks its exit status. nrdb runs in this process,
     which takes less time."""
     said, input_before = io.StringIO(), sys.stdin
     sys.stdin = io.StringIO("".join(f"{line}\n" for line in lines))
@@ -38,7 +38,8 @@ def nrdb(*words, lines=(), status=0):
 
 
 def nrdb_process(*words, lines=()):
-    """nrdb in a process of its own with these words and lines: standard output, standard error, and exit status."""
+    """Runs nrdb in a process of its own with these words and lines, and returns its standard output, standard error and
+    exit status."""
     ended = subprocess.run(
         [NRDB, "--netrev", NETREV, *map(str, words)],
         input="".join(f"{line}\n" for line in lines),
@@ -51,15 +52,15 @@ def nrdb_process(*words, lines=()):
 
 
 def events(path, lines, beside=False):
-    """The events of nrdb on this recording with these lines, without those of its start and end, and without those
-    beside each move, unless wanted."""
+    """nrdb's events for this recording and these lines, without those of its start and end, and, unless wanted, without
+    those that follow each move."""
     told = [json.loads(line) for line in nrdb("--json", path, lines=lines).splitlines()]
     assert [event["event"] for event in told[:2] + told[-1:]] == ["reply", "place", "end"], told[:2]
     return [event for event in told[2:-1] if beside or event.get("topic") not in BESIDE]
 
 
 def netrev(path, lines):
-    """The replies of netrev itself."""
+    """netrev's own replies."""
     ended = subprocess.run(
         [NETREV, "run", str(path)],
         input="".join(f"{line}\n" for line in lines),
@@ -72,7 +73,7 @@ def netrev(path, lines):
 
 
 class Shown:
-    """netrev's values of a recording, by plain queries."""
+    """netrev's values for a recording, from plain queries."""
 
     def __init__(self, path):
         self.path, self.recording = path, Recording.read(path)
@@ -104,7 +105,7 @@ class Shown:
         return {cell: values[at :: len(cells) + 1] for at, cell in enumerate(cells)}
 
     def made(self, cell, position):
-        """The numbers for which that cell exists there."""
+        """The numbers for which a cell exists at a position."""
         values = self.at(position)
         numbers = (int(name.split()[1]) for name in values if name.startswith(f"{cell} "))
         return [number for number in numbers if values[f"{cell} {number}"] != "absent"]
@@ -116,7 +117,7 @@ class Shown:
 
 @lru_cache(maxsize=None)
 def shown(path):
-    """netrev's values of a recording, kept after the first query."""
+    """netrev's values for a recording, which are kept after the first query."""
     return Shown(path)
 
 

@@ -1,4 +1,5 @@
-"""nrdb without a terminal: lines from -x, -ex and the input, lines of JSON, and exit statuses, which are netrev's."""
+"""nrdb without a terminal: lines from -x, -ex and the input, lines of JSON, and the exit statuses, which are
+netrev's."""
 
 import json
 import subprocess

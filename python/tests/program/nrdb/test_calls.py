@@ -1,6 +1,6 @@
-"""nrdb's answers about what happened, with netrev: the changes of a move's last step equal plain `print`s; the
-owners of timers; `next`, `finish`, `until` with two conditions, `commands`, several commands in a line; and
-groups of waiting goroutines."""
+"""nrdb's answers about what happened, with netrev: the changes of a move's last step equal plain `print`s; also the
+owners of timers, `next`, `finish`, `until` with two conditions, `commands`, several commands in a line, and groups of
+waiting goroutines."""
 
 import json
 import random
@@ -14,14 +14,14 @@ from netrev_words.vocabulary import CELLS
 
 from .support import EXAMPLES, ROOT, events, nrdb, nrdb_process, recordings, shown
 
-AT = 6  # positions of each recording
+AT = 6  # how many positions of each recording are tested
 SEED = 20261127
 HIJACKED = EXAMPLES / "real/hijacked.jsonl"
 LOST = EXAMPLES / "lost-wakeup.jsonl"
 
 
 def said(path, *lines):
-    """The output of these lines, without the text before the first."""
+    """The output for these lines, without the text before the first one."""
     words = [word for line in lines for word in ("-ex", line)]
     return nrdb("--batch", *words, path).split(f"(netrev) {lines[0]}\n", 1)[1]
 
@@ -72,7 +72,7 @@ class Beside(unittest.TestCase):
         self.assertIn("\n| changed: descriptor 0 is made\n", said(LOST, "stepi 2"))
         told = said(LOST, "watch rg 0", "goto 10", "continue")
         self.assertIn("| mark 1: rg 0: ready -> nil\n", told)
-        self.assertIn("| changed: gor 0: swapping 0 r -> idle\n", told)  # (the mark has reported the word)
+        self.assertIn("| changed: gor 0: swapping 0 r -> idle\n", told)  # (the mark has reported the word already)
         stale = EXAMPLES / "reused-descriptor.jsonl"
         number = next(step.number for step in shown(stale).recording.steps_of(("pollevent",), 99))
         self.assertIn("| changed: ", said(stale, f"goto {number}"))
@@ -155,7 +155,7 @@ class Lines(unittest.TestCase):
         self.assertEqual(told.count("(netrev) print wd 2\nwd 2 = "), 2)
         self.assertIn("wd 2 = 45061869\n", told)
         again = said(HIJACKED, "watch wd 2", "commands 1; print wd 2; continue; end", "continue")
-        self.assertEqual(again.count("(netrev) print wd 2\nwd 2 = "), 3)  # (each stop goes on to the next one)
+        self.assertEqual(again.count("(netrev) print wd 2\nwd 2 = "), 3)  # (each stop continues to the next one)
         self.assertIn("at 216 end\n", again)
         self.assertIn("| commands [N]: ", said(HIJACKED, "commands 7"))
 

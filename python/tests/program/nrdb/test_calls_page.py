@@ -1,5 +1,5 @@
-"""The timeline's calls and stories: they equal nrdb's other answers; and in chromium how they are drawn, folded,
-filtered, picked, saved and read on a phone. Skipped without chromium (Debian: apt-get install chromium)."""
+"""The timeline's calls and stories: they equal nrdb's other answers; in chromium, how they are drawn, folded, filtered,
+picked, saved and read on a phone. Skipped without chromium (Debian: apt-get install chromium)."""
 
 import json
 import shutil
@@ -27,7 +27,8 @@ from .test_timeline import data_in
 from .test_timeline_page import page_of
 
 REAL = EXAMPLES / "real"
-BUGS = {  # for each real recording: the rule that names it, the steps of its story, and a call that must be visible
+# for each real recording, the rule that finds its bug, the steps of its story, and a call that must be visible
+BUGS = {
     "hijacked": ("deadline left behind", [107, 115, 186, 197], "Write · timed out · main.go:39"),
     "hung": ("hangs", [290, 299], "Read · hangs · main.go:13"),
     "leak": ("leaked reference", [61, 71], "Control · hasn't ended · main.go:60"),
@@ -47,8 +48,8 @@ def opened(page: str) -> str:
 
 
 def numbers_in(told: Any, count: int) -> Sequence[int]:
-    """The numbers of a column of calls: one value that all have, or the number of bytes each has and all values in
-    base64."""
+    """The numbers of a column of calls, which is given as one value that all have, or as the bytes of each number with
+    all numbers in base64."""
     if not isinstance(told, list):
         return [told] * count
     wide, text = told

@@ -40,7 +40,7 @@ class Hunt(unittest.TestCase):
             stopped = self.editor.move("reverseContinue", threadId=1)
             self.assertEqual((stopped["reason"], stopped["hitBreakpointIds"]), ("data breakpoint", [made["id"]]))
             lines.append(self.editor.line())
-        self.assertEqual(lines, [22, 20, 18])  # positions 20, 18 and 16: the lines of the next steps
+        self.assertEqual(lines, [22, 20, 18])  # at positions 20, 18 and 16: the lines of the next steps
         told = self.editor("evaluate", expression="info position", context="repl")["result"]
         self.assertEqual(told.splitlines()[0], "at 16 of 22 forward")
 
@@ -100,7 +100,7 @@ class Hunt(unittest.TestCase):
         wanted = [{"name": "pollreset", "condition": "rg 0 == ready"}]
         self.assertTrue(self.editor("setFunctionBreakpoints", breakpoints=wanted)["breakpoints"][0]["verified"])
         self.assertEqual(self.editor.move("continue", threadId=1)["reason"], "function breakpoint")
-        self.assertEqual(self.editor.line(), 19)  # not at line 5, where the word is nil
+        self.assertEqual(self.editor.line(), 19)  # not at line 5, at which the word is nil
         wrong = [{"name": "pollreset", "condition": "whenever"}]
         (refused,) = self.editor("setFunctionBreakpoints", breakpoints=wrong)["breakpoints"]
         self.assertIn("isn't a condition", refused["message"])
@@ -118,7 +118,7 @@ class Hunt(unittest.TestCase):
 
     def test_steps_of_a_goroutine(self):
         self.editor.begin(LOST, stopAt=8)
-        self.assertEqual((self.editor.line(), self.editor.thread), (10, 65_536))  # an arrival is next
+        self.assertEqual((self.editor.line(), self.editor.thread), (10, 65_536))  # an arrival is the next step
         self.editor.move("next", threadId=1)
         self.assertEqual(self.editor.line(), 12)  # parkcommit
         self.editor.move("stepIn", threadId=1)
@@ -372,7 +372,7 @@ class Ends(unittest.TestCase):
 
 
 class Forms(unittest.TestCase):
-    """The forms reject what doesn't fit them."""
+    """The forms reject messages that don't fit them."""
 
     def test_a_wrong_message_is_found(self):
         good = {"seq": 1, "type": "event", "event": "stopped", "body": {"reason": "step", "threadId": 1}}

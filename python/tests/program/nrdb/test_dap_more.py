@@ -1,4 +1,4 @@
-"""`nrdb --dap`: log messages, hit counts, files of Go, bytes of a buffer, shared sessions, and a pause during a
+"""`nrdb --dap`: log messages, hit counts, Go files, the bytes of a buffer, shared sessions, and a pause during a
 move."""
 
 import base64
@@ -23,14 +23,14 @@ LONG = 999_998  # steps after the first
 
 
 class Points(unittest.TestCase):
-    """Breakpoints that print, and that count."""
+    """Breakpoints with messages and with hit counts."""
 
     def setUp(self):
         self.editor = Adapter()
         self.addCleanup(self.editor.__exit__)
 
     def moves(self, way):
-        """Moves, and returns why it stopped, and the console's text by then."""
+        """Makes a move, and returns the reason for its stop and the console's text up to then."""
         self.editor.events.clear()
         self.editor(way, threadId=1)
         told = ""
@@ -70,7 +70,7 @@ class Points(unittest.TestCase):
         (made,) = self.editor("setFunctionBreakpoints", breakpoints=wanted)["breakpoints"]
         self.assertTrue(made["verified"])
         self.assertEqual(self.moves("continue")[0]["reason"], "function breakpoint")
-        self.assertEqual(self.editor.line(), 21)  # the second one: the first is in line 8
+        self.assertEqual(self.editor.line(), 21)  # the second breakpoint; the first is in line 8
         self.assertEqual(self.moves("continue")[0]["description"], "the recording's end")
         self.assertEqual(self.moves("reverseContinue")[0]["hitBreakpointIds"], [made["id"]])
         self.editor("setFunctionBreakpoints", breakpoints=[])
@@ -82,7 +82,8 @@ class Points(unittest.TestCase):
         for _ in range(3):
             self.moves("continue")
             places.append(self.editor.line())
-        self.assertEqual(places, [14, 23, 23])  # positions 12 and 22, the fourth and the eighth change; and the end
+        # positions 12 and 22, which are the fourth and the eighth change; and the end
+        self.assertEqual(places, [14, 23, 23])
         wrong = [{"name": "blockarm", "hitCondition": "often"}]
         (refused,) = self.editor("setFunctionBreakpoints", breakpoints=wrong)["breakpoints"]
         self.assertIn("isn't a hit count", refused["message"])
@@ -197,7 +198,7 @@ class Shared(unittest.TestCase):
 
 @pytest.mark.alone
 class Stopped(unittest.TestCase):
-    """A move of a million steps, and the requests during it."""
+    """A move of a million steps, and the requests that arrive during it."""
 
     folder: "tempfile.TemporaryDirectory[str]"
     recording: Path
@@ -213,7 +214,7 @@ class Stopped(unittest.TestCase):
         cls.folder.cleanup()
 
     def responses(self, editor, *numbers):
-        """The responses to these requests, each with the time when it came, and the stops."""
+        """The responses to these requests, each with the time at which it arrived, and the stops."""
         found: dict[int, tuple[dict[str, Any], float]] = {}
         stops: list[dict[str, Any]] = []
         while set(numbers) - set(found):
@@ -229,7 +230,7 @@ class Stopped(unittest.TestCase):
         editor.send({"seq": number, "type": "request", "command": command, "arguments": arguments})
 
     def begun(self, editor):
-        """A session at the start, with a breakpoint whose condition never holds, and all filters."""
+        """Begins a session at the start, with a breakpoint whose condition never holds, and with all filters."""
         editor.begin(str(self.recording), stopAt="start")
         editor("setExceptionBreakpoints", filters=["suspects", "timeouts", "errors"])
         never = [{"dataId": "lock 0", "hitCondition": "> 9999999"}]

@@ -26,7 +26,7 @@ TOKEN = "a token of this test"
 
 
 def framed(*messages: dict[str, Any]) -> bytes:
-    """Messages as they are sent."""
+    """Messages in the form in which they are sent."""
     texts = [json.dumps(one).encode() for one in messages]
     return b"".join(b"Content-Length: %d\r\n\r\n%s" % (len(text), text) for text in texts)
 
@@ -36,7 +36,7 @@ def asked(number: int, command: str, **arguments: Any) -> dict[str, Any]:
 
 
 class Port(unittest.TestCase):
-    """A served port, and its connections."""
+    """A port that is served, and connections to it."""
 
     environment: dict[str, str] = {}
 
@@ -61,14 +61,14 @@ class Port(unittest.TestCase):
         return Client(connection.makefile("rb"), connection.makefile("wb"))
 
     def said_to(self, data: bytes) -> bytes:
-        """Everything that is sent to a connection that sends this, and then nothing more."""
+        """Everything that nrdb sends to a connection that sends these data and then nothing more."""
         with self.connect() as connection:
             connection.sendall(data)
             connection.shutdown(socket.SHUT_WR)
             return b"".join(iter(lambda: received(connection), b""))
 
     def goes_on(self) -> None:
-        """An editor that has the token is served."""
+        """Checks that an editor with the token is still served."""
         with self.connect() as connection:
             editor = self.editor(connection)
             self.assertEqual(editor.begin(LOST, token=self.token)["reason"], "entry")
@@ -138,7 +138,7 @@ class Strangers(Port):
 
 
 class OfOnesOwn(Port):
-    """A token from the environment."""
+    """A token that the user chose in the environment."""
 
     environment = {"NRDB_TOKEN": "sixteen letters!"}
 
@@ -155,13 +155,13 @@ class OfOnesOwn(Port):
 
 @pytest.fixture
 def handshakes() -> Iterator[tuple[Handshakes, tuple[str, int]]]:
-    """The handshakes at a port of this process, and its address."""
+    """The handshakes at a port of this process, and the port's address."""
     with closing(socket.create_server((LOOPBACK, 0))) as listening:
         yield Handshakes(listening, TOKEN), listening.getsockname()
 
 
 def is_ended(connection: socket.socket) -> bool:
-    """Whether the other side ends a connection within the time; text before that is read."""
+    """Whether the other side ends a connection in time; text that it sends before is skipped."""
     connection.settimeout(PATIENCE)
     try:
         while connection.recv(65_536):

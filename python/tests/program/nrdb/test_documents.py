@@ -15,7 +15,7 @@ RECORDING = re.compile(r"(?:examples|python/tests/caused)/[\w/-]+\.jsonl")
 
 
 def sessions(text):
-    """The blocks of a page that begin with a prompt, each with the recording that was named last before it."""
+    """The blocks of a page that begin with a prompt, each with the last recording named before it."""
     for block in re.finditer(r"(?:^    .*\n)+", text, re.MULTILINE):
         lines = [line[4:] for line in block[0].splitlines()]
         if lines[0].startswith(PROMPT):
@@ -24,20 +24,20 @@ def sessions(text):
 
 def refusals(text):
     """The blocks of a page that begin with a call of nrdb on a recording of examples/: the recording, and the lines, up
-    to `...` if they end so."""
+    to `...` if the block ends with that."""
     for block in re.finditer(r"^    \$ ./nrdb (examples/\S+)\n((?:    .*\n)+)", text, re.MULTILINE):
         yield block[1], [line[4:] for line in block[2].splitlines()]
 
 
 def calls(text):
-    """The blocks of a page that begin with a call of nrdb with options on a recording of examples/: its words, and the
-    lines."""
+    """The blocks of a page that begin with a call of nrdb with options on a recording of examples/: the words of the
+    call, and the lines."""
     for block in re.finditer(r"^    \$ ./nrdb (-.* examples/\S+)\n((?:    .*\n)+)", text, re.MULTILINE):
         yield block[1].split(), [line[4:] for line in block[2].splitlines()]
 
 
 def as_shown(lines):
-    """A pattern for the output of shown lines: `..` alone is any lines, and a duration is any time."""
+    """A pattern for the output that some lines show: `..` matches any lines, and a duration matches any duration."""
     shown = "".join(r"(?:.*\n)+" if line == ".." else f"{re.escape(line)}\n" for line in lines)
     return re.sub(r"\d+\\\.\d\\ s\b", r"\\d+\\.\\d s", shown)
 

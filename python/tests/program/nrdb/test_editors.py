@@ -19,14 +19,14 @@ def conversation() -> list[tuple[str, dict[str, Any]]]:
 
 
 def as_told(message: dict[str, Any]) -> Any:
-    """A message in the form that is kept: without message numbers, and with the recording's name instead of its
+    """A message in the form that is stored: without message numbers, and with the recording's name in place of its
     path."""
     kept = {name: value for name, value in message.items() if name not in ("seq", "request_seq", "type")}
     return json.loads(json.dumps(kept).replace(json.dumps(str(EXAMPLES / RECORDING)), json.dumps(RECORDING)))
 
 
 class Conversation(unittest.TestCase):
-    """The hunt for the lost wake-up."""
+    """The search for the lost wake-up."""
 
     def test_it_is_said_so(self):
         told = conversation()

@@ -1,5 +1,5 @@
-"""A hunt in Emacs with dap-mode, both as Debian has them, and a breakpoint at a line of Go. If they aren't installed,
-the tests are skipped, by name."""
+"""A bug hunt in Emacs with dap-mode, both as Debian packages them, and a breakpoint at a line of Go. If they aren't
+installed, the tests are skipped and named."""
 
 import json
 import os
@@ -107,7 +107,7 @@ class Emacs(unittest.TestCase):
         return [line for line in ended.stdout.splitlines() if line]
 
     def test_a_hunt(self):
-        """The lost wake-up."""
+        """Finds the lost wake-up."""
         with tempfile.TemporaryDirectory() as home:
             told = self.told(HUNT, Path(home), EXAMPLES / "lost-wakeup.jsonl")
         wanted = ["end 23", "reverse-continue 22", "reverse-continue 20", "step-back 19", "step-in 20"]

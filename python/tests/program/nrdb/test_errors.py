@@ -1,5 +1,5 @@
-"""nrdb and its adapter answer any input, and continue: numbers of any length, file names with `;`, files that are
-too large, and unexpected errors."""
+"""nrdb and its adapter answer any input and go on: numbers of any length, file names with `;`, files that are too
+large, and unexpected errors."""
 
 import io
 import os
@@ -27,7 +27,7 @@ from .test_dap_port import asked, framed
 
 FIRST = EXAMPLES / "first.jsonl"
 LOST = EXAMPLES / "lost-wakeup.jsonl"
-LONG = "9" * 5_000  # digits, more than Python's int() takes
+LONG = "9" * 5_000  # more digits than Python's int() takes
 LINES = """steps gor {}; goto {}; list {}; history rd {}; next {}; timeline x.html {} {}; calls gor {}; explore {}; break @{}; print rd {};
     info goroutines {}; stepi {}; list a.go:{}; frame {}; finish {}; help {}; info errors {}; info holders {}; goto {}ms; until clock {};
     display rd {}; stepi 0xf{}; delete {}; commands {}; reduce x.jsonl {}""".replace(

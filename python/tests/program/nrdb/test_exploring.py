@@ -1,5 +1,5 @@
-"""`explore` with netrev: netrev accepts the kept recordings, they end as reported, and are reduced; each finding
-says that it is possible; and `--explore`, whose exit status says whether there are any."""
+"""`explore` with netrev: netrev accepts the recordings that are kept, they end as reported, and they can be reduced;
+each finding is marked as possible; and the exit status of `--explore` says whether there are findings."""
 
 import json
 import os
@@ -23,7 +23,7 @@ from .test_suspects import checked
 from tests.folders import folder_of
 
 SOME = 4
-SCHEDULES = 100  # of each race
+SCHEDULES = 100  # how many schedules of each race are tried
 TIMED = re.compile(r" in [\d.]+ s")
 GOOD = EXAMPLES / "cancelled-read.jsonl"
 CAUSED = EXAMPLES.parent / "python/tests/caused"
@@ -115,7 +115,7 @@ class Exploring(unittest.TestCase):
 
 
 def upgraded_with_lines(path: Path) -> tuple[Path, str]:
-    """The good recording with answers, and lines of a program for its deadlines."""
+    """The good recording with answers, and source lines for its deadlines."""
     lines = GOOD.read_text().splitlines()
     path.write_text("".join(f"{line}\n" for line in lines))
     steps = len(lines) - 1
@@ -132,5 +132,5 @@ def upgraded_with_lines(path: Path) -> tuple[Path, str]:
 
 
 def upgrade(path: Path) -> None:
-    """Gives a recording netrev's answers."""
+    """Adds netrev's answers to a recording."""
     path.write_bytes(answered_by(NETREV, "upgrade", path.read_bytes())[1])

@@ -1,5 +1,5 @@
-"""Each message of the adapter, decoded by Debian's go-dap, whose authors wrote it from the protocol's specification.
-Without Go or go-dap the tests are skipped, by name."""
+"""Each message of the adapter, decoded by Debian's go-dap, which its authors wrote from the protocol's specification.
+Without Go or go-dap the tests are skipped and named."""
 
 import json
 import os
@@ -29,7 +29,7 @@ BUILT = tempfile.TemporaryDirectory()
 
 @lru_cache(maxsize=None)
 def decoder() -> Path:
-    """The program that decodes, which is built once."""
+    """The decoding program, which is built once."""
     assert GO
     folder = Path(BUILT.name)
     source = folder / "decoding/main.go"
@@ -52,7 +52,7 @@ def decoded(messages: list[Body]) -> list[str]:
 @unittest.skipUnless(GO_DAP.is_dir(), "go-dap isn't here (Debian: apt-get install golang-github-google-go-dap-dev)")
 class Decoded(unittest.TestCase):
     def kept(self) -> list[Body]:
-        """The messages of a session that asks for everything that the adapter has."""
+        """The messages of a session that requests everything that the adapter offers."""
         came: list[Body] = []
         receive = Client.message
 

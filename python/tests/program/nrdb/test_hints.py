@@ -1,4 +1,4 @@
-"""Refused recordings and faulty lines: each with nrdb's text about it, which is kept as data and names what to
+"""Refused recordings and faulty lines, each with nrdb's text about it; the texts are stored as data and name what to
 correct."""
 
 import json
@@ -65,7 +65,8 @@ class Answers(unittest.TestCase):
 
 
 def answered_steps():
-    """For each version 2 recording of examples/ the first and the last step of each kind with each of its answers."""
+    """For each recording of version 2 in examples/, the first and the last step of each kind with each of its
+    answers."""
     for recording in map(Recording.read, recordings()):
         if recording.has_answers:
             chosen: dict[tuple[str, str], list[Step]] = {}

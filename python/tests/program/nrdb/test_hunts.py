@@ -1,5 +1,6 @@
-"""The hunts of examples/hunts and examples/real, and two long generated ones: `info suspects` and the line that it suggests find each bug
-that a rule knows, and print the stored text. A recording with an answer that isn't the machine's is refused, and nrdb explains that."""
+"""The hunts of examples/hunts and examples/real, and two long generated ones: `info suspects`, and the command that it
+suggests, find each bug that a rule knows, and print the stored text. A recording with an answer that differs from the
+machine's is refused, and nrdb explains why."""
 
 import json
 import tempfile
@@ -12,7 +13,7 @@ from tests.examples import KNOWN, REFUSED
 from .support import EXAMPLES, HUNTS, nrdb, nrdb_process
 
 MOST = 5
-LONG = {"keeper": 50_000, "refused": 500_000}  # steps, or a few more, until everything that can end has done so
+LONG = {"keeper": 50_000, "refused": 500_000}  # the steps, or a few more, until everything that can end has ended
 
 
 class Hunts(unittest.TestCase):

@@ -1,5 +1,5 @@
-"""The results of `make install` and `pip install`: the files of the packages, nrdb and netrev-go that find netrev, and
-the man page."""
+"""What `make install` and `pip install` produce: the files of the packages, nrdb and netrev-go programs that find
+netrev, and the man page."""
 
 import os
 import re
@@ -17,11 +17,11 @@ ENVIRONMENT = {name: value for name, value in os.environ.items() if name not in 
 ASKED = ("--batch", "-ex", "continue", "-ex", "info goroutines", EXAMPLES / "first.jsonl")
 PROJECT = ("pyproject.toml", "python", "LICENSE", "README.md")
 INCLUDED = re.findall(r"^include = \[(.*)\]$", (ROOT / "pyproject.toml").read_text(encoding="utf-8"), re.MULTILINE)
-INSTALLED = tuple(re.findall(r'"(\w+)\*"', "".join(INCLUDED)))  # the one list of the packages that are installed
+INSTALLED = tuple(re.findall(r'"(\w+)\*"', "".join(INCLUDED)))  # the packages to install, which are listed only there
 
 
 def printed(*words: object, **settings: str) -> str:
-    """The output of a program that ends with status 0, called elsewhere."""
+    """The output of a program that is called in another folder and ends with status 0."""
     run = subprocess.run(
         [str(word) for word in words],
         env=ENVIRONMENT | settings,
@@ -44,7 +44,7 @@ def builder() -> Optional[str]:
 
 
 def contents(folder: Path) -> dict[str, bytes]:
-    """The files of the packages in a folder."""
+    """The files of the packages in a folder, with their contents."""
     found = (path for name in INSTALLED for path in (folder / name).rglob("*"))
     return {
         str(path.relative_to(folder)): path.read_bytes()
@@ -94,7 +94,7 @@ class Install(unittest.TestCase):
         of = {path.relative_to(lib).parents[1] / f"{path.name.partition('.')[0]}.py" for path in compiled}
         self.assertEqual(of, modules)
         flags = {int.from_bytes(path.read_bytes()[4:8], "little") for path in compiled}
-        self.assertEqual(flags, {0b11})  # (PEP 552: by a checksum of the source, which is read)
+        self.assertEqual(flags, {0b11})  # (PEP 552: checked by a hash of the source, which is read)
         times = {path: path.stat().st_mtime_ns for path in compiled}
         self.assertEqual(printed(self.folder / "bin/nrdb", *ASKED), nrdb(*ASKED))
         self.assertEqual({path: path.stat().st_mtime_ns for path in lib.rglob("*.pyc")}, times)
@@ -112,7 +112,7 @@ class Install(unittest.TestCase):
             self.skipTest("no Python here has pip, setuptools and wheel")
         project, there = self.folder / "project", self.folder / "there"
         project.mkdir()
-        for name in PROJECT:  # (setuptools leaves things beside what it builds)
+        for name in PROJECT:  # (setuptools leaves files beside those that it builds)
             if (ROOT / name).is_dir():
                 shutil.copytree(ROOT / name, project / name)
             else:

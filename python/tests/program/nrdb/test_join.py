@@ -17,7 +17,7 @@ DONE = "cell clock: the time, in nanoseconds"
 
 
 class Joined:
-    """nrdb at a front, which gets line by line, and prints lines of JSON."""
+    """nrdb at a front: it gets one line at a time, and prints lines of JSON."""
 
     def __init__(self, port, *words):
         called = [NRDB, "--json", "--join", f"127.0.0.1:{port}", *map(str, words)]
@@ -35,7 +35,7 @@ class Joined:
             self.process.communicate()
 
     def ask(self, *lines):
-        """The events that these lines cause, and earlier ones."""
+        """The events that these lines cause, after those that are still unread."""
         self.lines.write("".join(f"{line}\n" for line in (*lines, "help clock")))
         self.lines.flush()
         told: list[dict[str, Any]] = []
@@ -46,7 +46,7 @@ class Joined:
             told.append(event)
 
     def ends(self):
-        """The output when the input ends, and the exit status."""
+        """Ends the input, and returns the output and the exit status."""
         rest, _ = self.process.communicate(timeout=PATIENCE)
         return [json.loads(line) for line in rest.splitlines()], self.process.returncode
 
@@ -58,7 +58,7 @@ class Other:
         self.caller, self.lines = caller, caller.makefile("rw")
 
     def ask(self, line):
-        """The reply to a line."""
+        """Sends a line, and returns the reply."""
         self.lines.write(f"{line}\n")
         self.lines.flush()
         return self.lines.readline().rstrip("\n")
@@ -75,7 +75,7 @@ def replies(told):
 
 
 def serving(fronts=1, left=1):
-    """A server with this many fronts, each with this many connections left."""
+    """Starts a server with this many fronts, each with this many connections left."""
     server = Server(FIRST, fronts=fronts, connections=1 + left)
     for front in range(fronts):
         server.call(front).close()
@@ -123,7 +123,7 @@ class Join(unittest.TestCase):
             self.assertEqual(said, "| the recording has 22 steps, but the session's has 10\n")
 
     def test_a_file_that_is_no_recording(self):
-        """It has as many lines as the session's recording, and netrev reports its fault."""
+        """The file has as many lines as the session's recording, and netrev reports its fault."""
         with tempfile.TemporaryDirectory() as folder, serving() as server:
             file = f"{folder}/x.jsonl"
             with open(file, "w", encoding="ascii") as text:

@@ -1,5 +1,5 @@
 """Terminal controls in each place of a recording that netrev refuses, of its header, and of the source lines beside a
-recording: nrdb and the timeline's page write them out."""
+recording: nrdb and the timeline's page print them escaped."""
 
 import json
 import unittest
@@ -27,13 +27,13 @@ FORMS = ((), ("--json",))
 
 
 def spellings(text: str) -> Iterator[str]:
-    """A text within a JSON string: as it is, and as an escape."""
+    """A text within a JSON string: unchanged, and as an escape."""
     yield text
     yield json.dumps(text)[1:-1]
 
 
 def refused_with(text: str) -> Iterator[bytes]:
-    """Refused recordings, with this text in each place of the header and of a step."""
+    """Refused recordings that have this text in each place of the header and of a step."""
     for spelled in spellings(text):
         for header in (
             f'{{"netrev":1,"{spelled}":4,"sock":2,"desc":2,"buf":16}}',
@@ -56,7 +56,7 @@ def refused_with(text: str) -> Iterator[bytes]:
 
 
 def where_with(text: str, steps: int) -> str:
-    """Lines of source with this text in each of their places."""
+    """A file of source lines that has this text in each of its places."""
     call: dict[str, Any] = {"call": 1, "function": f"main.{text}f", "file": f"m{text}.go", "line": 3, "of": "program"}
     library = call | {"call": 2, "of": f"li{text}brary"}
     lines: list[Any] = [{"where": 1, "steps": steps}, call, library, {"stack": 1, "calls": [1, 2], "made": 1}]

@@ -1,6 +1,6 @@
-"""The pages for people who use keys, or have low vision: each control has a name and shows its focus, and each text
-has enough contrast, light and dark. The tests check the browser's computed styles; nothing is fetched. Skipped
-without chromium (Debian: apt-get install chromium)."""
+"""The pages for people who use only the keyboard or have low vision: each control has a name and shows its focus, and
+each text has enough contrast, light and dark. The tests check the styles that the browser computes; nothing is fetched.
+Skipped without chromium (Debian: apt-get install chromium)."""
 
 import tempfile
 from pathlib import Path
@@ -16,10 +16,10 @@ TEXT, LARGE, EDGE = (
     4.5,
     3.0,
     3.0,
-)  # the least contrasts, of WCAG 2.1: of text, of large text, of what shows where the keyboard is
+)  # the least contrasts by WCAG 2.1: of text, of large text, and of what shows the keyboard's focus
 PLACES = {"timeline": "real/hijacked.jsonl", "hanging": "real/hung.jsonl"}
 
-# Each text that is seen: what it says, its colour, what is behind it, and how large it is.
+# Each visible text: its words, its colour, its background, and its size.
 TEXTS = """
 (() => {
   const parts = (colour) => colour.match(/[\\d.]+/g).map(Number);
@@ -48,7 +48,7 @@ NAMELESS = """
   .map((one) => one.outerHTML.slice(0, 120))
 """
 
-# The focused element: what it is, and its outline.
+# The focused element: its name, and its outline.
 FOCUSED = """
 (() => { const one = document.activeElement, style = getComputedStyle(one), box = one.getBoundingClientRect();
   return one === document.body ? null : { is: one.id || one.textContent.slice(0, 30), style: style.outlineStyle, wide: parseFloat(style.outlineWidth),
@@ -95,7 +95,7 @@ class Access(InChromium):
         cls.pages = {name: page_of(EXAMPLES / path) for name, path in PLACES.items()}
 
     def shown(self, address: str) -> Iterator[tuple[str, Page]]:
-        """A page, light and dark."""
+        """The page in light and in dark colours."""
         for scheme in ("light", "dark"):
             page = self.chromium.page("about:blank")
             page.does("Emulation.setEmulatedMedia", features=[{"name": "prefers-color-scheme", "value": scheme}])
@@ -122,7 +122,7 @@ class Access(InChromium):
             self.assertGreaterEqual(round(contrast(colour, ground), 2), least, (name, words, colour, ground))
 
     def expect_keyboard(self, name: str, page: Page, least: int) -> None:
-        """Tab goes to each control in turn, and each shows that it has the keyboard."""
+        """Checks that Tab goes to each control in turn, and that each shows its focus."""
         self.assertEqual(page.value(NAMELESS), [], name)
         ground, seen = page.value("getComputedStyle(document.body).backgroundColor"), []
         page.value("document.getElementById('find').focus()")

@@ -1,5 +1,5 @@
-"""The text of recordings: steps by their numbers, whatever lines are between them; and the holders of references,
-in small recordings."""
+"""The text of recordings: steps by number, whatever lines are between them; and the holders of references, in small
+recordings."""
 
 import json
 import tempfile
@@ -17,7 +17,8 @@ HEADER = '{"netrev":1,"gor":4,"sock":2,"desc":2,"buf":16}'
 
 
 def by_reading(data):
-    """The steps by reading each line: number, line, kind, arguments and the answer, which version 1 doesn't have."""
+    """The steps, found by reading each line: number, line, kind, arguments and the answer, which version 1 doesn't
+    have."""
     lines = [(number, line) for number, line in enumerate(data.split(b"\n"), 1) if line.strip(b" \t\r")]
     is_second = json.loads(lines[0][1])["netrev"] == 2
     for step, (line, text) in enumerate(lines[1:], 1):
@@ -85,7 +86,8 @@ class Text(unittest.TestCase):
 
 class Holders(unittest.TestCase):
     def holders(self, *steps):
-        """The holders of socket 0 after these steps, and since when, with three goroutines and the socket."""
+        """The holders of references to socket 0 after these steps, and since when, for three goroutines and that
+        socket."""
         made = ['["spawn"]', '["spawn"]', '["sockopen",16,16]']
         with tempfile.TemporaryDirectory() as folder:
             file = Path(folder) / "steps.jsonl"

@@ -1,5 +1,5 @@
-"""`reduce` and `report`: netrev accepts the result, which shows the same suspect or value, and doesn't grow when
-reduced again; NAME.where goes with it."""
+"""`reduce` and `report`: netrev accepts the result; it shows the same suspect or value, and doesn't grow when reduced
+again; and NAME.where is written beside it."""
 
 import re
 import unittest
@@ -16,7 +16,7 @@ from .support import EXAMPLES, HUNTS, ROOT, netrev, nrdb
 from .test_suspects import checked
 from tests.folders import folder_of
 
-# the smallest sizes that were reached, and a little more
+# a little more than the smallest sizes that were reached
 MOST = {
     "hunts/blocked-control": 20,
     "hunts/extended-deadline": 24,
@@ -29,7 +29,7 @@ MOST = {
     "real/hijacked": 20,
 }
 LENGTH = 1_500
-# seeds of runs of that length in which the planted bug shows and is named
+# the seeds of runs of this length in which the planted bug occurs and is found
 SEEDS = {
     Bug.RELEASE: 700,
     Bug.IDLE: 700,
@@ -54,7 +54,7 @@ class Reducing(unittest.TestCase):
         self.folder = folder_of(self)
 
     def reduced(self, path: Path, *words: str) -> Recording:
-        """The reduction of a recording, which netrev accepts, and which isn't longer than it says."""
+        """Reduces a recording; netrev accepts the result, which isn't longer than reported."""
         out = self.folder / f"{path.stem}-less.jsonl"
         said = nrdb("--batch", "-ex", " ".join(("reduce", str(out), *words)), path)
         left = Recording.read(str(out))

@@ -1,4 +1,5 @@
-"""Ctrl-C, once and twice, during a wait for a slow netrev, also one that is killed meanwhile: at every point of a conversation with the built program, the session's and the scout's."""
+"""Ctrl-C, once and twice, while a slow netrev is awaited, also one that is killed meanwhile: at every point of a
+conversation with the built program, for the session's netrev and the scout's."""
 
 import unittest
 
@@ -11,17 +12,17 @@ COMMANDS = ("history lock 0 all", "until gor 0 *", "reverse-continue", "goto 3")
 
 
 def slow_and_interrupted(_weather: Weather[Slow], netrev: Slow) -> None:
-    """Ctrl-C comes while netrev is slow."""
+    """Ctrl-C is pressed while netrev is slow."""
     netrev.while_stopped(pressed)
 
 
 def slow_and_given_up(_weather: Weather[Slow], netrev: Slow) -> None:
-    """It comes twice."""
+    """Ctrl-C is pressed twice while netrev is slow."""
     netrev.while_stopped(pressed, pressed)
 
 
 def slow_and_killed(_weather: Weather[Slow], netrev: Slow) -> None:
-    """netrev is slow, and then it is gone."""
+    """netrev is slow, and then it is killed."""
     netrev.while_stopped(netrev.kill)
 
 
@@ -38,4 +39,4 @@ class EveryPoint(Disturbances[Slow]):
     def test_a_slow_netrev_is_told_right(self) -> None:
         with confined():
             given_up = self.check(COMMANDS, (slow_and_interrupted, slow_and_given_up, slow_and_killed))
-        self.assertGreater(given_up, 20)  # (on a busy machine two Ctrl-C may come as one)
+        self.assertGreater(given_up, 20)  # (on a busy machine, two Ctrl-C may arrive as one)

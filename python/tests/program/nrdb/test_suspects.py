@@ -1,5 +1,5 @@
-"""`info suspects` with netrev: the rules use netrev's answers, over the examples and over traffic with planted
-bugs, which netrev accepts; and `--suspects`, whose exit status says whether there are any."""
+"""`info suspects` with netrev: the rules use netrev's answers over the examples and over traffic with planted bugs,
+which netrev accepts; and the exit status of `--suspects` says whether there are suspects."""
 
 import json
 import re
@@ -21,7 +21,7 @@ SOME = 4
 SEED = 100
 
 
-# examples of which netrev lists one suspect
+# examples for which netrev lists one suspect
 LISTED = {
     "lost-wakeup": LOST_WAKE_UP,
     "leaked-reference": HELD_REFERENCE,

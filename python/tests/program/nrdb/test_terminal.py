@@ -1,4 +1,4 @@
-"""The prompt, on a terminal of the system (a pty): line editing, the history, completion, repetition and Ctrl-C."""
+"""The prompt on a real terminal of the system (a pty): line editing, the history, completion, repetition and Ctrl-C."""
 
 import fcntl
 import os
@@ -21,7 +21,7 @@ UP = "\x1b[A"
 
 
 class Typist:
-    """Types at nrdb, and reads its screen."""
+    """Types into nrdb, and reads its screen."""
 
     def __init__(self, recording, home, program=NETREV, **variables):
         words = [NRDB, "--netrev", str(program), str(recording)]
@@ -48,7 +48,7 @@ class Typist:
         os.write(self.terminal, text.encode())
 
     def interrupt(self, text):
-        """Presses Ctrl-C until this text comes: Python may notice one between two keys only at the next key."""
+        """Presses Ctrl-C until this text appears: Python may notice a Ctrl-C between two keys only at the next key."""
         for _ in range(PATIENCE):
             self.type(INTERRUPT)
             if self.reads_until([text], 1):
@@ -56,7 +56,7 @@ class Typist:
         self.until(text)
 
     def reads_until(self, texts, patience):
-        """Reads until one of these texts is on the screen; whether it came in time."""
+        """Reads until one of these texts is on the screen; returns whether it appeared in time."""
         limit = time.monotonic() + patience
         while not any(text in self.screen for text in texts):
             left = limit - time.monotonic()
@@ -78,13 +78,13 @@ class Typist:
         return seen
 
     def ask(self, line):
-        """The answer to a line: everything up to the next prompt."""
+        """Types a line, and returns everything up to the next prompt."""
         self.type(f"{line}\r")
         self.until("\n")
         return self.until(PROMPT)[: -len(PROMPT)]
 
     def ends(self):
-        """The exit status, when nrdb has ended."""
+        """Waits until nrdb ends, and returns its exit status."""
         _, status = os.waitpid(self.process, 0)
         self.process = 0
         return os.waitstatus_to_exitcode(status)
@@ -208,7 +208,7 @@ class Terminal(unittest.TestCase):
         silent.chmod(0o755)
         with Typist(EXAMPLES / "first.jsonl", self.home, silent) as person:
             given_up = "| netrev doesn't answer: nrdb ends the session\n"
-            for _ in range(PATIENCE):  # one that comes before the line is sent drops it
+            for _ in range(PATIENCE):  # a Ctrl-C that comes before the line is sent drops the line
                 person.type("stepi\r")
                 for _ in range(2):
                     time.sleep(0.2)
@@ -219,7 +219,7 @@ class Terminal(unittest.TestCase):
             self.assertEqual(person.ends(), 3)
 
     def slow(self):
-        """A netrev that is slow to begin, and the file that it leaves when it has been started."""
+        """A netrev that starts slowly, and the file that it makes when it has been started."""
         program, begun = Path(self.home) / "slow", Path(self.home) / "begun"
         program.write_text(
             f'#!/bin/sh\n[ "$1" = run ] && [ ! -e {begun} ] && touch {begun} && sleep 3\nexec {NETREV} "$@"\n'
@@ -228,7 +228,7 @@ class Terminal(unittest.TestCase):
         return program, begun
 
     def loading(self):
-        """A user at a recording that is still being read."""
+        """A user of a recording that is still being read."""
         program, begun = self.slow()
         begun.unlink(missing_ok=True)
         person = Typist(EXAMPLES / "first.jsonl", self.home, program)
@@ -281,7 +281,7 @@ class Terminal(unittest.TestCase):
             person.ask("watch lock 0")
             person.ask("continue")
             stopped = False
-            while not stopped:  # one that comes before the walk has begun only drops the line
+            while not stopped:  # a Ctrl-C that comes before the walk has begun only drops the line
                 person.type("until lock 0 nonsense\r")
                 person.until("nonsense\n")
                 time.sleep(0.2)

@@ -13,11 +13,11 @@ from nrdb.recorded_changes import RecordedChanges
 from .support import EXAMPLES, HUNTS, nrdb, recordings, shown
 
 SEED = 20261125
-SVG = 'xmlns="http://www.w3.org/2000/svg"'  # a namespace in what the page saves; nothing is fetched from it
+SVG = 'xmlns="http://www.w3.org/2000/svg"'  # a namespace in saved pictures; nothing is fetched from it
 
 
 def page_of(path, *words):
-    """The text of the page of a recording, and the data in it."""
+    """The text of a recording's page, and the data in it."""
     with tempfile.TemporaryDirectory() as folder:
         file = Path(folder) / "page.html"
         nrdb(*words, "--timeline", file, path)
@@ -33,7 +33,7 @@ def data_in(text):
 
 
 def value_at(runs, position):
-    """The value of the last run that begins at the position or before."""
+    """The value of the last run that begins at or before the position."""
     return [value for start, value in runs if start <= position][-1]
 
 
@@ -167,6 +167,6 @@ class Timeline(unittest.TestCase):
 
 
 def brightness(colour):
-    """How bright a colour is, from 0 to 255."""
+    """The brightness of a colour, from 0 to 255."""
     red, green, blue = (int(colour[at : at + 2], 16) for at in (1, 3, 5))
     return 0.299 * red + 0.587 * green + 0.114 * blue

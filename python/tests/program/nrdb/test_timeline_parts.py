@@ -1,5 +1,5 @@
 """The page of a part of a long recording, in chromium. It opens at the part that has values, and each side of a
-descriptor that is reused many times has one row. Skipped without chromium (Debian: apt-get install chromium)."""
+descriptor that is reused many times has only one row. Skipped without chromium (Debian: apt-get install chromium)."""
 
 import subprocess
 from pathlib import Path
@@ -44,7 +44,7 @@ def mix(tmp_path_factory: pytest.TempPathFactory) -> Path:
 
 
 def seen(path: Path, *words: str, place: str = "") -> dict[str, Any]:
-    """The contents of the page when it opens, for a recording that is too long for it."""
+    """The contents of the page when it opens, for a recording that is too long for one page."""
     with mock.patch.object(picture, "MOST", PART), mock.patch.object(picture, "AT_ONCE", PART):
         page = page_of(path, *words)
     end = "})(JSON.parse("

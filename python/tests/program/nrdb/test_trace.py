@@ -1,4 +1,4 @@
-"""`trace` with netrev: the file is complete, and contains netrev's answers."""
+"""`trace` with netrev: the file is complete and contains netrev's answers."""
 
 import gzip
 import json

@@ -7,8 +7,8 @@ from collections import Counter
 
 from .support import events, recordings, shown
 
-AT = 4  # positions of each recording, besides its ends
-CELLS = 8  # cells of each recording
+AT = 4  # the number of positions of each recording that are tested besides its ends
+CELLS = 8  # the number of cells of each recording that are tested
 SEED = 20261125
 
 
@@ -16,7 +16,7 @@ FIELDS = (r"^\d+ references?$", r"waiting to read$", r"waiting to write$")
 
 
 def lock_fields(value):
-    """The lock word's fields by shifts: closed, locks, references, waiting readers and writers."""
+    """The lock word's fields, found by shifts: closed, locks, references, waiting readers and writers."""
     word = int(value)
     return [word & 1, word >> 1 & 1, word >> 2 & 1, word >> 3 & 0xFFFFF, word >> 23 & 0xFFFFF, word >> 43 & 0xFFFFF]
 
@@ -29,7 +29,7 @@ def told_fields(words):
 
 
 def open_descriptors(recording, position):
-    """How often each descriptor was opened and not freed, from the text of the steps, and the socket of the last
+    """How often each descriptor was opened and not freed, counted in the text of the steps, and the socket of its last
     opening."""
     count: dict[int, int] = {}
     socket: dict[int, int] = {}
@@ -49,7 +49,7 @@ def open_descriptors(recording, position):
 
 
 def balance(recording, words, position):
-    """How many references of a socket each goroutine has, from the changes of its lock word's count at that
+    """How many references of a socket each goroutine has, from the changes of the count in the lock word at the
     goroutine's steps."""
     references = [0 if word == "absent" else lock_fields(word)[3] for word in words]
     held: Counter[int] = Counter()
@@ -64,7 +64,7 @@ class Views(unittest.TestCase):
         self.random = random.Random(SEED)
 
     def places(self, path):
-        """Positions of a recording, including its ends."""
+        """Random positions of a recording, and its ends."""
         length = shown(path).length
         return sorted({0, length, *(self.random.randint(0, length) for _ in range(AT))})
 
@@ -163,7 +163,7 @@ class Views(unittest.TestCase):
                     self.compare_holders(world, at, socket, table)
 
     def compare_holders(self, world, at, socket, table):
-        """Compares the holders with the lock word, and each with the step that it names."""
+        """Compares the holders with the lock word, and each holder with the step that it names."""
         value = world.at(at)[f"lock {socket}"]
         _, read, write, references, *_ = lock_fields(value)
         self.assertIn(f"lock {socket} = {value}: ", table["rest"])

@@ -1,4 +1,4 @@
-"""The timeline's rows of goroutines without sockets, with what each waits for; and its search for lines, functions,
+"""The timeline's rows for goroutines without sockets, each with what it waits for; and its search for lines, functions,
 connections and goroutines, in chromium. Skipped without chromium (Debian: apt-get install chromium)."""
 
 import re
@@ -27,7 +27,7 @@ def opened(page: str) -> str:
 
 
 def rows_of(data: Any) -> list[tuple[str, str, bool]]:
-    """The waits of goroutines without steps: which one, what it does, and whether that doesn't end."""
+    """The waits of goroutines without steps: the goroutine's name, what it does, and whether the wait doesn't end."""
     texts = data["texts"]
     return [(data["others"][-1 - g][0], texts[does], not last) for g, _, last, does, _, _ in data["rows"] if g < 0]
 

@@ -1,5 +1,5 @@
-"""`nrdb --web`: people who listen to a session's events and type lines, a terminal at another front, and a killed
-netrev. tests.test_web has the requests that aren't the page's."""
+"""`nrdb --web`: people who listen to a session's events and type lines, a terminal at another front, and a netrev that
+is killed. tests/test_web.py tests requests that aren't the page's."""
 
 import json
 import socket
@@ -21,7 +21,7 @@ GONE = "netrev has ended: lines aren't answered until it is back"
 
 
 def serving(fronts: int, port: "int | None" = None) -> Server:
-    """A shared session on the lost wake-up, for as long as it is needed."""
+    """A shared session on the lost wake-up, which serves as long as needed."""
     server = Server(LOST, fronts=fronts, connections=0, port=port)
     for front in range(fronts):
         server.call(front).close()
@@ -29,7 +29,7 @@ def serving(fronts: int, port: "int | None" = None) -> Server:
 
 
 def children(process: int) -> list[int]:
-    """The child processes of this one."""
+    """The child processes of this process."""
     found = []
     for task in Path(f"/proc/{process}/task").iterdir():
         with suppress(FileNotFoundError):  # (a thread may have ended meanwhile)
@@ -85,7 +85,7 @@ class Shared(unittest.TestCase):
 
 
 class Web_of_a_front:
-    """A shared session, and a page at its front."""
+    """A shared session, and a page at one of its fronts."""
 
     def __enter__(self) -> "tuple[Server, Web]":
         self._server = serving(1)
@@ -116,7 +116,7 @@ class Alone(unittest.TestCase):
         with Web(FIRST) as web, Listener(web.address) as one:
             one.said("stepi 4")
             for child in children(web.process.pid):
-                with suppress(OSError):  # (the one that tells the changes has ended soon)
+                with suppress(OSError):  # (the netrev that prints the changes may have ended already)
                     if "run" in Path(f"/proc/{child}/cmdline").read_text().split("\0"):
                         subprocess.run(["kill", "-KILL", str(child)], check=True)
             self.assertEqual(one.named("netrev")["says"], GONE)

@@ -1,6 +1,6 @@
-"""Working with the page of `nrdb --web`: moves by buttons and keys, completion, nrdb's suggestions, lines that
-survive a reload, the reason why a page waits, and a long run whose parts load on zooming. Skipped without
-chromium (Debian: apt-get install chromium)."""
+"""Work with the page of `nrdb --web`: moves by buttons and keys, completion, nrdb's suggestions, lines that survive a
+reload, the reason why a page waits, and a long run whose parts load when zooming. Skipped without chromium (Debian:
+apt-get install chromium)."""
 
 import subprocess
 import tempfile
@@ -24,7 +24,7 @@ CODES = {"Tab": 9, "Escape": 27, "ArrowUp": 38}
 
 
 def presses(page: Page, key: str) -> None:
-    """Presses a key, as people do."""
+    """Presses a key, as a person would."""
     for sort in ("rawKeyDown", "keyUp"):
         page.does("Input.dispatchKeyEvent", type=sort, key=key, code=key, windowsVirtualKeyCode=CODES[key])
 
@@ -97,7 +97,7 @@ class Working(InChromium):
             page.does("Page.reload")
             page.until(
                 r"/^browser (?!1>)\d+>$/.test(document.getElementById('you')?.innerText)"
-            )  # (the next, or the one after it)
+            )  # (the next position, or the one after it)
             page.value(f"{LINE}.focus()")
             presses(page, "ArrowUp")
             self.assertEqual(page.value(f"{LINE}.value"), "print clock")

@@ -1,6 +1,6 @@
-"""The page of `nrdb --web` in chromium: two browsers and a terminal in one session, messages while netrev is gone,
-an attack from another page, and text from outside, which stays text. Skipped without chromium (Debian: apt-get
-install chromium)."""
+"""The page of `nrdb --web` in chromium: two browsers and a terminal in one session, messages while netrev is gone, an
+attack from another page, and text from outside, which stays text. Skipped without chromium (Debian: apt-get install
+chromium)."""
 
 import shutil
 import signal
@@ -25,7 +25,7 @@ def says(page: Page, text: str) -> None:
 
 
 def stands(page: Page, position: int, steps: int = 22) -> None:
-    """Waits until the page shows this position, in words and in the timeline."""
+    """Waits until the page shows this position, both in words and in the timeline."""
     page.until(f"document.getElementById('stands').innerText.startsWith('at {position} of {steps}')")
     page.until(f"document.getElementById('panel').innerText.startsWith('goto {position}')"
                f"|| document.getElementById('panel').innerText.includes('position {position}\\n')")  # fmt: skip
@@ -68,7 +68,7 @@ class Together(InChromium):
                 self.assertEqual(other.wrongs(), [])
 
     def expect_patience(self, server: Server, page: Page) -> None:
-        """netrev is stopped for a while: the page says that a line has no reply yet."""
+        """Checks that the page says so if a line has no reply yet, while netrev is stopped for a while."""
         busy = "document.getElementById('busy').innerText"
         server.process.send_signal(signal.SIGSTOP)
         page.value("document.getElementById('line').focus()")
@@ -79,7 +79,8 @@ class Together(InChromium):
         page.until(f"{busy} === ''")
 
     def expect_gone_and_back(self, server: Server, one: Page, other: Page) -> None:
-        """netrev is killed: the pages report that, and that a line isn't answered. When it is back they continue."""
+        """Checks that the pages report it if netrev is killed, and that a line isn't answered. When netrev is back,
+        they continue."""
         server.process.kill()
         server.process.wait()
         for page in (one, other):

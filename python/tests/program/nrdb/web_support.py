@@ -11,7 +11,7 @@ from .support import NRDB, PATIENCE
 
 
 class Web:
-    """A running `nrdb --web`, which the end of the `with` block stops."""
+    """A running `nrdb --web`, which is stopped at the end of its `with` block."""
 
     def __init__(self, *words: object):
         called = [NRDB, "--web", "0", *map(str, words)]
@@ -32,7 +32,7 @@ class Web:
         self.process.communicate()
 
     def ends(self) -> tuple[int, str, str]:
-        """Its exit status after Ctrl-C, and its output since it began, on both streams."""
+        """Stops it by Ctrl-C; returns its exit status and its output on both streams."""
         self.process.send_signal(signal.SIGINT)
         said, wrong = self.process.communicate(timeout=PATIENCE)
         return self.process.returncode, said, wrong
