@@ -1,2 +1,1 @@
-"""netrev-go: records a Go program unchanged, and makes recordings of its log (docs/internals/INSTRUMENTING.md). It
-is unproved."""
+"""netrev-go: records an unchanged Go program, and makes recordings from its log (docs/internals/INSTRUMENTING.md). It is unproved."""

@@ -1,4 +1,4 @@
-"""The meaning of a point: its sides, and Go's answer."""
+"""The meaning of a point: its side or sides, and Go's answer."""
 
 from __future__ import annotations
 
@@ -38,7 +38,7 @@ def side_of(point: Point) -> str:
 
 
 def lock_answer(kind: int, was_closed: bool, bits: int) -> str:
-    """The answer of Go's function, from the value in the log, or that the word was closed."""
+    """The answer of Go's function: the value in the log, or that the word was closed."""
     if kind in UNLOCKING:
         return "last" if bits & 2 else "notlast"
     if was_closed:
@@ -47,8 +47,8 @@ def lock_answer(kind: int, was_closed: bool, bits: int) -> str:
 
 
 def can_answer(socket: Socket, point: Point) -> bool:
-    """Whether the machine has an answer for the result of a read or a write. It has none for most errors, none for
-    an EPIPE that the other end caused, and none for an output that was filled by bytes that aren't recorded."""
+    """Whether the machine has an answer for the result of a read or a write. It has none for most errors, for an EPIPE that the other end
+    caused, and for an output that is full of bytes that aren't recorded."""
     if point.b > 0:
         return True
     if point.c == AGAIN:

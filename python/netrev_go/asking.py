@@ -17,7 +17,7 @@ from . import messages
 
 PACKAGES = pathlib.Path(__file__).resolve().parents[1]
 ASKED = "info suspects"
-# seconds for the suspects, and for the causes, as long as a busy machine may need
+# Seconds for the suspects and for the causes, enough for a busy machine.
 PATIENCE, OF_CAUSES = (
     60,
     600,
@@ -68,7 +68,7 @@ def suspects(netrev: str, recording: pathlib.Path) -> list[str]:
 
 
 class Asked:
-    """A program that runs in the background, from the beginning of a `with` to its end at most."""
+    """A program that runs in the background, at most until the end of a `with`."""
 
     def __init__(self, words: list[str], **environment: str) -> None:
         self._words, self._environment = words, os.environ | environment
@@ -86,8 +86,7 @@ class Asked:
         return self
 
     def answer(self, seconds: float | None = None) -> tuple[int, str, str]:
-        """Its status and what it printed on both outputs, after its end; raises an OSError if it couldn't be
-        started."""
+        """Waits for the program to end, and returns its status and its two outputs; raises an OSError if it couldn't be started."""
         if self._process is None:
             raise self._fault or OSError("it wasn't started")
         printed, errors = self._process.communicate(timeout=seconds)
@@ -106,8 +105,8 @@ class Check(Asked):
         super().__init__([netrev, "check", file_word(recording)])
 
     def outcome(self) -> tuple[bool, str]:
-        """Whether netrev accepts the recording, and its output; raises an OSError if it was killed, such as for
-        lack of memory: that says nothing about the recording."""
+        """Whether netrev accepts the recording, and its output; raises an OSError if netrev was killed, for example for lack of memory,
+        because that says nothing about the recording."""
         status, printed, errors = self.answer()
         if status < 0:
             raise OSError(0, messages.ENDED_BY_A_SIGNAL.format(signal=signal.Signals(-status).name))
@@ -115,14 +114,14 @@ class Check(Asked):
 
 
 class Causes(Asked):
-    """Why calls failed and hang in a program that failed, by nrdb, which gets the changes of the steps from netrev,
-    or computes them itself if netrev takes long."""
+    """Why calls failed or hang in a program that failed, according to nrdb, which gets the changes of the steps from netrev, or computes
+    them itself if netrev is slow."""
 
     def __init__(self, netrev: str, recording: pathlib.Path) -> None:
         super().__init__([sys.executable, str(PACKAGES), "nrdb.causes", file_word(recording)], NETREV=netrev)
 
     def lines(self) -> list[str]:
-        """nrdb's output; nothing if nothing is known. Raises Late if it takes too long."""
+        """nrdb's output; empty if nothing is known. Raises Late if it takes too long."""
         try:
             status, printed, _ = self.answer(OF_CAUSES)
         except subprocess.TimeoutExpired:
@@ -138,6 +137,6 @@ def hanging(values: dict[tuple[str, int], str]) -> dict[int, str]:
 
 
 def never_closed(values: dict[tuple[str, int], str]) -> dict[int, int]:
-    """The closed sockets with references left, and how many those are."""
+    """The closed sockets with references left, and the number of those references."""
     words = {number: int(word) for (cell, number), word in values.items() if cell == "lock" and word.isdigit()}
     return {number: word >> 3 & 2**20 - 1 for number, word in words.items() if word & 1 and word >> 3 & 2**20 - 1}

@@ -1,5 +1,4 @@
-"""A log's facts about sockets besides steps: which two are the ends of one connection, and errors of the system that no
-step has."""
+"""A log's facts about sockets besides steps: which two are the ends of one connection, and system errors without a step."""
 
 from __future__ import annotations
 
@@ -21,12 +20,12 @@ OF_CONNECTIONS = frozenset(
 )  # fmt: skip
 
 
-OF_DATAGRAMS, GOES_TO, OF_UNIX = 1, 2, 3  # sorts of a point NAMED, as in go/log/poll.go
-OF_IPV4, LOOPBACK, UNSPECIFIED = 1, 3, 4  # sorts of addresses there
+OF_DATAGRAMS, GOES_TO, OF_UNIX = 1, 2, 3  # kinds of a point NAMED, as in go/log/poll.go
+OF_IPV4, LOOPBACK, UNSPECIFIED = 1, 3, 4  # kinds of addresses there
 
 
 def address_words(packed: int) -> str:
-    """An address and its port as text; empty for none. For an IPv6 address only a number is known."""
+    """An address and its port as text; empty for none. Of an IPv6 address, only a hash is known."""
     sort, address, port = packed >> 56, packed >> 16 & 2**40 - 1, packed & 65_535
     if sort == OF_IPV4:
         return f"{'.'.join(str(address >> shift & 255) for shift in (24, 16, 8, 0))}:{port}"
@@ -36,28 +35,28 @@ def address_words(packed: int) -> str:
 
 @dataclass
 class Beside:
-    """Facts for NAME.where: pairs of sockets that are the ends of one connection, the names of both ends, the step after which a
-    goroutine got an error, and waits outside the poller."""
+    """Facts for NAME.where: pairs of sockets that are the ends of one connection, the names of both ends, the step after which a goroutine
+    got an error, and waits outside the poller."""
 
     peers: list[tuple[int, int]] = field(default_factory=list)
     errors: list[tuple[int, str]] = field(default_factory=list)
     waits: list[Wait] = field(default_factory=list)  # outside of the poller
     ends: list[tuple[int, int, int]] = field(default_factory=list)  # sockets with the numbers of both ends' names
-    # for datagram sockets their addresses, and those that they are connected to
+    # the addresses of datagram sockets, and the addresses that they are connected to
     addresses: list[tuple[int, str, str]] = field(default_factory=list)
-    # the steps after which datagrams were sent, with the addresses
+    # the steps after which datagrams were sent, with their addresses
     sent: list[tuple[int, str]] = field(default_factory=list)
-    # the steps whose reads and writes moved more bytes than the recording counts, with the true number
+    # the steps whose reads and writes moved more bytes than the recording counts, with the real number
     sizes: list[tuple[int, int]] = field(default_factory=list)
-    # for each path the sockets that were accepted and dialed there, with the goroutines that did so
+    # for each path, the sockets that were accepted and dialed there, with the goroutines that did so
     _unix: dict[int, tuple[list[tuple[int, int]], list[tuple[int, int]]]] = field(default_factory=dict)
     _names: dict[int, int] = field(default_factory=dict)  # the numbers of names
-    # sockets by names, whose other end isn't known yet
+    # sockets by name, while their other end isn't known
     _ends: dict[tuple[int, int], list[int]] = field(default_factory=dict)
 
     def named(self, socket: int, point: Point, step: int = 0) -> None:
-        """A socket's own name and that of the other end; the newest of several. For a datagram socket, its addresses, and the step
-        after which a datagram is sent."""
+        """Records a socket's own name and the other end's; a newer one replaces an older one. For a datagram socket: its addresses, or the
+        step after which a datagram is sent."""
         if point.c == OF_DATAGRAMS:
             self.addresses.append((socket, address_words(point.a), address_words(point.b)))
         elif point.c == GOES_TO:
@@ -77,19 +76,19 @@ class Beside:
             self._ends.setdefault((point.a, point.b), []).append(socket)
 
     def _is_of_unix(self, socket: int, point: Point) -> None:
-        """A socket that was connected to a path, or accepted there."""
+        """Records a socket that was connected to a path, or accepted there."""
         path, is_dialed = (point.b, True) if point.b else (point.a, False)
         self._unix.setdefault(path, ([], []))[is_dialed].append((socket, point.goroutine))
 
     def pair_unix(self) -> None:
-        """The ends of connections to a path of the system's own domain: the first that was dialed is the first that was accepted, and so on, if one
-        goroutine dialed all and one accepted all. The order of several isn't known."""
+        """Pairs the ends of connections to a Unix path: the first one dialed is the first one accepted, and so on, if one goroutine dialed
+        all and one accepted all. Otherwise their order isn't known."""
         for accepted, dialed in self._unix.values():
             if len({goroutine for _, goroutine in accepted}) == len({goroutine for _, goroutine in dialed}) == 1:
                 self.peers += [(one, other) for (one, _), (other, _) in zip(dialed, accepted)]
 
     def failed(self, step: int, point: Point) -> None:
-        """A read or a write without a step, because the machine has no such answer."""
+        """Records a read or a write without a step, because the machine has no such answer."""
         if not step or point.c == AGAIN:
             return
         number = errno.EPIPE if point.kind == Kind.WRITE and point.c == BROKEN_PIPE else -point.b

@@ -27,7 +27,7 @@ from .trying import ready
 from .watching import snapshot, watch
 
 
-KNOWN: list[object] = []  # data of the last converted log, kept to the end, because freeing them takes long
+KNOWN: list[object] = []  # data of the last converted log, kept to the end because freeing it takes long
 
 
 def flags(go: Go, words: list[str]) -> list[str]:
@@ -39,8 +39,7 @@ def flags(go: Go, words: list[str]) -> list[str]:
 
 
 def record(options: argparse.Namespace, go: Go) -> int:
-    """Runs Go's command, and makes recordings of what ran. The status is Go's own, unless an option asks for
-    another."""
+    """Runs Go's command, and makes recordings of the programs that ran. Returns Go's own status, unless an option asks for another."""
     words = options.words_of_go
     once = ["-count=1"] if options.command == "test" else []
     command = [go.program, options.command, *behind_the_folder(words, [*flags(go, words), *once])]
@@ -67,7 +66,7 @@ def record(options: argparse.Namespace, go: Go) -> int:
 
 
 def status_of(status: int, is_suspected: bool, is_unrecorded: bool) -> int:
-    """The exit status: Go's own, unless it is 0."""
+    """The exit status: Go's own, unless that is 0."""
     if status:
         return status
     return Status.SUSPECTED if is_suspected else Status.UNRECORDED if is_unrecorded else Status.DONE
@@ -131,7 +130,7 @@ def env(go: Go) -> int:
 
 def main(arguments: list[str] | None = None) -> int:
     options = parser().parse_args(arguments)
-    gc.disable()  # a log has millions of small things, and no cycle among them
+    gc.disable()  # a log has millions of small objects, and no cycles among them
     try:
         if asks_for_help(options):
             say([help_of(options.command)], sys.stdout)

@@ -1,4 +1,4 @@
-"""Compares a recording with the machine: each answer, and Go's own lock words, by netrev or by the model in Python."""
+"""Compares a recording with the machine: each answer and Go's own lock words, by netrev or by the model in Python."""
 
 from __future__ import annotations
 
@@ -12,7 +12,7 @@ from netrev_machine.replaying import positions
 from netrev_words.jsontext import Doubtful
 from netrev_words.reading import Fault, read_text
 
-# A session has room for 65,536 commands that move, so a longer recording needs several sessions.
+# A session has room for 65,536 commands that move, so longer recordings need several sessions.
 AT_ONCE = 30_000
 
 DIFFERS = "a lock word differs"
@@ -21,7 +21,7 @@ Word = tuple[int, str, str]
 
 
 def read_words(name: pathlib.Path) -> list[Word]:
-    """Go's lock words, as they were written beside a recording."""
+    """Go's lock words, as stored beside a recording."""
     words = (json.loads(line) for line in name.read_text().splitlines())
     return [(int(step), str(cell), str(value)) for step, cell, value in words]
 
@@ -40,12 +40,12 @@ def asked(netrev: str, recording: pathlib.Path, words: list[Word]) -> list[str]:
 
 
 def sentence(step: int, cell: str, value: str, said: str) -> str:
-    """The sentence about a lock word that differs."""
+    """The message about a lock word that differs."""
     return f"step {step}: Go had {cell} = {value}, netrev says {said}"
 
 
 def differing(netrev: str, recording: pathlib.Path) -> tuple[int, list[str]]:
-    """The number of lock words that were compared, and a sentence for each that differs."""
+    """The number of lock words compared, and a message for each one that differs."""
     words = read_words(recording.with_suffix(".words"))
     told: list[str] = []
     for first in range(0, len(words), AT_ONCE):
@@ -60,7 +60,7 @@ def differing(netrev: str, recording: pathlib.Path) -> tuple[int, list[str]]:
 
 
 def by_the_model(recording: pathlib.Path) -> tuple[bool, str]:
-    """Whether the model accepts the recording with all its answers and lock words, and its message."""
+    """Whether the model accepts the recording with all its answers and lock words, and the model's message."""
     words: dict[int, list[Word]] = defaultdict(list)
     for word in read_words(recording.with_suffix(".words")):
         words[word[0]].append(word)

@@ -1,7 +1,6 @@
-"""Makes the steps of a version 2 recording from points. The recorded answers are Go's, as far as Go has one. Go
-doesn't see what the other end does, so bytes arrive just before the read that gets them, and are zeros; they are
-drained just before the write that they make room for; and a socket's output is just large enough that it was
-full when Go found it so."""
+"""Makes the steps of a version 2 recording from points. The recorded answers are Go's, if Go has one. Go doesn't see what the other end
+does. So bytes, which are all zeros, arrive just before the read that gets them; they are drained just before the write that needs the room;
+and a socket's output is just large enough to be full when Go found it full."""
 
 from __future__ import annotations
 
@@ -35,7 +34,7 @@ Repeated = tuple[Line | None, Line, int, list[int]]
 
 
 class Converter:
-    """The recording so far: its lines, the stack of each (0 if unknown), and Go's lock words."""
+    """The recording so far: its lines, the stack of each line (0 if unknown), and Go's lock words."""
 
     def __init__(
         self, points: list[tuple[Point, Socket]], begin: int, ends: list[tuple[int, int]] | None = None
@@ -63,8 +62,8 @@ class Converter:
         self.behind = sum(passing(socket.leads) for point, socket in points if point[1] == NOTED)  # nanoseconds
         self.deadlines = Deadlines()
         self.later_fires = {(socket, *self.firing(point)) for point, socket in points if point[1] == FIRE}
-        self.early: dict[int, int] = {}  # of writes whose points a closewrite overtook, the number of steps after each
-        self.closings: dict[int, Lead] = {}  # by the points of writes that a noted closewrite overtook: that step
+        self.early: dict[int, int] = {}  # for writes whose points a closewrite overtook, the number of steps after each
+        self.closings: dict[int, Lead] = {}  # noted closewrites, by the points of the writes that they overtook
         self.beside = Beside()
         if any(socket.note for _, socket in points):
             self.goroutine(NOBODY)
@@ -131,18 +130,17 @@ class Converter:
         return counts
 
     def steps_before(self, number: int) -> int:
-        """How many steps were made of the points up to this one."""
+        """How many steps were made from the points up to this one."""
         place = bisect_right(self.points, number, key=lambda pair: pair[0].number)
         return self.ended[place - 1] if place else 0
 
     def step(self, text: Line) -> None:
-        """Adds a step of no goroutine."""
+        """Adds a step without a goroutine."""
         self.lines.append(text)
         self.stacks.append(0)
 
     def of(self, g: int, socket: Socket, stack: int, text: Line) -> None:
-        """Adds a step of a goroutine at a socket. If its point has no stack, the step has that of the goroutine's
-        last call there."""
+        """Adds a step of a goroutine at a socket. If its point has no stack, the step gets the stack of the goroutine's last call there."""
         call = self.call(self.names[g], socket)
         if stack:
             call[0] = stack
@@ -155,7 +153,7 @@ class Converter:
         self.made.append((self._number, self.names[g], step))
 
     def goroutine(self, identity: int) -> int:
-        """A goroutine's number; a new goroutine is spawned, or takes the number of one that has ended."""
+        """A goroutine's number; a new goroutine is spawned, or takes the number of a goroutine that has ended."""
         number = self.goroutines.get(identity)
         if number is None:
             number = self.goroutines[identity] = self._unused_number(identity)
@@ -168,7 +166,7 @@ class Converter:
                 self._unused.append(number)
         if self._unused:
             number = self._unused.popleft()
-            if number not in self._taken_over:  # the one that had it from the start is named too
+            if number not in self._taken_over:  # the goroutine that had it first is named too
                 self._taken_over.add(number)
                 self.taken.append((number, 0, self.names[number]))
             self.names[number] = identity
@@ -194,7 +192,7 @@ class Converter:
         self.of(g, socket, point.stack, f'["sockopen",{BUFFER},{socket.capacity()},["number",{socket.number}]]')
 
     def read(self, point: Point, socket: Socket) -> None:
-        """A read that gets nothing, or many bytes. (One of a few bytes is a repeated line.)"""
+        """A read that gets nothing, or many bytes. (A read of a few bytes is a repeated line.)"""
         g = self.goroutine(point.goroutine)
         if not can_answer(socket, point):
             return self.beside.failed(self.last_steps[g], point)
@@ -210,7 +208,8 @@ class Converter:
         self.of(g, socket, point.stack, read_line(g, socket.number, point.a, answer))
 
     def write(self, point: Point, socket: Socket) -> None:
-        """A write, unless its steps were made with a closewrite whose point overtook it; then the closewrite that a note overtook."""
+        """A write, unless its steps were already made with a closewrite whose point overtook it; then a noted closewrite that overtook the
+        write, if any."""
         if point.number not in self.early:
             self.make_write(point, socket)
             if closing := self.closings.get(point.number):
@@ -235,9 +234,8 @@ class Converter:
             self.of(g, socket, stack, put_line(g, number, count))
 
     def close_write(self, point: Point, socket: Socket) -> None:
-        """Closes the write side. Points are logged after their system calls, so a write that was made before may have a
-        later point: at most one, because the next write has to wait for it, and its goroutine was in that call before
-        this point."""
+        """Closes the write side. Points are logged after their system calls, so an earlier write may have a later point: at most one,
+        because the next write has to wait for it, and its goroutine was in that call before this point."""
         g, last = self.goroutine(point.goroutine), socket.last_write
         if last and last.number > point.number and last.number not in self.early:
             self.write(last, socket)
@@ -250,8 +248,8 @@ class Converter:
         self.of(g, socket, 0, f'["parkcommit",{g},"{"yes" if point.b else "no"}"]')
 
     def event(self, point: Point, socket: Socket) -> None:
-        """An event that was fetched before the descriptor was closed comes too late: Go reports that if its events
-        have tags, and ignores it for a free descriptor otherwise."""
+        """An event that was fetched before the descriptor was closed comes too late: if events have tags, Go reports it, and otherwise
+        ignores it for a free descriptor."""
         is_stale = point.b & EVENT_STALE if point.c else not socket.is_open
         answer = "stale" if is_stale else "done"
         tag, error = socket.tag, point.b & EVENT_ERROR
@@ -264,7 +262,7 @@ class Converter:
         self.of(g, socket, point.stack, f'["pollopen",{g},{socket.number},["number",{socket.descriptor}]]')
 
     def takes_descriptor(self, socket: Socket) -> tuple[int, int]:
-        """Opens a descriptor for a socket, and records its sequences then."""
+        """Opens a descriptor for a socket, and stores Go's sequences at that time."""
         if self.free:
             socket.descriptor = self.free.pop()
         else:
@@ -290,7 +288,7 @@ class Converter:
         self.of(g, socket, point.stack, f'["evict",{g},{socket.descriptor},"done"]')
 
     def set_deadline(self, point: Point, socket: Socket) -> None:
-        """The deadline is exactly Go's, even if another processor had read a later time before this one's point."""
+        """The deadline is exactly Go's, even if another processor read a later time before this point was logged."""
         _, _, identity, _, _, time, _, passed, stack = point
         g, mode, number = self.goroutine(identity), mode_of(point), socket.descriptor
         now = passed - self.begin
@@ -307,8 +305,7 @@ class Converter:
         self.of(g, socket, stack, f'["setdeadline",{g},{number},"{mode}",{time},"done"]')
 
     def pop_what_fires(self, socket: Socket, side: int) -> None:
-        """A timer that is about to be stopped or armed again goes off first if the log has its firing: it had left Go's heap by
-        then."""
+        """A timer that is about to be stopped or reset goes off first if the log has its firing: it had left Go's heap by then."""
         timer = self.deadlines.armed(socket.descriptor, side)
         if timer and (socket, side, timer.sequence + socket.sequences[side]) in self.later_fires:
             self.go_on_to(timer.due)
@@ -320,7 +317,7 @@ class Converter:
         self.step('["pop","done"]')
 
     def firing(self, point: Point) -> tuple[int, int]:
-        """The side and the sequence of a firing; the read side if it is for both."""
+        """The side and the sequence of a firing; the read side if the timer is for both."""
         return (READING if point.b & CURRENT_READ else WRITING), point.a
 
     def fire(self, point: Point, socket: Socket) -> None:
@@ -344,9 +341,9 @@ class Converter:
         self.beside.named(socket.number, point, self.last_steps[self.goroutine(point.goroutine)] if point.c else 0)
 
     def noted(self, point: Point, socket: Socket) -> None:
-        """The steps that lead to a noted socket. The clock advances to the first note, but past no deadline that is
-        still to be set. It stays behind Go's by the time that the steps for later notes let pass, so that deadlines which are
-        set between the notes are Go's."""
+        """Makes the steps that lead to a noted socket. The clock advances to the first note, but not past a deadline that is still to be
+        set. It lags behind Go's clock by the time that the steps for later notes take, so that deadlines set between the notes are
+        Go's."""
         if not self.clock:
             sockets = {socket for one, socket in self.points if one.kind == Kind.NOTED}
             dues = [due - 1 for socket in sockets if socket.note for due in socket.note.deadlines if due > 0]
@@ -355,11 +352,11 @@ class Converter:
         self.behind -= passing(socket.leads)
 
     def noted_name(self, point: Point, socket: Socket) -> None:
-        if point.c != OF_UNIX:  # (their ends are paired by their goroutines)
+        if point.c != OF_UNIX:  # (goroutines pair the ends of Unix sockets)
             self.beside.named(socket.number, point)
 
     def header(self) -> str:
-        # A recording has room for two firings a descriptor that wait to be run. Several processors may have more.
+        # A recording has room for two pending firings for each descriptor. Several processors may have more.
         descriptors = max(self.descriptors, (self.deadlines.most_firings + 1) // 2, 1)
         limits = f'"gor":{max(1, len(self.names))},"sock":{max(1, self.sockets)},"desc":{descriptors}'
         return f'{{"netrev":2,{limits},"buf":{BUFFER}}}'

@@ -32,14 +32,14 @@ PROCESS = re.compile(r"(\.\d+){1,2}(\.snapshot)?\Z")
 
 @dataclass(frozen=True)
 class Wish:
-    """The requested recording of a log."""
+    """The recording that is requested from a log."""
 
     sockets: int = MOST_SOCKETS
     megabytes: int = MOST_MEGABYTES
     words: bool = False
     all_bytes: bool = False
-    failed: bool = False  # Go's command ended with a status other than 0, or a call hangs: the causes come first
-    first: int = 0  # the address of the lock word of a socket that is kept before all others, if they don't all fit
+    failed: bool = False  # Go's command failed, or a call hangs: the report begins with the causes
+    first: int = 0  # the address of the lock word of a socket to keep before all others if not all fit
 
 
 def program_of(log: pathlib.Path, key: str) -> pathlib.Path:
@@ -49,7 +49,7 @@ def program_of(log: pathlib.Path, key: str) -> pathlib.Path:
 
 @dataclass(frozen=True)
 class Outcome:
-    """The result for a log: whether netrev accepts the recording, the report, and whether there were no sockets."""
+    """The result for a log: whether netrev accepts the recording, the report, and whether the log had no sockets."""
 
     taken: bool
     lines: list[str]
@@ -58,7 +58,7 @@ class Outcome:
 
 @dataclass
 class ReadLog:
-    """A log that is read once, for recordings of its tests."""
+    """A log that is read once for the recordings of all its tests."""
 
     path: pathlib.Path
     log: Log
@@ -74,9 +74,9 @@ def convert(
     hear: Hear = unheard,
     is_written: bool = False,
 ) -> Outcome:
-    """Makes the recording NAME from a log, and NAME.where beside it if Go is installed to find lines. `known` keeps
-    the data, because freeing it takes long. `hear` gets the lines of the report as soon as they are known. A log
-    that a program is still writing is copied first."""
+    """Makes the recording NAME from a log, and NAME.where beside it if Go is installed to look up lines. `known` keeps the data, because
+    freeing it takes long. `hear` receives the report's lines as soon as they are known. A log that a program is still writing is copied
+    first."""
     try:
         return converted(ReadLog(log, read_log(log, is_written), of_log(log)), name, go, wish, known=known, hear=hear)
     except NoLog as fault:
@@ -130,7 +130,7 @@ def converted(
 
 
 def everybody_of(recording: Recording, found: Goroutines, calls: dict[int, Calls]) -> Everybody | None:
-    """All goroutines in the form of NAME.where; None if the log has none of their waits and uses."""
+    """All goroutines in the form of NAME.where; None if the log has no data about their waits and uses."""
     if not (found.parks or found.uses):
         return None
     last = [recording.stacks[step - 1] if step else 0 for step in recording.last_steps]
@@ -139,8 +139,7 @@ def everybody_of(recording: Recording, found: Goroutines, calls: dict[int, Calls
 
 
 def of_tests(recording: Recording, tests: Tests) -> list[dict[str, object]]:
-    """Further lines of NAME.where: the number of bytes that a read or a write counts at most, and the steps between which each test
-    ran."""
+    """More lines for NAME.where: the greatest number of bytes that a read or a write counts, and the steps between which each test ran."""
     more: list[dict[str, object]] = [] if recording.bytes is None else [{"bytes": recording.bytes}]
     if recording.prelude:
         more.append({"prelude": recording.prelude})

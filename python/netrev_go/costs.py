@@ -35,7 +35,7 @@ from .trying import ready
 HERE = pathlib.Path(__file__).resolve().parents[2]
 OVERLAY = "from netrev_go.toolchain import find_go; from netrev_go.trying import ready; print(ready(find_go()))"
 
-# The settings of each way; None is without the overlay.
+# The settings of each way; None means without the overlay.
 WAYS: dict[str, dict[str, str] | None] = {
     "without the overlay": None,
     "with it, no log": {},
@@ -44,7 +44,7 @@ WAYS: dict[str, dict[str, str] | None] = {
     "with a log and lines": {"NETREV_LINES": "1", "NETREV_ORDERS": "0"},
     "with all three": {"NETREV_LINES": "1", "NETREV_ORDERS": "1"},
 }
-# The ways of a server: whether it has the overlay, what is set for its log (None: there is none), and how it traces itself.
+# The ways of a server: whether it has the overlay, the settings for its log (None: no log), and how it traces itself.
 SERVED: dict[str, tuple[bool, dict[str, str] | None, str]] = {
     "without the overlay": (False, None, ""),
     "with it, no log": (True, None, ""),
@@ -57,24 +57,24 @@ FLIGHT_RECORDER = (1, 25)  # the first release that has it
 CONNECTIONS = (20, 200)
 REQUESTS, WARMING = 10_000, 10  # one warm-up request for every ten, as in samples/served
 ROUND_POINTS, DEADLINE_POINTS = 8, 1
-# samples/cost measures these after the calls of the poller, each as a round:
+# The rounds that samples/cost measures after the calls of the poller:
 ROUNDS = (
     "buffer",  # a value into a buffer, and out of it
-    "no buffer",  # a value from one goroutine to another and back, by channels without a buffer: two waits
-    "handed over",  # the same by channels with a buffer of one
-    "select of 3",  # the same, and the other goroutine waits in a select
+    "no buffer",  # a value from one goroutine to another and back, through unbuffered channels: two waits
+    "handed over",  # the same through channels with a buffer of one
+    "select of 3",  # the same, with the other goroutine waiting in a select
     "of 5",
-    "condition",  # two goroutines take turns by a sync.Cond
-    "goroutine",  # a goroutine is made, and a WaitGroup waits for its end
+    "condition",  # two goroutines take turns with a sync.Cond
+    "goroutine",  # a goroutine is started, and a WaitGroup waits for its end
     "timer",  # a timer is made and stopped
-    "mutex",  # a mutex that is free is locked and unlocked
-    "read lock",  # the same of an RWMutex, for reading
+    "mutex",  # a free mutex is locked and unlocked
+    "read lock",  # the same for an RWMutex, for reading
     "channel",  # a channel is made
 )
 
 
 def overlay_by(recorder: pathlib.Path, go: Go) -> str:
-    """The overlay that the recorder of a clone makes."""
+    """The overlay that a clone's recorder makes."""
     if recorder == HERE:
         return str(ready(go))
     words = [sys.executable, "-c", OVERLAY]
@@ -106,7 +106,7 @@ def built_both(go: Go, name: str, folder: pathlib.Path, overlay: str) -> tuple[p
 
 
 def ran(programs: tuple[pathlib.Path, pathlib.Path], way: str, logs: pathlib.Path, *words: str) -> list[str]:
-    """The output of a program that runs in one of the ways."""
+    """The output of a program run in one of the ways."""
     settings = {"GOMAXPROCS": "1" if not words else "4"} | (WAYS[way] or {})
     if WAYS[way]:
         settings["NETREV_LOG"] = str(logs / "log")
@@ -121,7 +121,8 @@ def ran(programs: tuple[pathlib.Path, pathlib.Path], way: str, logs: pathlib.Pat
 
 @dataclass
 class Measured:
-    """A Go's programs by one recorder, and what was measured of each way: the nanoseconds of each call, and round trips a second."""
+    """The programs of one Go with one recorder, and the measurements of each way: the nanoseconds of each call, and the round trips a
+    second."""
 
     name: str
 
@@ -160,7 +161,8 @@ class Measured:
 
 @dataclass
 class Served:
-    """A Go's server by one recorder, and what was measured by connections and way: the nanoseconds of a request, and the bytes that were kept of it."""
+    """The server of one Go with one recorder, and its measurements by connections and way: the nanoseconds of a request, and the bytes kept
+    of it."""
 
     name: str
     programs: tuple[pathlib.Path, pathlib.Path]
@@ -183,7 +185,7 @@ class Served:
         words: list[str | pathlib.Path] = [self.programs[has_overlay], str(connections), str(self.requests)]
         words += [trace] if trace else []
         run = subprocess.run(words, env=settings, capture_output=True, text=True, check=False)
-        if trace == "flight" and run.returncode == 3:  # this Go doesn't have it
+        if trace == "flight" and run.returncode == 3:  # this Go has no FlightRecorder
             return
         run.check_returncode()
         took, traced = map(int, run.stdout.split())
@@ -198,8 +200,8 @@ class Served:
             log.unlink()
 
     def tell(self) -> None:
-        """Prints a row for each number of connections and way: the median of the processor time, how much more that is than the first way's (the median
-        of all rounds, in each of which both met the same load), and the other medians."""
+        """Prints a row for each number of connections and way: the median processor time, how much more that is than the first way's (the
+        median over all rounds, in each of which both had the same load), and the other medians."""
         for (connections, way), took in self.took.items():
             base = self.took[connections, self.ways[0]]
             more = statistics.median(one / other for one, other in zip(took, base)) - 1
@@ -220,8 +222,8 @@ def loads() -> str:
 def measured_by(
     recorder: pathlib.Path, name: str, go: Go, folder: pathlib.Path, requests: int, is_before: bool
 ) -> Measured | Served:
-    """The samples, built with the overlay of a clone's recorder. For a server with the earlier recorder only what
-    differs is measured."""
+    """The samples, built with the overlay of a clone's recorder. For a server with the earlier recorder, only the ways that differ are
+    measured."""
     folder.mkdir(parents=True)
     overlay = overlay_by(recorder, go)
     if requests:

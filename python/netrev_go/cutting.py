@@ -1,5 +1,5 @@
-"""The sockets of a test in a log: its own and its subtests', and those of other owners that were used while it ran;
-and its goroutines without those of other tests."""
+"""The sockets of a test in a log: its own, its subtests', and other sockets that were used while it ran; and its goroutines, without those
+of other tests."""
 
 from __future__ import annotations
 
@@ -10,22 +10,21 @@ from .points import Kind, Log
 from .ran import Ran
 from .sockets import Owned, Socket
 
-MADE = 1  # the point of a goroutine that another started, rather than only woke
+MADE = 1  # a point of a goroutine that another started, rather than only woke
 
 
 class Makers:
-    """Which goroutine started which, and therefore to which test a goroutine belongs."""
+    """Which goroutine started which, and thus which test a goroutine belongs to."""
 
     def __init__(self, made_by: Mapping[int, int], tests: Iterable[Ran]) -> None:
         self.made_by = made_by
         self.tests = {test.goroutine: test for test in tests}
 
     def test_of(self, goroutine: int) -> Ran | None:
-        """The innermost test that the goroutine belongs to; None for one that no test started, or whose start isn't
-        in the log."""
+        """The innermost test that the goroutine belongs to; None if no test started it, or if its start isn't in the log."""
         passed = set()
         while goroutine not in self.tests:
-            if goroutine not in self.made_by or goroutine in passed:  # (the latter in a damaged log alone)
+            if goroutine not in self.made_by or goroutine in passed:  # (passed: only in a damaged log)
                 return None
             passed.add(goroutine)
             goroutine = self.made_by[goroutine]
@@ -50,8 +49,8 @@ def sockets_of(test: Ran, log: Log, found: Owned, tests: list[Ran]) -> list[Sock
 
 
 def goroutines_of(test: Ran, found: Goroutines, tests: list[Ran], numbers: Mapping[int, int]) -> Goroutines:
-    """The actions of goroutines while one test ran, without those of other tests, which may run on after their test
-    has ended. The recording's own, numbered goroutines are kept."""
+    """The actions of goroutines while one test ran, without other tests' goroutines, which may run on after their test has ended. The
+    goroutines with numbers in the recording are kept."""
     makers = Makers({goroutine: born.maker for goroutine, born in found.born.items()}, tests)
 
     def is_of_another(goroutine: int) -> bool:

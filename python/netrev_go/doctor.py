@@ -49,7 +49,7 @@ def rules_fit(go: Go) -> bool:
 
 
 def has_room() -> bool:
-    """Whether the logs have room."""
+    """Whether there is room for the logs."""
     try:
         folder = logs_folder(MOST_POINTS)
     except Trouble as trouble:
@@ -75,7 +75,7 @@ def can_write() -> bool:
 
 
 def reads_lines(go: Go) -> str:
-    """By which program lines of source are read, which is built if it isn't here."""
+    """The message that names the program that reads source lines; builds the program if it is missing."""
     try:
         return messages.LINES_READ_BY.format(program=build_line_reader(go))
     except Trouble as trouble:

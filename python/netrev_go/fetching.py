@@ -1,5 +1,5 @@
-"""Fetches Debian's packages of a Go release into the user's cache and unpacks them: nothing is installed, and apt's own lists stay as they
-are.
+"""Fetches Debian's packages of a Go release into the user's cache and unpacks them, without installing anything or changing apt's own
+lists.
 
     python3 python netrev_go.fetching 1.27    prints the folder of its `go`, and fetches the release if it is missing
 """
@@ -14,7 +14,7 @@ import sys
 from . import messages
 from .toolchain import Go, Trouble, cache, find_go
 
-# Outside of the repository, because a release contains links, which `rt ci` doesn't accept in a tree.
+# Outside the repository, because a release contains links, which `rt ci` doesn't accept in a tree.
 FETCHED = cache() / "releases"
 KEYS = "/usr/share/keyrings/debian-archive-keyring.gpg"
 MIRROR = "http://deb.debian.org/debian"
@@ -40,7 +40,7 @@ def is_whole(commands: pathlib.Path) -> bool:
 
 
 def here(release: str) -> pathlib.Path | None:
-    """The folder of a release's `go`: the installed one with its sources, else a fetched one."""
+    """The folder of a release's `go`: the installed one, if it has its sources, else a fetched one."""
     there = (below(pathlib.Path("/"), release), below(FETCHED / release, release))
     return next((commands for commands in there if is_whole(commands)), None)
 
@@ -82,7 +82,7 @@ def run(words: list[str | pathlib.Path], folder: pathlib.Path, **settings: str) 
 
 
 def own_apt(suite: str) -> pathlib.Path:
-    """The configuration of an apt that knows one suite, and keeps its lists here."""
+    """The configuration of an apt that knows only one suite, and keeps its lists here."""
     folder = FETCHED / "apt" / suite
     for name in ("lists/partial", "archives/partial"):
         (folder / name).mkdir(parents=True, exist_ok=True)
@@ -97,7 +97,7 @@ def own_apt(suite: str) -> pathlib.Path:
 
 
 def fetch(release: str) -> None:
-    """Fetches the two packages of a release and unpacks them, into a folder that gets its name when it is complete."""
+    """Fetches the two packages of a release and unpacks them into a folder, which gets its name when it is complete."""
     settings = {"APT_CONFIG": str(own_apt(SUITES[release]))}
     part = FETCHED / f"{release}.part"
     part.mkdir(parents=True, exist_ok=True)

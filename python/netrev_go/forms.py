@@ -1,5 +1,4 @@
-"""The result of each test, for machines: a line of JSON, GitHub's annotations, JUnit's XML
-(docs/reference/OPTIONS.md)."""
+"""The results of tests for machines: JSON lines, GitHub annotations and JUnit XML (docs/reference/OPTIONS.md)."""
 
 from __future__ import annotations
 
@@ -13,7 +12,7 @@ from netrev_words.plain import plain
 
 from .ran import Ran, Went
 
-# A file's name begins at the beginning of a word; otherwise a long word would be searched from each of its letters.
+# A file's name begins at the start of a word; otherwise a long word would be searched from each of its letters.
 LINE = re.compile(r"(?<![\w./@+~-])([\w./@+~-]+\.go):(\d+)\b")
 WORST = (Went.FAILED, Went.UNFINISHED, Went.PASSED, Went.SKIPPED)
 
@@ -40,7 +39,7 @@ class Told:
     file: str | None = None
     line: int | None = None
     recording: str | None = None
-    accepted: bool | None = None  # by netrev; None if there is no recording
+    accepted: bool | None = None  # by netrev; None without a recording
     page: str | None = None
     suspects: list[str] = field(default_factory=list)
     causes: list[Cause] = field(default_factory=list)
@@ -64,13 +63,13 @@ class Told:
         return f"{self.status} in {self.failed} of {self.runs} runs" if self.runs > 1 else self.status
 
     def place(self) -> tuple[str, int] | None:
-        """The line at which it failed, else the first line of the program in the report."""
+        """The line at which it failed, or else the first line of the program in the report."""
         if self.file is not None and self.line is not None:
             return self.file, self.line
         return (self.causes[0].file, self.causes[0].line) if self.causes else None
 
     def say(self, lines: list[str]) -> None:
-        """Adds the lines of the report on its recording."""
+        """Adds lines of the report on its recording."""
         self.says = lines
         self.suspects = suspects_in(lines)
         self.causes = causes_in(lines)
@@ -82,7 +81,7 @@ def suspects_in(lines: list[str]) -> list[str]:
 
 
 def causes_in(lines: list[str]) -> list[Cause]:
-    """Each source line that a line of the report names, with the first line that names it."""
+    """Each source line that the report names, with the first line of the report that names it."""
     found: dict[tuple[str, int], Cause] = {}
     for line in lines:
         if at := LINE.search(line):
@@ -97,17 +96,17 @@ def json_lines(told: Iterable[Told]) -> str:
 
 
 def of_data(text: str) -> str:
-    """A text as GitHub expects it after the colons."""
+    """Escapes a text for the part after the colons of a GitHub annotation."""
     return text.replace("%", "%25").replace("\r", "%0D").replace("\n", "%0A")
 
 
 def of_property(text: str) -> str:
-    """A text in the form that GitHub expects in a property."""
+    """Escapes a text for a property of a GitHub annotation."""
     return of_data(text).replace(":", "%3A").replace(",", "%2C")
 
 
 def annotation(one: Told) -> str:
-    """GitHub's annotation for a test that failed."""
+    """The GitHub annotation for a failed test."""
     title = f"title={of_property(plain(f'{one.package} {one.test}'))}"
     words = [one.outcome(), *one.says]
     place = one.place()
@@ -116,7 +115,7 @@ def annotation(one: Told) -> str:
 
 
 def github_lines(told: Iterable[Told]) -> list[str]:
-    """Annotations for the failing tests, without those that have a failing subtest."""
+    """Annotations for the failed tests, without those that have a failed subtest."""
     red = [one for one in told if one.is_red()]
     parts = [(one.package, one.test) for one in red]
     return [
@@ -127,7 +126,7 @@ def github_lines(told: Iterable[Told]) -> list[str]:
 
 
 def junit(told: list[Told]) -> str:
-    """JUnit's XML: a suite for each package, a case for each test."""
+    """JUnit XML: a suite for each package, and a case for each test."""
     top = ElementTree.Element("testsuites", counts(told))
     for package in dict.fromkeys(one.package for one in told):
         cases = [one for one in told if one.package == package]
@@ -150,7 +149,7 @@ def counts(told: list[Told]) -> dict[str, str]:
 
 
 def add_case(suite: ElementTree.Element, one: Told) -> None:
-    """A test: one that failed is a failure, and one that never ended an error."""
+    """Adds a test: a failed one has a failure, and one that never ended an error."""
     words = {"classname": plain(one.package), "name": plain(one.test), "time": f"{one.seconds:.6f}"}
     case = ElementTree.SubElement(suite, "testcase", words)
     if one.status == Went.SKIPPED.value:

@@ -1,4 +1,4 @@
-"""The lines of NAME.where about all goroutines, and the choice of waits, uses of channels and goroutines that fit
+"""The lines of NAME.where about all goroutines, and which waits, uses of channels and goroutines are kept if not all fit
 (docs/reference/RECORDING.md has the format)."""
 
 from __future__ import annotations
@@ -18,23 +18,24 @@ from .goroutines import (
 from .lines import OF_GO, OF_THE_PROGRAM, Calls
 
 MOST = 2**16  # limits for waits, uses of channels, timers, and goroutines
-OTHERS = 4  # the most of these that are over when the log ends: a quarter
+OTHERS = 4  # at most a quarter of these have ended when the log ends
 REASONS = (
     "", "a value from a channel", "room in a channel", "a select", "a condition", "time.Sleep", "a mutex", "a read lock", "a write lock",
     "a WaitGroup", "a semaphore", "a nil channel", "a select without cases",
 )  # fmt: skip
 FOR = {VALUE: "value", ROOM: "room"}
 CHANNEL = "channel"
-HELD = "held"  # the line of locked mutexes, which has a meaning without a row too: none is locked
-TIMED_OUT, CANCELLED = -1, -2  # why a connect failed, if not by an error of the system
+HELD = "held"  # the line of locked mutexes, which has a meaning even without rows: none is locked
+TIMED_OUT, CANCELLED = -1, -2  # why a connect failed, if not because of a system error
 SORTS = {
     MUTEX: "mutex", READ_LOCK: "RWMutex", WRITE_LOCK: "RWMutex", WAIT_GROUP: "WaitGroup", CONDITION: "condition",
     SEMAPHORE: "semaphore",
 }  # fmt: skip
-# The offset of a semaphore from its object's address, in all releases of Go that are recorded.
+# The offset of a semaphore from its object's address, in all recordable releases of Go.
 OF_A_MUTEX, OF_WRITERS, OF_READERS = 4, 8, 12
 OFFSETS = {MUTEX: OF_A_MUTEX, READ_LOCK: OF_READERS, WRITE_LOCK: OF_WRITERS, WAIT_GROUP: OF_A_WAIT_GROUP}
-# The functions of package sync that identify a wait, the first one in the stack: an RWMutex contains a mutex.
+# The functions of package sync that identify a wait: the first one in the stack decides, because an RWMutex contains a
+# mutex.
 FUNCTIONS = (
     ("sync.(*RWMutex).RLock", READ_LOCK), ("sync.(*RWMutex).Lock", WRITE_LOCK), ("sync.(*WaitGroup).Wait", WAIT_GROUP),
     ("sync.(*Mutex)", MUTEX),
@@ -42,7 +43,7 @@ FUNCTIONS = (
 
 
 def names_of_go(calls: Calls | None) -> list[str]:
-    """The functions of Go's own that the program, or a library, is in, from the innermost."""
+    """The functions of Go's own code that the program, or a library, is in, from the innermost."""
     names = []
     for call in calls.calls if calls else ():
         if call.of != OF_GO:
@@ -63,7 +64,7 @@ def waited_for(what: int, calls: Calls | None) -> int:
 
 
 def semaphore_at(what: int, found: int, calls: Calls | None) -> int:
-    """The distance of a semaphore from its object, for a wait that the runtime calls `what`, with the stack `found`."""
+    """The distance of a semaphore from its object, for a wait that the runtime calls `what` and whose stack shows `found`."""
     if what == SEMAPHORE and any("sync.(*Mutex)." in name for name in names_of_go(calls)):
         return OF_A_MUTEX
     return OFFSETS.get(found if what == SEMAPHORE else what, 0)
@@ -71,8 +72,8 @@ def semaphore_at(what: int, found: int, calls: Calls | None) -> int:
 
 @dataclass
 class Kept:
-    """The data to keep: waits, uses, timers, connects that failed, the locked mutexes (None: not known), and how
-    many waits were left out, by reason, stack, and whether they have ended."""
+    """The data to keep: waits, uses, timers, failed connects, the locked mutexes (None if unknown), and how many waits were left out, by
+    reason, stack, and whether they have ended."""
 
     parks: list[Park] = field(default_factory=list)
     uses: list[tuple[Used, Span]] = field(default_factory=list)
@@ -83,8 +84,7 @@ class Kept:
 
 
 def newest(waits: list[bool], most: int) -> Iterator[bool]:
-    """The entries of a list to keep: first those that still wait, then a quarter as many of the others, the newest
-    ones."""
+    """The entries of a list to keep: first those that still wait, then the newest of the others, up to a quarter as many."""
     waiting = sum(waits)
     too_many, others = max(waiting - most, 0), len(waits) - waiting
     too_old = others - max(min(most - waiting, most // OTHERS, others), 0)
@@ -98,8 +98,8 @@ def newest(waits: list[bool], most: int) -> Iterator[bool]:
 
 
 def kept(found: Goroutines, numbers: dict[int, int], calls: dict[int, Calls], most: int = MOST) -> Kept:
-    """The data to keep of all goroutines: actions of recorded goroutines, and actions with a line of the program on
-    their stack or in a goroutine that the program started. If no lines are known, everything."""
+    """The data to keep about all goroutines: actions of recorded goroutines, and actions with a line of the program on their stack, or in a
+    goroutine that the program started. If no lines are known, everything is kept."""
     of_program = {
         key
         for key, known in calls.items()
@@ -140,7 +140,7 @@ def kept(found: Goroutines, numbers: dict[int, int], calls: dict[int, Calls], mo
 
 
 def why_words(number: int) -> str:
-    """Why a connect failed; empty if that isn't known."""
+    """Why a connect failed; empty if unknown."""
     return errno.errorcode.get(number, "") or {TIMED_OUT: "timeout", CANCELLED: "cancelled"}.get(number, "")
 
 
@@ -150,7 +150,7 @@ def mutex_at(address: int, what: int, calls: Calls | None) -> int:
 
 
 class Objects:
-    """The objects at which goroutines wait or that they use, numbered from 1, with their known facts."""
+    """The objects at which goroutines wait or that they use, numbered from 1, with what is known about them."""
 
     def __init__(self, rooms: dict[int, int]) -> None:
         self._rooms = rooms
@@ -182,7 +182,7 @@ class Everybody:
     def lines(
         self, calls: dict[int, Calls], stack: Callable[[int], int], call: Callable[[int], int], most: int = MOST
     ) -> Iterable[tuple[str, list[tuple[object, ...]]]]:
-        """The lines by their names. `stack` numbers a stack, `call` the `go` statement of the goroutine that has it."""
+        """The lines by name. `stack` numbers a stack, `call` numbers the `go` statement of a stack's goroutine."""
         objects = Objects(self.found.rooms)
         parks = [self.park(park, calls.get(park.stack), objects, stack(park.stack)) for park in self.kept.parks]
         uses: list[tuple[object, ...]] = [
@@ -227,7 +227,7 @@ class Everybody:
 
     @staticmethod
     def number_of(use: Used, objects: Objects) -> int:
-        """The number of what a goroutine used: a channel, or a WaitGroup, which is known by its semaphore."""
+        """The number of the object that a goroutine used: a channel, or a WaitGroup, which its semaphore identifies."""
         if use.what in (ADDED, DONE):
             return objects.number(use.address - OF_A_WAIT_GROUP, SORTS[WAIT_GROUP])
         return objects.number(use.address, CHANNEL)
@@ -242,8 +242,8 @@ class Everybody:
         return (*park[:5], REASONS[found], stack, park.by, at, *([park.due] if park.due else []))
 
     def goroutines(self, most: int) -> dict[int, int]:
-        """Go's numbers of the goroutines in the file, each with a stack (0 if unknown): those of the recording, and
-        those that wait, used a channel, made a timer or woke others; the newest if they don't all fit."""
+        """Go's numbers of the goroutines in the file, each with a stack (0 if unknown): the recording's goroutines, and those that wait,
+        used a channel, made a timer or woke others; the newest if not all fit."""
         stacks: dict[int, int] = dict(self.last_stacks)
         for park in self.kept.parks:
             if not stacks.get(park.goroutine):

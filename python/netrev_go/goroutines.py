@@ -1,6 +1,5 @@
-"""All goroutines of a log, including those without sockets: where and at what each waits outside the poller, which
-goroutine started it, when it ends, and what it did at channels. They have Go's own numbers here, as in its stack
-dumps."""
+"""All goroutines of a log, including those without sockets: where and at what each waits outside the poller, which goroutine started it,
+when it ends, and what it did at channels. They have Go's own numbers here, as in its stack dumps."""
 
 from __future__ import annotations
 
@@ -23,19 +22,19 @@ PARKS, GOES_ON, CASES, HANDED, ENDS, TIMER, GROUP, STOPPED, MAKES, DIAL_FAILED =
     ),
 )  # fmt: skip
 CONCERNED = ORDERING | WAITING
-BY_GO = 1  # of a point READY: made by a `go` statement
+BY_GO = 1  # for a point READY: started by a `go` statement
 GIVES, TAKES = 1, 2  # for a point MET: the direction of the value; 0 in older logs
 PUT, TOOK, CLOSES, ENDED = "put", "took", "closed", "ended"
 ADDED, DONE = "added", "done"  # at a WaitGroup
-OF_A_WAIT_GROUP = 8  # the offset of a WaitGroup's semaphore from its address, in all releases of Go that are recorded
-NEVER = -1  # of a stopped timer, instead of the time at which it goes off
+OF_A_WAIT_GROUP = 8  # the offset of a WaitGroup's semaphore from its address, in all recordable releases of Go
+NEVER = -1  # for a stopped timer, instead of the time at which it goes off
 OF_KIND = {SENT: PUT, RECEIVED: TOOK, CLOSED: CLOSES, FOUND_CLOSED: ENDED}
 # The reasons of waits, as in go/log/orders.go: the lowest byte of a point's word.
 (
     OTHER, VALUE, ROOM, SELECT, CONDITION, SLEEP, MUTEX, READ_LOCK, WRITE_LOCK, WAIT_GROUP, SEMAPHORE, NIL_CHANNEL, NO_CASES,
 ) = range(13)  # fmt: skip
 UNENDED = -1
-GENERATION = 48  # the bit of a channel's key from which on it counts the channels at its address
+GENERATION = 48  # the bit from which on a channel's key counts the channels at its address
 BEHIND = 2**64, 0, 0  # a step after the last point
 
 
@@ -47,8 +46,8 @@ class At(NamedTuple):
 
 
 class Park(NamedTuple):
-    """A wait outside the poller: the goroutine, the steps after which it begins and ends, both times, the reason, its stack, the
-    goroutine that ended it (0 if unknown), the objects, and the end of a sleep (0 if unknown)."""
+    """A wait outside the poller: the goroutine, the steps after which it begins and ends, both times, the reason, the stack, the goroutine
+    that ended it (0 if unknown), the objects, and the end of a sleep (0 if unknown)."""
 
     goroutine: int
     first: int
@@ -63,7 +62,7 @@ class Park(NamedTuple):
 
 
 class Born(NamedTuple):
-    """A start of a goroutine: by which goroutine, after which step, and when."""
+    """The start of a goroutine: by which goroutine, after which step, and when."""
 
     maker: int
     step: int
@@ -111,8 +110,8 @@ class Making(NamedTuple):
 
 
 class Held(NamedTuple):
-    """A mutex that is locked at the log's end: its address, the goroutine that locked it, whether for reading, the stack, and the
-    step before."""
+    """A mutex that is locked when the log ends: its address, the goroutine that locked it, whether for reading, the stack, and the step
+    before."""
 
     address: int
     goroutine: int
@@ -136,29 +135,29 @@ class FailedDial(NamedTuple):
 
 @dataclass
 class Goroutines:
-    """The log's facts about all goroutines. Waits have the order in which they begin. A channel is known by its
-    address; one that was made at an older one's address, by a key of its own. `held` is None if the log doesn't
-    say which mutexes are locked."""
+    """The log's facts about all goroutines. Waits are in the order in which they begin. A channel is known by its address, or, if
+    it was made at an older channel's address, by a key of its own. `held` is None if the log doesn't say which mutexes are
+    locked."""
 
     parks: list[Park] = field(default_factory=list)
     finished: list[int] = field(default_factory=list)  # the indices of those that ended, in the order of their ends
     born: dict[int, Born] = field(default_factory=dict)
     ended: dict[int, tuple[int, int]] = field(default_factory=dict)  # after which step, and when
     uses: dict[Used, Span] = field(default_factory=dict)
-    rooms: dict[int, int] = field(default_factory=dict)  # of channels, by their addresses
+    rooms: dict[int, int] = field(default_factory=dict)  # for channels, by address
     timers: list[Timer] = field(default_factory=list)
-    made: dict[int, Making] = field(default_factory=dict)  # of channels, by their keys
+    made: dict[int, Making] = field(default_factory=dict)  # for channels, by key
     dials: list[FailedDial] = field(default_factory=list)
     held: list[Held] | None = None
 
     def stacks(self) -> set[int]:
-        """The stacks of waits, uses, timers, channels, connects that failed and locked mutexes."""
+        """The stacks of waits, uses, timers, channels, failed connects and locked mutexes."""
         waiting = {park.stack for park in self.parks} | {use.stack for use in self.uses}
         making = {timer.stack for timer in self.timers} | {making.stack for making in self.made.values()}
         return waiting | making | {dial.stack for dial in self.dials} | {held.stack for held in self.held or ()}
 
     def during(self, begin: int, end: int | None) -> Goroutines:
-        """The waits and uses that overlap a time, and the timers that were made before its end."""
+        """The waits and uses that overlap a period, and the timers that were made before its end."""
 
         def overlaps(first: int, last: int) -> bool:
             return (end is None or first <= end) and (last == UNENDED or last >= begin)
@@ -170,7 +169,7 @@ class Goroutines:
         return replace(self, parks=parks, finished=[], uses=uses, timers=timers, dials=dials)
 
     def goroutines(self) -> set[int]:
-        """The goroutines that wait, use a channel, make a timer or failed to dial."""
+        """The goroutines that wait, use a channel, make a timer or fail to dial."""
         waiting, timing = {park.goroutine for park in self.parks}, {timer.goroutine for timer in self.timers}
         return waiting | timing | {use.goroutine for use in self.uses} | {dial.goroutine for dial in self.dials}
 
@@ -184,8 +183,7 @@ class Goroutines:
 
 
 def objects_of(what: int, at: int, b: int, c: int) -> tuple[At, ...]:
-    """The objects of a point PARKS or CASES: one, or up to three channels of a select, each with two bits for its
-    use."""
+    """The objects of a point PARKS or CASES: one object, or up to three channels of a select, each with two bits for its use."""
     if not at:
         return ()
     use = what & 255
@@ -199,7 +197,7 @@ def objects_of(what: int, at: int, b: int, c: int) -> tuple[At, ...]:
 
 
 class Begun(NamedTuple):
-    """A wait that has begun: its index among all waits, and its known facts."""
+    """A wait that has begun: its index among all waits, and what is known about it."""
 
     place: int
     step: int
@@ -211,7 +209,7 @@ class Begun(NamedTuple):
 
 
 class Passing:
-    """Reads a log's points, with the number of steps made before each. (There may be half a million points.)"""
+    """Reads a log's points, each with the number of steps before it. (There may be half a million points.)"""
 
     def __init__(self, begin: int) -> None:
         self.found = Goroutines()
@@ -269,7 +267,7 @@ class Passing:
         return self.found
 
     def _makes(self, point: Point, step: int, time: int) -> None:
-        """A goroutine makes a channel."""
+        """Records that a goroutine makes a channel."""
         key = self._keys.get(point.at, point.at)
         if key in self.found.made or key in self.found.rooms:
             key += 1 << GENERATION
@@ -278,14 +276,14 @@ class Passing:
         self.found.rooms[key] = point.b
 
     def _objects(self, what: int, at: int, b: int, c: int) -> tuple[At, ...]:
-        """The objects of a wait: channels by their keys."""
+        """The objects of a wait; channels have their keys."""
         keys, objects = self._keys, objects_of(what, at, b, c)
         if not any([one.address in keys for one in objects]):  # (as nearly always)
             return objects
         return tuple([At(keys.get(one.address, one.address), one.use) if one.use else one for one in objects])
 
     def _parks(self, point: Point, step: int, time: int) -> None:
-        """A goroutine begins to wait. If it waits already, its log was damaged, and the wait lasts to the end."""
+        """Records that a goroutine begins to wait. If it waits already, the log was damaged, and the wait lasts to the end."""
         _, _, g, at, a, b, c, _, stack = point
         what = a & 255
         self._ready.pop(g, None)
@@ -301,7 +299,7 @@ class Passing:
         self.parks.append(None)
 
     def _ends(self, g: int, begun: Begun, step: int, time: int) -> None:
-        """A goroutine continues."""
+        """Records that a goroutine continues."""
         self.parks[begun.place] = self._park(g, begun, step, time, self._ready.pop(g, 0))
         self.found.finished.append(begun.place)
 
@@ -311,7 +309,7 @@ class Passing:
         return Park(g, first, step, begin, time, what, stack, by, objects, due)
 
     def _met(self, point: Point, step: int, time: int) -> None:
-        """A value passes from one goroutine to another that waits for it."""
+        """Records that a value passes from one goroutine to another that waits for it."""
         _, kind, g, at, other, b, _, _, stack = point
         at = self._keys.get(at, at)
         self._ready[other] = g
@@ -326,7 +324,7 @@ class Passing:
             self._used(at, other, others, 0, step, time)
 
     def _used(self, at: int, g: int, what: str, stack: int, step: int, time: int, often: int = 1) -> None:
-        """A goroutine did something at a channel or a WaitGroup. If it waits, it has the stack of its wait."""
+        """Records what a goroutine did at a channel or a WaitGroup. If it waits, it has the stack of its wait."""
         if not stack and g in self._parked:
             stack = self._parked[g].stack
         use = at, g, what, stack
@@ -341,8 +339,8 @@ class Passing:
 def goroutines_of(
     points: Iterable[Point], steps: list[Made], begin: int, holders: list[Holder] | None = None
 ) -> Goroutines:
-    """All goroutines of the points about them, and of the locked mutexes. `steps` has the steps of each point, in
-    the points' order."""
+    """All goroutines, from the points about them and the locked mutexes. `steps` has the steps of each point, in the order of the
+    points."""
     passing = Passing(begin)
     pass_point = passing.point
     following = iter((*steps, BEHIND))

@@ -1,4 +1,4 @@
-"""Makes recordings from a run's logs, and keeps the logs, with a message, if a recording can't be made."""
+"""Makes recordings from a run's logs, and keeps the logs, with a message, if it can't make one."""
 
 from __future__ import annotations
 
@@ -24,8 +24,8 @@ from .toolchain import Go
 
 
 def say(lines: list[str], stream: TextIO | None = None) -> None:
-    """Prints these lines to standard error, because standard output belongs to Go and the program, or to another
-    stream. If printing fails, later lines are dropped and everything else continues."""
+    """Prints these lines to standard error, because standard output belongs to Go and the program, or to another stream. If printing fails,
+    later lines are dropped and everything else continues."""
     to = stream or sys.stderr
     try:
         print("\n".join(lines), file=to, flush=True)
@@ -52,7 +52,7 @@ class Saying:
             self._count += len(lines)
 
     def rest(self, lines: list[str]) -> None:
-        """Prints those of all lines that weren't printed yet."""
+        """Prints the lines that weren't printed yet."""
         self.hear(lines[self._count :])
 
 
@@ -62,7 +62,7 @@ def complain(text: str) -> None:
 
 
 def convert_hint(folder: pathlib.Path, logs: list[pathlib.Path]) -> str:
-    """The hint how to convert logs that were kept."""
+    """A hint how to convert logs that were kept."""
     again = shlex.quote(str(logs[0])) if len(logs) == 1 else f"{shlex.quote(str(folder))}/{LOGS}"
     return messages.NOTHING_IS_LOST.format(netrev_go=command("netrev-go"), logs=again)
 
@@ -73,7 +73,7 @@ def unwritten(name: pathlib.Path, fault: OSError) -> str:
 
 
 def report_no_log(folder: pathlib.Path, failed: bool) -> bool:
-    """Prints why there is no log, if there is none; returns whether that is so."""
+    """Prints why there is no log; returns whether there is none."""
     if logs_in(folder):
         return False
     if not folder.is_dir():
@@ -84,7 +84,7 @@ def report_no_log(folder: pathlib.Path, failed: bool) -> bool:
 
 
 def report_unrecorded(folder: pathlib.Path) -> bool:
-    """Says which processes couldn't be recorded; whether some couldn't."""
+    """Prints which processes couldn't be recorded; returns whether there are any."""
     lines = unrecorded(folder)
     for line in lines:
         complain(line)
@@ -92,7 +92,7 @@ def report_unrecorded(folder: pathlib.Path) -> bool:
 
 
 def leave(folder: pathlib.Path, keep: bool, is_whole: bool, running: list[pathlib.Path]) -> None:
-    """Removes a run's logs, unless the user wants them, a recording is missing, or these programs still run."""
+    """Removes a run's logs, unless the user wants them, a recording is missing, or some of these programs still run."""
     logs = logs_in(folder)
     if keep or logs and not is_whole:
         release(folder)
@@ -117,7 +117,7 @@ class Making:
     def __init__(self, folder: pathlib.Path, base: pathlib.Path, go: Go | None, wish: Wish, count: int = 0) -> None:
         self._folder, self._base, self._go, self._wish = folder, base, go, wish
         self._times = 0
-        self._is_whole = False  # whether the logs can be removed without loss
+        self._is_whole = False  # whether the logs can be removed without losing anything
         self._running: list[pathlib.Path] = []
         self.count = count  # how many recordings have this name so far
         self.all_taken = False
@@ -125,12 +125,12 @@ class Making:
         self.suspected = False
 
     def so_far(self) -> None:
-        """Makes recordings of the logs so far, while the program runs on."""
+        """Makes recordings of the logs so far, while the program keeps running."""
         self._times += 1
         self._make(self._base.with_name(f"{self._base.name}-so-far-{self._times}"), self._wish, 0)
 
     def all(self, failed: bool) -> None:
-        """Makes them after the program's end."""
+        """Makes recordings after the program has ended."""
         self.trouble = False
         self._running = still_written(self._folder)
         if report_no_log(self._folder, failed):
@@ -146,8 +146,8 @@ class Making:
         leave(self._folder, keep, self._is_whole, self._running)
 
     def _make(self, base: pathlib.Path, wish: Wish, count: int) -> tuple[bool, int]:
-        """Makes a recording of each log in which sockets were opened; whether netrev accepts all, and how many have
-        this name."""
+        """Makes a recording of each log in which sockets were opened; returns whether netrev accepts all, and how many recordings have this
+        name."""
         ok, before, without = True, count, 0
         for log in logs_in(self._folder):
             name, saying = numbered(base, count + 1), Saying([])

@@ -1,4 +1,4 @@
-"""Adds the steps that lead to a noted socket to a recording, with the recording's numbers."""
+"""Adds the steps that lead to a noted socket to a recording, with the numbers that the recording uses."""
 
 from __future__ import annotations
 
@@ -60,13 +60,14 @@ def lead(converter: Converter, socket: Socket) -> None:
 
 
 def is_written_later(socket: Socket) -> bool:
-    """Whether the point of a write comes after the note. If its write side was closed by then, the write was made before that."""
+    """Whether the point of a write comes after the note although the write came before it. If the write side was closed by the time of the
+    note, the write was made before that."""
     assert socket.note
     return socket.last_write is not None and socket.last_write.number > socket.note.number
 
 
 def close_write(converter: Converter, socket: Socket, step: Lead) -> None:
-    """Closes the write side, as it was noted."""
+    """Adds the noted closing of the write side."""
     socket.shut = True
     g = converter.goroutine(step.goroutine)
     put(converter, socket, step, g, of_json(["closewrite", g, socket.number, answer_of(step)]))
@@ -78,7 +79,7 @@ def answer_of(step: Lead) -> object:
 
 
 def put(converter: Converter, socket: Socket, step: Lead, g: int, line: Line) -> None:
-    """Adds a step of a goroutine, with its stack; it takes part in no order of the program."""
+    """Adds a step of a goroutine, with its stack; the step takes part in no order of the program."""
     converter.lines.append(line)
     converter.stacks.append(step.stack)
     converter.last_steps[g] = len(converter.lines)
@@ -87,7 +88,7 @@ def put(converter: Converter, socket: Socket, step: Lead, g: int, line: Line) ->
 
 
 def set_deadline(converter: Converter, socket: Socket, step: Lead, g: int) -> int:
-    """Sets a noted deadline, or one that passes soon; returns the time at which it passes."""
+    """Sets a noted deadline, or one that passes soon, and returns the time at which it passes."""
     mode, deadline = step.arguments
     if step.kind == "soon":
         time = deadline
@@ -103,7 +104,7 @@ def set_deadline(converter: Converter, socket: Socket, step: Lead, g: int) -> in
 
 
 def passes(converter: Converter, socket: Socket, side: int, soon: int) -> None:
-    """A deadline passes, and its timer's function runs."""
+    """Lets a deadline pass and its timer's function run."""
     timer = converter.deadlines.armed(socket.descriptor, side)
     converter.go_on_to(soon)
     while timer and timer.armed:

@@ -1,5 +1,5 @@
-"""The lifetimes of goroutines: a recording has room for a number of them at once, because one that has ended hands its
-number to the next."""
+"""The lifetimes of goroutines: a recording has room for a limited number at once, because a goroutine that has ended hands its number to
+the next one."""
 
 from __future__ import annotations
 
@@ -13,13 +13,13 @@ ENDS = int(Kind.ENDS)
 
 @dataclass
 class Lifetimes:
-    """For each goroutine the points at which it begins to make steps and at which it ends, by Go's numbers."""
+    """For each goroutine, by Go's number, the points at which it begins to make steps and at which it ends."""
 
     began: dict[int, int] = field(default_factory=dict)
     ended: dict[int, int] = field(default_factory=dict)
 
     def most(self, goroutines: Iterable[int]) -> int:
-        """The greatest number of these goroutines at one time."""
+        """The greatest number of these goroutines that exist at one time."""
         known, began, ended = list(goroutines), self.began, self.ended
         moments = [(began.get(goroutine, 0), 1) for goroutine in known]
         moments += [(ended[goroutine], -1) for goroutine in known if goroutine in ended]
@@ -30,7 +30,7 @@ class Lifetimes:
         return most
 
     def in_order(self) -> list[tuple[int, int]]:
-        """The ends, the last one first: the point and the goroutine."""
+        """The ends, latest first: the point and the goroutine."""
         return sorted(((number, goroutine) for goroutine, number in self.ended.items()), reverse=True)
 
 

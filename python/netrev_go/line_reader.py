@@ -22,13 +22,13 @@ def shipped(go: Go) -> pathlib.Path:
 
 
 def kept(go: Go) -> pathlib.Path:
-    """The path at which netrev-go keeps the one that it built."""
+    """The path at which netrev-go keeps the program that it built."""
     digest = hashlib.sha256(f"{go.version} {go.root}".encode()).hexdigest()
     return cache() / f"{NAME}-{re.sub(r'[^0-9A-Za-z.+-]', '_', go.version)}-{digest[:12]}" / NAME
 
 
 def line_reader(go: Go) -> list[str]:
-    """The command that reads lines: Go's own, or the one that was built; otherwise Go builds it now."""
+    """The command that reads lines: Go's own program, or the one that was built; if there is neither, `go tool` builds it now."""
     for path in (shipped(go), kept(go)):
         if path.exists():
             return [str(path)]
@@ -44,7 +44,7 @@ def build_line_reader(go: Go) -> pathlib.Path:
         made.parent.mkdir(parents=True, exist_ok=True)
         with (made.parent / "lock").open("w") as lock:
             fcntl.flock(lock, fcntl.LOCK_EX)
-            if not made.exists():  # no other process built it meanwhile
+            if not made.exists():  # no other process has built it meanwhile
                 part = made.with_name("part")
                 run = quiet_go(go, made.parent, "build", "-o", str(part), PACKAGE)
                 if run.returncode != 0:
@@ -56,6 +56,6 @@ def build_line_reader(go: Go) -> pathlib.Path:
 
 
 def prepare_line_reader(go: Go) -> None:
-    """Builds the program if it is missing. Otherwise Go builds one each time lines are read."""
+    """Builds the program if it is missing. Otherwise Go builds one each time that lines are read."""
     with contextlib.suppress(Trouble):
         build_line_reader(go)

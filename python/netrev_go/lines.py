@@ -1,4 +1,4 @@
-"""Source lines for the addresses of a program, by Go's `addr2line`. A program without symbols has its lines too."""
+"""Source lines for the addresses of a program, by Go's `addr2line`, which finds lines even in a program without symbols."""
 
 from __future__ import annotations
 
@@ -27,15 +27,15 @@ class Call(NamedTuple):
 
 
 class Calls(NamedTuple):
-    """A stack's calls from the innermost, and the `go` statement that made the goroutine."""
+    """A stack's calls from the innermost, and the `go` statement that started the goroutine."""
 
     calls: tuple[Call, ...]
     made: Call | None
 
 
 def shift(program: pathlib.Path, text: int) -> int | None:
-    """The distance of the program's code from the addresses that `addr2line` expects: that counts from the section .text, in which
-    C code may come first, and a program may be loaded anywhere. None if the file has no such section."""
+    """The distance of the program's code from the addresses that `addr2line` expects: `addr2line` counts from the section .text, which may
+    begin with C code, and a program may be loaded anywhere. None if the file has no such section."""
     with program.open("rb") as file:
         data = file.read()
     if data[:4] != b"\x7fELF" or len(data) < ELF_HEADER:
@@ -54,7 +54,7 @@ def shift(program: pathlib.Path, text: int) -> int | None:
 def looked_up(
     program: pathlib.Path, reader: list[str], addresses: Iterable[int], moved: int
 ) -> dict[int, tuple[str, str, int]]:
-    """The function, the file and the line at each address, by the command that reads them."""
+    """The function, the file and the line at each address, by the command that reads lines."""
     asked = sorted(set(addresses))
     text = "".join(f"{address - moved:#x}\n" for address in asked if address >= moved)
     run = subprocess.run([*reader, program], input=text, capture_output=True, text=True, check=False, errors="replace")
@@ -68,7 +68,7 @@ def looked_up(
 
 
 def replaced_file(file: str) -> str:
-    """The real name of a file of Go that the overlay replaces by a file with _ for / in its name."""
+    """The real name of a file of Go that the overlay replaces with a file whose name has _ for /."""
     name = file.rpartition("/")[2]
     for package in ("internal_poll_", "runtime_", "testing_"):
         if name.startswith(package):
@@ -77,8 +77,7 @@ def replaced_file(file: str) -> str:
 
 
 class Roots:
-    """Decides whose code a file is: files below Go's own folders are Go's, and files below a library's folder the
-    library's."""
+    """Decides whose code a file is: files below Go's own folders are Go's, and files below a library's folder are the library's."""
 
     def __init__(self, sources: pathlib.Path, here: pathlib.Path) -> None:
         self.sources = {str(sources) + "/", os.path.realpath(sources) + "/"}
@@ -86,7 +85,7 @@ class Roots:
         self.here = str(here) + "/"
 
     def call(self, function: str, file: str, line: int) -> Call:
-        """A call. Go's own files are named from their package on, and the program's from the folder of the command."""
+        """Makes a call. Go's own files are named from their package on, and the program's relative to the folder of the command."""
         for root in self.sources:
             if file.startswith(root):
                 return Call(function, file.removeprefix(root), line, OF_GO)
@@ -106,7 +105,7 @@ class Roots:
 
 
 def is_ours(call: Call) -> bool:
-    """Whether a function among Go's own is the recorder's, or a literal of one."""
+    """Whether a function in Go's own files is the recorder's, or a function literal in one."""
     return call.of == OF_GO and "etrev" in call.function.rpartition("/")[2].partition(".")[2]
 
 

@@ -1,5 +1,5 @@
-"""Repeated test runs aren't linked again: the linker's output is stored under the ID that Go gives it, which
-depends on all its inputs, and copied instead of linking. Everything else, and the output, stays Go's."""
+"""Lets repeated test runs skip the linker: its output is stored under the ID that Go gives it, which depends on all its inputs, and copied
+instead of linking again. Everything else, and the output, stays as Go makes it."""
 
 from __future__ import annotations
 
@@ -11,10 +11,10 @@ from collections.abc import Iterator
 
 from .toolchain import Go
 
-PART = 4  # the greatest part of the free space that is used
-# flags with which each run links: the first is the user's own, the others print each command
+PART = 4  # the largest part of the free space that is used: a quarter
+# flags with which every run links: the first is the user's own, the others print each command
 FLAGS = ("toolexec", "x", "n")
-# Go runs each tool through it:  sh keep FOLDER KILOBYTES TOOL WORDS
+# Go runs each tool through this script: sh keep FOLDER KILOBYTES TOOL WORDS
 KEEP = r"""kept=$1 most=$2
 shift 2
 case ${1##*/} in link) ;; *) exec "$@" ;; esac
@@ -41,7 +41,7 @@ def is_in_the_way(word: str) -> bool:
 
 @contextlib.contextmanager
 def kept(go: Go, words: list[str], is_again: bool) -> Iterator[list[str]]:
-    """The flags with which Go's linker is called once. There are none if the tests run only once."""
+    """The flags with which Go's linker runs only once; none if the tests run only once."""
     if not is_again or any(map(is_in_the_way, [*words, *go.flags.split()])):
         yield []
         return

@@ -29,7 +29,7 @@ POINT_WORDS = 8
 WORD = 8
 PAGE = 4_096
 HEADER_WORDS = 19
-ROW_WORDS, WAITER_WORDS = 16, 8  # of the tables of descriptors, and of goroutines that are queued for their locks
+ROW_WORDS, WAITER_WORDS = 16, 8  # in the tables of descriptors, and of goroutines that are queued for their locks
 STACK_BYTES, HOLDER_BYTES, POINT_BYTES = STACK_WORDS * WORD, HOLDER_WORDS * WORD, POINT_WORDS * WORD
 ROW_BYTES, WAITER_BYTES = ROW_WORDS * WORD, WAITER_WORDS * WORD
 AT_ONCE = 2**16  # points
@@ -37,7 +37,7 @@ MOST_POINTS = 2**24
 MOST_STACKS = 2**20
 MOST_HOLDERS = 2**20  # rows of the table of locked mutexes
 HOLDER_BEGUN = 1  # instead of an address, in a row that is being written
-# As many points may be under way on other processors while one is written.
+# As many points may be unfinished on other processors while one is written.
 UNDER_WAY = 64
 LOW = 2**32 - 1
 NEVER, UNKNOWN = -1, 0  # instead of a time
@@ -78,7 +78,7 @@ class Header:
 
 
 def read_stacks(file: BinaryIO, count: int) -> dict[int, Stack]:
-    """The table of this many stacks, each by its number. A stack that was being written has no calls."""
+    """The table of this many stacks, each by its number. A stack that was still being written has no calls."""
     stacks = {}
     for slot in range(count):
         text = file.read(STACK_BYTES)
@@ -97,8 +97,7 @@ def stack_at(file: BinaryIO, number: int) -> Stack | None:
 
 
 def read_holders(file: BinaryIO, count: int, stacks: dict[int, Stack]) -> list[Holder]:
-    """The table of locked mutexes, of this many rows. Their stacks are added to those of points, with numbers of their
-    own."""
+    """The table of locked mutexes, which has this many rows. Their stacks are added to the stacks of points, with numbers of their own."""
     found: dict[tuple[int, int], Holder] = {}
     for row in range(count):
         text = file.read(HOLDER_BYTES)
@@ -119,8 +118,8 @@ def read_holders(file: BinaryIO, count: int, stacks: dict[int, Stack]) -> list[H
 
 
 def whole_points(file: BinaryIO, header: Header) -> tuple[list[Point], int]:
-    """The whole points, in the order of their numbers, and the number of places of the ring. It is read piece by piece,
-    because a file with holes is mostly empty."""
+    """The whole points, ordered by number, and the number of places in the ring. The ring is read piece by piece, because a file with holes
+    is mostly empty."""
     ring = header.ring
     held = (file.seek(0, 2) - ring) // POINT_BYTES
     held = max(0, min(held, header.passed, header.points))
@@ -144,20 +143,21 @@ def whole_points(file: BinaryIO, header: Header) -> tuple[list[Point], int]:
 
 
 def with_first_times(points: list[Point]) -> list[Point]:
-    """The points, of which the first ones, if they have no time, have that of the next one that has: the point before them is lost."""
+    """The points; if the first ones have no time, they get the time of the next point that has one, because the point before them is
+    lost."""
     untimed = len(list(takewhile(lambda point: point.time == UNKNOWN, points)))
     if untimed in (0, len(points)):
         return points
     return [point._replace(time=points[untimed].time) for point in points[:untimed]] + points[untimed:]
 
 
-# The same as Point._make, but without a check of the number of values.
+# The same as Point._make, but without checking the number of values.
 made = cast(Callable[[tuple[int, ...]], Point], partial(tuple.__new__, Point))
 
 
 def points_of(text: bytes, first: int, latest: int = NEVER) -> list[Point]:
-    """The whole points of a part of the ring, in which the first has this number. Those without a time have that of the point
-    before, if the `latest` time before them is known. (A column at a time, as there may be millions.)"""
+    """The whole points of a part of the ring, whose first point has this number. Points without a time get the previous point's, if the
+    `latest` time before them is known. (Column by column, because there may be millions.)"""
     signed = array("q", text)
     heads, *columns, lasts = (signed[column::POINT_WORDS] for column in range(POINT_WORDS))
     numbers = range(first, first + len(heads))
@@ -193,8 +193,7 @@ def timed(times: array[int], latest: int) -> Iterable[int]:
 
 
 def are_whole(first: int, heads: array[int], columns: list[array[int]], lasts: array[int]) -> bool:
-    """Whether all these points are whole. Each column is tested as one great number, which is much faster than
-    point by point."""
+    """Whether all these points are whole. Each column is tested as one large number, which is much faster than point by point."""
     kinds, low, ones, counted = masks(len(heads))
     total = counted + first * ones
     if as_one(heads) & ~kinds != total + ones << 8:
@@ -206,8 +205,8 @@ def are_whole(first: int, heads: array[int], columns: list[array[int]], lasts: a
 
 @lru_cache(2)
 def masks(count: int) -> tuple[int, int, int, int]:
-    """Masks for this many words, each as one number: the lowest byte of each word, the lower half, a one in each,
-    and in each its index."""
+    """Masks for this many words, each as one large number: the lowest byte of each word, the lower half of each, a one in each, and in each
+    word its index."""
     kinds, low, ones = (as_one(array("Q", (word,)) * count) for word in (255, LOW, 1))
     return kinds, low, ones, as_one(array("Q", range(count)))
 
@@ -217,9 +216,9 @@ def as_one(column: array[int]) -> int:
 
 
 def behind_the_last_gap(points: list[Point]) -> list[Point]:
-    """The points after the last gap that is too large for points that were being written."""
+    """The points after the last gap that is too large to be explained by unfinished points."""
     if points and points[-1].number - points[0].number < len(points) - 1 + UNDER_WAY:
-        return points  # fewer points are missing than may have been under way
+        return points  # no more points are missing than may have been unfinished
     for index in range(len(points) - 1, 0, -1):
         if points[index].number - points[index - 1].number > UNDER_WAY:
             return points[index:]
@@ -227,7 +226,7 @@ def behind_the_last_gap(points: list[Point]) -> list[Point]:
 
 
 def read_log(path: pathlib.Path, is_written: bool = False) -> Log:
-    """A log's points and stacks, with notes on what is missing. One that a program writes meanwhile is copied first."""
+    """A log's points and stacks, with notes on what is missing. A log that a program is still writing is copied first."""
     try:
         if not stat.S_ISREG(path.stat().st_mode):
             raise NoLog(messages.NOT_A_FILE)
@@ -238,7 +237,7 @@ def read_log(path: pathlib.Path, is_written: bool = False) -> Log:
 
 
 def uncopied(path: pathlib.Path) -> str:
-    """Why a program couldn't copy its log to this path; empty if it didn't try to, or if it did so."""
+    """Why a program couldn't copy its log to this path; empty if it did, or didn't try."""
     with contextlib.suppress(OSError):
         for name in sorted(os.listdir(path.parent)):
             number = name.removeprefix(path.name + ".failed.")
@@ -248,10 +247,9 @@ def uncopied(path: pathlib.Path) -> str:
 
 
 def copy_of(file: BinaryIO) -> BinaryIO:
-    """A copy of a growing log: the ring first after the header, because new points replace the oldest. The other parts
-    only grow."""
+    """A copy of a growing log: the ring first, after the header, because new points replace the oldest. The other parts only grow."""
     room = bytearray(os.fstat(file.fileno()).st_size)
-    room[::PAGE] = bytes(len(room[::PAGE]))  # (else the system gives each page its memory while the ring is copied)
+    room[::PAGE] = bytes(len(room[::PAGE]))  # (otherwise the system would allocate each page while the ring is copied)
     view = memoryview(room)
     size = os.preadv(file.fileno(), [view[:HEADER_BYTES]], 0)
     header = Header(bytes(view[:size]))
@@ -263,7 +261,7 @@ def copy_of(file: BinaryIO) -> BinaryIO:
 
 
 def log_of(file: BinaryIO, is_written: bool = False) -> Log:
-    """The log that an open file is. While one was copied, the oldest points may have been replaced."""
+    """The log in an open file. While the file was copied, the oldest points may have been replaced."""
     header = Header(file.read(HEADER_BYTES))
     is_written = is_written or header.is_copy
     stacks = read_stacks(file, header.stacks)

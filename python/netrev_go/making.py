@@ -1,4 +1,4 @@
-"""Makes the recording of a log: the sockets that fit, the steps, and notes about what is left out."""
+"""Makes the recording of a log: chooses the sockets that fit, makes the steps, and notes what is left out."""
 
 from __future__ import annotations
 
@@ -35,16 +35,16 @@ LockWord = tuple[int, int, int]  # the step before, the socket, and the word
 
 
 class Nothing(Exception):
-    """The log contains nothing that a recording could be made of."""
+    """The log contains nothing from which a recording could be made."""
 
 
 class NoSocket(Nothing):
-    """The program opened none."""
+    """The program opened no socket."""
 
 
 @dataclass
 class Recording:
-    """A recording that hasn't been written yet."""
+    """A recording that isn't written yet."""
 
     header: str
     lines: list[Line]
@@ -52,21 +52,21 @@ class Recording:
     goroutines: int
     last_steps: list[int]
     sockets: int
-    orders: list[tuple[int, int]] | None = None  # None if the log has none of them
+    orders: list[tuple[int, int]] | None = None  # None if the log has no orders
     notes: list[str] = field(default_factory=list)
     beside: Beside = field(default_factory=Beside)
-    bytes: int | None = None  # the greatest count of a read or a write, if one moved more
+    bytes: int | None = None  # the greatest count of a read or a write, if one moved more bytes
     made: list[Made] = field(default_factory=list)  # the goroutines' steps
-    times: list[int] | None = None  # of the steps, from the log's begin; None if the log has none
+    times: list[int] | None = None  # the time of each step, from the log's begin; None if the log has no times
     points: list[tuple[Point, Socket]] = field(default_factory=list)
     ended: list[int] = field(default_factory=list)  # the number of steps after each point
     everybody: Goroutines = field(default_factory=Goroutines)  # also goroutines without a step
-    numbers: dict[int, int] = field(default_factory=dict)  # the recording's goroutines, by Go's names
-    prelude: int = 0  # how many steps lead to the state in which it begins
-    has_tags: bool = False  # Go's events have tags, which Go compares with the descriptor's use
+    numbers: dict[int, int] = field(default_factory=dict)  # the recording's goroutines, by Go's numbers
+    prelude: int = 0  # how many steps lead to the state in which the recording begins
+    has_tags: bool = False  # Go's events have tags, which Go compares with the descriptor's current use
     taken: list[tuple[int, int, int]] = field(
         default_factory=list
-    )  # numbers that another goroutine took: after which step, and which
+    )  # numbers that another goroutine took: after which step, and the number
 
     @cached_property
     def words(self) -> list[LockWord]:
@@ -75,11 +75,11 @@ class Recording:
 
     @cached_property
     def olds(self) -> list[int]:
-        """The value of each of them before."""
+        """For each of these lock words, its value before."""
         return [point.a for point, _, _ in self._locks()]
 
     def _locks(self) -> Iterator[tuple[Point, Socket, int]]:
-        """The points that changed a lock word, and the step of each."""
+        """The points that changed a lock word, and each one's step."""
         return ((*pair, step) for pair, step in zip(self.points, self.ended) if pair[0].kind in LOCKING)
 
 
@@ -96,8 +96,8 @@ def make(
     part: Part | None = None,
     first: int = 0,
 ) -> Recording:
-    """The recording of a log's newest sockets, or of those that `part` chooses: at most `most` sockets, and at most
-    `megabytes` of text for their bytes. A socket whose lock word has the address `first` is kept before all others."""
+    """The recording of a log's newest sockets, or of the sockets that `part` chooses: at most `most` sockets, and at most `megabytes` of
+    text for their bytes. A socket whose lock word has the address `first` is kept before all others."""
     window = window_of(log, all_bytes)
     found = window.found
     notes = [*log.notes, *window.notes]
@@ -139,7 +139,7 @@ def make(
 
 @dataclass
 class Window:
-    """The points of a recording: all points of sockets, or those from the first whole notes on."""
+    """The points of a recording: all points of sockets, or those from the first complete notes on."""
 
     found: Owned
     end: int = 0  # the number of the last point of these notes; 0 if there are none
@@ -147,7 +147,7 @@ class Window:
 
 
 def window_of(log: Log, all_bytes: bool) -> Window:
-    """The points from the first whole notes on, if the log lacks earlier points; else all."""
+    """The points from the first complete notes on, if earlier points are missing from the log; otherwise all points."""
     noted = [] if log.from_the_start else spans(log.of_kinds(NOTING))
     if not noted:
         return Window(owned(list(log.of_kinds(AT_A_SOCKET)), all_bytes))
@@ -159,20 +159,20 @@ def window_of(log: Log, all_bytes: bool) -> Window:
 
 
 def lacks(why: str, number: int) -> str:
-    """The message about sockets that were open before the recording begins, and are missing from it."""
+    """The message about sockets that were open before the recording begins and aren't in it."""
     which = "that was open before is" if number == 1 else "that were open before are"
     return f"{counted(number, 'socket')} {which} left out: {why}"
 
 
 def owners_of(converter: Converter) -> tuple[dict[int, int], dict[int, int]]:
-    """The recording's goroutines by Go's numbers, for each number the last one that had it; and the step after
-    which a goroutine took its number."""
+    """The recording's goroutines by Go's numbers: for each number, the last goroutine that had it; and the step after which a goroutine
+    took its number."""
     numbers = {name: number for number, name in enumerate(converter.names) if name != NOBODY}
     return numbers, {name: step for _, step, name in converter.taken}
 
 
 class Fitted:
-    """The sockets that fit; their steps are counted if they can't be estimated."""
+    """The sockets that fit; their steps are counted exactly if an estimate isn't enough."""
 
     def __init__(self, found: Owned, wanted: list[Socket], ends: list[Point], first: int = 0) -> None:
         self.found = found
@@ -181,20 +181,20 @@ class Fitted:
         self.wanted = {socket.opening for socket in wanted}
         self.before = [dict(vars(socket)) for socket in found.sockets]
         self.kept = 0
-        self.is_crowded = False  # more goroutines than a recording has numbers
+        self.is_crowded = False  # more goroutines at one time than a recording has numbers
         self.notes: list[str] = []
 
     @cached_property
     def lifetimes(self) -> Lifetimes:
-        """When goroutines begin and end, computed only if they are many."""
+        """When goroutines begin and end; computed only if there are many."""
         return lifetimes_of(self.found.began(), self.ends)
 
     def at_once(self, goroutines: set[int]) -> int:
-        """The greatest number of these goroutines at one time."""
+        """The greatest number of these goroutines that exist at one time."""
         return self.lifetimes.most(goroutines)
 
     def converted(self, begin: int, most: int, megabytes: int) -> Converter:
-        """The converter of these sockets; raises Nothing if not even one fits."""
+        """The converter of the sockets that fit; raises Nothing if not even one fits."""
         room, counted = MOST_STEPS, False
         while True:
             points = self.chosen(most, megabytes, room)
@@ -233,7 +233,7 @@ class Fitted:
 
 
 def write(recording: Recording, name: pathlib.Path) -> None:
-    """Writes the recording completely; raises an OSError that names the file if that fails."""
+    """Writes the recording atomically; raises an OSError that names the file if that fails."""
     with whole(name) as file:
         file.write(recording.header + "\n")
         for first in range(0, len(recording.lines), AT_ONCE):
@@ -241,7 +241,7 @@ def write(recording: Recording, name: pathlib.Path) -> None:
 
 
 def write_words(recording: Recording, name: pathlib.Path) -> None:
-    """Go's lock words, a line of JSON for each: the step before, the cell, and the value."""
+    """Writes Go's lock words, a line of JSON for each: the step before, the cell, and the value."""
     with whole(name) as file:
         for step, socket, word in recording.words:
             file.write(json.dumps([step, f"lock {socket}", str(word % 2**64)]) + "\n")

@@ -54,7 +54,7 @@ NO_TABLE = "{log} has no table of waiting goroutines: build the program with thi
 LOG_UNREADABLE = "{log} can't be read: {why}"
 NO_LONG_WAIT = "process {process} has ended, and no call waited that long"
 
-# Runs that were interrupted before their recordings were made.
+# Runs that were interrupted before recordings were made.
 ONE_WAS = "{last} was"
 SEVERAL_WERE = "{count} runs, the last {last}, were"
 RUNS_WERE_INTERRUPTED = "{runs} interrupted before the recordings were made: `{netrev_go} recover` makes them"
@@ -62,7 +62,7 @@ DISCARD = " (`rm -r {folder}` deletes the logs)"
 NONE_INTERRUPTED = "netrev-go: no run was interrupted"
 RECOVERED = "netrev-go: {recordings} of {runs} runs"
 
-# What is wrong with a log, after the log's name.
+# What is wrong with a log, printed after the log's name.
 TOO_SHORT = "too short for a log"
 NOT_A_LOG = "not a log of netrev-go"
 BAD_HEADER = "its header is damaged"
@@ -80,7 +80,7 @@ BAD_MODE = "point {point}: {mode} is neither reading nor writing"
 TWO_SIDES = "point {point}: one side was expected, and both were given"
 NO_TIMER = "point {point}: a deadline passed whose timer wasn't due"
 
-# What a recording lacks, in parentheses.
+# What a recording lacks, printed in parentheses.
 LOG_IS_FULL = "the log ran out of space and ends before the program did"
 NEWEST_POINTS = "the log keeps the newest {kept} points of {all}"
 LOG_IS_DAMAGED = "the log is cut short or damaged: {usable} of its {kept} points can be used"

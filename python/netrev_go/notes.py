@@ -1,6 +1,6 @@
-"""The recorder's notes of sockets that were open before the oldest point in the log: the state of the lock word and
-of the descriptor, the goroutines that waited there, each at its place of the wait, and those that were using it
-(go/log/notes.go writes these points)."""
+"""The recorder's notes of sockets that were open before the oldest point in the log (go/log/notes.go writes them): the state of the
+lock word and of the descriptor, the goroutines that waited there, each with its stage of the wait, and those that were using the
+socket."""
 
 from __future__ import annotations
 
@@ -24,7 +24,7 @@ INCREF, INCREF_CLOSE, DECREF, RW_LOCK, RW_UNLOCK, RELEASE, ACQUIRE, EVICT = map(
 )
 # Stages of a wait, as go/log/notes.go numbers them.
 ENTERING, ARMED, PARKING, PARKED, SWAPPING, CHECKING = range(1, 7)
-# Words of a descriptor there.
+# Words of a descriptor in a note.
 NIL, READY, WAIT, GOROUTINE = range(4)
 CLOSING, EVENT_ERROR, READ_RUNS, WRITE_RUNS, SHUT = (1 << bit for bit in range(5))
 WORDS, UNQUEUED = (8, 10), 1 << 12
@@ -51,8 +51,8 @@ class Queued(NamedTuple):
 
 @dataclass
 class Note:
-    """A noted socket, and what later points show about it: which goroutine gives up a lock or a reference that it
-    had then."""
+    """A noted socket, with what later points show about it: which goroutine releases a lock or a reference that it had when the socket was
+    noted."""
 
     number: int  # of the point
     word: int
@@ -66,10 +66,10 @@ class Note:
     holders: dict[int, int] = field(default_factory=dict)  # by side
     references: Counter[int] = field(default_factory=Counter)  # references of goroutines besides those of locks
     evicter: int = 0
-    is_in_motion: bool = False  # the lock was being passed from one goroutine to another that waits for it
+    is_in_motion: bool = False  # the lock was being passed from one goroutine to a waiting one
 
     def add(self, point: Point) -> None:
-        """Adds the facts in a further point of the note."""
+        """Adds the facts from a further point of the note."""
         _, kind, goroutine, _, a, b, c, _, stack = point
         if kind == POLL:
             self.tag, self.sequences = a, (b, c)
@@ -89,7 +89,7 @@ class Note:
         return {*self.holders.values(), *self.references, self.evicter} - {0}
 
     def waits_to_write(self) -> bool:
-        """Whether a goroutine waits inside a write, rather than for a connection, which it does without the lock."""
+        """Whether a goroutine waits inside a write. A goroutine that waits for a connection doesn't count, because it has no lock."""
         return WRITING in self.inside and self.is_taken(WRITING)
 
     def field(self, place: tuple[int, int]) -> int:
@@ -100,7 +100,7 @@ class Note:
         return bool(self.word & 2 << side)
 
     def word_of(self, side: int) -> int:
-        """The descriptor's word of a side."""
+        """The descriptor's word for a side."""
         return (self.flags or 0) >> WORDS[side] & 3
 
     def runs(self, side: int) -> bool:
@@ -113,8 +113,8 @@ def side_of(mode: int) -> int:
 
 
 class Debts:
-    """Finds which goroutines had locks and references of a socket when it was noted: those that give them up
-    without having got them since."""
+    """Finds which goroutines had a socket's locks and references when it was noted: those that release them without having acquired them
+    since."""
 
     def __init__(self, note: Note) -> None:
         self.note = note
@@ -157,14 +157,14 @@ class Debts:
 
 
 class Span(NamedTuple):
-    """The points between which all open descriptors were noted, by their numbers."""
+    """The points, by their numbers, between which all open descriptors were noted."""
 
     begin: int
     end: int
 
 
 def spans(points: Iterable[Point]) -> list[Span]:
-    """The whole notes of a log: those with both ends."""
+    """The complete notes of a log: those with both ends."""
     begun: dict[int, int] = {}
     found = []
     for point in points:

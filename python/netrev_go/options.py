@@ -46,7 +46,7 @@ def add_files(group: argparse._ArgumentGroup) -> None:
 
 
 def add_logs(group: argparse._ArgumentGroup) -> None:
-    """Adds the option for logs, which are removed otherwise."""
+    """Adds the option for keeping logs, which are removed otherwise."""
     group.add_argument("--keep", action="store_true", help="keep the logs, and print their folder")
 
 
@@ -159,7 +159,7 @@ def parser() -> argparse.ArgumentParser:
 
 
 def of_a_process(options: argparse.Namespace) -> None:
-    """Parses the words of a command about a process: its number, and the command's own options."""
+    """Parses the words of a command that takes a process: its number, and the command's own options."""
     made = Parser(usage=argparse.SUPPRESS, add_help=False)
     made.add_argument("pid", metavar="PID", type=int)
     if options.command == "watch":

@@ -1,5 +1,6 @@
-"""The orders between steps that the program itself enforces: by `go` statements, channels, and wake-ups, such as those of a mutex,
-a condition or a WaitGroup, also through goroutines without steps. A lock that was free leaves no trace here."""
+"""The orders between steps that the program itself enforces: by `go` statements, channels, and wake-ups, such as those of a
+mutex, a condition or a WaitGroup. They may also pass through goroutines without steps. A lock that was free leaves no trace
+here."""
 
 from __future__ import annotations
 
@@ -11,14 +12,14 @@ from .points import Kind, Point
 READY, SENT, RECEIVED, MET, CHANNEL_CLOSED, HANDED = map(
     int, (Kind.READY, Kind.SENT, Kind.RECEIVED, Kind.MET, Kind.CHANNEL_CLOSED, Kind.HANDED)
 )
-END = Point(2**63, 0, 0, 0, 0, 0, 0, 0, 0)  # after the last one
+END = Point(2**63, 0, 0, 0, 0, 0, 0, 0, 0)  # after the last point
 
-Frontier = dict[int, int]  # the last steps, by goroutine, that precede others
+Frontier = dict[int, int]  # for each goroutine, its last step that precedes others
 
 
 class Queue:
-    """The steps that precede each value in a queue. The first ones may be unknown and are only counted, because a
-    channel's capacity isn't known."""
+    """The steps that precede each value in a queue. The first values may be unknown and are only counted, because a channel's capacity
+    isn't known."""
 
     def __init__(self) -> None:
         self._unknown = 0
@@ -28,7 +29,7 @@ class Queue:
         return self._unknown + len(self._known)
 
     def fit(self, length: int) -> None:
-        """Sets the length: another channel may have been at its address, or the log begins later."""
+        """Sets the length, which may differ: another channel may have been at its address, or the log begins later."""
         while len(self._known) > length:
             self._known.popleft()
         self._unknown = length - len(self._known)
@@ -54,10 +55,10 @@ class Channel:
 
 
 class Orders:
-    """The orders so far. Goroutines have Go's numbers."""
+    """The orders found so far. Goroutines have Go's numbers."""
 
     def __init__(self) -> None:
-        self.found: list[tuple[int, int]] = []  # for each order the step that comes first, and the other
+        self.found: list[tuple[int, int]] = []  # for each order, the earlier step and the later one
         self.own: dict[int, int] = {}
         self.behind: dict[int, Frontier] = defaultdict(dict)  # the steps that a goroutine's next step follows
         self.known: dict[int, Frontier] = defaultdict(dict)  # the same for all its steps so far
@@ -70,7 +71,7 @@ class Orders:
         self.own[goroutine] = number
 
     def point(self, point: Point) -> None:
-        """The program orders goroutines."""
+        """Processes a point at which the program orders goroutines."""
         _, kind, g, at, a, b, _, _, _ = point
         if kind == READY or kind == HANDED:
             self._comes_behind(a, self._frontier(g))
@@ -86,7 +87,7 @@ class Orders:
             self._comes_behind(g, self.channels[at].closed)
 
     def _buffer(self, sends: bool, channel: Channel, goroutine: int, length: int, room: int) -> None:
-        """A value enters a channel's buffer, or leaves it."""
+        """Processes a value that enters or leaves a channel's buffer."""
         held = max(0, min(length, room))
         channel.values.fit(held)
         channel.places.fit(max(0, room) - held)
@@ -105,7 +106,7 @@ class Orders:
     def _comes_behind(self, goroutine: int, frontier: Frontier) -> None:
         known, behind = self.known[goroutine], self.behind[goroutine]
         latest = known.get
-        for other, number in frontier.items():  # (most of it is known, and a log may have millions of these)
+        for other, number in frontier.items():  # (most of it is known already, and a log may have millions of these)
             if number > latest(other, 0) and other != goroutine:
                 known[other] = behind[other] = number
 
@@ -114,7 +115,7 @@ Made = tuple[int, int, int]  # a step of a goroutine: the number of its point, t
 
 
 def orders_of(points: Iterable[Point], steps: Iterable[Made]) -> list[tuple[int, int]]:
-    """Pairs of steps whose first one precedes the second in every run, sorted by the second. Points and steps come in the points'
+    """Pairs of steps whose first step precedes the second in every run, sorted by the second. Points and steps are given in the points'
     order."""
     orders = Orders()
     ordering = iter(points)
@@ -134,6 +135,6 @@ def orders_of(points: Iterable[Point], steps: Iterable[Made]) -> list[tuple[int,
 
 
 def parts(found: list[tuple[int, int]], size: int) -> Iterator[list[tuple[int, int]]]:
-    """The pairs, this many at a time; at least one part."""
+    """The pairs in parts of this size; at least one part."""
     for first in range(0, max(len(found), 1), size):
         yield found[first : first + size]

@@ -13,11 +13,11 @@ from .toolchain import Trouble
 
 RECORDING, LINES, WORDS = ".jsonl", ".where", ".words"
 LONGEST_ENDING = "-so-far-999.jsonl"
-TRIED = 65_536  # bytes that are written as a test whether the disk has room
+TRIED = 65_536  # bytes written to test whether the disk has room
 
 
 def base_name(given: str | None, otherwise: str = "recording") -> pathlib.Path:
-    """The beginning of a recording's name; raises Trouble if it can't be one."""
+    """The base name of a recording; raises Trouble if the given name can't be one."""
     said = otherwise if given is None else given
     base = pathlib.Path(said.removesuffix(RECORDING))
     is_other = os.path.exists(base) and not (os.path.isfile(base) or os.path.isdir(base))  # a device, a pipe

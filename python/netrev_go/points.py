@@ -1,4 +1,4 @@
-"""The contents of a log: points in the order of one counter, and the stacks from which they were passed."""
+"""The contents of a log: points in the order of a single counter, and the stacks at which they were logged."""
 
 from __future__ import annotations
 
@@ -14,7 +14,7 @@ from netrev_words.vocabulary import NUMBERS
 
 
 class Kind(IntEnum):
-    """The kind of a point: the number of the step's kind, or above 100 for a point that isn't a step."""
+    """The kind of a point: the number of the step's kind, or a number above 100 for a point that isn't a step."""
 
     INIT = NUMBERS["sockopen"]
     READ = NUMBERS["sysread"]
@@ -69,23 +69,23 @@ class Kind(IntEnum):
     DEADLINE_CALL = 142
 
 
-# Sets of plain numbers, as points have them: an enumeration's members are compared much more slowly.
+# Sets of plain numbers, as in points: comparing an enumeration's members is much slower.
 KINDS = frozenset(map(int, Kind))
-# Points at which the program itself puts goroutines in order, and which are at no socket.
+# Points at which the program itself puts goroutines in order; they aren't at a socket.
 ORDERING = frozenset(range(Kind.READY, Kind.FOUND_CLOSED + 1)) | {int(Kind.HANDED)}
-# Points at which a goroutine begins to wait outside of the poller, goes on, gets a value that it waits for, makes or stops a timer, adds to
-# a WaitGroup, makes a channel, fails to connect a socket, and ends.
+# Points at which a goroutine begins to wait outside the poller, goes on, gets a value that it waits for, makes or stops
+# a timer, adds to a WaitGroup, makes a channel, fails to connect a socket, or ends.
 WAITING = frozenset(range(Kind.PARKS, Kind.DIAL_FAILED + 1))
-# Points that note how a socket is which may have been opened before the oldest point.
+# Points that note the state of a socket that may have been opened before the oldest point.
 NOTING = frozenset(range(Kind.NOTED, Kind.NOTED_NAMED + 1))
 AT_A_SOCKET = KINDS - ORDERING - WAITING - NOTING
 LOCKING = frozenset(map(int, (Kind.INCREF, Kind.INCREF_CLOSE, Kind.DECREF, Kind.RW_LOCK, Kind.RW_UNLOCK)))
-# Points at a lock word's address. All others but INIT are at a descriptor's.
+# Points at a lock word's address. All others except INIT are at a descriptor's address.
 AT_A_WORD = LOCKING | set(map(int, (Kind.READ, Kind.WRITE, Kind.ACQUIRE, Kind.RELEASE, Kind.CLOSE_WRITE, Kind.NAMED)))
 
 
 class Point(NamedTuple):
-    """A point that a goroutine passed (0 if none did): its address, the values there, a time of Go's clock if one was read, and the
+    """A point logged by a goroutine (0 if by none): its kind, its address, the values there, a time of Go's clock if one was read, and the
     number of its stack (0 if there is none)."""
 
     number: int
@@ -105,8 +105,8 @@ NUMBER, KIND, GOROUTINE, TIME = (
 
 
 class Stack(NamedTuple):
-    """The return addresses of the calls, innermost first; then the address of the `go` statement that started the
-    goroutine, and the address of the goroutine's function."""
+    """The return addresses of the calls, innermost first; then the address of the `go` statement that started the goroutine, and the
+    address of the goroutine's function."""
 
     made: int
     started: int
@@ -114,8 +114,8 @@ class Stack(NamedTuple):
 
 
 class Holder(NamedTuple):
-    """A mutex that was locked as the log ended: its address, which goroutine had locked it, whether for reading, how many points had been passed
-    then, and the stack from which it was locked (0: none is known)."""
+    """A mutex that was locked when the log ended: its address, the goroutine that had locked it, whether for reading, how many points had
+    been logged by then, and the stack from which it was locked (0 if unknown)."""
 
     address: int
     goroutine: int
@@ -126,7 +126,7 @@ class Holder(NamedTuple):
 
 @dataclass
 class Log:
-    """A log as it was read. `holders` is None if the log doesn't say which mutexes are locked."""
+    """A log that was read. `holders` is None if the log doesn't say which mutexes are locked."""
 
     points: list[Point]
     stacks: dict[int, Stack] = field(default_factory=dict)

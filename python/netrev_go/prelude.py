@@ -12,9 +12,9 @@ These states can be reached:
 - Bytes aren't known. The input is empty, because bytes arrive just before the read that gets them; the output is full if a goroutine waits
   to write there, or if a write finds it full later.
 
-Left out, and named: a socket at which a goroutine is about to pass a lock on to another, or has a lock or a reference that it doesn't give up
-in the log; one whose timer is due and hasn't run; and a state to which these steps don't lead. The model in Python runs each socket's
-steps, and the resulting state is compared with the whole note.
+Left out, with the reason: a socket at which a goroutine is about to pass a lock to another, or has a lock or a reference that it doesn't
+release in the log; a socket whose timer is due and hasn't run; and a state to which these steps don't lead. The model in Python runs each
+socket's steps, and the resulting state is compared with the whole note.
 """
 
 from __future__ import annotations
@@ -51,8 +51,8 @@ class Unreachable(Exception):
 
 
 class Lead(NamedTuple):
-    """A step that leads to the state: its kind, the goroutine by Go's name, the other arguments, the answer, and the
-    stack. A deadline is that of Go's clock."""
+    """A step that leads to the state: its kind, the goroutine by Go's number, the other arguments, the answer, and the stack. A deadline is
+    a time of Go's clock."""
 
     kind: str
     goroutine: int
@@ -79,7 +79,7 @@ class Leading:
         self.leads.append(Lead(kind, goroutine, arguments, answer, stack))
 
     def all(self) -> list[Lead]:
-        """The steps; raises Unreachable if none lead there."""
+        """The steps; raises Unreachable if none lead to the note."""
         note = self.note
         flags = note.flags
         if flags is None or any(one.place not in PLACES for one in note.inside.values()):
@@ -112,7 +112,7 @@ class Leading:
         return self.leads
 
     def locks(self) -> int:
-        """References and locks that goroutines have; the goroutine that will close it."""
+        """Gives goroutines their references and locks; returns the goroutine that will close the socket."""
         note = self.note
         references = note.references.copy()
         own = note.field(REFERENCES) - sum(note.is_taken(side) for side in BOTH)
@@ -147,7 +147,7 @@ class Leading:
                 self.fill(holder, stack)
 
     def fill(self, goroutine: int, stack: int = 0) -> None:
-        """Fills the output, which a later write finds full."""
+        """Fills the output, because a later write finds it full."""
         self.add("syswrite", goroutine, self.capacities[1], answer=("put", self.capacities[1]), stack=stack)
         if goroutine != NOBODY:
             self.add("syswrite", goroutine, 1, answer=("again",), stack=stack)
@@ -159,7 +159,7 @@ class Leading:
             self.add("acquire", goroutine, answer=WAITS, stack=stack)
 
     def enter(self, side: int) -> None:
-        """Puts a goroutine inside the wait of a side; one that was woken parks first."""
+        """Puts a goroutine inside the wait of a side; one that was woken has to park first."""
         if side not in self.note.inside:
             return
         goroutine, place, stack = self.note.inside[side]
@@ -171,7 +171,7 @@ class Leading:
                 self.add(kind, goroutine, answer=answer, stack=stack)
 
     def wake(self, side: int) -> None:
-        """Wakes a goroutine without readiness: by a deadline in the past, if not by the close."""
+        """Wakes a goroutine that isn't ready: by a deadline in the past, unless the close does it."""
         inside, word = self.note.inside.get(side), self.note.word_of(side)
         is_woken = inside and (inside.place == CHECKING or inside.place != ENTERING and word == NIL)
         if is_woken and not (self.note.flags or 0) & CLOSING:
@@ -185,7 +185,7 @@ class Leading:
             self.add("blockswap", inside.goroutine, answer=NO, stack=inside.stack)
 
     def passed(self) -> None:
-        """Deadlines that passed, and whose timers still run."""
+        """Sets deadlines that have passed and whose timers are still running."""
         sides = [side for side in BOTH if self.note.deadlines[side] < 0 and self.note.runs(side)]
         for side, soon in zip(sides, SOON):
             self.add("soon", NOBODY, SIDES[side], soon)
@@ -194,7 +194,7 @@ class Leading:
             self.deadlines[side] = -1
 
     def set(self) -> None:
-        """All other deadlines."""
+        """Sets all other deadlines."""
         read, write = wanted = self.note.deadlines
         if read == write > 0 and not self.note.runs(WRITING):
             self.add("setdeadline", NOBODY, "rw", read)
@@ -204,7 +204,7 @@ class Leading:
                 self.add("setdeadline", NOBODY, SIDES[side], wanted[side])
 
     def events(self, is_error: bool) -> None:
-        """Events that came, and whether the last one was an error."""
+        """Adds the events that came; the last one was an error if `is_error` is true."""
         sides = "".join(SIDES[side] for side in BOTH if self.note.word_of(side) == READY)
         if sides:
             self.add("pollevent", NOBODY, sides, int(is_error))
@@ -223,7 +223,7 @@ def spelled(lead: Lead, g: int, s: int, d: int, tag: int) -> tuple[Any, ...]:
 
 
 def passing(leads: list[Lead]) -> int:
-    """The nanoseconds that these steps let pass, so that deadlines pass."""
+    """The nanoseconds that these steps let pass to make deadlines pass."""
     return max((lead.arguments[1] for lead in leads if lead.kind == "soon"), default=0)
 
 
@@ -265,7 +265,7 @@ def _steps(leads: list[Lead], numbers: dict[int, int], begin: int) -> Iterator[t
 
 
 def relative(deadline: int, begin: int, clock: int) -> int:
-    """A deadline of Go's clock, in a step's form; raises Unreachable if it isn't in the future any more."""
+    """A deadline of Go's clock in the form of a step; raises Unreachable if it isn't in the future any more."""
     if deadline <= 0 or deadline == GREATEST_TIME:
         return deadline
     time = deadline - begin - clock
@@ -275,7 +275,7 @@ def relative(deadline: int, begin: int, clock: int) -> int:
 
 
 def _difference(note: Note, machine: Machine, numbers: dict[int, int], begin: int) -> str | None:
-    """The difference between the model's state and the note, as cells."""
+    """The differences between the model's state and the note, as cells; None if they are equal."""
     socket, descriptor, flags = machine.sockets[0], machine.descs[0], note.flags or 0
     words: dict[int, Any] = {NIL: "nil", READY: "ready", WAIT: "wait"}
     inside = {side: one._replace(goroutine=numbers[one.goroutine]) for side, one in note.inside.items()}

@@ -1,5 +1,4 @@
-"""The tests that ran in a process, from the lines that it left beside its log: LOG.tests, which go/log/tests.go
-writes."""
+"""The tests that ran in a process, from LOG.tests, the file of lines that go/log/tests.go writes beside the log."""
 
 from __future__ import annotations
 
@@ -16,7 +15,7 @@ SECOND = 10**9
 
 
 class Went(Enum):
-    """The outcome of a test. One that never ended was running when its process ended."""
+    """The outcome of a test. A test that never ended was still running when its process ended."""
 
     PASSED = "passed"
     FAILED = "failed"
@@ -32,15 +31,13 @@ class Ran:
     name: str
     goroutine: int
     began: int
-    began_at: int  # nanoseconds of the log's
+    began_at: int  # nanoseconds since the log began
     failed: int | None = None
     place: tuple[str, int] | None = None  # the file and the line of its first failure
     ended: int | None = None
     ended_at: int | None = None
     skipped: bool = False
-    bubbles: int = (
-        0  # the test of testing/synctest around it: package testing runs its function as a test of the same name
-    )
+    bubbles: int = 0  # open bubbles of testing/synctest: package testing runs each as a test of the same name
 
     def went(self) -> Went:
         if self.failed is not None:
@@ -57,17 +54,17 @@ class Ran:
         return self.went() in (Went.FAILED, Went.UNFINISHED)
 
     def is_below(self, other: Ran) -> bool:
-        """Whether this is one of the other's subtests, or one of theirs."""
+        """Whether this is a subtest of the other test, at any depth."""
         return self.name.startswith(other.name + "/")
 
 
 @dataclass
 class Tests:
-    """A process's tests, in the order in which they began; the package is empty if it had none."""
+    """A process's tests, in the order in which they began; the package is empty if the process had no tests."""
 
     package: str = ""
     ran: list[Ran] = field(default_factory=list)
-    by_name: dict[str, Ran] = field(default_factory=dict)  # the last of each name
+    by_name: dict[str, Ran] = field(default_factory=dict)  # the last test of each name
 
     def take(self, passed: int, goroutine: int, time: int, what: str, name: str) -> None:
         """Processes a line."""
@@ -136,7 +133,7 @@ def of_log(log: pathlib.Path) -> Tests:
 
 
 def written(file: BinaryIO) -> Iterator[bytes]:
-    """The written part of a mapped file: the rest of it is zeros, and mostly a hole."""
+    """The written part of a mapped file: the rest is zeros, mostly a hole in the file."""
     for _ in range(MOST_BYTES // PIECE):
         piece = file.read(PIECE)
         if piece == bytes(len(piece)):

@@ -1,15 +1,15 @@
-"""`make real`: records Go's own tests, those of other projects and the samples, each in a process of its own, on one processor
-and on four, and compares every answer and every lock word with netrev's.
+"""`make real`: records Go's own tests, those of other projects and the samples, each in a process of its own, on one processor and on four,
+and compares every answer and every lock word with netrev's.
 
     python3 python netrev_go.real [--go 1.27 | --go all] [--processors 1,4] [--seconds N] [--only WORD,..]
                                   [--tests WORD] [--small] [--record | --check]
     python3 python netrev_go.real --gate
 
-The default is the `go` on the PATH; --go fetches a release of Debian's if it is missing (netrev_go.fetching). --seconds limits a
-release. The words of --only and --tests are regular expressions: `--only '^net$' --tests '^TestUnix'`. The recordings stay in
-out/real/RELEASE, with a line of JSON for each test's process in results.jsonl; --check compares existing recordings and makes none.
---small omits most tests. --gate is --small with the releases of GATE, or with the `go` on the PATH if neither is installed, and says
-so without any.
+The default is the `go` on the PATH; --go fetches a release of Debian's if it is missing (netrev_go.fetching). --seconds limits a release.
+The words of --only and --tests are regular expressions, for example `--only '^net$' --tests '^TestUnix'`. The recordings stay in
+out/real/RELEASE, with a line of JSON for each test's process in results.jsonl; --check compares existing recordings and makes none. --small
+omits most tests. --gate is --small with the releases in GATE, or with the `go` on the PATH if neither is installed; if there is no Go, it
+says so and does nothing.
 """
 
 from __future__ import annotations
@@ -78,7 +78,7 @@ def recorded(log: pathlib.Path, result: Result, name: pathlib.Path) -> bool:
 
 
 def compared(netrev: str, result: Result) -> None:
-    """netrev's output for a recording and for Go's lock words in it, and nrdb's suspects in a healthy program."""
+    """Stores netrev's answer about a recording and Go's lock words in it, and, for a healthy program, nrdb's suspects."""
     name = pathlib.Path(result.recording)
     try:
         taken, result.said = check(netrev, name)
@@ -94,7 +94,7 @@ def compared(netrev: str, result: Result) -> None:
 
 
 class Recorder:
-    """Records all requested runs of one Go, until the time is over."""
+    """Records all requested runs of one Go, until its time limit."""
 
     def __init__(self, go: Go, name: str, options: argparse.Namespace) -> None:
         self.go, self.name, self.options = go, name, options
@@ -109,7 +109,7 @@ class Recorder:
         self.programs.mkdir(parents=True, exist_ok=True)
 
     def run(self, command: list[str], folder: pathlib.Path, result: Result, is_of_others: bool = False) -> None:
-        """One run, and a result for each of its processes that opened sockets."""
+        """Makes one run, and a result for each of its processes that opened sockets."""
         if time.monotonic() > self.end:
             self.left_out += 1
             return
@@ -129,7 +129,7 @@ class Recorder:
         keep(self.results, self.out)
 
     def suite(self, suite: Suite) -> None:
-        """Runs each test of a package, in a process of its own; nothing for another project that is missing."""
+        """Runs each test of a package in a process of its own; does nothing if it is another project's and missing."""
         folder = source_folder(self.go, suite)
         if not folder.is_dir():
             self.missing.append(suite.package)
@@ -164,7 +164,7 @@ class Recorder:
         return any(re.search(word, name) for word in self.options.only.split(","))
 
     def all(self) -> None:
-        """Runs everything that is requested: the samples, and then the packages."""
+        """Runs everything that was requested: first the samples, then the packages."""
         small = self.options.small
         for sample in suites.SMALL_SAMPLES if small else suites.OF_SAMPLES:
             if self.is_wanted(f"samples/{sample.name}"):

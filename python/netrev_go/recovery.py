@@ -1,4 +1,4 @@
-"""`netrev-go recover`: recordings of the runs whose netrev-go was killed, and the line that offers it."""
+"""`netrev-go recover`: makes recordings of runs whose netrev-go was killed. Other commands print a line that offers it."""
 
 from __future__ import annotations
 

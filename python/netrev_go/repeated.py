@@ -1,5 +1,5 @@
-"""Lines for the points that are exactly one step, which depends only on goroutine, point, socket and answer. Three
-of four points are of this sort."""
+"""Lines for points that are exactly one step, which depends only on the goroutine, the point, the socket and the answer. Three of four
+points are like this."""
 
 from __future__ import annotations
 
@@ -26,12 +26,12 @@ REPEATED = frozenset(map(int, (*CHECKS, Kind.ACQUIRE, Kind.RELEASE, Kind.ARM, Ki
 
 
 def read_line(g: int, socket: int, asked: int, answer: str) -> str:
-    """A read of this many bytes, with its answer as JSON."""
+    """A read of this many bytes, with the answer as JSON."""
     return f'["sysread",{g},{socket},{min(max(asked, 1), BUFFER)},{answer}]'
 
 
 def repeated_line(point: Point, g: int, socket: Socket) -> str:
-    """The line of such a point, which the goroutine of this number passed at its socket."""
+    """The line for such a point, logged by the goroutine with this number at its socket."""
     kind = point.kind
     if kind in LOCK_STEPS:
         side = (',"r"' if point.c & 1 else ',"w"') if kind in SIDED else ""

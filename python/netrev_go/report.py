@@ -1,6 +1,5 @@
-"""The report on a recording: netrev's output, the goroutines that hang, each with its step and line of the program,
-and the command to type next. Text of the program, such as names of functions and files, is printed through
-`plain`."""
+"""The report on a recording: netrev's output, the hanging goroutines, each with its step and line of the program, and the command to type
+next. Text from the program, such as names of functions and files, is printed through `plain`."""
 
 from __future__ import annotations
 
@@ -46,7 +45,7 @@ def short(call: Call) -> str:
 
 
 def line_of(calls: Calls | None) -> tuple[str, str]:
-    """The program's line in a stack, and the function that is called there."""
+    """The program's line in a stack, and the function called there."""
     own = own_line(calls) if calls else None
     if own:
         return short(own[0]), plain(own[1] or own[0].function)
@@ -56,7 +55,7 @@ def line_of(calls: Calls | None) -> tuple[str, str]:
 
 
 def is_of_go(calls: Calls | None) -> bool:
-    """Whether only Go's own code waits there, in a goroutine that Go's own code started."""
+    """Whether only Go's own code waits there, in a goroutine started by Go's own code."""
     if calls is None or not calls.calls or own_line(calls):
         return False
     return calls.made is not None and calls.made.of == OF_GO
@@ -69,12 +68,12 @@ def told_of(g: int, status: str, since: str, calls: Calls | None) -> str:
 
 
 def since_words(recording: Recording, step: int) -> str:
-    """The text about how long a goroutine has waited whose last step this is."""
+    """The text for how long a goroutine has waited, given its last step."""
     return f"step {step}" if step > recording.prelude else "before the recording begins"
 
 
 def hang_lines(recording: Recording, calls: dict[int, Calls], waiting: dict[int, str]) -> list[str]:
-    """A line for each goroutine that hangs, those with a line of the program first."""
+    """A line for each hanging goroutine, first those with a line of the program."""
 
     def calls_of(g: int) -> Calls | None:
         step = recording.last_steps[g]
@@ -93,8 +92,8 @@ def hang_lines(recording: Recording, calls: dict[int, Calls], waiting: dict[int,
 
 
 def next_line(name: pathlib.Path, told: list[str], nobody_waits: bool = False, failed: bool = False) -> str:
-    """The command to type next: nrdb with the commands of the first suspect, or with a list of waiting goroutines. If no goroutine
-    waits, the failed calls of a program that failed; otherwise other schedules."""
+    """The command to type next: nrdb with the commands of the first suspect, or with a list of waiting goroutines. If no goroutine waits:
+    the failed calls of a program that failed, and otherwise other schedules."""
     looks = [line.strip().removeprefix("next:").split(";") for line in told if line.strip().startswith("next:")]
     topic = "errors" if failed and nobody_waits else "goroutines"
     commands = [command.strip() for command in looks[0]] if looks else ["continue", f"info {topic}"]
@@ -126,7 +125,7 @@ def suspect_lines(netrev: str, name: pathlib.Path) -> tuple[list[str], list[str]
 
 
 def last_line(name: pathlib.Path, why: list[str], found: list[str], nobody_waits: bool, failed: bool) -> list[str]:
-    """The command to type next, unless the causes named it."""
+    """The command to type next, unless the causes already name one."""
     last = next_line(name, found, nobody_waits, failed)
     is_of_a_suspect = any(line.strip().startswith("next:") for line in found)
     already = [line.split() for line in why if line.startswith("next:")]
@@ -140,8 +139,8 @@ def report(
     failed: bool = False,
     hear: Hear = unheard,
 ) -> tuple[bool, list[str]]:
-    """Whether netrev accepts the recording, and the lines about it. `failed` is whether the program did. `hear`
-    gets the lines as soon as they are known: why calls failed and hang long before the suspects."""
+    """Whether netrev accepts the recording, and the lines about it. `failed` is whether the program failed. `hear` receives the lines as
+    soon as they are known: why calls failed or hang, long before the suspects."""
     lines: list[str] = []
 
     def say(more: list[str]) -> None:
@@ -162,7 +161,7 @@ def say_all(
     causes: Causes | None,
     say: Hear,
 ) -> bool:
-    """Prints the report, the causes first, while netrev checks the recording; whether netrev accepts it."""
+    """Prints the report, the causes first, while netrev checks the recording; returns whether netrev accepts it."""
     counts = f"{counted(recording.goroutines, 'goroutine')}, {counted(recording.sockets, 'socket')}"
     notes = [f"  ({note})" for note in recording.notes]
     netrev = netrev_program()

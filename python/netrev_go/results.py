@@ -12,12 +12,12 @@ from netrev_words.plain import plain
 
 from .standing import Standing
 
-# Steps whose answer isn't Go's: generated steps, or numbers that the converter gives.
+# Steps whose answer isn't Go's: generated steps, or answers that the converter numbers.
 MADE_UP = frozenset(
     "arrive drain peerclose tick pop spawn sockopen pollopen setdeadline evict pollclose release closewrite".split()
 )
 EVENT = "pollevent"
-UNTAGGED = ("1.18", "1.19", "1.20")  # releases for which an event's answer is generated too
+UNTAGGED = ("1.18", "1.19", "1.20")  # releases in which an event's answer is generated too
 
 
 @dataclass
@@ -83,7 +83,7 @@ OF_RELEASES = (
 
 
 def of_release(row: list[Result], stands: Standing | None) -> list[str]:
-    """The figures of a release: its state, the recordings of samples and of tests, and their results."""
+    """The figures of a release: its state, and the recordings of its samples and tests with their results."""
     samples = sum(result.suite.startswith("samples/") for result in row)
     return [*(stands.cells() if stands else "???"), f"{samples:,}", f"{len(row) - samples:,}", *counted(row)[1:]]
 

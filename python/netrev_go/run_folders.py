@@ -1,5 +1,5 @@
-"""The folder into which a run's programs write their logs: its owner, the processes that couldn't be recorded, and
-the folders that a killed netrev-go left."""
+"""The folder into which a run's programs write their logs: its owner, the processes that couldn't be recorded, and the folders left by a
+netrev-go that was killed."""
 
 from __future__ import annotations
 
@@ -45,7 +45,7 @@ def claim(folder: pathlib.Path) -> pathlib.Path:
     marks = folder / UNRECORDED
     try:
         marks.mkdir(0o700)
-        if os.geteuid() == 0:  # its programs may have children of other users, which leave a mark and can read nothing
+        if os.geteuid() == 0:  # its programs may have children of other users, which may leave a mark but read nothing
             folder.chmod(0o711)
             marks.chmod(0o1733)
         file = (folder / OWNER).open("x", encoding="utf-8", errors="surrogateescape")
@@ -72,7 +72,7 @@ def remove(folder: pathlib.Path) -> None:
 
 
 def unrecorded(folder: pathlib.Path) -> list[str]:
-    """A line for each reason for which processes of a run couldn't write a log."""
+    """A line for each reason why processes of a run couldn't write a log."""
     processes: dict[int, list[int]] = defaultdict(list)
     with contextlib.suppress(OSError):
         for path in islice((folder / UNRECORDED).iterdir(), MOST_MARKS):
@@ -100,7 +100,7 @@ class LeftRun:
 
 
 def left_runs() -> list[LeftRun]:
-    """The runs that are left, the oldest first: this user's, which no netrev-go owns and no program still writes."""
+    """The runs that are left, oldest first: this user's runs that no netrev-go owns and whose logs no program still writes."""
     folders = [folder for place in places() for folder in pathlib.Path(place).glob(PREFIX + "*")]
     return sorted(filter(None, map(left_run, folders)), key=lambda run: run.began)
 
@@ -114,7 +114,7 @@ def left_run(folder: pathlib.Path) -> LeftRun | None:
             fcntl.flock(file, fcntl.LOCK_EX | fcntl.LOCK_NB)
             command = file.readline(MOST_OF_COMMAND).rstrip("\n")
             began = os.fstat(file.fileno()).st_mtime
-    except OSError:  # a netrev-go that runs has the lock, or the folder is gone
+    except OSError:  # a running netrev-go has the lock, or the folder is gone
         return None
     return LeftRun(folder, command, began) if logs_in(folder) and not still_written(folder) else None
 

@@ -1,4 +1,4 @@
-"""Runs Go on the user's program with the overlay, waits for its end or ends it, and finds the logs that it left."""
+"""Runs Go on the user's program with the overlay, waits for it to end or ends it, and finds the logs that it left."""
 
 from __future__ import annotations
 
@@ -30,7 +30,7 @@ LOOK = 0.05
 STARTING = 1.0  # seconds within which a program that was just started makes its log
 CANCELLING = (signal.SIGINT, signal.SIGTERM, signal.SIGQUIT, signal.SIGHUP)
 SIGNALS = (*CANCELLING, signal.SIGUSR1)
-FROM_THE_TERMINAL = 0x80  # the kernel's own si_code, SI_KERNEL
+FROM_THE_TERMINAL = 0x80  # the si_code of signals from the kernel itself, SI_KERNEL
 
 
 @dataclass(frozen=True)
@@ -49,25 +49,25 @@ def limits_of(options: argparse.Namespace) -> Limits:
 
 
 def as_a_shell_has_it(status: int) -> int:
-    """The exit status in a shell's form: the command's own, or for the signal that ended it."""
+    """The exit status as a shell reports it: the command's own, or one for the signal that ended it."""
     return status if status >= 0 else 128 - status
 
 
 def behind_the_folder(words: list[str], more: list[str]) -> list[str]:
-    """Go's command line with further flags at its beginning, but after -C DIR, which Go wants first."""
+    """Go's command line with more flags at its beginning, but after -C DIR, which Go expects first."""
     name, is_set, _ = words[0].partition("=") if words else ("", "", "")
     length = (1 if is_set else 2) if name in ("-C", "--C") else 0
     return [*words[:length], *more, *words[length:]]
 
 
 def places() -> list[str]:
-    """The folders for logs: the one that NETREV_LOGS names; else in memory, and below TMPDIR."""
+    """The folders to try for logs: the one that NETREV_LOGS names; otherwise one in memory, and one below TMPDIR."""
     given = os.environ.get("NETREV_LOGS")
     return [given] if given else [IN_MEMORY, tempfile.gettempdir()]
 
 
 def logs_folder(points: int) -> pathlib.Path:
-    """A new folder with room for a log, in memory if such a file system exists."""
+    """A new folder with room for a log, in memory if a file system for that exists."""
     wanted = points * POINT_BYTES + STACK_BYTES + SPARE
     for place in places():
         if os.access(place, os.W_OK) and shutil.disk_usage(place).free >= wanted:
@@ -90,7 +90,7 @@ def process_of(log: pathlib.Path) -> int:
 
 
 def heeded() -> tuple[signal.Signals, ...]:
-    """The signals that a run waits for. Under nohup SIGHUP is ignored, and stays so."""
+    """The signals that a run waits for. Under nohup SIGHUP is ignored, and stays ignored."""
     return tuple(
         number for number in SIGNALS if number != signal.SIGHUP or signal.getsignal(number) is not signal.SIG_IGN
     )
@@ -101,7 +101,7 @@ def unblock_signals() -> None:
 
 
 def stop_at_once() -> None:
-    """From here on nothing would be lost: each signal stops netrev-go, as Ctrl-C does."""
+    """From here on nothing would be lost: every signal stops netrev-go, as Ctrl-C does."""
     for number in CANCELLING:
         if number in heeded():
             signal.signal(number, signal.default_int_handler)
@@ -123,7 +123,7 @@ def environment(folder: pathlib.Path, limits: Limits, delays: int = 0) -> dict[s
 
 
 def writes(process: int, log: pathlib.Path) -> bool:
-    """Whether the process still writes that log: its number may be another's by now."""
+    """Whether the process still writes that log: its number may have been reused."""
     try:
         return os.path.realpath(log) in pathlib.Path(f"/proc/{process}/maps").read_text(errors="replace")
     except OSError:
@@ -168,14 +168,14 @@ class Runner:
         return self.process.returncode
 
     def finish_first(self) -> None:
-        """Prepares for the conversion of logs, which only Ctrl-C stops. The other signals stay blocked, also in the
-        child processes that convert logs."""
+        """Prepares for the conversion of logs, which only Ctrl-C stops. The other signals stay blocked, also in the child processes that
+        convert logs."""
         signal.signal(signal.SIGUSR1, signal.SIG_IGN)
         signal.signal(signal.SIGINT, signal.default_int_handler)
         signal.pthread_sigmask(signal.SIG_UNBLOCK, (signal.SIGINT, signal.SIGUSR1))
 
     def is_cancelled(self) -> bool:
-        """Whether a signal came for the run, or since its end."""
+        """Whether a signal ended the run, or came since its end."""
         return self.cancelled or not signal.sigpending().isdisjoint(CANCELLING)
 
     def attend(self, seen: signal.struct_siginfo, so_far: Callable[[], None]) -> None:
@@ -189,8 +189,8 @@ class Runner:
             self.pass_on(number)
 
     def pass_on(self, number: signal.Signals) -> None:
-        """Sends a signal to the programs, and to Go. SIGHUP would end Go, and a program may run on after it, so Go
-        gets it only if no program runs."""
+        """Sends a signal to the programs, and to Go. SIGHUP would end Go, and a program may run on after that, so Go gets it only if no
+        program runs."""
         programs = still_written(self.folder)
         for log in programs:
             send(log, number)
@@ -204,7 +204,7 @@ class Runner:
             time.sleep(LOOK)
 
     def end_the_old(self, now: float, seconds: float) -> None:
-        """Ends each process whose log is older than the limit: first by SIGQUIT, which a program may handle."""
+        """Ends each process whose log is older than the limit, first with SIGQUIT, which a program may handle."""
         for log in logs_in(self.folder):
             age = now - self.began.setdefault(log, now)
             if age >= seconds and log not in self.told:
@@ -215,12 +215,12 @@ class Runner:
 
 
 def is_leader() -> bool:
-    """Whether this process leads its session: a closed terminal signals only the leader."""
+    """Whether this process leads its session: if a terminal closes, only the leader gets the signal."""
     return os.getsid(0) == os.getpid()
 
 
 def log_of_process(process: int) -> pathlib.Path:
-    """The log that a running process writes. A process that was just started may have none yet, so this waits a second."""
+    """The log that a running process writes. A process that was just started may not have a log yet, so this waits for a second."""
     until = time.monotonic() + STARTING
     while True:
         log = mapped_log(process)

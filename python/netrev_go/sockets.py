@@ -1,7 +1,7 @@
 """The socket of each point, and the sockets that fit into a recording.
 
-Steps of different sockets share only the order of their goroutines, the clock and the list of firings, so the
-points of some sockets are a recording too. A socket without its opening in the log and without a note is left out.
+Steps of different sockets share only the order of their goroutines, the clock and the list of firings, so the points of some of the sockets
+make a recording too. A socket without its opening in the log and without a note is left out.
 """
 
 from __future__ import annotations
@@ -23,24 +23,24 @@ READ, WRITE, NAMED = int(Kind.READ), int(Kind.WRITE), int(Kind.NAMED)
 DEADLINE_CALL, INCREF, SET_DEADLINE, DECREF = map(
     int, (Kind.DEADLINE_CALL, Kind.INCREF, Kind.SET_DEADLINE, Kind.DECREF)
 )
-UNLIKE = {READ, WRITE, NAMED, NOTED, NOTED_NAMED, DEADLINE_CALL}  # these are more than one step of their socket
-# one reference in a lock word; the bit of a point that says that Go's function returned true
+UNLIKE = {READ, WRITE, NAMED, NOTED, NOTED_NAMED, DEADLINE_CALL}  # points with more than one step of their socket
+# one reference in a lock word; the bit of a point for Go's function having returned true
 REFERENCE, RETURNS_TRUE = 8, 2
 INIT, OPEN, OPEN_FAILED, CLOSE = int(Kind.INIT), int(Kind.OPEN), int(Kind.OPEN_FAILED), int(Kind.CLOSE)
 EVENT, FIRE = int(Kind.EVENT), int(Kind.FIRE)
-# points at the descriptor's newest use
+# points about the descriptor's newest use
 AT_USE = AT_A_SOCKET - AT_A_WORD - {INIT, OPEN, OPEN_FAILED, CLOSE, EVENT, FIRE}
 POINT, SOCKET = itemgetter(0), itemgetter(1)  # of a pair
 MOST_SOCKETS, MOST_GOROUTINES, MOST_STEPS = 256, 4_096, 1_000_000
-MEGABYTE, MOST_MEGABYTES = 2**20, 1_024  # text for the bytes that are moved
+MEGABYTE, MOST_MEGABYTES = 2**20, 1_024  # the text for moved bytes
 STEPS_OF_A_NOTE = 32  # steps that lead to it, if no goroutine is queued for its locks
 LOW = 2**32 - 1
-FEW_BYTES = 64  # the most bytes that a read or a write counts, unless all are wanted
+FEW_BYTES = 64  # the most bytes that a read or a write counts, unless all are requested
 
 
 @dataclass(eq=False)
 class Socket:
-    """A socket from its opening on: its data in the log, and the converter's data about it."""
+    """A socket from its opening on: what the log says about it, and the converter's own data."""
 
     opening: int
     opener: int = 0  # the goroutine
@@ -48,14 +48,14 @@ class Socket:
     steps: int = 0  # at least
     text: int = 0  # characters for the bytes that it moves
     has_descriptor: bool = False
-    failed: bool = False  # the poller rejected it, as a regular file
-    closed: bool = False  # the log has its end
-    sequences: tuple[int, int] = (0, 0)  # Go's sequences, of reading and of writing, when it was opened
+    failed: bool = False  # the poller rejected it, for example because it is a regular file
+    closed: bool = False  # the log contains its end
+    sequences: tuple[int, int] = (0, 0)  # Go's sequences for reading and for writing when it was opened
     go_tag: int = 0  # the tag of Go's events for it; 0 in releases without tags
     written: int = 0
     largest: int = OUTPUT
     full_at: int = 0
-    last_write: Point | None = None  # the last point of a write that put bytes, or found no room for any
+    last_write: Point | None = None  # the last point of a write that put bytes, or found no room
     number: int = -1
     descriptor: int = -1
     is_open: bool = False  # the converter's place
@@ -67,13 +67,13 @@ class Socket:
     before: Socket | None = None  # the socket that had the same lock word when it was opened
     note: Note | None = None  # the note of its state, if its opening isn't in the log
     leads: list[Lead] = field(default_factory=list)  # the steps that lead to that state
-    is_filled: bool = False  # a noted socket whose output a write found full
-    # by point, the bytes that it moved, if the recording counts fewer
+    is_filled: bool = False  # a noted socket whose output a later write found full
+    # by point, the bytes that were moved, if the recording counts fewer
     whole: dict[int, int] = field(default_factory=dict)
 
     def capacity(self) -> int:
-        """The capacity of its output: so large that it was full when Go first found it full, else that of the
-        largest write."""
+        """The capacity of its output: large enough to be full exactly when Go first found it full, or otherwise to hold the largest
+        write."""
         return self.full_at or self.largest
 
 
@@ -85,7 +85,7 @@ class Owners:
         self.words: dict[int, Socket] = {}
         self.uses: dict[int, list[Socket]] = {}
         self.opening: dict[int, Socket] = {}
-        self.noted: dict[int, Socket] = {}  # by both addresses, sockets whose note is incomplete
+        self.noted: dict[int, Socket] = {}  # by both addresses, sockets whose notes are incomplete
 
     def of(self, point: Point) -> Socket | None:
         """The socket of the next point, if it is known."""
@@ -109,7 +109,7 @@ class Owners:
         if not uses:
             return None
         if kind == CLOSE:
-            if uses[-1].closed:  # a descriptor is freed that couldn't be opened
+            if uses[-1].closed:  # a descriptor that couldn't be opened is freed
                 return None
             uses[-1].closed = True
         elif kind == OPEN_FAILED:
@@ -117,7 +117,7 @@ class Owners:
         return uses[-1]
 
     def not_opened(self, socket: Socket) -> Socket:
-        """The poller rejected a socket: if it has one already, under the same lock word, that one continues."""
+        """The poller rejected a socket: if the same lock word already had a socket there, that socket continues."""
         socket.failed = True
         if socket.before and not socket.before.closed:
             self.words[socket.word] = socket.before
@@ -150,7 +150,7 @@ class Owners:
     def at_a_word(self, point: Point) -> Socket | None:
         socket = self.words.get(point.at)
         if socket and socket.closed and point.kind in LOCKING and not point.a & CLOSED:
-            del self.words[point.at]  # the address is now another's, whose opening isn't in the log
+            del self.words[point.at]  # the address now belongs to another socket, whose opening isn't in the log
             return None
         return socket
 
@@ -171,7 +171,7 @@ class Owners:
         return next((use for use in reversed(self.uses.get(point.at, ())) if use.go_tag == point.c), None)
 
     def fired(self, point: Point) -> Socket | None:
-        """The use of the descriptor that armed the timer: an earlier one if the firing has an old sequence."""
+        """The use of the descriptor that set the timer: an earlier use if the firing has an old sequence."""
         side = 0 if point.b & 1 else 1
         for socket in reversed(self.uses.get(point.at, ())):
             if socket.sequences[side] <= point.a:
@@ -188,8 +188,7 @@ def of_few(point: Point) -> Point:
 
 
 def points_of_call(point: Point, socket: Socket) -> list[tuple[Point, Socket]]:
-    """The three points of a call that sets a deadline: it takes a reference to the socket, sets the deadline, and
-    gives the reference back."""
+    """The three points of a call that sets a deadline: it takes a reference to the socket, sets the deadline, and drops the reference."""
     number, _, g, at, mode, deadline, state, time, stack = point
     held, word = state + REFERENCE, socket.word
     return [
@@ -200,7 +199,7 @@ def points_of_call(point: Point, socket: Socket) -> list[tuple[Point, Socket]]:
 
 
 def count_bytes(socket: Socket, point: Point) -> None:
-    """Counts a read or a write at its socket: its text, the size of the output, and for a read the steps."""
+    """Counts a read or a write at its socket: the text, the size of the output, and, for a read, the steps."""
     _, kind, _, _, asked, got, failed, _, _ = point
     got = max(got, 0)
     if kind == READ:
@@ -221,7 +220,7 @@ def count_bytes(socket: Socket, point: Point) -> None:
 
 
 def count_parts(points: list[tuple[Point, Socket]]) -> None:
-    """Counts the steps of writes, when the sizes of the outputs are known: a write is split into parts that fit."""
+    """Counts the steps of writes once the sizes of the outputs are known: a write is split into parts that fit."""
     for point, socket in points:
         socket.steps += -(-max(point.b, 0) // min(socket.capacity(), BUFFER)) - 1
 
@@ -253,11 +252,11 @@ class Owned:
     points: list[tuple[Point, Socket]]
     sockets: list[Socket]
     unknown: int  # points of sockets whose opening isn't in the log
-    cut: int  # reads and writes that count as ones of fewer bytes
+    cut: int  # reads and writes that count as fewer bytes
 
     def began(self) -> dict[int, int]:
-        """The number of each goroutine's first point, or of the note of a socket that it waits for or had. (Backwards, so that the
-        first one is kept: there may be a million points.)"""
+        """The number of each goroutine's first point, or of the note of a socket that it waited for or was using. (From the last point
+        backwards, so that the first one stays: there may be a million points.)"""
         points = list(map(POINT, reversed(self.points)))
         began = dict(zip(map(GOROUTINE, points), map(NUMBER, points)))
         for note in (socket.note for socket in self.sockets if socket.note):
@@ -268,7 +267,7 @@ class Owned:
 
 
 def owned(points: list[Point], all_bytes: bool = True) -> Owned:
-    """Each point with its socket; goroutines and a lower bound of the steps are counted for each socket."""
+    """Each point with its socket; also counts the goroutines of each socket, and a lower bound of its steps."""
     owners = Owners()
     of, words, uses = owners.of, owners.words, owners.uses
     mine: list[tuple[Point, Socket]] = []
@@ -276,7 +275,7 @@ def owned(points: list[Point], all_bytes: bool = True) -> Owned:
     cut = calls = 0
     for point in points:
         kind, at = point[1], point[3]
-        # (there may be a million points: nearly all are handled without the call of `of`)
+        # (there may be a million points: nearly all are handled without calling `of`)
         socket = words.get(at) if kind in AT_A_WORD else used[-1] if kind in AT_USE and (used := uses.get(at)) else None
         if socket is None or socket.closed:
             socket = of(point)
@@ -310,8 +309,8 @@ def owned(points: list[Point], all_bytes: bool = True) -> Owned:
 
 
 def lead_to(sockets: list[Socket], begin: int) -> dict[str, int]:
-    """Finds the steps that lead to noted sockets. Sockets that no steps lead to are left out, with the reasons and
-    their numbers."""
+    """Finds the steps that lead to noted sockets. Sockets that no steps lead to are left out; returns the reasons, each with the number of
+    such sockets."""
     left_out: Counter[str] = Counter()
     for socket in [socket for socket in sockets if socket.note]:
         assert socket.note
@@ -333,9 +332,9 @@ def chosen(
     at_once: Callable[[set[int]], int] = len,
     first: int = 0,
 ) -> set[Socket]:
-    """The sockets that fit into a recording of this many steps: the open ones first, and of them and of the others
-    the newest; before all the one whose lock word has the address `first`. `at_once` gives the number of
-    goroutines at one time."""
+    """The sockets that fit into a recording of this many steps: the open ones first, and within each group the newest; before all
+    others, the socket whose lock word has the address `first`. `at_once` gives the number of goroutines that exist at one
+    time."""
     kept: set[Socket] = set()
     goroutines: set[int] = set()
     steps, text = 0, 0

@@ -1,5 +1,5 @@
-"""The state of a release before programs are recorded with it: whether the rules fit, whether Go compiles the changed files, and
-the result of the doctor's trial."""
+"""The state of a release before programs are recorded with it: whether the rules fit, whether Go compiles the changed files, and the result
+of doctor's trial."""
 
 from __future__ import annotations
 
@@ -17,7 +17,7 @@ FITS = "fits "  # the beginning of a line for a rule that fits
 
 @dataclass(frozen=True)
 class Standing:
-    """The state of a release, as text."""
+    """The state of a release, in words."""
 
     version: str
     rules: int = 0
@@ -44,7 +44,7 @@ def read_standing(out: pathlib.Path) -> Standing | None:
 
 
 def standing_of(go: Go) -> Standing:
-    """Fits the rules, compiles the changed files, and records the doctor's program."""
+    """Fits the rules, compiles the changed files, and records doctor's program."""
     _, said = fit(go)
     fitting = sum(line.startswith(FITS) for line in said)
     try:

@@ -9,7 +9,7 @@ class Status(IntEnum):
     """The exit status of netrev-go, unless it is Go's own."""
 
     DONE = 0
-    REFUSED = 1  # a converted log gives no recording
+    REFUSED = 1  # a log could be read but gives no recording
     USAGE = 2
     SUSPECTED = 3  # with --fail-on
     TROUBLE = 4

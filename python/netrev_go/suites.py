@@ -23,13 +23,13 @@ class Suite:
 
     @property
     def is_of_others(self) -> bool:
-        """Whether it is another project's, whose name begins with a domain."""
+        """Whether it belongs to another project, whose name begins with a domain."""
         return "." in self.package.partition("/")[0]
 
 
 @dataclass(frozen=True)
 class Sample:
-    """A sample program, and the words of each of its runs."""
+    """A sample program, and the arguments of each of its runs."""
 
     name: str
     source: str
@@ -71,7 +71,7 @@ OF_OTHERS = (
     ),
     Suite("github.com/valyala/fasthttp", "Client|Server|Conn|Timeout|Pipeline|Dial|Listen|Shutdown"),
 )
-# Of a test that moves gigabytes, the parts that don't, because each byte is two characters of a recording.
+# Of a test that moves gigabytes, only the parts that don't, because each byte takes two characters in a recording.
 PARTS = {"TestSplice": "^TestSplice$/./^(simple|multipleWrite|honors|updates|limited|readerAtEOF|issue)"}
 # What the gate records: each sample once, and ten tests.
 SMALL_SAMPLES = (

@@ -31,7 +31,7 @@ from .toolchain import Go
 MAJOR = re.compile(r"v\d+\Z")
 UNFIT = re.compile(r"[^A-Za-z0-9_.-]+")
 LONGEST_NAME = 255 - len(LONGEST_ENDING)
-OTHER = "process"  # the recording of a process that has no tests
+OTHER = "process"  # the recording of a process without tests
 FOUND = 4  # nrdb's status if a schedule ends badly
 GRACE = 60  # seconds for reducing the findings
 INDENT = "  "
@@ -44,27 +44,27 @@ def short_name(package: str) -> str:
 
 
 def file_name(*words: str) -> str:
-    """A name for a file: a test's slashes become dots, and unsuitable characters _."""
+    """A name for a file: slashes in a test's name become dots, and unsuitable characters become _."""
     return UNFIT.sub("_", ".".join(word.replace("/", ".") for word in words).lstrip("."))[:LONGEST_NAME]
 
 
 def head_of(test: Ran) -> str:
-    """A test's outcome, and the line at which it failed if that is known."""
+    """A test's outcome, and the line at which it failed if known."""
     at = f", at {test.place[0]}:{test.place[1]}" if test.place else ""
     return plain(f"{test.went().value.upper()} {test.package} {test.name}{at}")
 
 
 class Recordings:
-    """The recordings of tests, below a folder, and the result of each test in all runs."""
+    """The recordings of tests, below a folder, and the result of each test over all runs."""
 
     def __init__(self, base: pathlib.Path, go: Go, wish: Wish, keeps_all: bool, is_page_wanted: bool) -> None:
         self.base, self._go, self._wish, self._keeps_all = base, go, wish, keeps_all
         self._is_page_wanted = is_page_wanted
         self.told: dict[tuple[str, str], Told] = {}
         self._names: set[pathlib.Path] = set()  # that recordings have
-        self._short: dict[str, str] = {}  # the package of a short name
+        self._short: dict[str, str] = {}  # the package that has a short name
         self.all_recorded = True  # whether everything was recorded that should be
-        self.trouble = False  # whether one couldn't be written
+        self.trouble = False  # whether a recording couldn't be written
         self.suspected = False
 
     def take(self, folder: pathlib.Path, failed: bool) -> None:
@@ -100,7 +100,7 @@ class Recordings:
         return free
 
     def whole(self, log: pathlib.Path, tests: Tests) -> None:
-        """The recording of a process in which no test is known to have failed, although something did."""
+        """Makes the recording of a process that failed although none of its tests is known to have failed."""
         name = self.name_of(tests.package or OTHER, "")
         saying = Saying([messages.NO_TEST_FAILED.format(process=plain(tests.package or OTHER))])
         outcome = self.made(self.read(log, tests), name, None, saying.hear)
@@ -108,7 +108,7 @@ class Recordings:
             saying.rest(outcome.lines)
 
     def of_each(self, log: pathlib.Path, tests: Tests, kept: list[Ran]) -> None:
-        """The recordings of a process's tests."""
+        """Makes the recordings of a process's tests."""
         read = self.read(log, tests) if kept else None
         for test in kept:
             told, name, head = self.of(test), self.name_of(test.package, test.name), head_of(test)
@@ -144,7 +144,7 @@ class Recordings:
             return None
 
     def made(self, read: ReadLog | None, name: pathlib.Path, test: Ran | None, hear: Hear) -> Outcome | None:
-        """The result of a recording; None, with a message, if it can't be written. `hear` gets the lines as soon as they are known."""
+        """The result of a recording; None, with a message, if it can't be written. `hear` receives the lines as soon as they are known."""
         if read is None:
             return None
         failed = test is None or test.is_red()
@@ -159,8 +159,8 @@ class Recordings:
         return outcome
 
     def explore(self, seconds: float) -> bool:
-        """Runs other schedules of the recordings, for this long together; whether something is found. A finding is
-        possible: no run had it."""
+        """Runs other schedules of the recordings, for this many seconds in total; returns whether there are findings. A finding is a
+        possible failure: it didn't occur in any run."""
         recorded = [told for told in self.told.values() if told.recording and told.accepted]
         for told in recorded:
             told.possible = findings(str(told.recording), seconds / len(recorded))

@@ -30,10 +30,10 @@ from .running import (
 from .tested import Recordings
 from .toolchain import Go
 
-SO_FAR = "test"  # the base name of recordings of a run in progress
+SO_FAR = "test"  # the base name of the recordings made while a run is in progress
 FOLDER = "recordings"
 STANDARD_OUTPUT = "-"
-UNTESTED = re.compile(r"--?(?:test\.)?(?:bench|fuzz)(?:=.|\Z)")  # flags that run other functions than tests
+UNTESTED = re.compile(r"--?(?:test\.)?(?:bench|fuzz)(?:=.|\Z)")  # flags that run functions other than tests
 
 
 @dataclass
@@ -49,7 +49,7 @@ class Came:
 
 @dataclass(frozen=True)
 class Round:
-    """One run: its number from 0, the number of processors if one is set, and the seed of the delays, 0 for none."""
+    """One run: its number from 0, the number of processors if one is set, and the seed of the delays (0 for none)."""
 
     number: int
     processors: int | None
@@ -63,12 +63,12 @@ class Round:
 
 
 def most_runs(options: argparse.Namespace) -> int | None:
-    """The greatest number of runs, if there is one."""
+    """The greatest number of runs, if limited."""
     return options.runs or (None if options.until_failure or options.seconds is not None else 1)
 
 
 def rounds(options: argparse.Namespace) -> Iterator[Round]:
-    """The requested runs, at most."""
+    """The requested runs; fewer may be made."""
     most = most_runs(options)
     end = time.monotonic() + options.seconds if options.seconds is not None else None
     processors = (None, *sorted({1, 2, os.cpu_count() or 1, 2 * (os.cpu_count() or 1)}))
@@ -80,7 +80,7 @@ def rounds(options: argparse.Namespace) -> Iterator[Round]:
 
 
 def record_tests(options: argparse.Namespace, go: Go, command: list[str], wish: Wish) -> Came:
-    """Runs the tests as often as requested, and makes recordings of those that fail."""
+    """Runs the tests as often as requested, and makes recordings of the failing ones."""
     base = base_name(options.o, FOLDER)
     look_folder(base)
     recordings = Recordings(base, go, wish, options.all or options.explore is not None, options.html)
@@ -103,7 +103,7 @@ def record_tests(options: argparse.Namespace, go: Go, command: list[str], wish: 
 def run_all(
     options: argparse.Namespace, go: Go, command: list[str], wish: Wish, recordings: Recordings, came: Came
 ) -> None:
-    """All runs of Go's command."""
+    """Makes all runs of Go's command."""
     for one in rounds(options):
         run = Run(options, go, command, wish, recordings)
         status = run.once(one)
@@ -122,7 +122,7 @@ class Run:
     ) -> None:
         self._options, self._go, self._command, self._wish = options, go, command, wish
         self._recordings = recordings
-        self.is_last = False  # cancelled, or nothing ran
+        self.is_last = False  # it was cancelled, or no program ran
         self.has_recorded = True
 
     def once(self, one: Round) -> int:
@@ -151,7 +151,7 @@ class Run:
         return make
 
     def _take(self, folder: pathlib.Path, failed: bool) -> bool:
-        """Makes the recordings; whether the logs can be removed."""
+        """Makes the recordings; returns whether the logs can be removed."""
         self.has_recorded = not report_unrecorded(folder)
         if report_no_log(folder, failed):
             self.is_last, self.has_recorded = True, False
@@ -186,7 +186,7 @@ def tell(options: argparse.Namespace, recordings: Recordings, came: Came) -> Non
 
 
 def put(name: str, text: str, came: Came) -> None:
-    """Writes a file for machines; - is standard output."""
+    """Writes a file for machines; - means standard output."""
     if name == STANDARD_OUTPUT:
         say([text.rstrip("\n")], sys.stdout)
         return

@@ -22,7 +22,7 @@ SOURCES = pathlib.Path(__file__).resolve().parent / "go"
 OVERLAY, NEW, LEFT_OUT = "overlay.json", "new.json", "without.txt"
 CHANGED = ("runtime", "internal/poll", "testing")  # of Go's packages
 WITHOUT = "without "  # the beginning of a line for an optional rule
-# The patch of each release with which the rules were tried.
+# For each release, the patch with which the rules were tried.
 TRIED = {"1.19": 8, "1.21": 13, "1.22": 12, "1.23": 5, "1.24": 4, "1.26": 10, "1.27": 3}
 
 
@@ -44,7 +44,7 @@ class Go:
         return self.root / "src"
 
     def own_program(self) -> str:
-        """The command of this very release. The `go` on the PATH may read go.mod to choose another release."""
+        """The path of this release's own command. The `go` on the PATH may read go.mod and choose another release."""
         own = self.root / "bin/go"
         return str(own) if own.exists() else self.program
 
@@ -74,7 +74,7 @@ def cache() -> pathlib.Path:
 
 
 def key_of(go: Go) -> str:
-    """A key for everything that an overlay depends on: Go's files below the two changed packages, and ours."""
+    """A key for everything on which an overlay depends: Go's files below the two changed packages, and ours."""
     digest = hashlib.sha256(f"{go.version} {go.root}".encode())
     ours = sorted(SOURCES.glob("*/*.go"))
     theirs = [path for name in CHANGED for path in sorted((go.sources() / name).glob("*.go"))]
@@ -84,7 +84,7 @@ def key_of(go: Go) -> str:
 
 
 def quiet_go(go: Go, folder: pathlib.Path, *words: str) -> subprocess.CompletedProcess[str]:
-    """Runs Go on our own program, whatever the user's flags and modules are."""
+    """Runs Go on our own program, regardless of the user's flags and modules."""
     environment = {name: value for name, value in os.environ.items() if name not in ("GOFLAGS", "NETREV_LOG")}
     environment |= {"GO111MODULE": "off", "CGO_ENABLED": "0", "GOTOOLCHAIN": "local"}
     return subprocess.run(
@@ -104,7 +104,7 @@ def is_tried(version: str) -> bool:
 
 
 def tried(version: str) -> str:
-    """Whether a version was tried, as text."""
+    """A text that says whether a version was tried."""
     release, _ = release_of(version)
     if is_tried(version):
         return messages.TRIED
@@ -114,7 +114,7 @@ def tried(version: str) -> str:
 
 
 def points_program(go: Go, folder: pathlib.Path) -> pathlib.Path:
-    """The program that finds the points, built by the Go that it is for."""
+    """The program that finds the points, built by the Go that it is meant for."""
     program = folder / "points"
     run = quiet_go(go, SOURCES / "points", "build", "-o", str(program), ".")
     if run.returncode != 0:
@@ -138,7 +138,7 @@ def overlay(go: Go) -> pathlib.Path:
             made.mkdir(parents=True, exist_ok=True)
             with (made / "lock").open("w") as lock:
                 fcntl.flock(lock, fcntl.LOCK_EX)
-                if not (made / OVERLAY).exists():  # no other process made it meanwhile
+                if not (made / OVERLAY).exists():  # no other process has made it meanwhile
                     make_overlay(go, made)
         except OSError as fault:
             raise Trouble(messages.CACHE_UNWRITABLE.format(folder=made, why=fault.strerror)) from None
@@ -146,7 +146,7 @@ def overlay(go: Go) -> pathlib.Path:
 
 
 def left_out(go: Go) -> list[str]:
-    """What isn't recorded with this Go, a line for each optional rule that doesn't fit."""
+    """What isn't recorded with this Go: a line for each optional rule that doesn't fit."""
     return (overlay(go).parent / LEFT_OUT).read_text().splitlines()
 
 

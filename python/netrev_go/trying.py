@@ -1,5 +1,5 @@
-"""Checks whether the installed Go can be recorded by recording a small program with each kind of step, and comparing each answer
-and each lock word. A rule may fit and its file compile although Go never passes that place: this trial detects that."""
+"""Checks whether the installed Go can be recorded by recording a small program with each kind of step, and comparing each answer and each
+lock word. A rule may fit and its file compile although Go never reaches that place: this trial detects that."""
 
 from __future__ import annotations
 
@@ -29,7 +29,7 @@ from .toolchain import SOURCES, Go, Trouble, is_tried, left_out, overlay, quiet_
 PATIENCE = 60
 KEPT = "trial.json"
 PROCESSORS = (1, 4)
-MOMENTS = (3, 30, 300)  # milliseconds that the program gives a goroutine to reach its wait; more on a busy machine
+MOMENTS = (3, 30, 300)  # milliseconds for a goroutine of the program to reach its wait; more on a busy machine
 WANTED = frozenset(
     "incref increfclose decref rwlock rwunlock acquire release sysread syswrite closewrite sockopen pollopen pollclose pollreset "
     "waitbegin blockarm blockcheck parkcommit blockswap waitcheck setdeadline evict pollevent pop fire".split()
@@ -51,7 +51,7 @@ def trial(go: Go) -> Trial:
     kept_in = overlay(go).parent / KEPT
     with tempfile.TemporaryDirectory(prefix="netrev-trial-") as name:
         tried_out = tried_in(go, pathlib.Path(name))
-    with contextlib.suppress(OSError):  # then the trial is repeated
+    with contextlib.suppress(OSError):  # the trial is repeated then
         if tried_out.good:
             kept_in.write_text(json.dumps({"said": tried_out.said}))
         else:
@@ -77,7 +77,7 @@ def tried_in(go: Go, folder: pathlib.Path) -> Trial:
 
 
 def recorded(command: list[str], folder: pathlib.Path, processors: int, is_whole: bool) -> Trial:
-    """The recording of one run, compared. If nothing is left out, it must have all bytes."""
+    """Records one run, and compares the recording. If no rule is left out, it must have all bytes."""
     folder.mkdir()
     environment = os.environ | {
         "NETREV_LOG": str(folder / "log"), "GOMAXPROCS": str(processors), "NETREV_POINTS": "65536"
@@ -117,7 +117,7 @@ def incomplete(made: Recording, counted: str) -> str:
 
 
 def unchained(made: Recording) -> str:
-    """The first lock word that differs from the value that the point before left."""
+    """The first lock word that differs from the value that the previous point left."""
     last: dict[int, int] = {}
     for (step, socket, new), old in zip(made.words, made.olds):
         if last.get(socket, 0) != old:
@@ -156,7 +156,7 @@ def kept(go: Go) -> Trial | None:
 
 
 def ready(go: Go) -> pathlib.Path:
-    """The overlay of a Go that can be recorded. Each Go is tried once; for an untested release, the result is printed."""
+    """The overlay of a Go that can be recorded. Each Go is tried only once; for an untested release, the result is printed."""
     made = overlay(go)
     prepare_line_reader(go)
     before = kept(go)

@@ -1,5 +1,5 @@
-"""The waits of recorded goroutines outside of the poller: at a channel, a select, a mutex, a condition or a
-WaitGroup, if the wait lasts over a step of the recording."""
+"""The waits of recorded goroutines outside the poller, at a channel, a select, a mutex, a condition or a WaitGroup, if a step of the
+recording comes during the wait."""
 
 from __future__ import annotations
 
@@ -12,8 +12,8 @@ WAITED_FOR = ("", "a value from a channel", "room in a channel", "a select", "a 
 
 
 class Wait(NamedTuple):
-    """A wait: the steps after which it begins and ends (0 if the recording ends first), the goroutine, the reason, its stack, and
-    the goroutine that ended it (-1 if the recording has none)."""
+    """A wait: the steps after which it begins and ends (0 if the recording ends first), the goroutine, the reason, the stack, and the
+    goroutine that ended it (-1 if it isn't in the recording)."""
 
     first: int
     last: int
@@ -24,9 +24,9 @@ class Wait(NamedTuple):
 
 
 def waits_of(found: Goroutines, numbers: dict[int, int], since: Mapping[int, int] = {}) -> list[Wait]:
-    """The waits in the order of their ends, those that don't end last. `numbers` has the recording's numbers of
-    goroutines, and `since` the step after which a goroutine took another's number: what it did earlier would be
-    attributed to the other."""
+    """The waits in the order of their ends; those that don't end come last. `numbers` has the recording's numbers of goroutines, and
+    `since` the step after which a goroutine took another's number: the goroutine's earlier actions would be attributed to the other
+    one."""
     waits = []
     for park in (
         *(found.parks[place] for place in found.finished),

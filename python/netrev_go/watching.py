@@ -1,5 +1,5 @@
-"""Recordings of a running server: at once, or when one of its calls has waited long. Its log has two small tables
-of the goroutines that wait at sockets, and since when, so that frequent checks cost little."""
+"""Makes recordings of a running server: at once, or when one of its calls has waited long. The log has two small tables of the goroutines
+that wait at sockets and since when, so frequent checks are cheap."""
 
 from __future__ import annotations
 
@@ -28,16 +28,17 @@ from .status import Status
 from .toolchain import Go, Trouble
 from .where import own_line
 
-LOOKS = 10  # checks during the time that a call may wait
+LOOKS = 10  # checks within the time that a call may wait
 OFTENEST, SELDOMEST = 0.05, 1.0  # seconds between two checks
-# The words of a row of the table of descriptors: its lock word's address, and for each side the place, goroutine, stack and begin of a wait.
+# The words of a row in the table of descriptors: the lock word's address, and for each side the place, goroutine, stack
+# and begin of a wait.
 AT_A_WORD, SIDES, SIDE_WORDS = 1, 2, 4
 ACCEPTS = "internal/poll.(*FD).Accept"
 
 
 class Waiting(NamedTuple):
-    """A goroutine that waits at a socket: Go's number, the side, the stack (0 if unknown), the begin by Go's clock,
-    and the address of the socket's lock word."""
+    """A goroutine that waits at a socket: Go's number, the side, the stack (0 if unknown), when the wait began by Go's clock, and the
+    address of the socket's lock word."""
 
     goroutine: int
     what: str
@@ -94,8 +95,8 @@ class Watch:
         return self._calls[stack]
 
     def is_meant(self, one: Waiting) -> bool:
-        """Whether it is a call of the program that should continue: calls that accept don't count, nor do reads in
-        Go's own goroutines alone, such as those of idle connections."""
+        """Whether it is a call of the program that should continue: calls that accept don't count, nor do reads in goroutines that run only
+        Go's own code, such as those of idle connections."""
         calls = self.calls(one.stack)
         if calls is None or not calls.calls:
             return not one.is_reader
@@ -131,7 +132,7 @@ def snapshot(options: argparse.Namespace, go: Go | None, wish: Wish, known: list
 
 
 def watch(options: argparse.Namespace, go: Go | None, wish: Wish, known: list[object]) -> int:
-    """Makes a recording of a process when one of its calls has waited that long."""
+    """Makes a recording of a process when one of its calls has waited as long as --stuck says."""
     log = log_of_process(options.pid)
     look(base_name(options.o, "snapshot"))
     pause = min(max(options.stuck / LOOKS, OFTENEST), SELDOMEST)

@@ -20,7 +20,7 @@ Order = tuple[int, int]
 
 
 class Numbered:
-    """The lines of the file: each call and each stack once, numbered from 1 in the order of their first step."""
+    """The lines of the file: each call and each stack once, numbered from 1 in the order of their first use."""
 
     def __init__(self, calls: dict[int, Calls]) -> None:
         self.stacks = calls
@@ -50,7 +50,7 @@ class Numbered:
         return self.numbers[key]
 
     def made(self, key: int) -> int:
-        """The number of the call of the `go` statement that made the goroutine of a stack; 0 for none."""
+        """The number of the call of the `go` statement that started a stack's goroutine; 0 for none."""
         known = self.stacks.get(key)
         return self.call(known.made) if known and known.made else 0
 
@@ -65,8 +65,8 @@ def write_where(
     times: list[int] | None = None,
     everybody: Everybody | None = None,
 ) -> None:
-    """Writes the file of a recording whose steps have these stacks and orders, with the log's other facts, more lines,
-    the steps' times, and all goroutines."""
+    """Writes the file of a recording whose steps have these stacks and orders, with the log's other facts, further lines, the steps' times,
+    and all goroutines."""
     numbered = Numbered(calls)
     numbered.add({"where": 1 if everybody is None else 2, "steps": len(stacks)})
     number_of = {key: str(numbered.stack(key)) for key in dict.fromkeys(stacks)}.__getitem__
@@ -99,7 +99,7 @@ def write_where(
 
 
 def own_line(calls: Calls) -> tuple[Call, str] | None:
-    """The innermost line of the program, else of a library, and the function that is called there."""
+    """The innermost line of the program, or else of a library, and the function called there."""
     for wanted in ((OF_THE_PROGRAM,), (OF_THE_PROGRAM, OF_A_LIBRARY)):
         inner = ""
         for call in calls.calls:

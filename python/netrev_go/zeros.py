@@ -1,17 +1,16 @@
-"""Lines of a recording with the bytes that were read or written: all zeros, because their contents aren't recorded."""
+"""Lines of a recording with the bytes that were read or written: all zeros, because contents aren't recorded."""
 
 from __future__ import annotations
 
 from functools import lru_cache
 from typing import NamedTuple
 
-FEW = 64  # bytes whose zeros are stored in full
-LINES_KEPT = 4_096  # because many lines are alike
+FEW = 64  # up to this many bytes, zeros are stored in full
+LINES_KEPT = 4_096  # many lines are alike
 
 
 class Zeros(NamedTuple):
-    """A line with many zeros, which are written only with the recording: a log of a few points may have moved
-    gigabytes."""
+    """A line with many zeros, which are written out only with the recording: a log of a few points may have moved gigabytes."""
 
     before: str
     size: int  # bytes

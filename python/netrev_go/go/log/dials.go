@@ -1,4 +1,4 @@
-// netrev's points at dials that fail. These functions are put behind those of net/sock_posix.go in an overlaid Go.
+// netrev's points at dials that fail. In an overlaid Go, these functions are appended to net/sock_posix.go.
 
 package net
 
@@ -9,7 +9,7 @@ import (
 	"unsafe"
 )
 
-// Why a dial failed, where it isn't for an error of the system's.
+// Why a dial failed, if not by an error of the system.
 const (
 	netrevOtherFailure = 0
 	netrevTimedOut     = -1
@@ -25,7 +25,7 @@ func poll_netrevAddress(name syscall.Sockaddr) int64
 //go:linkname runtime_netrevUnconnected
 func runtime_netrevUnconnected(done unsafe.Pointer, why, address int64)
 
-// netrevDialed takes what a connect to an address came to, and returns that.
+// netrevDialed returns a function that logs a failed connect to an address, and returns what it was given.
 func netrevDialed(ctx context.Context, to syscall.Sockaddr) func(name syscall.Sockaddr, err error) (syscall.Sockaddr, error) {
 	return func(name syscall.Sockaddr, err error) (syscall.Sockaddr, error) {
 		if err != nil && netrevDialsOn != 0 {
@@ -35,7 +35,7 @@ func netrevDialed(ctx context.Context, to syscall.Sockaddr) func(name syscall.So
 	}
 }
 
-// netrevNotDialed is a dial whose context had ended before it began; its error.
+// netrevNotDialed logs a dial whose context had ended before the dial began, and returns its error.
 func netrevNotDialed(ctx context.Context, err error) error {
 	if netrevDialsOn != 0 {
 		runtime_netrevUnconnected(netrevDone(ctx), netrevWhy(err), 0)
@@ -43,13 +43,13 @@ func netrevNotDialed(ctx context.Context, err error) error {
 	return err
 }
 
-// netrevDone is the channel by which the end of a context is known, if it has one.
+// netrevDone returns the channel that is closed when a context ends; nil if it has none.
 func netrevDone(ctx context.Context) unsafe.Pointer {
 	done := ctx.Done()
 	return *(*unsafe.Pointer)(unsafe.Pointer(&done))
 }
 
-// netrevWhy is the number of the system's error, else why the dial was given up.
+// netrevWhy returns the number of the system's error, or else the reason why the dial was given up.
 func netrevWhy(err error) int64 {
 	if call, ok := err.(*os.SyscallError); ok {
 		if number, ok := call.Err.(syscall.Errno); ok {

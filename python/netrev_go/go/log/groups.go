@@ -1,4 +1,4 @@
-// netrev's point at a WaitGroup's counter. These functions are put behind those of sync/waitgroup.go in an overlaid Go.
+// netrev's point at a WaitGroup's counter. In an overlaid Go, these functions are appended to sync/waitgroup.go.
 
 package sync
 

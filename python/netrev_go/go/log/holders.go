@@ -1,9 +1,10 @@
-// netrev's table of the mutexes that are locked: which goroutine holds each, and the calls from which it locked it. These functions are
-// put behind those of runtime/sema.go in an overlaid Go.
+// netrev's table of locked mutexes: which goroutine holds each, and the calls that locked it. In an overlaid Go, these
+// functions are appended to runtime/sema.go.
 //
-// A mutex is locked and unlocked too often for a point in the ring. So a row is written as a mutex is locked and freed before it is
-// unlocked: at any time, and when the process has ended, the table has what is locked then. Most mutexes are unlocked soon, on the same processor:
-// each processor has a few rows of its own, which stay in its cache, and only what finds these taken uses the others.
+// A mutex is locked and unlocked too often to log a point in the ring each time. Instead, a row is written after a
+// mutex is locked and freed before it is unlocked, so the table always has what is locked, also after the process has
+// ended. Most mutexes are unlocked soon, on the same processor, so each processor has a few rows of its own, which stay
+// in its cache; the other rows are used only if these are taken.
 
 package runtime
 
@@ -15,8 +16,8 @@ import (
 
 const (
 	netrevHolders     = netrevNearEnd + netrevFarRows
-	netrevNearRows    = 16 // of each of the first processors
-	netrevNearTries   = 2  // of them in which a mutex may be
+	netrevNearRows    = 16 // for each of the first processors
+	netrevNearTries   = 2  // rows of these in which a mutex may be
 	netrevNearEnd     = netrevNearRows * 64
 	netrevFarRows     = 1 << 13
 	netrevFarTries    = 16
@@ -27,10 +28,10 @@ const (
 // Words of a row.
 const (
 	netrevHolderAt     = iota // the mutex; 0 in a free row, netrevHolderBegun in one that is being written
-	netrevHolderWhose         // the goroutine, twice, and 1 if it holds an RWMutex for reading
-	netrevHolderPassed        // how many points were passed before
+	netrevHolderWhose         // the goroutine's number times 2, plus 1 if it holds an RWMutex for reading
+	netrevHolderPassed        // how many points had been logged before
 	netrevHolderLength        // how many calls are known
-	netrevHolderCall          // the first of the addresses behind the calls, from the innermost
+	netrevHolderCall          // the first of the calls' return addresses, from the innermost
 )
 
 const netrevHolderBegun = 1
@@ -43,8 +44,9 @@ const (
 
 type netrevHolderRow = [netrevHolderWords]uint64
 
-// Whether mutexes are in the table: both are set before the program begins, if the rules of mutexes fit, and never taken back. The first is
-// read where Mutex is, the second by sync's RWMutex: a package can have a name of the runtime's once.
+// True if mutexes are in the table: both are set before the program begins, if the rules for mutexes fit, and never
+// reset. Mutex reads the first and sync's RWMutex the second, because a package can link to a name of the runtime only
+// once.
 //
 //go:linkname netrevMutexesOn
 var netrevMutexesOn uint32
@@ -67,7 +69,7 @@ func netrevHolderRowAt(row uint64) *netrevHolderRow {
 	return (*netrevHolderRow)(unsafe.Pointer(netrevBase + netrevHeaderBytes + netrevStacksBytes + uintptr(row)*netrevHolderWords*8))
 }
 
-// netrevNear is a row of a processor in which a mutex may be, and netrevFar one of those for all.
+// netrevNear returns a row of a processor in which a mutex may be, and netrevFar a row that all processors share.
 func netrevNear(processor, place uint64) *netrevHolderRow {
 	return netrevHolderRowAt(processor*netrevNearRows + place%netrevNearRows)
 }
@@ -76,7 +78,7 @@ func netrevFar(place uint64) *netrevHolderRow {
 	return netrevHolderRowAt(netrevNearEnd + place%netrevFarRows)
 }
 
-// netrevNearby is the processor of a goroutine that runs, if it has rows of its own; else netrevNearEnd.
+// netrevNearby returns the processor on which a goroutine runs, if that has rows of its own; else netrevNearEnd.
 func netrevNearby(gp *g) uint64 {
 	if pp := gp.m.p.ptr(); pp != nil && uint64(pp.id) < netrevNearEnd/netrevNearRows {
 		return uint64(pp.id)
@@ -84,7 +86,7 @@ func netrevNearby(gp *g) uint64 {
 	return netrevNearEnd
 }
 
-// netrevHolds is a goroutine that has locked a mutex, with the frame of the function that says so.
+// netrevHolds enters a mutex that the goroutine has locked, with the stack from the given frame.
 func netrevHolds(at unsafe.Pointer, how uint64, frame uintptr) {
 	gp := getg()
 	if gp.m == nil || gp != gp.m.curg {
@@ -104,7 +106,7 @@ func netrevHolds(at unsafe.Pointer, how uint64, frame uintptr) {
 	atomic.Xadd64(netrevWord(netrevHeadHoldersLost), 1)
 }
 
-// netrevTakesRow takes a free row; nil where there is none.
+// netrevTakesRow takes a free row; it returns nil if there is none.
 func netrevTakesRow(processor, place uint64) *netrevHolderRow {
 	if processor < netrevNearEnd {
 		for used := atomic.Load(&netrevNearUsed); uint64(used) <= processor; used = atomic.Load(&netrevNearUsed) {
@@ -124,12 +126,12 @@ func netrevTakesRow(processor, place uint64) *netrevHolderRow {
 	return nil
 }
 
-// netrevIsTaken takes a row, if it is free.
+// netrevIsTaken takes a row if it is free, and returns whether it was.
 func netrevIsTaken(row *netrevHolderRow) bool {
 	return atomic.Load64(&row[netrevHolderAt]) == 0 && atomic.Cas64(&row[netrevHolderAt], 0, netrevHolderBegun)
 }
 
-// netrevCallsFrom puts the addresses behind the calls from a frame on into words, and returns how many those are.
+// netrevCallsFrom writes the return addresses of the calls from a frame on into words, and returns how many it wrote.
 //
 //go:nosplit
 func netrevCallsFrom(gp *g, frame uintptr, words []uint64) uint64 {
@@ -146,7 +148,8 @@ func netrevCallsFrom(gp *g, frame uintptr, words []uint64) uint64 {
 	return uint64(n)
 }
 
-// netrevLetsGo is a goroutine that is about to unlock a mutex, which another may have locked.
+// netrevLetsGo frees the row of a mutex that the goroutine is about to unlock, and that another goroutine may have
+// locked.
 func netrevLetsGo(at unsafe.Pointer, how uint64) {
 	gp := getg()
 	if gp.m == nil || gp.m.curg == nil {
@@ -158,7 +161,8 @@ func netrevLetsGo(at unsafe.Pointer, how uint64) {
 	}
 }
 
-// netrevFrees frees one row of a mutex that is held so, by this goroutine or by any, and says whether there was one.
+// netrevFrees frees one row of a mutex that is held in this way, by this goroutine or by any, and returns whether it
+// found one.
 func netrevFrees(at, mine uint64, isMine bool, processor uint64) bool {
 	place := netrevMixed(at)
 	if processor < netrevNearEnd && netrevFreesNear(at, mine, isMine, processor, place) {
@@ -186,7 +190,7 @@ func netrevFreesNear(at, mine uint64, isMine bool, processor, place uint64) bool
 	return false
 }
 
-// netrevIsFreed frees a row, if it is of this mutex.
+// netrevIsFreed frees a row if it belongs to this mutex, and returns whether it did.
 func netrevIsFreed(row *netrevHolderRow, at, mine uint64, isMine bool) bool {
 	if atomic.Load64(&row[netrevHolderAt]) != at {
 		return false
@@ -195,7 +199,7 @@ func netrevIsFreed(row *netrevHolderRow, at, mine uint64, isMine bool) bool {
 	return whose&1 == mine&1 && (!isMine || whose == mine) && atomic.Cas64(&row[netrevHolderAt], at, 0)
 }
 
-// Package sync had its own mutex up to Go 1.23; since 1.24 that is in internal/sync.
+// Up to Go 1.23 package sync had its own mutex; since 1.24 that is in internal/sync.
 //
 //go:linkname sync_runtime_netrevLocked sync.runtime_netrevLocked
 func sync_runtime_netrevLocked(mutex unsafe.Pointer) {

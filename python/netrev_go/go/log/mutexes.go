@@ -1,5 +1,6 @@
-// netrev's points at a Mutex. These functions are put behind those of Go's mutex.go in an overlaid Go. Where there is a log, all go by
-// Go's slow ways, which have the points, so that the fast ones are inlined as ever. No function of ours is on the stack of one that waits.
+// netrev's points at a Mutex. In an overlaid Go, these functions are appended to Go's mutex.go. If there is a log, all
+// calls take Go's slow paths, which have the points, so that the fast paths are inlined as before. None of these
+// functions is on the stack of a goroutine that waits.
 
 package sync
 
@@ -17,7 +18,7 @@ func runtime_netrevLocked(mutex unsafe.Pointer)
 //go:linkname runtime_netrevUnlocks
 func runtime_netrevUnlocks(mutex unsafe.Pointer)
 
-// netrevHas is a goroutine that has locked it.
+// netrevHas enters a mutex that the goroutine has locked.
 func (m *Mutex) netrevHas() bool {
 	if netrevMutexesOn != 0 {
 		runtime_netrevLocked(unsafe.Pointer(m))
@@ -25,7 +26,8 @@ func (m *Mutex) netrevHas() bool {
 	return true
 }
 
-// netrevDrops drops the lock bit, as Unlock does. Where there is a log, netrevUnlocks does, and this is no state of a mutex.
+// netrevDrops clears the lock bit, as Unlock does, and returns the new state. If there is a log, it returns -1, which
+// no state of a mutex is, and netrevUnlocks clears the bit.
 func (m *Mutex) netrevDrops() int32 {
 	if netrevMutexesOn != 0 {
 		return -1
@@ -33,7 +35,7 @@ func (m *Mutex) netrevDrops() int32 {
 	return atomic.AddInt32(&m.state, -mutexLocked)
 }
 
-// netrevUnlocks is a goroutine that unlocks it; the state then.
+// netrevUnlocks removes a mutex from the table, clears its lock bit, and returns the new state.
 func (m *Mutex) netrevUnlocks() int32 {
 	runtime_netrevUnlocks(unsafe.Pointer(m))
 	return atomic.AddInt32(&m.state, -mutexLocked)

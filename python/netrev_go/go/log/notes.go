@@ -1,9 +1,10 @@
-// netrev's notes of all descriptors that are open, from which a recording can begin in the middle of a run: the ring keeps the newest points,
-// and what is open may be older. These functions are put behind those of runtime/netpoll_epoll.go in an overlaid Go.
+// netrev's notes of all open descriptors, from which a recording can begin in the middle of a run: the ring keeps only
+// the newest points, and a descriptor may have been opened earlier. In an overlaid Go, these functions are appended to
+// runtime/netpoll_epoll.go.
 //
-// Four times while the ring goes round once, a goroutine that holds no lock of the runtime's notes each of them: points that say how its lock
-// word and its descriptor are, and which goroutine waits there in which step. They are written under all locks of the descriptor, so that
-// nothing of it changes between them.
+// Four times in each round of the ring, a goroutine that holds no lock of the runtime notes every descriptor: points
+// with the state of its lock word and of the descriptor, and each goroutine that waits there, with its stage of the
+// wait. They are written under all locks of the descriptor, so that nothing of it changes between them.
 
 package runtime
 
@@ -13,17 +14,18 @@ import (
 )
 
 const (
-	netrevRowsLeast   = 1 << 10 // descriptors that are known
-	netrevRowShare    = 64      // for so many points one more
+	netrevRowsLeast   = 1 << 10 // the least number of descriptors in the table
+	netrevRowShare    = 64      // one more for this many points
 	netrevRowBytes    = unsafe.Sizeof(netrevRow{})
-	netrevRowTries    = 64      // rows in which one may be
+	netrevRowTries    = 64      // rows in which a descriptor may be
 	netrevQueueMost   = 1 << 10 // goroutines that are queued at lock words
 	netrevWaiterBytes = unsafe.Sizeof(netrevWaiter{})
-	netrevParts       = 4  // notes while the ring goes round once
-	netrevShare       = 64 // for so many points of the ring one descriptor may be noted, each time
+	netrevParts       = 4  // notes in each round of the ring
+	netrevShare       = 64 // each time, one descriptor at most is noted for this many points of the ring
 )
 
-// Kinds of points. The first has the lock word's address, the next two that of the descriptor. No point of either is between them.
+// Kinds of points. The first has the lock word's address, the next two the descriptor's. No other point of either is
+// between them.
 const (
 	netrevNotedKind          = 134 // a is the lock word, b the descriptor, c the two semaphores
 	netrevNotedPollKind      = 135 // a is the tag, b the sequence of reading, c that of writing
@@ -32,8 +34,8 @@ const (
 	netrevNotedQueuedKind    = 138 // the goroutine is queued for the lock of side a
 	netrevNotesBeginKind     = 139 // a is the number of the notes that begin here, b how many descriptors are known
 	netrevNotesEndKind       = 140 // a is the number of the notes that end here, b how many descriptors were noted, c how many there was no room for
-	netrevNotedNamedKind     = 141 // a, b and c are those of the socket's point netrevNamedKind
-	netrevDeadlineCallKind   = 142 // no note: a is the mode and b the deadline, and c the lock word, to which the call had a reference
+	netrevNotedNamedKind     = 141 // a, b and c are as in the socket's point netrevNamedKind
+	netrevDeadlineCallKind   = 142 // not a note: a is the mode, b the deadline, and c the lock word, to which the call had a reference
 )
 
 // Places of a goroutine inside a wait.
@@ -47,14 +49,16 @@ const (
 	netrevIsChecking
 )
 
-// A netrevSide is which goroutine is inside the wait of a side, where, and with which stack and when it began. The descriptor's lock is held for it.
+// A netrevSide is the goroutine inside the wait of a side, its place, its stack, and when the wait began. The
+// descriptor's lock protects it.
 type netrevSide struct{ place, goid, stack, since uint64 }
 
-// A netrevRow is a descriptor, whose memory is one for good: it keeps its row when it is another socket's. The lock word is 0 where it is nobody's.
+// A netrevRow is a descriptor, whose memory is never freed: it keeps its row when it is reused for another socket. The
+// lock word is 0 while no socket has the descriptor.
 type netrevRow struct {
 	pd, word uintptr
 	sides    [2]netrevSide
-	name     [3]int64 // of its point netrevNamedKind
+	name     [3]int64 // as in its point netrevNamedKind
 	marks    uint64
 	_        [2]uint64
 }
@@ -65,35 +69,36 @@ const (
 	netrevIsShut  = 2
 )
 
-// A netrevWaiter is a goroutine that is queued at the semaphore of a lock word, whose root's lock is held for it.
+// A netrevWaiter is a goroutine that is queued at the semaphore of a lock word; its root's lock protects it.
 type netrevWaiter struct {
 	addr                      uintptr // of the semaphore; 0 in a free row
 	order, goid, stack, since uint64
 	_                         [3]uint64
 }
 
-// Whether a descriptor's timers run, and its tag: these are otherwise in older releases. They are set where the rules of notes fit.
+// Functions that read whether a descriptor's timers run, and its tag, which older releases keep in another way. They
+// are set if the rules for notes fit.
 var (
 	netrevRunning func(pd *pollDesc) int64
 	netrevTagOf   func(pd *pollDesc) int64
 )
 
 var (
-	netrevRows     uintptr // 0 where there are no notes
+	netrevRows     uintptr // 0 without notes
 	netrevRowsMost uint64
 	netrevQueue    uintptr
-	netrevRowOrder uintptr // the numbers of the rows that are taken, in their order
+	netrevRowOrder uintptr // the numbers of the rows in use, in the order in which they were taken
 	netrevRowCount uint32
 	netrevQueued   uint64
-	netrevUnqueued uint32 // 1 where a goroutine was queued that found no row
-	netrevDue      uint64 // behind how many points the next notes are due
-	netrevIsDue    uint32 // 1 once there were so many: that is read much more often, and the count of points is written by all processors
+	netrevUnqueued uint32 // 1 if a goroutine was queued and found no row
+	netrevDue      uint64 // the number of points after which the next notes are due
+	netrevIsDue    uint32 // 1 once that many were logged: this is read much more often, and all processors write the count of points
 	netrevNoting   uint32
 	netrevTimes    uint64
 	netrevRowLock  mutex
 )
 
-// netrevRowsFor is how many rows a log of so many points has.
+// netrevRowsFor returns the number of rows in a log of this many points.
 func netrevRowsFor(points uintptr) uintptr {
 	if rows := points / netrevRowShare; rows > netrevRowsLeast {
 		return rows
@@ -121,7 +126,7 @@ func netrevRowAt(row uint64) *netrevRow {
 	return (*netrevRow)(unsafe.Pointer(netrevRows + uintptr(row)*unsafe.Sizeof(netrevRow{})))
 }
 
-// netrevRowOf is the row of a descriptor; nil where it has none. One that is new takes one.
+// netrevRowOf returns the row of a descriptor; nil if it has none. A new descriptor takes one.
 func netrevRowOf(pd uintptr, isNew bool) *netrevRow {
 	first := netrevMixed(uint64(pd))
 	for try := uint64(0); try < netrevRowTries; try++ {
@@ -141,7 +146,7 @@ func netrevRowOf(pd uintptr, isNew bool) *netrevRow {
 	return nil
 }
 
-// netrevInside is a goroutine that has come to a place of a wait, which begins there if `since` is a time.
+// netrevInside records that a goroutine has come to a place of a wait, which begins there if `since` is a time.
 func netrevInside(pd *pollDesc, mode int32, place, goid, stack uint64, since int64) {
 	if netrevRows == 0 {
 		return
@@ -157,7 +162,8 @@ func netrevInside(pd *pollDesc, mode int32, place, goid, stack uint64, since int
 	}
 }
 
-// netrevBehind is the place of a goroutine behind a point of a wait: behind one that found nothing against waiting, or not.
+// netrevBehind returns the place of a goroutine after a point of a wait, depending on whether that point let it go on
+// waiting.
 func netrevBehind(kind uint64, goesOn bool) uint64 {
 	switch {
 	case goesOn && (kind == netrevWaitBegin || kind == netrevWaitCheck):
@@ -180,7 +186,7 @@ func netrevWaiterAt(row uint64) *netrevWaiter {
 	return (*netrevWaiter)(unsafe.Pointer(netrevQueue + uintptr(row)*unsafe.Sizeof(netrevWaiter{})))
 }
 
-// netrevQueues is a goroutine that joins the queue of a semaphore, whose root's lock is held.
+// netrevQueues records that a goroutine joins the queue of a semaphore, whose root's lock is held.
 func netrevQueues(addr *uint32, goid, stack uint64) {
 	if netrevRows == 0 {
 		return
@@ -196,7 +202,8 @@ func netrevQueues(addr *uint32, goid, stack uint64) {
 	atomic.Store(&netrevUnqueued, 1)
 }
 
-// netrevFirst is the goroutine that is queued longest at a semaphore, of those behind an order; nil where none is.
+// netrevFirst returns the goroutine that has been queued longest at a semaphore, among those with a greater number than
+// `behind`; nil if there is none.
 func netrevFirst(at uintptr, behind uint64) *netrevWaiter {
 	var first *netrevWaiter
 	for try := uint64(0); try < netrevRowTries; try++ {
@@ -208,7 +215,7 @@ func netrevFirst(at uintptr, behind uint64) *netrevWaiter {
 	return first
 }
 
-// netrevLeaves takes the first out of the queue of a semaphore, whose root's lock is held.
+// netrevLeaves removes the first goroutine from the queue of a semaphore, whose root's lock is held.
 func netrevLeaves(addr *uint32) {
 	if netrevRows == 0 {
 		return
@@ -218,7 +225,8 @@ func netrevLeaves(addr *uint32) {
 	}
 }
 
-// A descriptor that was opened for the socket of a lock word. While notes are made, and may have gone past its row, it is noted here.
+// Records that a descriptor was opened for the socket of a lock word. If notes are being written, they may have passed
+// its row already, so it is noted here.
 //
 //go:linkname poll_runtime_netrevKnows internal/poll.runtime_netrevKnows
 func poll_runtime_netrevKnows(descriptor uintptr, word *uint64) {
@@ -238,7 +246,7 @@ func poll_runtime_netrevKnows(descriptor uintptr, word *uint64) {
 	}
 }
 
-// A socket that is about to be destroyed, and its lock word with it.
+// Records that a socket is about to be destroyed, and its lock word with it.
 //
 //go:linkname poll_runtime_netrevForgets internal/poll.runtime_netrevForgets
 func poll_runtime_netrevForgets(descriptor uintptr) {
@@ -249,7 +257,7 @@ func poll_runtime_netrevForgets(descriptor uintptr) {
 	}
 }
 
-// A socket whose ends have names.
+// Records the names of a socket's ends.
 //
 //go:linkname poll_runtime_netrevIsCalled internal/poll.runtime_netrevIsCalled
 func poll_runtime_netrevIsCalled(descriptor uintptr, a, b, c int64) {
@@ -260,7 +268,7 @@ func poll_runtime_netrevIsCalled(descriptor uintptr, a, b, c int64) {
 	}
 }
 
-// A socket whose side of writing was shut.
+// Records that a socket's write side was shut.
 //
 //go:linkname poll_runtime_netrevIsShut internal/poll.runtime_netrevIsShut
 func poll_runtime_netrevIsShut(descriptor uintptr) {
@@ -278,7 +286,7 @@ func netrevRowKnown(descriptor uintptr) *netrevRow {
 	return netrevRowOf(descriptor, false)
 }
 
-// netrevNotes notes all descriptors, if that is due. No lock of the runtime's is held here.
+// netrevNotes notes all descriptors, if that is due. The caller holds no lock of the runtime.
 func netrevNotes() {
 	if netrevRows == 0 || atomic.Load(&netrevIsDue) == 0 || !atomic.Cas(&netrevNoting, 0, 1) {
 		return
@@ -309,7 +317,7 @@ func netrevNotesPoint(kind uint64, b, c int64) (number uint64) {
 	return number
 }
 
-// netrevNote notes a descriptor under its locks, if it is a socket's, and says whether it is.
+// netrevNote notes a descriptor under its locks, if it is a socket's, and returns whether it is.
 func netrevNote(row *netrevRow) bool {
 	lock(&netrevRowLock)
 	word := (*uint64)(unsafe.Pointer(row.word))
@@ -352,9 +360,9 @@ func netrevNoteLocked(row *netrevRow, state uint64, pd *pollDesc) {
 	}
 }
 
-// netrevNoteFlags are bits: whether it is closing, had an event error, the timer of reading runs, that of writing does, its side of writing is
-// shut; from bit 8 the words of reading and of writing, 2 bits each (0 nil, 1 ready, 2 wait, 3 a goroutine); and bit 12 where a goroutine may be
-// queued that isn't noted.
+// netrevNoteFlags returns bits, from bit 0: whether the descriptor is closing, had an event error, its read timer runs,
+// its write timer runs, its write side is shut; from bit 8 its words for reading and for writing, 2 bits each (0 nil, 1
+// ready, 2 wait, 3 a goroutine); and bit 12 if a goroutine may be queued that isn't noted.
 func netrevNoteFlags(row *netrevRow, pd *pollDesc) int64 {
 	flags := netrevBit(pd.closing) | netrevBit(pd.info().eventErr())<<1 | netrevRunning(pd)<<2 | netrevBit(row.marks&netrevIsShut != 0)<<4
 	return flags | netrevWordCode(pd.rg.Load())<<8 | netrevWordCode(pd.wg.Load())<<10 | int64(atomic.Load(&netrevUnqueued))<<12

@@ -1,38 +1,38 @@
-// netrev's points at which the program itself puts goroutines in order: a goroutine made or made ready, what goes through a channel,
-// waits outside of the poller, and the end of a goroutine. These functions are put behind those of runtime/chan.go in an overlaid Go.
-// They are no steps of a recording.
+// netrev's points at which the program itself puts goroutines in order: the start and the wake-up of a goroutine,
+// values that pass through a channel, waits outside the poller, and the end of a goroutine. In an overlaid Go, these
+// functions are appended to runtime/chan.go. They aren't steps of a recording.
 
 package runtime
 
 import "unsafe"
 
-// Kinds of points. Of a channel a is how many values it held just before, and b how many it has room for.
+// Kinds of points. At a channel, a is the number of values that it held just before, and b its capacity.
 const (
-	netrevReadyKind      = 117 // a is whom the goroutine made ready, or made where b is 1
+	netrevReadyKind      = 117 // a is the goroutine that was made ready, or that was started if b is 1
 	netrevSentKind       = 118
 	netrevReceivedKind   = 119
-	netrevMetKind        = 120 // a is the other goroutine, which is made ready: a value went from one to the other, and neither goes on before; b says which way
+	netrevMetKind        = 120 // a value went from one goroutine to another, and neither goes on before: a is the other, which is made ready, b the direction
 	netrevClosedKind     = 121
-	netrevEndedKind      = 122 // the channel was found closed, with nothing in it
-	netrevParksKind      = 124 // the goroutine begins to wait: a is for what, and where, netrevAt and netrevSelects say
+	netrevEndedKind      = 122 // the channel was found closed and empty
+	netrevParksKind      = 124 // the goroutine begins to wait: a says for what; netrevAt and netrevSelects say at what
 	netrevGoesOnKind     = 125 // a goroutine that waited goes on
 	netrevCasesKind      = 126 // further cases of the select at which the goroutine is about to wait
 	netrevHandedKind     = 127 // a value for a buffered channel goes to goroutine a, which waits for it and is made ready
 	netrevEndsKind       = 128 // the goroutine ends
-	netrevTimerKind      = 129 // the goroutine makes a timer that goes off at a, with its channel, if it has one, or sets it anew
+	netrevTimerKind      = 129 // the goroutine makes or resets a timer that goes off at a, with the timer's channel, if it has one
 	netrevGroupKind      = 130 // the goroutine adds a to a WaitGroup, whose counter is b then; Done adds -1
 	netrevStoppedKind    = 131 // the goroutine stops a timer that has a channel
 	netrevMakesKind      = 132 // the goroutine makes a channel
-	netrevDialFailedKind = 133 // a dial of the goroutine's failed, whose context has this channel: a is the error, b the address, as internal/poll has them
+	netrevDialFailedKind = 133 // a dial of the goroutine failed, whose context has this channel: a is the error, b the address, as internal/poll has them
 )
 
-// Which way a value goes at a netrevMetKind.
+// The direction of a value at a netrevMetKind.
 const (
 	netrevGives = 1 // from the goroutine to the other
 	netrevTakes = 2
 )
 
-// netrevOrder is a point of a goroutine's; where the scheduler itself acts there is none.
+// netrevOrder logs a point of a goroutine, and nothing if the scheduler itself acts.
 func netrevOrder(kind uint64, goid uint64, at unsafe.Pointer, a, b, c int64) {
 	if netrevOrders && netrevOn != 0 && goid != 0 {
 		if *netrevWord(netrevHeadOrders) == 0 {
@@ -42,7 +42,8 @@ func netrevOrder(kind uint64, goid uint64, at unsafe.Pointer, a, b, c int64) {
 	}
 }
 
-// netrevReadied is a goroutine that is made ready, by another if traceskip has no mark: then it isn't by a step of a recording.
+// netrevReadied logs that a goroutine is made ready, unless traceskip has a mark: then a step of a recording makes it
+// ready. It returns traceskip without the mark.
 func netrevReadied(gp *g, traceskip int) int {
 	if traceskip < netrevSema {
 		netrevOrder(netrevReadyKind, netrevGoroutine(), nil, int64(gp.goid), 0, 0)
@@ -50,7 +51,8 @@ func netrevReadied(gp *g, traceskip int) int {
 	return traceskip &^ (netrevSema | netrevSemaRead)
 }
 
-// netrevMetSkip marks the frames to skip, if the point of the value that a waiting sender gives says that it is made ready.
+// netrevMetSkip marks the frames to skip if the point for a waiting sender's value already says that the sender is made
+// ready.
 func netrevMetSkip(c *hchan, skip int) int {
 	if c.dataqsiz == 0 {
 		return skip + netrevSema
@@ -58,7 +60,8 @@ func netrevMetSkip(c *hchan, skip int) int {
 	return skip
 }
 
-// What a goroutine waits for outside of the poller. Go 1.19 has one reason for mutexes and WaitGroups, and 1.23 another for mutexes alone.
+// What a goroutine waits for outside the poller. Go 1.19 has one reason for mutexes and WaitGroups; since 1.23 mutexes
+// have a reason of their own.
 const (
 	netrevForOther = iota
 	netrevForValue
@@ -75,7 +78,8 @@ const (
 	netrevForNoCases
 )
 
-// netrevWaits says for what a goroutine waits, by the words that a stack dump has for it: reasons have other numbers in each release.
+// netrevWaits returns what a goroutine waits for, by the reason's text in a stack dump, because the reasons have other
+// numbers in each release.
 func netrevWaits(reason string) int64 {
 	switch reason {
 	case "chan receive", "chan receive (durable)":
@@ -106,15 +110,15 @@ func netrevWaits(reason string) int64 {
 	return netrevForOther
 }
 
-// netrevChannelOf is the channel at which a goroutine is queued. It is set where the rules of objects fit; without them no point says
-// at what a goroutine waits.
+// netrevChannelOf returns the channel at which a goroutine is queued. It is set if the rules for objects fit; otherwise
+// no point says at what a goroutine waits.
 var netrevChannelOf func(waiting *sudog) *hchan
 
-// netrevSleepsUntil is until when a goroutine is about to sleep. It is set where the rules of timers fit.
+// netrevSleepsUntil returns the time until which a goroutine is about to sleep. It is set if the rules for timers fit.
 var netrevSleepsUntil func(gp *g) int64
 
-// netrevParks is a goroutine of the program's that is about to wait outside of the poller, with the lock that gopark was given;
-// whether that is a point.
+// netrevParks logs that a goroutine of the program is about to wait outside the poller, with the lock that gopark was
+// given, and returns whether it logged a point.
 func netrevParks(reason waitReason, lock unsafe.Pointer) bool {
 	if !netrevOrders || netrevOn == 0 || reason == waitReasonIOWait {
 		return false
@@ -137,8 +141,8 @@ func netrevParks(reason waitReason, lock unsafe.Pointer) bool {
 	return true
 }
 
-// netrevAt is the object of a wait: the channel, with how many values it has room for; the list of a condition; or the semaphore of
-// a mutex or a WaitGroup.
+// netrevAt returns the object of a wait: the channel, with its capacity; the list of a condition; or the semaphore of a
+// mutex or a WaitGroup.
 func netrevAt(what int64, lock unsafe.Pointer) (unsafe.Pointer, int64) {
 	switch what {
 	case netrevForValue, netrevForRoom:
@@ -152,8 +156,9 @@ func netrevAt(what int64, lock unsafe.Pointer) (unsafe.Pointer, int64) {
 	return nil, 0
 }
 
-// netrevSelects are the channels of a select that is about to wait, all of which are locked: three of them, and in the bits of `what`
-// above the lowest eight, two for each, whether it waits for a value (1) or for room (2) there. A point comes first for three more.
+// netrevSelects returns the channels of a select that is about to wait, all of which are locked: three of them, and, in
+// the bits of `what` above the lowest eight, two bits for each: whether the goroutine waits there for a value (1) or
+// for room (2). For each further three it first logs a point of their own.
 func netrevSelects(gp *g, what int64) (at unsafe.Pointer, bits, b, c int64) {
 	const most, often = 3, 8
 	var channels [most]uintptr
@@ -179,25 +184,25 @@ func netrevSelects(gp *g, what int64) (at unsafe.Pointer, bits, b, c int64) {
 	return unsafe.Pointer(channels[0]), bits, int64(channels[1]), int64(channels[2])
 }
 
-// netrevGoesOn is a goroutine that was waiting.
+// netrevGoesOn logs that a goroutine that waited goes on.
 func netrevGoesOn() {
 	netrevOrder(netrevGoesOnKind, uint64(getg().goid), nil, 0, 0, 0)
 	netrevNotes()
 }
 
-// netrevEnds is a goroutine that ends. That of the program's end has none.
+// netrevEnds logs the end of a goroutine. If the whole program ends, there is no such point.
 func netrevEnds() {
 	if gp := getg(); netrevOn != 0 && !isSystemGoroutine(gp, false) {
 		netrevOrder(netrevEndsKind, uint64(gp.goid), nil, 0, 0, 0)
 	}
 }
 
-// netrevTimer is a timer that a goroutine makes.
+// netrevTimer logs that a goroutine makes a timer.
 func netrevTimer(c *hchan, when int64) {
 	netrevOrder(netrevTimerKind, netrevGoroutine(), unsafe.Pointer(c), when, 0, 0)
 }
 
-// netrevTimerReset is a timer with a channel that a goroutine sets anew, and netrevTimerStopped one that it stops.
+// netrevTimerReset logs that a goroutine resets a timer with a channel, and netrevTimerStopped that it stops one.
 func netrevTimerReset(c *hchan, when int64) {
 	if c != nil {
 		netrevTimer(c, when)
@@ -210,27 +215,27 @@ func netrevTimerStopped(c *hchan) {
 	}
 }
 
-// A goroutine adds to a WaitGroup, or calls Done.
+// Logs that a goroutine adds to a WaitGroup, or calls Done.
 //
 //go:linkname sync_runtime_netrevGroup sync.runtime_netrevGroup
 func sync_runtime_netrevGroup(group unsafe.Pointer, delta, count int64) {
 	netrevOrder(netrevGroupKind, netrevGoroutine(), group, delta, count, 0)
 }
 
-// A dial of a goroutine's failed; done is the channel of its context.
+// Logs that a dial of a goroutine failed; done is the channel of its context.
 //
 //go:linkname net_runtime_netrevUnconnected net.runtime_netrevUnconnected
 func net_runtime_netrevUnconnected(done unsafe.Pointer, why, address int64) {
 	netrevOrder(netrevDialFailedKind, netrevGoroutine(), done, why, address, 0)
 }
 
-// netrevMade is a goroutine that a `go` statement has made, before it runs.
+// netrevMade logs that a `go` statement has started a goroutine, before it runs.
 func netrevMade(gp *g) *g {
 	netrevOrder(netrevReadyKind, netrevGoroutine(), nil, int64(gp.goid), 1, 0)
 	return gp
 }
 
-// netrevChannel is a point at a channel whose lock is held, or which stays closed.
+// netrevChannel logs a point at a channel whose lock is held, or which stays closed.
 func netrevChannel(kind uint64, c *hchan) {
 	netrevOrder(kind, netrevGoroutine(), unsafe.Pointer(c), int64(c.qcount), int64(c.dataqsiz), 0)
 }
@@ -240,7 +245,8 @@ func netrevEnded(c *hchan) bool {
 	return true
 }
 
-// netrevFromSender is a value that is taken where a sender waits: from it, or from the buffer that it fills up then.
+// netrevFromSender logs a value that is received while a sender waits: from the sender, or from the buffer, which the
+// sender then refills.
 func netrevFromSender(c *hchan, sender *g, isUnbuffered bool) bool {
 	if isUnbuffered {
 		netrevOrder(netrevMetKind, netrevGoroutine(), unsafe.Pointer(c), int64(sender.goid), netrevTakes, 0)
@@ -251,7 +257,8 @@ func netrevFromSender(c *hchan, sender *g, isUnbuffered bool) bool {
 	return isUnbuffered
 }
 
-// netrevToReceiver is a value that goes to a receiver who waits. Who sends into a buffer would have gone on without it.
+// netrevToReceiver logs a value that goes to a waiting receiver. A goroutine that sends into a buffer would have gone
+// on without the receiver.
 func netrevToReceiver(c *hchan, receiver *g) bool {
 	if c.dataqsiz == 0 {
 		netrevOrder(netrevMetKind, netrevGoroutine(), unsafe.Pointer(c), int64(receiver.goid), netrevGives, 0)

@@ -1,4 +1,5 @@
-// netrev's points at lock words and sockets. These functions are put behind those of internal/poll/fd_mutex.go in an overlaid Go.
+// netrev's points at lock words and sockets. In an overlaid Go, these functions are appended to
+// internal/poll/fd_mutex.go.
 
 package poll
 
@@ -9,7 +10,7 @@ import (
 	"unsafe"
 )
 
-// Kinds of points, numbered as the steps of a recording are.
+// Kinds of points, with the numbers of a recording's steps.
 const (
 	netrevInitKind        = 3
 	netrevReadKind        = 6
@@ -20,17 +21,17 @@ const (
 	netrevRWLockKind      = 12
 	netrevRWUnlockKind    = 13
 	netrevCloseWriteKind  = 31
-	netrevNamedKind       = 123 // no step: a is the name of a connection's own end, and b that of the other one
+	netrevNamedKind       = 123 // not a step: a is the name of a connection's own end, and b the other end's
 )
 
-// What c of a netrevNamedKind is, if it isn't 0.
+// The meanings of c in a netrevNamedKind, if it isn't 0.
 const (
-	netrevOfDatagrams = 1 // a is the address of a socket for datagrams, and b the one that it is connected to, or 0
+	netrevOfDatagrams = 1 // a is the address of a datagram socket, and b the one that it is connected to, or 0
 	netrevGoesTo      = 2 // a is the address to which the goroutine is about to send a datagram
-	netrevOfUnix      = 3 // a is the own path of a connection's end, and b the other one's, as numbers; 0 where an end has none
+	netrevOfUnix      = 3 // a is the path of a connection's own end, and b the other end's, as numbers; 0 if an end has none
 )
 
-// What the log has of a system call's error.
+// A system call's error, as the log has it.
 const (
 	netrevNoError = iota
 	netrevAgain
@@ -38,7 +39,8 @@ const (
 	netrevOtherError
 )
 
-// The runtime takes the lock word of a semaphore to be 8 bytes before that of readers, and 12 before that of writers.
+// The runtime assumes that the lock word of a semaphore is 8 bytes before the readers' semaphore, and 12 before the
+// writers'.
 var (
 	_ = [1]byte{}[unsafe.Offsetof(fdMutex{}.rsema)-8]
 	_ = [1]byte{}[unsafe.Offsetof(fdMutex{}.wsema)-12]
@@ -83,7 +85,7 @@ func netrevBit(b bool) int64 {
 	return 0
 }
 
-// netrevSwap swaps a lock word, where there is a log; answer is what Go's function will return then.
+// netrevSwap swaps a lock word if there is a log; answer is what Go's function will return then.
 func netrevSwap(kind uint64, mu *fdMutex, old, new uint64, answer, read bool) bool {
 	runtime_netrevDelay(kind)
 	netrevSeenByRace(mu)
@@ -92,14 +94,14 @@ func netrevSwap(kind uint64, mu *fdMutex, old, new uint64, answer, read bool) bo
 	return done
 }
 
-// netrevSeenByRace tells the race detector of a swap that it doesn't see, since the runtime makes it.
+// netrevSeenByRace shows the race detector a swap that it doesn't see, because the runtime makes it.
 func netrevSeenByRace(mu *fdMutex) {
 	if race.Enabled {
 		atomic.AddUint64(&mu.state, 0)
 	}
 }
 
-// netrevClosed is a lock word that was found closed.
+// netrevClosed logs a lock word that was found closed.
 func netrevClosed(kind uint64, mu *fdMutex, read bool) bool {
 	runtime_netrevClosed(kind, &mu.state, netrevBit(read))
 	return true
@@ -121,7 +123,8 @@ func netrevRelease(sema *uint32, read bool) {
 	runtime_netrevRelease(sema, read)
 }
 
-// netrevSetsDeadline sets a deadline, which takes a reference to the socket and drops it again, and says whether it has: all of it is one point then.
+// netrevSetsDeadline sets a deadline, which takes a reference to the socket and drops it again, as a single point; it
+// returns whether it did.
 func netrevSetsDeadline(fd *FD, d int64, mode int) bool {
 	if fd.pd.runtimeCtx == 0 {
 		return false
@@ -132,7 +135,7 @@ func netrevSetsDeadline(fd *FD, d int64, mode int) bool {
 	return done
 }
 
-// netrevInit is a descriptor that is about to be opened in the poller.
+// netrevInit logs that a descriptor is about to be opened in the poller.
 func netrevInit(fd *FD) *FD {
 	if netrevOn != 0 {
 		netrevIsNamed(fd.Sysfd, false)
@@ -141,7 +144,7 @@ func netrevInit(fd *FD) *FD {
 	return fd
 }
 
-// netrevOpened is one that was opened there, or wasn't, with this error.
+// netrevOpened records that a descriptor was opened there, unless that failed with err.
 func netrevOpened(fd *FD, err error) error {
 	if netrevOn != 0 && err == nil {
 		runtime_netrevKnows(fd.pd.runtimeCtx, &fd.fdmu.state)
@@ -155,13 +158,13 @@ func netrevOpened(fd *FD, err error) error {
 	return err
 }
 
-// netrevIsCalled is a point of a socket's names, which are known from here on.
+// netrevIsCalled logs a socket's names, which are known from here on.
 func netrevIsCalled(fd *FD, a, b, c int64) {
 	runtime_netrevPoint(netrevNamedKind, &fd.fdmu.state, a, b, c)
 	runtime_netrevIsCalled(fd.pd.runtimeCtx, a, b, c)
 }
 
-// netrevDatagrams is a socket for datagrams, which has its address by now.
+// netrevDatagrams logs the addresses of a datagram socket, which has its own by now.
 func netrevDatagrams(fd *FD) {
 	own, err := syscall.Getsockname(fd.Sysfd)
 	if err != nil || netrevAddress(own) == 0 {
@@ -174,15 +177,16 @@ func netrevDatagrams(fd *FD) {
 	netrevIsCalled(fd, netrevAddress(own), connected, netrevOfDatagrams)
 }
 
-// netrevSends is a datagram that is about to be sent to an address.
+// netrevSends logs that a datagram is about to be sent to an address.
 func netrevSends(fd *FD, to syscall.Sockaddr) {
 	if address := netrevAddress(to); address != 0 {
 		runtime_netrevPoint(netrevNamedKind, &fd.fdmu.state, address, 0, netrevGoesTo)
 	}
 }
 
-// netrevAddress is an address and its port: of IPv4 1, the address and the port; of IPv6 2, 40 bits of a number for the address, and the port,
-// or 3 for the address ::1, and 4 for ::. It is 0 for what is neither.
+// netrevAddress packs an address and its port: for IPv4 the number 1, the address and the port; for IPv6 the number 2,
+// a 40-bit hash of the address, and the port; the number is 3 for the address ::1, and 4 for ::. It returns 0 for other
+// addresses.
 //
 //go:linkname netrevAddress
 func netrevAddress(name syscall.Sockaddr) int64 {
@@ -219,10 +223,11 @@ func netrevPacked(sort uint64, address []byte, port int) int64 {
 	return int64(sort<<56 | packed<<16 | uint64(port))
 }
 
-// netrevNamed has a bit for each of the system's descriptors whose ends were looked for since it was opened.
+// netrevNamed has a bit for each system descriptor: whether its ends were looked up since it was opened.
 var netrevNamed [2048]uint32
 
-// netrevIsNamed gives a descriptor's bit this value, and says whether it had it before; of one that has no bit it had.
+// netrevIsNamed sets a descriptor's bit to this value, and returns whether it had that value before; true for a
+// descriptor without a bit.
 func netrevIsNamed(sysfd int, named bool) bool {
 	if uint(sysfd) >= uint(len(netrevNamed)*32) {
 		return true
@@ -239,8 +244,8 @@ func netrevIsNamed(sysfd int, named bool) bool {
 	}
 }
 
-// netrevEnds are the names of a connection's two ends, once: by them two sockets of one process are known to be one connection's. It
-// says whether there was a connection.
+// netrevEnds logs the names of a connection's two ends, once: they show which two sockets of a process are ends of one
+// connection. It returns false if the socket isn't connected yet.
 func netrevEnds(fd *FD) bool {
 	if !fd.IsStream || netrevIsNamed(fd.Sysfd, true) {
 		return true
@@ -258,7 +263,7 @@ func netrevEnds(fd *FD) bool {
 	return true
 }
 
-// netrevPath is a number for the path of a socket in the system's own domain; 0 for none, and for what is no such socket.
+// netrevPath returns a number for the path of a Unix socket; 0 if it has none, and for other sockets.
 func netrevPath(name syscall.Sockaddr) int64 {
 	end, isUnix := name.(*syscall.SockaddrUnix)
 	if !isUnix || end == nil || end.Name == "" || end.Name == "@" {
@@ -267,7 +272,8 @@ func netrevPath(name syscall.Sockaddr) int64 {
 	return netrevHash(0, []byte(end.Name))
 }
 
-// netrevEnd is a number for an address and its port, the same for one of IPv4 however it is written; 0 for what is neither.
+// netrevEnd returns a number for an address and its port, the same for both forms of an IPv4 address; 0 for other
+// addresses.
 func netrevEnd(name syscall.Sockaddr) int64 {
 	var address []byte
 	var port int
@@ -285,7 +291,7 @@ func netrevEnd(name syscall.Sockaddr) int64 {
 	return netrevHash(port, address)
 }
 
-// netrevHash is a number for a number and bytes, which isn't 0.
+// netrevHash returns a number other than 0 for a number and bytes.
 func netrevHash(first int, bytes []byte) int64 {
 	hash := (uint64(14695981039346656037) ^ uint64(first)) * 1099511628211
 	for _, digits := range bytes {
@@ -294,8 +300,9 @@ func netrevHash(first int, bytes []byte) int64 {
 	return int64(hash | 1)
 }
 
-// netrevBytes is a call of the system by which bytes go, that returned. A connection that was taken is a byte that was read. So is
-// a message of no bytes, which would be the end else. An error that is no step has its number, below 0, in place of the bytes.
+// netrevBytes logs the result of a system call that moves bytes. An accepted connection counts as one byte that was
+// read. So does an empty message, which would otherwise mean the end. An error without a step is logged as its negative
+// number in place of the bytes.
 func netrevBytes(kind uint64, fd *FD, asked, got int, err error) {
 	netrevEnds(fd)
 	seen := int64(netrevOtherError)
@@ -319,7 +326,7 @@ func netrevBytes(kind uint64, fd *FD, asked, got int, err error) {
 	runtime_netrevDelay(kind)
 }
 
-// netrevShutdown shuts a side of a socket; that of writing is a step.
+// netrevShutdown shuts a side of a socket; shutting the write side is a step.
 func (fd *FD) netrevShutdown(sysfd, how int) error {
 	err := syscall.Shutdown(sysfd, how)
 	if netrevOn != 0 && err == nil && how != syscall.SHUT_RD {

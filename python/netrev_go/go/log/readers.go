@@ -1,5 +1,5 @@
-// netrev's points at an RWMutex that is locked for reading. (For writing it has a Mutex at its begin.) These functions are put behind
-// those of sync/rwmutex.go in an overlaid Go.
+// netrev's points at an RWMutex that is locked for reading. (For writing, it has a Mutex as its first field.) In an
+// overlaid Go, these functions are appended to sync/rwmutex.go.
 
 package sync
 
@@ -14,9 +14,9 @@ func runtime_netrevReads(mutex unsafe.Pointer)
 //go:linkname runtime_netrevHasRead
 func runtime_netrevHasRead(mutex unsafe.Pointer)
 
-var _ = [1]byte{}[unsafe.Offsetof(RWMutex{}.w)] // a writer's mutex has the address of the whole
+var _ = [1]byte{}[unsafe.Offsetof(RWMutex{}.w)] // a writer's mutex has the address of the whole RWMutex
 
-// netrevReads is a goroutine that has locked it for reading.
+// netrevReads enters an RWMutex that the goroutine has locked for reading.
 func (rw *RWMutex) netrevReads() bool {
 	if netrevReadersOn != 0 {
 		runtime_netrevReads(unsafe.Pointer(rw))
@@ -24,7 +24,7 @@ func (rw *RWMutex) netrevReads() bool {
 	return true
 }
 
-// netrevHasRead is a goroutine that is about to unlock it.
+// netrevHasRead removes an RWMutex that the goroutine is about to unlock.
 func (rw *RWMutex) netrevHasRead() {
 	if netrevReadersOn != 0 {
 		runtime_netrevHasRead(unsafe.Pointer(rw))

@@ -1,12 +1,13 @@
-// netrev's log of a process. These functions are put behind those of runtime/netpoll.go in an overlaid Go.
+// netrev's log of a process. In an overlaid Go, these functions are appended to runtime/netpoll.go.
 //
-// With NETREV_LOG=PATH in its environment a program writes the file PATH.PID, which is mapped: whatever way the process ends, the
-// kernel keeps what was written, and it may be read while the process runs. Words are of 64 bits. A header comes first, then
-// the stacks, then the table of mutexes that are locked (holders.go), those of descriptors and of who is queued for their locks (notes.go),
-// then a ring of points. Without it nothing is done but a look at netrevOn.
+// With NETREV_LOG=PATH in its environment, a program writes the file PATH.PID, which is mapped: however the process
+// ends, the kernel keeps what was written, and the file may be read while the process runs. Words have 64 bits. A
+// header comes first, then the stacks, the table of locked mutexes (holders.go), the tables of descriptors and of
+// goroutines that are queued for their locks (notes.go), and a ring of points. Without NETREV_LOG, the functions only
+// read netrevOn.
 //
-// The program runs as it would without the log: no descriptor is open while it runs, since it may close all that it doesn't know and
-// have their numbers again for files of its own, and nothing is printed.
+// The program runs as it would without the log: no descriptor stays open, because a program may close all those that it
+// doesn't know and get their numbers again for files of its own, and nothing is printed.
 
 package runtime
 
@@ -27,7 +28,7 @@ const (
 	netrevStacksBytes = netrevStacks * netrevStackWords * 8
 	netrevRowsBegin   = netrevHeaderBytes + netrevStacksBytes + netrevHolders*netrevHolderWords*8
 	netrevPointWords  = 8
-	netrevChunk       = 1 << 14 // points that get their room at once
+	netrevChunk       = 1 << 14 // points for which room is made at once
 	netrevMostPoints  = 1 << 20
 )
 
@@ -40,21 +41,21 @@ const (
 	netrevHeadBegin
 	netrevHeadProcess
 	netrevHeadText
-	netrevHeadProgram // the program's inode and time, by which its copy beside the log is named
+	netrevHeadProgram // the program's inode and time, which name its copy beside the log
 	netrevHeadProgramTime
-	netrevHeadEnded // the number of the first point that found no room, and 1; else 0
+	netrevHeadEnded // the number of the first point without room, plus 1; else 0
 	netrevHeadStacksLost
-	netrevHeadOrders       // 1 where the log has points of the program's orders
-	netrevHeadHolders      // how many rows the table of locked mutexes has
-	netrevHeadHoldersLost  // how many times a mutex found no row
-	netrevHeadHoldersKnown // 1 where the table is written
-	netrevHeadRows         // how many rows the table of descriptors has
-	netrevHeadQueue        // and that of who is queued for their locks
-	netrevHeadCopied       // 1 in a copy that was made while the program ran
-	netrevHeadSparse       // 1: a point that has no time has that of the point before, and one without a stack that of its call
+	netrevHeadOrders       // 1 if the log has points of the program's orders
+	netrevHeadHolders      // the number of rows in the table of locked mutexes
+	netrevHeadHoldersLost  // how many times a mutex found no free row
+	netrevHeadHoldersKnown // 1 if the table is written
+	netrevHeadRows         // the number of rows in the table of descriptors
+	netrevHeadQueue        // and in the table of goroutines that are queued for their locks
+	netrevHeadCopied       // 1 in a copy that was taken while the program ran
+	netrevHeadSparse       // 1: a point without a time has the previous point's, and one without a stack its call's
 )
 
-// Kinds of points, numbered as the steps of a recording are; above 100 is what is no step. orders.go has the others.
+// Kinds of points, with the numbers of a recording's steps; those above 100 aren't steps. orders.go has the others.
 const (
 	netrevOpen        = 16
 	netrevClose       = 17
@@ -74,9 +75,10 @@ const (
 	netrevOpenFailed  = 116
 )
 
-// Which kinds of points have a stack, and which read the clock: a bit for each of the steps, and one for each of the others from netrevOpenFailed on
-// (those of orders.go). These are the costliest parts of a point. A step further inside of a call has the stack with which the call came to its
-// socket, and a point without a time that of the point before.
+// The kinds of points that have a stack, and those that read the clock: a bit for each step, and one for each other
+// kind from netrevOpenFailed on (orders.go has those). Stacks and times are the costliest parts of a point. A later
+// step of a call has the stack with which the call came to its socket, and a point without a time has the previous
+// point's time.
 const (
 	netrevStackedSteps  = 1<<3 | 1<<9 | 1<<10 | 1<<12 | 1<<netrevAcquire | 1<<netrevWaitBegin // sockopen, incref, increfclose, rwlock
 	netrevStackedOthers = 0x1f<<2 | 1<<8 | 1<<11 | 0x1f<<13 | 1<<(netrevDeadlineCallKind-netrevOpenFailed)
@@ -84,13 +86,13 @@ const (
 	netrevTimedOthers   = 0x3f<<1 | 1<<8 | 0x1f<<11 | 1<<17
 )
 
-// What marks a semaphore of a lock word, in the arguments of the runtime's own functions.
+// The marks of a lock word's semaphore, in the arguments of the runtime's own functions.
 const (
 	netrevSema     = 1 << 20
 	netrevSemaRead = 1 << 21
 )
 
-// netrevOn is set before the first socket is opened, and never taken back. internal/poll reads it.
+// netrevOn is set before the first socket is opened, and never reset. internal/poll reads it.
 //
 //go:linkname netrevOn
 var netrevOn uint32
@@ -98,20 +100,20 @@ var netrevOn uint32
 var (
 	netrevLines  bool
 	netrevOrders bool
-	netrevSeed   uint64 // of the delays; 0 where there are none
+	netrevSeed   uint64 // of the delays; 0 if there are none
 	netrevDraws  uint64
 	netrevOwn    []byte // the log's name
 	netrevBase   uintptr
 	netrevRing   uintptr
 	netrevPoints uint64
-	netrevRoomed uint64 // the points with smaller numbers have room
+	netrevRoomed uint64 // points with smaller numbers have room
 	netrevBegin  int64
 	netrevLocks  [64]netrevSpinLock
 )
 
 func netrevWord(i uintptr) *uint64 { return (*uint64)(unsafe.Pointer(netrevBase + i*8)) }
 
-// netrevDigits puts a number behind a text.
+// netrevDigits appends a number to a text.
 func netrevDigits(text []byte, number uint64) []byte {
 	var digits [20]byte
 	at := len(digits)
@@ -123,7 +125,7 @@ func netrevDigits(text []byte, number uint64) []byte {
 	return append(text, digits[at:]...)
 }
 
-// netrevName is a name with numbers behind it, ended as the kernel wants it.
+// netrevName returns a name with numbers appended, terminated by a zero byte as the kernel expects.
 func netrevName(path string, numbers ...uint64) []byte {
 	name := []byte(path)
 	for _, number := range numbers {
@@ -132,7 +134,7 @@ func netrevName(path string, numbers ...uint64) []byte {
 	return append(name, 0)
 }
 
-// netrevNumber is a number of at most 9 digits; 0 where the text is none.
+// netrevNumber parses a number of at most 9 digits; it returns 0 if the text isn't one.
 func netrevNumber(text string) uint64 {
 	number := uint64(0)
 	for i := 0; i < len(text); i++ {
@@ -144,8 +146,8 @@ func netrevNumber(text string) uint64 {
 	return number
 }
 
-// Calls of the system, by their numbers: the runtime's own functions for them have moved from release to release. Those of arm64
-// were compiled and never run.
+// System calls by their numbers, because the runtime's own functions for them have moved from release to release. Those
+// of arm64 were compiled, but have never run.
 const (
 	netrevOpening   = 257*goarch.IsAmd64 + 56*goarch.IsArm64
 	netrevClosing   = 3*goarch.IsAmd64 + 57*goarch.IsArm64
@@ -162,7 +164,7 @@ const (
 )
 
 const (
-	netrevHere         = ^uintptr(99) // the folder that the process is in
+	netrevHere         = ^uintptr(99) // the process's current folder
 	netrevCreateAnew   = 0x2 | 0x40 | 0x80 | netrevCloseOnExec
 	netrevCloseOnExec  = 0x80000
 	netrevAlreadyThere = 17
@@ -170,7 +172,8 @@ const (
 	netrevPageBytes    = 4096
 )
 
-// netrevSystem is a call of the system, with its error. Nothing moves on the stack meanwhile, as it doesn't grow.
+// netrevSystem makes a system call, and returns its result and error. The stack doesn't grow meanwhile, so nothing on
+// it moves.
 //
 //go:nosplit
 func netrevSystem(number uintptr, arguments ...uintptr) (uintptr, uintptr) {
@@ -185,7 +188,7 @@ func netrevOpenFile(name []byte, flags, mode uintptr) (file, errno uintptr) {
 	return netrevSystem(netrevOpening, netrevHere, uintptr(unsafe.Pointer(&name[0])), flags, mode)
 }
 
-// netrevShared maps a file's first bytes, which then change with the mapping; the file may be closed.
+// netrevShared sets a file's size and maps it; the mapping writes through to the file, which may be closed.
 func netrevShared(file, size uintptr) (base, errno uintptr) {
 	const readAndWrite, shared = 3, 1
 	if _, errno = netrevSystem(netrevTruncate, file, size); errno != 0 {
@@ -194,8 +197,8 @@ func netrevShared(file, size uintptr) (base, errno uintptr) {
 	return netrevSystem(netrevMmap, 0, size, readAndWrite, shared, file, 0)
 }
 
-// netrevReserve takes room for the first bytes of a file that is open; the error is that of a disk or a quota that is full. A file
-// system that can't reserve has room until it is used.
+// netrevReserve reserves room for the first bytes of an open file, and returns the error of a full disk or quota. A
+// file system that can't reserve is taken to have room.
 func netrevReserve(file, size uintptr) uintptr {
 	const noSpace, quota = 28, 122
 	if _, errno := netrevSystem(netrevFallocate, file, 0, 0, size); errno == noSpace || errno == quota {
@@ -204,9 +207,10 @@ func netrevReserve(file, size uintptr) uintptr {
 	return 0
 }
 
-// netrevHasRoom takes room for a part of a mapping, and says whether there was any. The kernel writes first: where there is no room
-// it says so, and the program isn't ended by SIGBUS, as it would be by a write of its own. This needs no descriptor. Before
-// Linux 5.14 one call can't do it for all pages: then the kernel adds 0 to a word of each.
+// netrevHasRoom reserves room for a part of a mapping, and returns whether there was any. The kernel writes there
+// first: if there is no room, it returns an error, and the program isn't killed by SIGBUS, as it would be by its own
+// write. This needs no descriptor. Before Linux 5.14 no single call does so for all pages: there the kernel adds 0 to a
+// word of each.
 func netrevHasRoom(begin, size uintptr) bool {
 	const populateWrite, wakeOp, private, add, fault = 23, 5, 128, 1 << 28, 14
 	page := begin &^ (netrevPageBytes - 1)
@@ -221,7 +225,8 @@ func netrevHasRoom(begin, size uintptr) bool {
 	return true
 }
 
-// netrevLargest is how many bytes a file of this process may have (ulimit -f). A longer one would bring it SIGXFSZ.
+// netrevLargest returns how many bytes a file of this process may have (ulimit -f). Writing a longer one would raise
+// SIGXFSZ.
 func netrevLargest() uintptr {
 	const fileSize = 1
 	limits := [2]uint64{^uint64(0), 0}
@@ -229,7 +234,7 @@ func netrevLargest() uintptr {
 	return uintptr(limits[0])
 }
 
-// The log begins before any code of the program's.
+// The log begins before any code of the program runs.
 func init() {
 	path := gogetenv("NETREV_LOG")
 	if path == "" {
@@ -238,7 +243,7 @@ func init() {
 	process, _ := netrevSystem(netrevGetpid)
 	netrevOwn = netrevName(path, uint64(process))
 	file, errno := netrevOpenFile(netrevOwn, netrevCreateAnew, 0600)
-	for again := uint64(2); errno == netrevAlreadyThere && again < 10; again++ { // the process became another program
+	for again := uint64(2); errno == netrevAlreadyThere && again < 10; again++ { // the process has executed another program
 		netrevOwn = netrevName(path, uint64(process), again)
 		file, errno = netrevOpenFile(netrevOwn, netrevCreateAnew, 0600)
 	}
@@ -260,20 +265,21 @@ func init() {
 	atomic.Store(&netrevOn, 1)
 }
 
-// netrevUnrecorded leaves the empty file PATH.unrecorded/PROCESS.ERROR, by which netrev-go knows of a process that can't write a
-// log. Without that folder it leaves nothing. Standard error is the program's, which another one may read.
+// netrevUnrecorded leaves the empty file PATH.unrecorded/process.PROCESS.ERROR, which tells netrev-go about a process
+// that can't write a log. Without that folder it leaves nothing. It prints nothing, because standard error belongs to
+// the program, and another one may read it.
 func netrevUnrecorded(path string, process, why uint64) {
 	if file, errno := netrevOpenFile(netrevName(path+".unrecorded/process", process, why), netrevCreateAnew, 0600); errno == 0 {
 		netrevSystem(netrevClosing, file)
 	}
 }
 
-// netrevRingBegin is where the ring begins, of so many points.
+// netrevRingBegin returns the offset at which the ring of a log with this many points begins.
 func netrevRingBegin(points uintptr) uintptr {
 	return netrevRowsBegin + netrevRowsFor(points)*netrevRowBytes + netrevQueueMost*netrevWaiterBytes
 }
 
-// netrevMap gives the log its size and its header; fewer points where a file of this process may not be so long.
+// netrevMap gives the log its size and its header, with fewer points if the size of this process's files is limited.
 func netrevMap(file uintptr, process uint64) (errno uintptr) {
 	const pointBytes = netrevPointWords * 8
 	points := uintptr(netrevMostPoints)
@@ -317,8 +323,8 @@ func netrevMap(file uintptr, process uint64) (errno uintptr) {
 	return 0
 }
 
-// netrevKeepProgram copies the program beside the log, once for all processes that run it: by it addresses become lines. Where it
-// has no room there, nothing is left of it.
+// netrevKeepProgram copies the program beside the log, once for all processes that run it: the copy turns addresses
+// into lines. If there is no room for the copy, it is removed again.
 func netrevKeepProgram(path string) {
 	from, errno := netrevOpenFile([]byte("/proc/self/exe\x00"), netrevCloseOnExec, 0)
 	if errno != 0 {
@@ -340,7 +346,7 @@ func netrevKeepProgram(path string) {
 	netrevSystem(netrevClosing, from)
 }
 
-// netrevCopy copies the rest of a file, and returns how many bytes that were.
+// netrevCopy copies the rest of a file, and returns the number of bytes copied.
 func netrevCopy(from, to uintptr) (copied uintptr) {
 	for {
 		n, errno := netrevSystem(netrevSendfile, to, from, 0, 1<<30)
@@ -351,13 +357,14 @@ func netrevCopy(from, to uintptr) (copied uintptr) {
 	}
 }
 
-// netrevLog writes a point: what, by which goroutine, at which address, what was seen there, and the time: if Go read none for what the point
-// is of, that is now, or 0. Its number is taken here, inside the lock of what the point is of. The stack's number is returned.
+// netrevLog writes a point: its kind, its goroutine, its address, the values seen there, and the time; `now` is the
+// time that Go read for the same action, or 0 if it read none. The point's number is taken here, under the lock of what
+// the point is about. The stack's number is returned.
 func netrevLog(kind uint64, goid uint64, at uintptr, a, b, c, now int64) (stack uint64) {
 	number := netrevNext()
 	hasTime, hasStack := netrevTimedSteps>>kind&1 != 0, netrevStackedSteps>>kind&1 != 0
 	gp := getg()
-	if kind >= netrevOpenFailed { // at a channel a goroutine may pass the point of another, whose stack that isn't
+	if kind >= netrevOpenFailed { // at a channel a goroutine may log the point of another, which has a different stack
 		hasTime, hasStack = netrevTimedOthers>>(kind-netrevOpenFailed)&1 != 0, netrevStackedOthers>>(kind-netrevOpenFailed)&1 != 0 && goid == uint64(gp.goid)
 	}
 	if now == 0 && hasTime {
@@ -370,7 +377,7 @@ func netrevLog(kind uint64, goid uint64, at uintptr, a, b, c, now int64) (stack 
 	return stack
 }
 
-// netrevNext is the number of the next point.
+// netrevNext returns the number of the next point.
 func netrevNext() uint64 {
 	number := uint64(atomic.Xadd64(netrevWord(netrevHeadPassed), 1)) - 1
 	if number >= atomic.Load64(&netrevDue) && atomic.Load(&netrevIsDue) == 0 {
@@ -379,8 +386,8 @@ func netrevNext() uint64 {
 	return number
 }
 
-// netrevWrite writes the point of a number, which has this stack. One that is half written is known by its sum, so that no store has to wait for the
-// one before, whose place is seldom in a cache.
+// netrevWrite writes the point of a number, with this stack. A half-written point is known by its checksum, so that no
+// store has to wait for the previous one, whose cache line is seldom loaded.
 func netrevWrite(number, kind, goid uint64, at uintptr, a, b, c, now int64, stack uint64) {
 	if number%netrevChunk == 0 {
 		netrevRoom(number)
@@ -399,8 +406,8 @@ func netrevWrite(number, kind, goid uint64, at uintptr, a, b, c, now int64, stac
 	p[4], p[5], p[6], p[7] = uint64(b), uint64(c), uint64(now), stack|(sum^sum>>32)<<32
 }
 
-// netrevRoom takes the room for the next points, while the ring goes round for the first time. A point that comes before that is
-// done takes its own; where there is none left, the log ends.
+// netrevRoom reserves room for the next points, during the first round of the ring. A point that comes before that is
+// done reserves its own; if there is no room left, the log ends.
 func netrevRoom(number uint64) {
 	first, end := atomic.Load64(&netrevRoomed), number+2*netrevChunk
 	if end > netrevPoints {
@@ -416,8 +423,8 @@ func netrevRoom(number uint64) {
 	}
 }
 
-// netrevStack finds a stack by its frame pointers in the table of those met before, or puts it there. Where a part of the
-// table is full, the point has no stack.
+// netrevStack looks up a stack, by its frame pointers, in the table of known stacks, or adds it. If a part of the table
+// is full, the point has no stack.
 //
 //go:nosplit
 func netrevStack(gp *g, frame uintptr) uint64 {
@@ -455,7 +462,7 @@ func netrevStack(gp *g, frame uintptr) uint64 {
 	return 0
 }
 
-// netrevGoroutine is the goroutine that runs, also where the scheduler's stack is used for it; 0 where none does.
+// netrevGoroutine returns the goroutine that runs, also while the scheduler's stack is used for it; 0 if none does.
 func netrevGoroutine() uint64 {
 	if gp := getg(); gp.m != nil && gp.m.curg != nil {
 		return uint64(gp.m.curg.goid)
@@ -470,14 +477,14 @@ func netrevBit(b bool) int64 {
 	return 0
 }
 
-// netrevPoll is a point at a descriptor, whose lock is held.
+// netrevPoll logs a point at a descriptor whose lock is held.
 func netrevPoll(kind uint64, pd *pollDesc, a, b, c int64) {
 	if netrevOn != 0 {
 		netrevLog(kind, netrevGoroutine(), uintptr(unsafe.Pointer(pd)), a, b, c, 0)
 	}
 }
 
-// netrevStep is a point of a wait, after which the goroutine is at this place of it.
+// netrevStep logs a point of a wait, after which the goroutine is at this place of the wait.
 func netrevStep(kind uint64, pd *pollDesc, mode int32, seen int64, place uint64) {
 	goid, since := netrevGoroutine(), int64(0)
 	if kind == netrevWaitBegin {
@@ -487,7 +494,7 @@ func netrevStep(kind uint64, pd *pollDesc, mode int32, seen int64, place uint64)
 	netrevInside(pd, mode, place, goid, stack, since)
 }
 
-// netrevPollAlone is a point at a descriptor whose lock isn't held.
+// netrevPollAlone logs a point at a descriptor whose lock isn't held.
 func netrevPollAlone(kind uint64, pd *pollDesc, a int64) {
 	if netrevOn != 0 {
 		lock(&pd.lock)
@@ -496,13 +503,13 @@ func netrevPollAlone(kind uint64, pd *pollDesc, a int64) {
 	}
 }
 
-// netrevOpened is a descriptor that is opened, with the sequences that its timers count from, and the tag that its events have
-// (0 where the release has none).
+// netrevOpened logs that a descriptor is opened, with the sequences from which its timers count, and the tag of its
+// events (0 in releases without tags).
 func netrevOpened(pd *pollDesc, fd, tag uintptr) {
 	netrevPoll(netrevOpen, pd, int64(fd)|int64(tag)<<32, int64(pd.rseq), int64(pd.wseq))
 }
 
-// poll_runtime_pollReset is Go's own, which is renamed, under the descriptor's lock.
+// poll_runtime_pollReset calls Go's own function, which is renamed, under the descriptor's lock.
 func poll_runtime_pollReset(pd *pollDesc, mode int) int {
 	if netrevOn == 0 {
 		return netrevGoPollReset(pd, mode)
@@ -514,7 +521,7 @@ func poll_runtime_pollReset(pd *pollDesc, mode int) int {
 	return code
 }
 
-// netrevCheck is one of the three checks of a wait, under the descriptor's lock.
+// netrevCheck makes one of the three checks of a wait, under the descriptor's lock.
 func netrevCheck(kind uint64, pd *pollDesc, mode int32) int {
 	if netrevOn == 0 {
 		return netpollcheckerr(pd, mode)
@@ -526,7 +533,7 @@ func netrevCheck(kind uint64, pd *pollDesc, mode int32) int {
 	return code
 }
 
-// netrevArmed is a swap by which a wait begins, or by which readiness is taken before it has.
+// netrevArmed makes the swap that begins a wait, or that takes readiness before the wait has begun.
 func netrevArmed(pd *pollDesc, word *atomic.Uintptr, mode int32, old, new uintptr) bool {
 	if netrevOn == 0 {
 		return word.CompareAndSwap(old, new)
@@ -540,7 +547,7 @@ func netrevArmed(pd *pollDesc, word *atomic.Uintptr, mode int32, old, new uintpt
 	return done
 }
 
-// netrevTaken is the swap that ends a wait.
+// netrevTaken makes the swap that ends a wait.
 func netrevTaken(pd *pollDesc, word *atomic.Uintptr, mode int32) uintptr {
 	if netrevOn == 0 {
 		return word.Swap(0)
@@ -552,7 +559,7 @@ func netrevTaken(pd *pollDesc, word *atomic.Uintptr, mode int32) uintptr {
 	return old
 }
 
-// netrevCommit is what gopark calls in place of netpollblockcommit, with the descriptor for the word.
+// netrevCommit returns what gopark calls instead of netpollblockcommit, with the descriptor instead of the word.
 func netrevCommit(mode int32) func(*g, unsafe.Pointer) bool {
 	if mode == 'w' {
 		return netrevCommitWrite
@@ -582,14 +589,15 @@ func netrevCommitted(gp *g, pd *pollDesc, word *atomic.Uintptr, mode int64) bool
 	return parks
 }
 
-// netrevSetting is of each of the first processors the descriptor whose deadline is being set in one section with its lock word, and that word.
+// netrevSetting has, for each of the first processors, the descriptor whose deadline is being set under the lock of its
+// lock word, and that word.
 var netrevSetting [netrevNearEnd / netrevNearRows]struct {
 	descriptor uintptr
 	state      uint64
 	_          [48]byte
 }
 
-// netrevDeadline is a deadline that is set, with the one reading of the clock that it is made with.
+// netrevDeadline logs that a deadline is set, and returns the time of the clock that it is computed from.
 func netrevDeadline(pd *pollDesc, mode int, d int64) int64 {
 	now := nanotime()
 	kind, state := uint64(netrevSetDeadline), uint64(0)
@@ -600,8 +608,9 @@ func netrevDeadline(pd *pollDesc, mode int, d int64) int64 {
 	return now
 }
 
-// A goroutine sets a deadline: the reference that it takes meanwhile, and drops, is no point of its own, as the lock word's lock is held all the time,
-// and the word is left as it is. It says whether that could be done. Delays are between these points.
+// Sets a deadline; the reference that the call takes and drops meanwhile has no point of its own, because the lock
+// word's lock is held all the time, and the word stays as it is. Returns whether that was possible. It isn't with
+// delays, which come between these points.
 //
 //go:linkname poll_runtime_netrevSetsDeadline internal/poll.runtime_netrevSetsDeadline
 func poll_runtime_netrevSetsDeadline(descriptor uintptr, word *uint64, d int64, mode int) bool {
@@ -630,7 +639,7 @@ func netrevClock(now int64) int64 {
 	return now
 }
 
-// netrevFired says whether a timer is an old one, as Go compares it.
+// netrevFired logs a timer that goes off, and returns whether its sequence is an old one, as Go compares it.
 func netrevFired(pd *pollDesc, seq, current uintptr, read, write bool) bool {
 	if netrevOn != 0 {
 		bits := netrevBit(read) + 2*netrevBit(write) + 4*netrevBit(seq != current)
@@ -639,7 +648,7 @@ func netrevFired(pd *pollDesc, seq, current uintptr, read, write bool) bool {
 	return seq != current
 }
 
-// netrevEvent is an event of the poller's; the descriptor is locked until netrevEventDone.
+// netrevEvent logs an event of the poller; the descriptor stays locked until netrevEventDone.
 func netrevEvent(pd *pollDesc, mode int32, isError bool) {
 	if netrevOn != 0 {
 		lock(&pd.lock)
@@ -647,7 +656,7 @@ func netrevEvent(pd *pollDesc, mode int32, isError bool) {
 	}
 }
 
-// netrevTagged is an event with a tag, and says whether that is the descriptor's, as Go compares it.
+// netrevTagged logs an event with a tag, and returns whether that is the descriptor's, as Go compares it.
 func netrevTagged(pd *pollDesc, mode int32, events uint32, tag, current uintptr) bool {
 	const onlyError = 8
 	netrevLog(netrevEventCame, 0, uintptr(unsafe.Pointer(pd)), int64(mode), netrevBit(events == onlyError)+2*netrevBit(tag != current), int64(tag), 0)
@@ -666,12 +675,12 @@ func netrevEventDone(pd *pollDesc) {
 	}
 }
 
-// netrevEasy takes a semaphore without its root's lock, which is only done where it isn't a lock word's.
+// netrevEasy takes a semaphore without its root's lock, unless it belongs to a lock word.
 func netrevEasy(addr *uint32, profile semaProfileFlags) bool {
 	return profile&netrevSema == 0 && cansemacquire(addr)
 }
 
-// netrevTake takes a semaphore, or finds that it has to be waited for, under its root's lock.
+// netrevTake takes a semaphore under its root's lock, and returns false if the goroutine has to wait for it.
 func netrevTake(addr *uint32, profile semaProfileFlags) bool {
 	took := cansemacquire(addr)
 	if profile&netrevSema != 0 {
@@ -683,18 +692,20 @@ func netrevTake(addr *uint32, profile semaProfileFlags) bool {
 	return took
 }
 
-// netrevSemaphore is a point at a lock word, which stands 8 bytes before its semaphore of readers and 12 before that of writers.
+// netrevSemaphore logs a point at a lock word, which is 8 bytes before its readers' semaphore and 12 before its
+// writers'.
 func netrevSemaphore(kind uint64, addr *uint32, read, took bool) (stack uint64) {
 	at := uintptr(unsafe.Pointer(addr)) - 12 + 4*uintptr(netrevBit(read))
 	return netrevLog(kind, netrevGoroutine(), at, netrevBit(took), netrevBit(read), 0, 0)
 }
 
-// netrevMarked parts the mark of a lock word's semaphore from the frames to skip.
+// netrevMarked separates the mark of a lock word's semaphore from the number of frames to skip.
 func netrevMarked(skipframes int) (int, int) {
 	return skipframes & (netrevSema | netrevSemaRead), skipframes &^ (netrevSema | netrevSemaRead)
 }
 
-// netrevRaise raises a lock word's semaphore under its root's lock, in the section in which the waiter leaves the queue.
+// netrevRaise raises a lock word's semaphore under its root's lock, in the same section in which the waiter leaves the
+// queue.
 func netrevRaise(addr *uint32, mark int) {
 	if mark != 0 {
 		atomic.Xadd(addr, 1)
@@ -713,14 +724,14 @@ func poll_runtime_netrevRelease(addr *uint32, read bool) {
 	semrelease1(addr, false, int(netrevSema+netrevSemaRead*netrevBit(read)))
 }
 
-// A point at a lock word that changes nothing of it.
+// Logs a point at a lock word that doesn't change the word.
 //
 //go:linkname poll_runtime_netrevPoint internal/poll.runtime_netrevPoint
 func poll_runtime_netrevPoint(kind uint64, word *uint64, a, b, c int64) {
 	netrevLog(kind, netrevGoroutine(), uintptr(unsafe.Pointer(word)), a, b, c, 0)
 }
 
-// A netrevSpinLock is held for some instructions, and seldom waited for: then it costs less than the runtime's.
+// A netrevSpinLock is held for a few instructions and rarely contended, which makes it cheaper than the runtime's lock.
 type netrevSpinLock struct {
 	taken uint32
 	_     [60]byte
@@ -749,7 +760,7 @@ func netrevLockOf(word *uint64) *netrevSpinLock {
 	return &netrevLocks[uintptr(unsafe.Pointer(word))>>5%64]
 }
 
-// A swap of a lock word, and its number, are one.
+// Swaps a lock word and takes the point's number in one step.
 //
 //go:linkname poll_runtime_netrevSwap internal/poll.runtime_netrevSwap
 func poll_runtime_netrevSwap(kind uint64, word *uint64, old, new uint64, bits int64) bool {
@@ -763,7 +774,7 @@ func poll_runtime_netrevSwap(kind uint64, word *uint64, old, new uint64, bits in
 	return done
 }
 
-// A lock word that was found closed is read anew: it stays closed.
+// Logs a lock word that was found closed; it is read again, because it stays closed.
 //
 //go:linkname poll_runtime_netrevClosed internal/poll.runtime_netrevClosed
 func poll_runtime_netrevClosed(kind uint64, word *uint64, bits int64) {
@@ -774,15 +785,15 @@ func poll_runtime_netrevClosed(kind uint64, word *uint64, bits int64) {
 	netrevUnspin(l, mp)
 }
 
-// netrevTests is where the file LOG.tests is mapped, of a program that has tests; 0 where it isn't.
+// netrevTests is where the file LOG.tests of a program with tests is mapped; 0 if it isn't.
 var (
 	netrevTests     uintptr
 	netrevTestsRoom uintptr
 	netrevTestsUsed uint64
 )
 
-// netrevTest writes a line there: how many points were passed, the goroutine, the time since the log began, what happened, and
-// of which test or package. The first one makes the file. Lines that there is no room for are left out.
+// netrevTest writes a line to LOG.tests: how many points were logged, the goroutine, the time since the log began, what
+// happened, and to which test or package. The first call makes the file. Lines without room are dropped.
 //
 //go:linkname netrevTest
 func netrevTest(what, name string) {
@@ -798,12 +809,12 @@ func netrevTest(what, name string) {
 	if end > netrevTestsRoom || !netrevHasRoom(netrevTests+begin, uintptr(len(line))) {
 		return
 	}
-	last := len(line) - 1 // first: a line that is never finished takes none of the next one
+	last := len(line) - 1 // the last byte first: an unfinished line then takes nothing of the next one
 	*(*byte)(unsafe.Pointer(netrevTests + end - 1)) = line[last]
 	copy(unsafe.Slice((*byte)(unsafe.Pointer(netrevTests+begin)), last), line)
 }
 
-// netrevMapTests makes LOG.tests and maps it, and says whether that could be done.
+// netrevMapTests makes LOG.tests and maps it, and returns whether it could.
 func netrevMapTests() bool {
 	const most = 1 << 26
 	path := append(append([]byte{}, netrevOwn[:len(netrevOwn)-1]...), ".tests\x00"...)
@@ -830,9 +841,9 @@ func netrevMixed(x uint64) uint64 {
 	return x ^ x>>32
 }
 
-// netrevDelay lets others go first, at places of which the seed draws one of four, for half a millisecond to 8 that it draws for
-// each: the first 64 times that one is passed, and seldom later. A place is a kind of point in goroutines that were started
-// alike. No lock of the runtime's is held here.
+// netrevDelay lets other goroutines run first, at a quarter of all places, which the seed chooses: it sleeps from half
+// a millisecond to 8, also by the seed, each of the first 64 times, and seldom later. A place is a kind of point in
+// goroutines that were started alike. The caller holds no lock of the runtime.
 //
 //go:linkname poll_runtime_netrevDelay internal/poll.runtime_netrevDelay
 func poll_runtime_netrevDelay(kind uint64) {

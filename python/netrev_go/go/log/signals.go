@@ -1,9 +1,10 @@
-// netrev's copies of the log, for each SIGUSR2, if the program's environment has NETREV_SIGNAL=usr2. These functions are put behind those of
-// runtime/signal_unix.go in an overlaid Go.
+// netrev's copies of the log, one for each SIGUSR2, if the program's environment has NETREV_SIGNAL=usr2. In an overlaid
+// Go, these functions are appended to runtime/signal_unix.go.
 //
-// The program may run where netrev-go doesn't. A copy is LOG.snapshot, in place of the one before; it has that name once it is whole. If none can be
-// made, as on a full disk, the empty file LOG.snapshot.failed.ERROR is left: `netrev-go convert` says so. A handler of the program's gets the signal
-// too, and without one it ends nothing. While a copy is made, for some milliseconds, the program has one more descriptor.
+// The program may run on a machine without netrev-go. A copy is LOG.snapshot, which replaces the previous one and gets
+// that name when it is complete. If no copy can be made, as on a full disk, the empty file LOG.snapshot.failed.ERROR is
+// left: `netrev-go convert` reports it. A handler of the program gets the signal too; without a handler, the signal
+// doesn't end the program. While a copy is made, for some milliseconds, the program has one descriptor more.
 
 package runtime
 
@@ -20,11 +21,11 @@ const (
 )
 
 var (
-	netrevSignal   uint32 // the signal's number; 0 where the program's owner didn't choose it
+	netrevSignal   uint32 // the signal's number; 0 if copies weren't requested
 	netrevSnapshot []byte // the name of a copy
-	netrevUnready  []byte // that of one that isn't whole
-	netrevUncopied []byte // that of the file that says why there is none, whose last digits are the system's error
-	netrevCopies   uint32 // 1 while one is made
+	netrevUnready  []byte // the name of an incomplete copy
+	netrevUncopied []byte // the name of the file that says why there is no copy; its last digits are the system's error
+	netrevCopies   uint32 // 1 while a copy is made
 )
 
 // netrevHeedsSignal is called before the program begins, after the log has begun.
@@ -40,7 +41,8 @@ func netrevHeedsSignal() {
 	netrevSignal = userDefined2
 }
 
-// netrevSignalled is a signal that came, which was sent to the program's handler or not; whether that is all.
+// netrevSignalled copies the log if the signal is the chosen one. It returns whether the signal is handled: by the
+// copy, or by the program, which got it if isSent.
 func netrevSignalled(sig uint32, isSent bool) bool {
 	if sig != netrevSignal {
 		return isSent
@@ -52,7 +54,7 @@ func netrevSignalled(sig uint32, isSent bool) bool {
 	return true
 }
 
-// netrevCopyLog copies the log. It runs on a signal's stack: the names are there already, and nothing is allocated.
+// netrevCopyLog copies the log. It runs on a signal's stack: the names are prepared, and nothing is allocated.
 func netrevCopyLog() {
 	name, part, failed := uintptr(unsafe.Pointer(&netrevSnapshot[0])), uintptr(unsafe.Pointer(&netrevUnready[0])), uintptr(unsafe.Pointer(&netrevUncopied[0]))
 	netrevSystem(netrevUnlink, netrevHere, part, 0)
@@ -77,8 +79,8 @@ func netrevCopyLog() {
 	}
 }
 
-// netrevWriteLog writes the log to a file; its error. The ring comes right behind the header, as new points take the places of the oldest; the mark
-// says that some of these may be missing.
+// netrevWriteLog writes the log to a file, and returns the error. The ring is written right after the header, because
+// new points replace the oldest; the mark says that some of these may be missing.
 func netrevWriteLog(file uintptr) uintptr {
 	ring, points := netrevRing-netrevBase, netrevPoints
 	if used := atomic.Load64(&netrevRoomed); used < points {
@@ -97,7 +99,7 @@ func netrevWriteLog(file uintptr) uintptr {
 	return netrevWriteAt(file, netrevBase+netrevHeaderBytes, netrevHeaderBytes, ring-netrevHeaderBytes)
 }
 
-// netrevWriteAt writes a part of the memory to a place of a file; the error.
+// netrevWriteAt writes a part of the memory at an offset of a file, and returns the error.
 func netrevWriteAt(file, from, at, size uintptr) uintptr {
 	const interrupted, noSpace = 4, 28
 	for size > 0 {

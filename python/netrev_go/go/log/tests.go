@@ -1,5 +1,5 @@
-// netrev's points at tests: which test runs, ends, fails or is left out. These functions are put behind those of testing/testing.go
-// in an overlaid Go. Each is a line of LOG.tests, and none of the log itself.
+// netrev's points at tests: which test runs, ends, fails or is skipped. In an overlaid Go, these functions are appended
+// to testing/testing.go. Each is a line of LOG.tests; the log itself has no points for them.
 
 package testing
 
@@ -11,7 +11,7 @@ import (
 	"unsafe"
 )
 
-var _ unsafe.Pointer // a name of the runtime's is used here
+var _ unsafe.Pointer // go:linkname needs the import
 
 //go:linkname netrevOn runtime.netrevOn
 var netrevOn uint32
@@ -19,7 +19,7 @@ var netrevOn uint32
 //go:linkname runtime_netrevTest runtime.netrevTest
 func runtime_netrevTest(what, name string)
 
-// netrevPackage is the line of the package; where Go has no path for it, the program's name.
+// netrevPackage writes the line of the package; if Go has no path for it, with the program's name.
 func netrevPackage(path string) {
 	if path == "" {
 		path = strings.TrimSuffix(os.Args[0][strings.LastIndex(os.Args[0], "/")+1:], ".test")
@@ -27,15 +27,15 @@ func netrevPackage(path string) {
 	runtime_netrevTest("package", path)
 }
 
-// netrevTested is a line of a test's. The one that runs all others has no name.
+// netrevTested writes a line about a test. The one that runs all others has no name.
 func netrevTested(what, name string) {
 	if name != "" {
 		runtime_netrevTest(what, name)
 	}
 }
 
-// netrevFailed is a test that failed, and from where that was called: the innermost line of a test's file, else the first that
-// isn't this package's.
+// netrevFailed writes that a test failed, and at which line: the innermost line of a test file, else the first that
+// isn't in package testing.
 func netrevFailed(name string) {
 	if name == "" || netrevOn == 0 {
 		return

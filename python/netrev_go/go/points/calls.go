@@ -9,20 +9,20 @@ import (
 	"strings"
 )
 
-// A function of Go's that has a body, with its file.
+// A function of Go that has a body, with its file.
 type function struct {
 	file   string
 	source *source
 	syntax *ast.FuncDecl
 }
 
-// A folder has the functions of a package that programs on linux/amd64 have.
+// A folder has the functions of a package that programs on linux/amd64 contain.
 type folder struct {
 	name      string
 	functions []function
 }
 
-// linux is how files are chosen that the recorded programs have.
+// linux returns the build context that chooses the files of recorded programs.
 func linux() build.Context {
 	context := build.Default
 	context.GOOS, context.GOARCH, context.CgoEnabled = "linux", "amd64", true
@@ -56,7 +56,7 @@ func readPackage(root, name string) (*folder, error) {
 	return read, nil
 }
 
-// callsOf lists what other packages call at an FD: its exported methods, and the exported functions that take one.
+// callsOf lists what other packages call on an FD: its exported methods, and the exported functions that take one.
 func callsOf(poll *folder) []string {
 	var calls []string
 	for _, f := range poll.functions {
@@ -72,7 +72,7 @@ func callsOf(poll *folder) []string {
 	return calls
 }
 
-// isFD says whether an *FD is among these parameters.
+// isFD returns whether an *FD is among these parameters.
 func isFD(fields []*ast.Field) bool {
 	for _, field := range fields {
 		if star, ok := field.Type.(*ast.StarExpr); ok && printed(star.X) == "FD" {

@@ -14,7 +14,7 @@ import (
 	"strings"
 )
 
-// A source is a file of Go's: its text and its syntax.
+// A source is a file of Go: its text and its syntax.
 type source struct {
 	text   string
 	set    *token.FileSet
@@ -47,7 +47,7 @@ func (s *source) function(name string) *ast.FuncDecl {
 	return nil
 }
 
-// printed is how gofmt prints an expression, on one line.
+// printed returns an expression as gofmt prints it, on one line.
 func printed(n ast.Node) string {
 	var text bytes.Buffer
 	if err := printer.Fprint(&text, token.NewFileSet(), n); err != nil {
@@ -56,7 +56,7 @@ func printed(n ast.Node) string {
 	return text.String()
 }
 
-// declares says whether a function stands there, also one that is written in assembly.
+// declares returns whether the file declares a function, possibly one written in assembly.
 func (s *source) declares(name string) bool {
 	for _, declaration := range s.syntax.Decls {
 		if f, ok := declaration.(*ast.FuncDecl); ok && f.Name.Name == name && f.Recv == nil {
@@ -66,7 +66,7 @@ func (s *source) declares(name string) bool {
 	return false
 }
 
-// has says whether a name stands anywhere in the file.
+// has returns whether a name occurs anywhere in the file.
 func (s *source) has(name string) bool {
 	has := false
 	ast.Inspect(s.syntax, func(n ast.Node) bool {
@@ -77,7 +77,7 @@ func (s *source) has(name string) bool {
 	return has
 }
 
-// found is a call or a comparison, and the statement of a block that it is in.
+// found is a call or a comparison, and the statement of a block that contains it.
 type found struct {
 	expression ast.Expr
 	statement  ast.Stmt
@@ -95,7 +95,7 @@ func matches(e ast.Expr, find string) bool {
 	return printed(e) == find
 }
 
-// findAll finds an expression wherever it stands in a function, from its top.
+// findAll returns each occurrence of an expression in a function, from its top.
 func findAll(f *ast.FuncDecl, find string) []found {
 	var all []found
 	var parents []ast.Node
@@ -113,7 +113,7 @@ func findAll(f *ast.FuncDecl, find string) []found {
 	return all
 }
 
-// enclosing is the innermost statement that is one of a block's.
+// enclosing returns the innermost statement that is directly in a block.
 func enclosing(parents []ast.Node) ast.Stmt {
 	for i := len(parents) - 1; i > 0; i-- {
 		statement, ok := parents[i].(ast.Stmt)
@@ -124,7 +124,7 @@ func enclosing(parents []ast.Node) ast.Stmt {
 	return nil
 }
 
-// returned is what the function's last return returns.
+// returned returns the expression of the function's last return.
 func returned(s *source, f *ast.FuncDecl) string {
 	text := ""
 	ast.Inspect(f.Body, func(n ast.Node) bool {
@@ -136,18 +136,18 @@ func returned(s *source, f *ast.FuncDecl) string {
 	return text
 }
 
-// A change is a part of a file's text, and what stands there in its place.
+// A change is a part of a file's text, and the text that replaces it.
 type change struct {
 	from, to int
 	text     string
 }
 
-// unfit says what of a rule doesn't stand where it should.
+// unfit says why a rule doesn't fit.
 type unfit struct{ rule, variant, why string }
 
 func (u unfit) Error() string { return u.rule + ": " + u.why }
 
-// changes are those that a variant's edits make in a function.
+// changes returns the changes that a variant's edits make in a function.
 func (s *source) changes(f *ast.FuncDecl, edits []edit) ([]change, error) {
 	var made []change
 	for _, e := range edits {
@@ -174,7 +174,7 @@ func (s *source) changes(f *ast.FuncDecl, edits []edit) ([]change, error) {
 	return made, nil
 }
 
-// changeOf is one edit's. It keeps the file's lines, so that Go's own line numbers stay what they are.
+// changeOf returns the change of one edit. It adds no line, so that Go's own line numbers stay the same.
 func (s *source) changeOf(f *ast.FuncDecl, e edit, at found, put string) (change, error) {
 	text := s.filled(f, at.expression, put)
 	if e.how == beside {
@@ -195,7 +195,7 @@ func (s *source) changeOf(f *ast.FuncDecl, e edit, at found, put string) (change
 	return change{from, from, "; " + text}, nil
 }
 
-// filled is a text with $0, $1, $3.. and $return filled in.
+// filled returns a text with $0, $1, $3.. and $return filled in.
 func (s *source) filled(f *ast.FuncDecl, e ast.Expr, put string) string {
 	var arguments []ast.Expr
 	if call, ok := e.(*ast.CallExpr); ok {
@@ -211,7 +211,7 @@ func (s *source) filled(f *ast.FuncDecl, e ast.Expr, put string) string {
 	return strings.ReplaceAll(put, "$0", s.textOf(e))
 }
 
-// changed is the file's text with these changes made.
+// changed returns the file's text with these changes.
 func (s *source) changed(changes []change) string {
 	sort.SliceStable(changes, func(i, j int) bool { return changes[i].from < changes[j].from })
 	var text strings.Builder

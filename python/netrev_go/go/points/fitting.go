@@ -6,16 +6,16 @@ import (
 	"strings"
 )
 
-// A fitting is how a rule fits: by which of its variants, or why by none.
+// A fitting says by which of its variants a rule fits, or why none does.
 type fitting struct {
 	rule    rule
-	without string // what isn't recorded where it doesn't fit; "" where nothing can be recorded then
+	without string // what isn't recorded if the rule doesn't fit; "" if nothing can be recorded then
 	variant *variant
 	changes []change
 	why     string
 }
 
-// fit tries the variants of a rule from the first.
+// fit tries the variants of a rule in order.
 func (f *fitting) fit(s *source) {
 	function := s.function(f.rule.function)
 	if function == nil {
@@ -37,7 +37,7 @@ func (f *fitting) fit(s *source) {
 	}
 }
 
-// wanted are all rules, with what isn't recorded without them.
+// wanted returns all rules, with what isn't recorded without them.
 func wanted() []fitting {
 	var all []fitting
 	for _, r := range steps {
@@ -119,7 +119,7 @@ func fitAll(folder string) (map[string]*source, []fitting) {
 	return sources, withoutElse(withoutOther(fittings, mutexFiles))
 }
 
-// withoutOther leaves out the rules of the other files if all of one file fit: a release has one of them.
+// withoutOther removes the rules of the other files if all rules of one file fit: a release has only one of the files.
 func withoutOther(fittings []fitting, files []string) []fitting {
 	whole := ""
 	for _, file := range files {
@@ -149,16 +149,18 @@ func contains(files []string, file string) bool {
 	return false
 }
 
-// together are what is recorded wholly or not at all.
+// together has what is recorded completely or not at all.
 var together = map[string]bool{ofOrders: true, ofObjects: true, ofDials: true, ofHolders: true, ofTests: true, ofNotes: true}
 
-// withOrders are what is recorded with the program's orders alone: a log with such points is taken for one that has the orders.
+// withOrders has what is recorded only together with the program's orders, because a log with such points is taken to
+// have the orders too.
 var withOrders = map[string]bool{
 	ofObjects: true, ofEnds: true, ofSleeps: true, ofTimers: true, ofStops: true, ofGroups: true, ofMaking: true, ofDials: true, ofHolders: true,
 }
 
-// withoutElse takes out what isn't needed: a way's rule that doesn't fit, where another for the same does; the rules of what is
-// recorded wholly or not at all, where one of them doesn't fit; and with the orders those of what is recorded with them.
+// withoutElse removes what isn't needed: a way's rule that doesn't fit, if another rule for the same way does; the
+// rules of what is recorded completely or not at all, if one of them doesn't fit; and, without the orders, the rules of
+// what is recorded only with them.
 func withoutElse(fittings []fitting) []fitting {
 	fits, unfit := map[string]bool{}, map[string]bool{}
 	for _, f := range fittings {
@@ -180,7 +182,7 @@ func withoutElse(fittings []fitting) []fitting {
 	return kept
 }
 
-// report prints a line for each rule, and says how many don't fit that can't be done without.
+// report prints a line for each rule, and returns how many required rules don't fit.
 func report(fittings []fitting) int {
 	unfit := 0
 	for _, f := range fittings {

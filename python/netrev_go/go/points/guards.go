@@ -6,11 +6,11 @@ import (
 	"strings"
 )
 
-// A guard says which functions of a package alone have a call. Where another has it too, Go passes where no rule is, and what is
-// recorded wouldn't be all.
+// A guard names the only functions of a package that may contain a call. If another function contains it too, no rule
+// covers that place, and the recording would be incomplete.
 type guard struct {
 	call      string // its beginning
-	argument  string // what stands in its arguments, if not ""
+	argument  string // what its arguments contain, if not ""
 	functions string
 }
 
@@ -29,16 +29,16 @@ var guardsOfPoll = []guard{
 	{"runtime_pollClose(", "", "close"},
 	{"runtime_pollReset(", "", "prepare"},
 	{"runtime_pollWait(", "", "wait"},
-	{"runtime_pollWaitCanceled(", "", "waitCanceled"}, // which linux doesn't call
+	{"runtime_pollWaitCanceled(", "", "waitCanceled"}, // never called on linux
 	{"fd.pd.waitCanceled(", "", ""},
 	{"runtime_pollSetDeadline(", "", "setDeadlineImpl"},
 	{"runtime_pollUnblock(", "", "evict"},
 }
 
-// The places at which internal/poll moves bytes. What goes elsewhere isn't recorded, and all else is.
+// The places at which internal/poll moves bytes. Bytes that are moved elsewhere aren't recorded; everything else is.
 var guardsOfMoves = []guard{
 	{"ignoringEINTRIO(syscall.Read,", "", "Read"},
-	{"ignoringEINTRIO(syscall.Write,", "", "Write WriteOnce"}, // the latter is for Go's own tests
+	{"ignoringEINTRIO(syscall.Write,", "", "Write WriteOnce"}, // WriteOnce is only for Go's own tests
 	{"syscall.Read(", "", ""},
 	{"syscall.Write(", "", ""},
 	{"accept(", "", "Accept"},
@@ -64,7 +64,7 @@ var guardsOfRuntime = []guard{
 	{"gopark(netpollblockcommit,", "", "netpollblock"},
 }
 
-// guarded prints a line for each place where Go passes and no rule is, and says how many there are that can't be done without.
+// guarded prints a line for each place that no rule covers, and returns how many of them make a recording impossible.
 func guarded(poll, runtime *folder) int {
 	for _, place := range poll.strange(guardsOfMoves) {
 		fmt.Printf("without the bytes that go there: %s\n", place)
@@ -76,7 +76,7 @@ func guarded(poll, runtime *folder) int {
 	return len(places)
 }
 
-// strange are the calls of a package that a guard names and that stand in another function, each once.
+// strange returns the calls of a package that a guard names, but in another function, each once.
 func (p *folder) strange(guards []guard) []string {
 	var told []string
 	said := map[string]bool{}
@@ -96,7 +96,7 @@ func (p *folder) strange(guards []guard) []string {
 	return told
 }
 
-// strange is what is said of a call in a function.
+// strange returns the message about each such call in a function.
 func (f function) strange(name, text string, guards []guard) []string {
 	var told []string
 	for _, g := range guards {

@@ -7,7 +7,8 @@ import (
 	"strings"
 )
 
-// before124 is where what our functions use of the runtime's packages was in older releases, or what was written instead.
+// before124 says, for each of the runtime's packages that our functions use, where older releases have it, or what
+// replaces its call.
 var before124 = map[string]struct {
 	packages                []string
 	declares, what, instead string
@@ -17,7 +18,7 @@ var before124 = map[string]struct {
 	"internal/runtime/sys":           {declares: "GetCallerSP", what: "sys.GetCallerSP()", instead: "getcallersp()"},
 }
 
-// oursFor is what of our file goes behind a file of Go's, and the imports that the latter lacks.
+// oursFor returns the part of our file that is appended to a file of Go, and the imports that the latter lacks.
 func oursFor(folder, path string, host *source) (functions, imports string, err error) {
 	ours, err := readSource(path)
 	if err != nil {
@@ -46,7 +47,7 @@ func oursFor(folder, path string, host *source) (functions, imports string, err 
 	return text, imports, nil
 }
 
-// endOfImports is where a file's imports end, or its package clause, where it has none.
+// endOfImports returns where a file's imports end, or its package clause if it has none.
 func (s *source) endOfImports() int {
 	end := s.offset(s.syntax.Name.End())
 	for _, declaration := range s.syntax.Decls {
@@ -59,7 +60,7 @@ func (s *source) endOfImports() int {
 	return end
 }
 
-// localName is by which name a file has a package.
+// localName returns the name by which a file refers to a package.
 func localName(i *ast.ImportSpec) string {
 	if i.Name != nil {
 		return i.Name.Name
@@ -67,7 +68,7 @@ func localName(i *ast.ImportSpec) string {
 	return filepath.Base(strings.Trim(i.Path.Value, `"`))
 }
 
-// firstThere is the first of these packages that is there and declares a function.
+// firstThere returns the first of these packages that exists and declares a function.
 func firstThere(folder string, packages []string, function string) (string, error) {
 	for _, name := range packages {
 		files, _ := filepath.Glob(filepath.Join(folder, filepath.FromSlash(name), "*.go"))

@@ -4,7 +4,7 @@
 //	points calls SRC            lists the calls of internal/poll's FD
 //	points overlay SRC LOG OUT  writes the changed files and new.json, the list of them, to OUT; LOG has our own functions
 //
-// No line of Go's is kept here: rules.go names functions and the calls and comparisons in them.
+// No source of Go is copied here: rules.go names functions, and the calls and comparisons in them.
 package main
 
 import (
@@ -15,7 +15,7 @@ import (
 	"strings"
 )
 
-// overlay writes the changed files and the list of them.
+// overlay writes the changed files, and the list of them.
 func overlay(folder, log, out string, sources map[string]*source, fittings []fitting) error {
 	changes := map[string][]change{}
 	for _, f := range fittings {

@@ -1,6 +1,6 @@
 package main
 
-// The files of the ways by which bytes go besides FD.Read and FD.Write.
+// The files that move bytes in other ways than FD.Read and FD.Write.
 const (
 	splicing = "internal/poll/splice_linux.go"
 	vectors  = "internal/poll/writev.go"
@@ -8,14 +8,14 @@ const (
 	sender   = "internal/poll/sendfile_unix.go"
 )
 
-// moved is a call of the system by which bytes, a message or a connection go: behind it is logged what it came to. The arguments
-// are those of netrevBytes.
+// moved returns the edit for a system call that moves bytes, a message or a connection: its result is logged after it.
+// The arguments are those of netrevBytes.
 func moved(call, arguments string) []edit {
 	return []edit{one(behind, call, "if netrevOn != 0 { netrevBytes("+arguments+") }")}
 }
 
-// A way is one by which bytes go besides FD.Read and FD.Write. Where a release has it otherwise all else is recorded without: of
-// rules with the same words one has to fit.
+// A way moves bytes other than by FD.Read and FD.Write. If its rule doesn't fit a release, everything else is recorded
+// without it; of several rules with the same words, one has to fit.
 type way struct {
 	rule
 	moves string
@@ -46,7 +46,7 @@ var ways = []way{
 
 const ofAddresses = "where datagrams go"
 
-// Where datagrams go that are sent from a socket which needn't be connected.
+// The addresses of datagrams that are sent from a socket which needn't be connected.
 var addressed = []rule{
 	{sockets, "WriteTo", goesTo("syscall.Sendto(fd.Sysfd, ...)")},
 	{sockets, "WriteToInet4", goesTo("unix.SendtoInet4(fd.Sysfd, ...)")},

@@ -13,7 +13,7 @@ var mutexFiles = []string{mutexes, mutexesSince124}
 const addingReader, dropsReader = "rw.readerCount.Add(1) < 0", "rw.readerCount.Add(-1)"
 const addingReaderBefore20, dropsReaderBefore20 = "atomic.AddInt32(&rw.readerCount, 1) < 0", "atomic.AddInt32(&rw.readerCount, -1)"
 
-// What locks and unlocks a mutex. A release has one of these files, and in it all of these functions.
+// The rules for locking and unlocking a mutex. A release has one of these files, with all of these functions in it.
 func mutexRules(file string) []rule {
 	return []rule{
 		ordered(file, "Lock",
@@ -31,7 +31,7 @@ func mutexRules(file string) []rule {
 	}
 }
 
-// What locks and unlocks an RWMutex for reading, and that the log has a table of what is locked.
+// The rules for locking and unlocking an RWMutex for reading, and for the log's table of locked mutexes.
 var readers = []rule{
 	ordered(queueing, "semacquire1",
 		one(beside, "semtable.rootFor(addr)", "func init() { netrevHasHolders() }")),

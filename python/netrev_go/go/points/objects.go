@@ -11,8 +11,8 @@ const (
 	ofDials   = "dials that fail"
 )
 
-// What says at which channel, mutex, WaitGroup or condition a goroutine waits: gopark is given its address, or that of its lock. Where
-// one of these rules doesn't fit, all are left out.
+// The rules that find the channel, mutex, WaitGroup or condition at which a goroutine waits: gopark is given its
+// address, or its lock's. If one of these rules doesn't fit, all are left out.
 var objects = []rule{
 	ordered(channels, "chansend",
 		one(replace, "gopark(chanparkcommit, unsafe.Pointer(&c.lock), ...)", "")),
@@ -29,7 +29,7 @@ var objects = []rule{
 		{"1.26 and 1.27", "", []edit{one(beside, "sg.elem.get() != nil", channelIs("waiting.c.get()"))}}}},
 }
 
-// channelIs says how the channel is found at which a goroutine is queued.
+// channelIs returns the code that finds the channel at which a goroutine is queued.
 func channelIs(found string) string {
 	return "func init() { netrevChannelOf = func(waiting *sudog) *hchan { return " + found + " } }"
 }
@@ -47,8 +47,9 @@ var sleeps = []rule{
 		{"1.23 to 1.27", "sleepWhen", []edit{one(beside, "nanotime()", sleepsUntil("gp.sleepWhen"))}}}},
 }
 
-// The timers that programs make, with their channels: a release has one of these functions. A timer that sends has its channel for an
-// argument; the runtime itself knows that channel from 1.23 on, but not where asynctimerchan=1 is set, as in modules of Go 1.22 and older.
+// The timers that programs make, with their channels: a release has one of these functions. A timer that sends has its
+// channel as an argument; from 1.23 on the runtime itself knows that channel, unless asynctimerchan=1 is set, as in
+// modules of Go 1.22 and older.
 var timers = []rule{
 	{timing, "startTimer", []variant{{"1.18 to 1.22", "!sleepWhen", []edit{
 		one(before, "addtimer(t)", "if netrevOn != 0 { netrevTimer(netrevTimed(t), t.when) }"),
@@ -59,7 +60,7 @@ var timers = []rule{
 			"if c != nil { return c }; "+sends("f", "arg")+"; return nil }")}}}},
 }
 
-// Where a program stops a timer that has a channel, or sets it anew.
+// The places where a program stops or resets a timer that has a channel.
 var stops = []rule{
 	{timing, "stopTimer", []variant{
 		{"1.18 to 1.22", "!sleepWhen", []edit{one(before, "deltimer(t)", stopped("netrevTimed(t)"))}},
@@ -79,13 +80,13 @@ func reset(channel string) string {
 	return "if netrevOn != 0 { netrevTimerReset(" + channel + ", when) }"
 }
 
-// What goroutines add to a WaitGroup, and what its counter is then. Done adds -1.
+// What goroutines add to a WaitGroup, and its counter afterwards. Done adds -1.
 var groups = []rule{
 	ordered(grouping, "Add",
 		one(before, "int32(state >> 32)", "if netrevOn != 0 { runtime_netrevGroup(unsafe.Pointer(wg), int64(delta), int64(int32(state>>32))) }")),
 }
 
-// Where a channel is made: what was done before at its address was done at an older one.
+// The places where a channel is made: earlier points at its address are about an older channel.
 var makings = []rule{
 	ordered(channels, "makechan",
 		one(behind, "lockInit(&c.lock, lockRankHchan)", "netrevChannel(netrevMakesKind, c)")),
@@ -93,7 +94,8 @@ var makings = []rule{
 
 const connecting, dialing = "net/sock_posix.go", "net/dial.go"
 
-// Dials that fail. A socket of which the system says so at once is never opened in the poller, and one whose context has ended isn't made.
+// Dials that fail. If the system reports a failure at once, the socket is never opened in the poller; if the context
+// has ended, no socket is made.
 var dials = []rule{
 	ordered(connecting, "dial",
 		one(replace, "fd.connect(...)", "netrevDialed(ctx, $3)($0)")),
@@ -101,13 +103,13 @@ var dials = []rule{
 		one(replace, "mapErr(ctx.Err())", "netrevNotDialed(ctx, $0)")),
 }
 
-// sends returns a timer's channel, if the timer calls a function that sends to it.
+// sends returns the code for a timer's channel, if the timer calls a function that sends to it.
 func sends(function, argument string) string {
 	return "if funcname(findfunc(**(**uintptr)(unsafe.Pointer(&" + function + ")))) == \"time.sendTime\" " +
 		"{ return (*hchan)(efaceOf(&" + argument + ").data) }"
 }
 
-// sleepsUntil says until when a goroutine sleeps.
+// sleepsUntil returns the code for the time until which a goroutine sleeps.
 func sleepsUntil(found string) string {
 	return "func init() { netrevSleepsUntil = func(gp *g) int64 { return " + found + " } }"
 }

@@ -2,7 +2,7 @@ package main
 
 const ofOrders = "the program's orders"
 
-// The points at which the program itself puts goroutines in order. Where one of these rules doesn't fit, all are left out.
+// The points at which the program itself puts goroutines in order. If one of these rules doesn't fit, all are left out.
 var orders = []rule{
 	ordered(making, "goready",
 		one(replace, "ready(gp, traceskip, true)", "ready(gp, netrevReadied(gp, traceskip), true)")),
@@ -35,7 +35,7 @@ var orders = []rule{
 		one(before, "chanbuf(c, c.sendx)", "netrevChannel(netrevSentKind, c)")),
 }
 
-// The point of a value that goes to a goroutine says too that this one is made ready.
+// The point of a value that goes to a goroutine also says that the goroutine is made ready.
 var readied = one(replace, "goready(gp, skip+1)", "goready(gp, skip+1+netrevSema)")
 
 func ordered(file, function string, edits ...edit) rule {

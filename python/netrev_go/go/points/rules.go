@@ -1,32 +1,32 @@
 package main
 
-// A point of Go's is an edit of one of its functions: of a call, a comparison or the function's name, found by syntax, so that
+// A point is an edit of one of Go's functions: of a call, a comparison or the function's name, found by syntax, so that
 // layout and comments don't matter.
 type edit struct {
 	how   how
-	find  string   // as gofmt prints it; "...)" at the end stands for any further arguments
-	times int      // how often it has to stand in the function
-	put   []string // for each time, or one for all; "" leaves it. $0 is what was found, $1 its first argument
+	find  string   // as gofmt prints it; "...)" at the end means any further arguments
+	times int      // how often it has to occur in the function
+	put   []string // one for each occurrence, or one for all; "" changes nothing. $0 is what was found, $1 its first argument
 }
 
 type how string
 
 const (
 	replace how = "replace"
-	before  how = "before" // the statement that it is in
+	before  how = "before" // before the statement that contains it
 	behind  how = "behind"
 	rename  how = "rename" // the function
 	beside  how = "beside" // behind the function
 )
 
-// A variant is what a function's edits are in some releases.
+// A variant has the edits of a function in some releases.
 type variant struct {
 	releases string
-	has      string // a name that the file has in these releases alone; with ! one that it hasn't
+	has      string // a name that only these releases have in the file; with !, one that only these lack
 	edits    []edit
 }
 
-// A rule is what is changed in a function of Go's.
+// A rule changes one function of Go.
 type rule struct {
 	file, function string
 	variants       []variant
@@ -46,7 +46,7 @@ const (
 	grouping  = "sync/waitgroup.go"
 )
 
-// Which file gets which functions of ours.
+// Which of our files is appended to which of Go's.
 var appended = map[string]string{
 	lockWords: "poll.go", polling: "runtime.go", epolling: "notes.go", channels: "orders.go", queueing: "holders.go", grouping: "groups.go", testing: "tests.go",
 	mutexes: "mutexes.go", mutexesSince124: "mutexes.go", readWriting: "readers.go", connecting: "dials.go", signalling: "signals.go",
@@ -55,28 +55,28 @@ var appended = map[string]string{
 const swap = "atomic.CompareAndSwapUint64(&mu.state, old, new)"
 const isClosed = "old&mutexClosed != 0"
 
-// all is one variant for all releases.
+// all returns a single variant for all releases.
 func all(edits ...edit) []variant { return []variant{{"1.18 to 1.27", "", edits}} }
 
-// since121 are variants of which the second is for releases whose events have tags.
+// since121 returns two variants; the second is for releases whose events have tags.
 func since121(before, since []edit) []variant {
 	return []variant{{"1.18 to 1.20", "!fdseq", before}, {"1.21 to 1.27", "fdseq", since}}
 }
 
-// orLogged is what was found where there is no log, and else another expression.
+// orLogged returns code that is the found expression if there is no log, and another one if there is.
 func orLogged(put string) string { return "(netrevOn == 0 && $0 || netrevOn != 0 && " + put + ")" }
 
 func one(how how, find string, put string) edit { return edit{how, find, 1, []string{put}} }
 
 const ofDeadlines = "that a call that sets a deadline is one point and not three"
 
-// A call that sets a deadline takes a reference to its socket first, and drops it in the end.
+// A call that sets a deadline first takes a reference to its socket, and drops it at the end.
 var calls = []rule{
 	{deadlines, "setDeadlineImpl", all(
 		one(before, "fd.incref()", "if netrevOn != 0 && netrevSetsDeadline(fd, d, mode) { return nil }"))},
 }
 
-// The points of steps. None can be done without.
+// The points of steps. All of them are required.
 var steps = []rule{
 	{lockWords, "incref", all(
 		one(replace, isClosed, "$0 && (netrevOn == 0 || netrevClosed(netrevIncrefKind, mu, false))"),
@@ -111,7 +111,7 @@ var steps = []rule{
 	{polling, "poll_runtime_pollClose", since121(
 		[]edit{one(before, "netpollclose(pd.fd)", "netrevPollAlone(netrevClose, pd, 0)")},
 		nil)},
-	{polling, "free", since121( // (also where a descriptor couldn't be opened: then it was no socket's)
+	{polling, "free", since121( // (also if a descriptor couldn't be opened: then it didn't belong to a socket)
 		nil,
 		[]edit{one(behind, "pd.publishInfo()", "netrevPoll(netrevClose, pd, 0, 0, 0)")})},
 	{polling, "poll_runtime_pollReset", all(

@@ -4,7 +4,7 @@ const ofTests = "which test a step is of"
 
 const testing = "testing/testing.go"
 
-// The points that tell which test runs. Where one of these rules doesn't fit, all are left out.
+// The points that say which test runs. If one of these rules doesn't fit, all are left out.
 var tests = []rule{
 	{testing, "MainStart", all(
 		one(behind, "Init()", "netrevPackage(deps.ImportPath())"))},

@@ -1,5 +1,6 @@
-// What netrev-go records to see whether an installed Go can be recorded: each kind of step, each way out of a wait, and ways by
-// which bytes go. It prints how many bytes were read and written, a connection that was taken being one that was read.
+// The program that netrev-go records to see whether an installed Go can be recorded: it has each kind of step, each way
+// out of a wait, and the ways in which bytes move. It prints how many bytes were read and written; an accepted
+// connection counts as one byte that was read.
 //
 //	trial MILLISECONDS
 package main
@@ -17,7 +18,7 @@ import (
 )
 
 var (
-	moment        time.Duration // in which a goroutine comes to its wait
+	moment        time.Duration // for a goroutine to reach its wait
 	reads, writes int64
 )
 
@@ -37,7 +38,8 @@ func wrote(n int64, err error) {
 	atomic.AddInt64(&writes, n)
 }
 
-// backlog is what net.Listen reads of a file of the system's that the poller takes: how many bytes there are.
+// backlog reads what net.Listen reads from a file of the system that the poller accepts, and returns the number of
+// bytes.
 func backlog() int64 {
 	file, err := syscall.Open("/proc/sys/net/core/somaxconn", syscall.O_RDONLY, 0)
 	if err != nil {
@@ -66,7 +68,7 @@ func pair(listener net.Listener) (*net.TCPConn, *net.TCPConn) {
 	return end.(*net.TCPConn), (<-accepted).(*net.TCPConn)
 }
 
-// talk is a round trip, of which the other end splices its part, and the end of both.
+// talk is a round trip, in which the other end splices, and then both ends close.
 func talk(end, other *net.TCPConn) {
 	go func() {
 		n, err := io.Copy(other, other)
@@ -81,11 +83,11 @@ func talk(end, other *net.TCPConn) {
 	read(io.Copy(io.Discard, end))
 }
 
-// gathered are several buffers that are written by one call, and a file that is sent.
+// gathered writes several buffers in one call, and sends a file.
 func gathered(end, other *net.TCPConn) {
 	parts := net.Buffers{make([]byte, 3), make([]byte, 4)}
 	wrote(parts.WriteTo(end))
-	file, err := os.Open(os.Args[0]) // the poller won't have it
+	file, err := os.Open(os.Args[0]) // the poller doesn't accept it
 	must(err)
 	wrote(io.CopyN(end, file, 1000))
 	file.Close()
@@ -93,7 +95,7 @@ func gathered(end, other *net.TCPConn) {
 	read(io.Copy(io.Discard, other))
 }
 
-// messages are datagrams, one of them empty, for which a reader waits.
+// messages sends datagrams, one of them empty, for which a reader waits.
 func messages(_, _ *net.TCPConn) {
 	here, err := net.ListenPacket("udp4", "127.0.0.1:0")
 	must(err)
@@ -118,7 +120,7 @@ func messages(_, _ *net.TCPConn) {
 	}
 }
 
-// late is woken by a deadline, meets one that has passed, and one that is taken back.
+// late waits until a deadline wakes it, meets one that has passed, and one that is cancelled.
 func late(end, _ *net.TCPConn) {
 	buffer := make([]byte, 8)
 	end.SetReadDeadline(time.Now().Add(moment))
@@ -132,7 +134,7 @@ func late(end, _ *net.TCPConn) {
 	end.SetDeadline(time.Time{})
 }
 
-// queue has three readers at one lock, of which one is served and the others are sent away.
+// queue has three readers at one lock, one of which gets bytes; the others are woken by the close.
 func queue(end, other *net.TCPConn) {
 	var all sync.WaitGroup
 	for i := 0; i < 3; i++ {
@@ -150,8 +152,8 @@ func queue(end, other *net.TCPConn) {
 	all.Wait()
 }
 
-// full fills the buffers, so that a writer waits until the other end reads. They are small, since netrev checks each byte; where they are
-// smaller still, the kernel waits for a second.
+// full fills the buffers, so that a writer waits until the other end reads. They are small, because netrev checks each
+// byte; if they were smaller still, the kernel would wait for a second.
 func full(end, other *net.TCPConn) {
 	const buffer, piece = 1 << 15, 1 << 14
 	end.SetWriteBuffer(buffer)
