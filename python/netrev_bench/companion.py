@@ -1,7 +1,7 @@
-"""Measures how long nrdb takes to answer, on recordings of the shape `mix`:  python3 python netrev_bench.companion [STEPS ..]
+"""Measures how long nrdb takes to answer, on recordings of the shape `mix`: python3 python netrev_bench.companion [STEPS ..]
 
-Each line is sent at three quarters of the recording, to a session that has read the changes of all steps up to there, except for the
-first `goto`, which waits for them. A time is from the line to the end of its output. NETREV can be set.
+Each line is sent when a session is at three quarters of the recording and has read the changes of all steps up to there, except for the
+first `goto`, which waits for them. Each time is from sending the line to the end of its output. NETREV names the program.
 """
 
 import json
@@ -58,7 +58,7 @@ class Companion:
 
 
 def measured(steps, folder):
-    """Seconds to begin, and for each line, with a recording of this many steps."""
+    """The seconds to start, and for each line, with a recording of this many steps."""
     recording = Path(folder) / "mix.jsonl"
     write_recording("mix", steps, recording)
     companion = Companion(recording)
@@ -70,7 +70,7 @@ def measured(steps, folder):
 
 
 def main():
-    """Prints a table: a row for each line, a column for each size."""
+    """Prints a table with a row for each line and a column for each size."""
     sizes = [int(word) for word in sys.argv[1:]] or [10_000, 1_000_000]
     with tempfile.TemporaryDirectory() as folder:
         columns = [measured(size, folder) for size in sizes]

@@ -1,8 +1,9 @@
-"""Measures the memory for copies of full buffers:  python3 python netrev_bench.copies
+"""Measures the memory for copies of full buffers: python3 python netrev_bench.copies
 
-Makes four recordings of a million steps whose first steps fill buffers: the later steps change none of these buffers, others, or all
-of them between two copies of the world. Prints for each the greatest memory and the processor time of `netrev check` and of a session
-that has loaded it, as rows of a Markdown table. NETREV names the program. Linux only.
+Makes four recordings of a million steps whose first steps fill buffers. Between two copies of the world, the later steps change none of
+these buffers, or other buffers, or all of them. Between two copies of the world, the later steps change none of these buffers, or buffers
+that hold nothing, or all of them. Prints for each the greatest memory and the processor time of `netrev check` and of a session that has
+loaded it, as rows of a Markdown table. NETREV names the program. Linux only.
 """
 
 import os
@@ -43,7 +44,7 @@ def still() -> Iterator[str]:
 
 
 def moving() -> Iterator[str]:
-    """4,096 bytes in each of 256 inputs, and then each output gets and loses two bytes."""
+    """4,096 bytes in each of 256 inputs, and then two bytes enter and leave each output."""
     yield from filled(256, 4096, 4096)
     for turn in range(STEPS):
         yield f'["syswrite",0,{turn % 256},"{turn % 251:02x}{turn % 7:02x}"]'
@@ -52,7 +53,7 @@ def moving() -> Iterator[str]:
 
 
 def turning() -> Iterator[str]:
-    """65,536 bytes in each of 16 inputs, each of which loses a byte and gets one each 1,000 steps."""
+    """65,536 bytes in each of 16 inputs, each of which loses a byte and gets one every 1,000 steps."""
     yield from filled(16, 65536, 65536)
     for time in range(STEPS):
         if time % 1_000 == 0:
@@ -70,14 +71,14 @@ RECORDINGS = {
 
 
 def write(path: Path, head: str, lines: Iterator[str]) -> None:
-    """A million of the lines, after a header."""
+    """Writes a header and a million of the lines."""
     with open(path, "w", encoding="ascii") as out:
         out.write(f"{head}\n")
         out.writelines(f"{line}\n" for line, _ in zip(lines, range(STEPS)))
 
 
 def checked(path: Path) -> tuple[float, float]:
-    """Megabytes and seconds of `netrev check`."""
+    """The megabytes and seconds of `netrev check`."""
     with subprocess.Popen([NETREV, "check", path], stdin=subprocess.DEVNULL, stdout=subprocess.PIPE, text=True) as run:
         assert run.stdout
         printed = run.stdout.read().strip()
@@ -89,7 +90,7 @@ def checked(path: Path) -> tuple[float, float]:
 
 
 def loaded(path: Path) -> tuple[float, float]:
-    """Megabytes and seconds of a session that has loaded it."""
+    """The megabytes and seconds of a session that has loaded the recording."""
     with subprocess.Popen([NETREV, "run", path], stdin=subprocess.PIPE, stdout=subprocess.PIPE, text=True) as run:
         assert run.stdin and run.stdout
         run.stdin.write("info position\n")

@@ -1,7 +1,8 @@
-"""Counts the runs in which each race shows, with the recorder's delays and without:  python3 python netrev_bench.delays [--runs 100] [--only NAME]
+"""Counts the runs in which each race occurs, with the recorder's delays and without: python3 python netrev_bench.delays [--runs 100]
+[--only NAME]
 
-Each run of a race of tools/go/samples/races is a process of its own on four processors, which writes a log; with delays the seeds are
-1, 2, .. Go is needed, netrev isn't. The output lines are rows of a Markdown table.
+Each run of a race in tools/go/samples/races is a separate process on four processors, which writes a log; with delays, the seeds are 1, 2
+and so on. Go is needed, netrev isn't. The output lines are rows of a Markdown table.
 """
 
 import argparse
@@ -23,7 +24,7 @@ PATIENCE = 4  # seconds after which a run counts as hanging
 
 
 def shows(program: Path, name: str, delays: int) -> bool:
-    """Whether one run shows the race; a run that doesn't end hangs."""
+    """Whether the race occurs in one run; a run that doesn't end hangs."""
     logs = logs_folder(POINTS)
     settings = {
         "NETREV_LOG": str(logs / "log"), "NETREV_POINTS": str(POINTS), "NETREV_LINES": "0",

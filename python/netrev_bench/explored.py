@@ -1,4 +1,4 @@
-"""Records programs and explores the recordings: the common part of the tables of races and of healthy programs."""
+"""Records programs and explores the recordings: what the tables of races and of healthy programs have in common."""
 
 import os
 import shutil
@@ -27,7 +27,7 @@ def environment(**settings: str) -> dict[str, str]:
 
 
 class Run(NamedTuple):
-    """How a program ended, what it printed, and the recording of its first process that opened sockets."""
+    """How a program ended, what it printed, and the recording of the first of its processes that opened sockets."""
 
     status: int
     printed: str
@@ -61,12 +61,13 @@ def read(path: Path) -> Recording:
 
 
 def is_good(recording: Recording) -> bool:
-    """Whether no rule finds anything in it."""
+    """Whether no rule finds anything in the recording."""
     return not any(suspect.is_shown for suspect in suspects_of(recording).suspects)
 
 
 class Outcome(NamedTuple):
-    """The result of the schedules: their number, the numbers by finding, the first that had each, and the seconds."""
+    """The result of exploring: the number of schedules, the number of schedules with each finding, the first schedule with each, and the
+    seconds."""
 
     played: int
     times: Counter[str]
@@ -76,7 +77,7 @@ class Outcome(NamedTuple):
 
 
 def explored(recording: Recording, most: int) -> Outcome:
-    """Plays this many schedules near a recording."""
+    """Runs this many schedules near a recording."""
     begun = time.process_time()
     exploring = Exploring(script_of(recording), recording.lines.words)
     first: dict[str, int] = {}

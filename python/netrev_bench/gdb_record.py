@@ -1,9 +1,9 @@
-"""Measures GDB's `record full`, the alternative without netrev, on a small C program:  python3 python netrev_bench.gdb_record [ROUNDS]
+"""Measures GDB's `record full`, the alternative without netrev, on a small C program: python3 python netrev_bench.gdb_record [ROUNDS]
 
-The program (gdb_record.c) makes 1,000 rounds, or ROUNDS: it takes a lock, writes to a socket pair, reads from it and releases the
-lock. Prints how many rounds a second it makes alone, how many instructions and rounds GDB records, how many instructions it goes back
-with one `reverse-stepi` over 10,000, and how many it examines in a `reverse-continue` over the whole record, with a watchpoint that
-never hits. Each is the best of three runs, by the clock. Without gdb or a C compiler it only says so.
+The program (gdb_record.c) makes 1,000 rounds, or ROUNDS: it takes a lock, writes to a socket pair, reads from it and releases the lock.
+Prints, per second, how many rounds the program makes alone, how many instructions and rounds GDB records, how many instructions a
+`reverse-stepi 10000` goes back, and how many a `reverse-continue` over the whole record examines, with a watchpoint that never hits. Each
+figure is the best of three runs, in elapsed time. Without gdb or a C compiler it only says so.
 """
 
 import re
@@ -54,7 +54,7 @@ SCRIPT = (
 
 
 def built(folder):
-    """The program, whose calls are all bound when it starts, because `record full` can't follow the loader."""
+    """Builds the program so that all its calls are bound at its start, because `record full` can't follow the loader."""
     program = folder / "rounds"
     subprocess.run(["cc", "-Og", "-g", "-fno-inline", "-Wl,-z,now", "-o", program, SOURCE, "-pthread"], check=True)
     return program
@@ -73,7 +73,7 @@ def measured(program, rounds, folder):
 
 
 def seconds_alone(program):
-    """The seconds of many rounds without GDB."""
+    """The seconds for many rounds without GDB."""
     began = time.perf_counter()
     subprocess.run([program, str(ALONE)], check=True)
     return time.perf_counter() - began

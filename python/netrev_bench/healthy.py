@@ -1,7 +1,7 @@
-"""Prints the table of healthy programs:  python3 python netrev_bench.healthy [--schedules 3000] [--out FOLDER] [--only TEXT]
+"""Prints the table of healthy programs: python3 python netrev_bench.healthy [--schedules 3000] [--out FOLDER] [--only TEXT]
 
-Tests of Go's packages and of other projects, drawn by a seed, are recorded on four processors and explored; each finding is printed
-with its place, for inspection. Go and Debian's packages are needed (python/netrev_go/suites.py names them), netrev isn't.
+Tests of Go's packages and of other projects, chosen at random by a seed, are recorded on four processors and explored; each finding is
+printed with its place, for inspection. It needs Go and Debian's packages (python/netrev_go/suites.py names them), but not netrev.
 """
 
 import argparse
@@ -50,7 +50,7 @@ class Healthy(NamedTuple):
 
 
 def drawn(go: Go, suite: Suite, count: int, out: Path) -> Iterator[Healthy]:
-    """Tests of a package that passed and are neither too short nor too long, this many."""
+    """This many tests of a package that passed and are neither too short nor too long."""
     program = built(go, suite, out)
     folder = source_folder(go, suite)
     tests = tests_of(program, folder, suite) if program else []
@@ -95,7 +95,7 @@ def main() -> int:
 
 
 def tell(one: Healthy, schedules: int) -> None:
-    """Prints a test's row, and its findings."""
+    """Prints a test's row and findings."""
     recording = one.recording
     outcome = explored(recording, schedules)
     orders = len(recording.lines.orders or ())

@@ -1,4 +1,4 @@
-"""The cost of a recording for a program: processor time and memory, instructions, and system calls that write."""
+"""The cost of a recording for a program: processor time, memory, instructions, and system calls that write."""
 
 import os
 import re
@@ -24,7 +24,7 @@ WRITES = re.compile(r"^ *[\d.]+ +[\d.]+ +\d+ +(\d+) .*\bwrite$", re.MULTILINE)  
 
 
 def replies_to(process: "subprocess.Popen[bytes]", lines: bytes) -> bytes:
-    """Sends lines, and waits for as many replies."""
+    """Sends lines, waits for as many replies, and returns these."""
     assert process.stdin and process.stdout
     sender = threading.Thread(target=process.stdin.write, args=(lines,))
     sender.start()
@@ -40,7 +40,7 @@ def replies_to(process: "subprocess.Popen[bytes]", lines: bytes) -> bytes:
 
 
 def greatest_memory(process: "subprocess.Popen[bytes]") -> int:
-    """The most memory, in bytes, that a program had while it waits for a line."""
+    """The most memory, in bytes, that a program has used, while it waits for a line."""
     for line in Path(f"/proc/{process.pid}/status").read_text(encoding="ascii").splitlines():
         if line.startswith("VmHWM:"):
             return int(line.split()[1]) * 1024
@@ -53,14 +53,14 @@ def seconds_of_children() -> float:
 
 
 def timed(program: str, recording: Recording) -> dict[str, float]:
-    """Each figure of one run: milliseconds, and the memory in MiB last."""
+    """The figures of one run: each in milliseconds, except for the last one, the memory in MiB."""
     began = seconds_of_children()
     checked = subprocess.run([program, "check", recording.file], stdout=subprocess.PIPE, check=True)
     figures = {"check": (seconds_of_children() - began) * MILLISECONDS}
     recording.expect_checked(program, checked.stdout)
     words = [program, "run", str(recording.file)]
     with subprocess.Popen(words, stdin=subprocess.PIPE, stdout=subprocess.PIPE, bufsize=0) as process:
-        clock = ~process.pid << 3 | 2  # the system's number for the clock of a process's processor time
+        clock = ~process.pid << 3 | 2  # the system's number for the clock of the process's processor time
         for part in recording.parts:
             began = time.clock_gettime(clock)
             replies = replies_to(process, recording.lines(part))
@@ -72,7 +72,7 @@ def timed(program: str, recording: Recording) -> dict[str, float]:
 
 
 def least(programs: dict[str, str], recording: Recording, runs: int) -> dict[str, dict[str, float]]:
-    """The least of each figure over this many runs, for each program; the programs run in turn."""
+    """The least of each figure over this many runs for each program; the programs take turns."""
     found = [{name: timed(program, recording) for name, program in programs.items()} for _ in range(runs)]
     return {name: {figure: min(run[name][figure] for run in found) for figure in found[0][name]} for name in programs}
 
@@ -93,11 +93,11 @@ def script_up_to(recording: Recording, last: str) -> bytes:
     return b"".join(map(recording.lines, parts[: parts.index(last) + 1])) + QUIT
 
 
-Counting = dict[str, "Future[tuple[int, bytes]]"]  # for each part a session that ends after it; and the check
+Counting = dict[str, "Future[tuple[int, bytes]]"]  # for each part, a session that ends after it; and the check
 
 
 def begun_counting(program: str, recording: Recording, pool: ThreadPoolExecutor) -> Counting:
-    """Begins to count the instructions of a program."""
+    """Starts counting the instructions of a program."""
     check = pool.submit(instructions, [program, "check", recording.file], b"")
     sessions = {
         part: pool.submit(instructions, [program, "run", recording.file], script_up_to(recording, part))
@@ -107,8 +107,8 @@ def begun_counting(program: str, recording: Recording, pool: ThreadPoolExecutor)
 
 
 def counted(program: str, recording: Recording, counting: Counting) -> dict[str, float]:
-    """Instructions a step, or a restart, of each figure: those of a session that ends after a part, minus those of one
-    that ends before it."""
+    """The instructions a step, or a restart, for each figure: those of a session that ends after a part, minus those of a session that ends
+    before it."""
     count, printed = counting["check"].result()
     recording.expect_checked(program, printed)
     figures = {"check": count / recording.steps}
@@ -124,8 +124,8 @@ def counted(program: str, recording: Recording, counting: Counting) -> dict[str,
 
 
 def writes(program: str, recording: Recording, part: str) -> int:
-    """The number of system calls that write the replies to a part, from `strace -c`: those of a session with the part,
-    minus those of one without."""
+    """The number of system calls that write the replies to a part, from `strace -c`: those of a session with the part, minus those of a
+    session without it."""
     parts = list(recording.parts)
     before = parts[parts.index(part) - 1]
     with_it, without = (_writes_of(program, recording, script_up_to(recording, last)) for last in (part, before))
@@ -133,7 +133,7 @@ def writes(program: str, recording: Recording, part: str) -> int:
 
 
 def _writes_of(program: str, recording: Recording, script: bytes) -> int:
-    """The system calls of a session that write."""
+    """The number of system calls with which a session writes."""
     with tempfile.TemporaryFile() as lines, tempfile.NamedTemporaryFile("r", encoding="ascii") as table:
         lines.write(script)  # (a file, so that each read is full)
         lines.seek(0)

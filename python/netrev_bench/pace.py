@@ -1,12 +1,12 @@
-"""Measures how fast the machine itself is, without commands:  python3 python netrev_bench.pace [STEPS]
+"""Measures how fast the machine itself is, without commands: python3 python netrev_bench.pace [STEPS]
 
-Prints for each shape of recording, of 1,000,000 steps or STEPS, how many thousand steps a second each representation of a world
-replays, applies with a way back, undoes, and searches in vain for a watch: the lists of `nr_plain`, the packed world of `nr_machine`,
-and the same machine in plain Rust without proofs (`baseline`). Each is the best of three runs. The last columns have the packed world's
+For each shape of recording, of 1,000,000 steps or STEPS, prints how many thousand steps a second each representation of a world replays,
+applies so that they can be undone, undoes, and searches in vain for a watch: the lists of `nr_plain`, the packed world of `nr_machine`, and
+the same machine in plain Rust without proofs (`baseline`). Each figure is the best of three runs. The last columns have the packed world's
 figures as multiples of the others'.
 
-NETREV_PACE names the program of `bench/pace/crate` instead of out/nr_pace. NETREV_BASELINE names that of `bench/baseline`; by default
-it is built, and if that fails, its columns are empty. SHAPES names the shapes. There are no limits.
+NETREV_PACE names the program to use instead of out/nr_pace, which is built from `bench/pace/crate`. NETREV_BASELINE names the program of
+`bench/baseline`; by default it is built, and if that fails, its columns are empty. SHAPES names the shapes to measure. No time is limited.
 """
 
 import os

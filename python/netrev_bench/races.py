@@ -1,7 +1,7 @@
-"""Prints the table of races:  python3 python netrev_bench.races [--schedules 10000] [--runs 1000] [--out FOLDER] [--only NAME]
+"""Prints the table of races: python3 python netrev_bench.races [--schedules 10000] [--runs 1000] [--out FOLDER] [--only NAME]
 
-Each race of tools/go/samples/races is recorded in a good run, on one processor and on four, and explored from that recording; and it
-runs --runs times without a recorder. Go is needed, netrev isn't. The output lines are rows of a Markdown table.
+Each race of tools/go/samples/races is recorded in a good run, on one processor and on four, and explored from that recording; it also runs
+--runs times without the recorder. It needs Go, but not netrev. The output lines are rows of a Markdown table.
 """
 
 import argparse
@@ -37,7 +37,7 @@ def built(go: Go, out: Path, is_recording: bool) -> Path:
 
 
 def good_recording(go: Go, program: Path, name: str, processors: int) -> Optional[Recording]:
-    """A recording of a run that succeeded and in which no rule finds anything; None if there is none."""
+    """A recording of a run that succeeded and in which no rule finds anything; None if there was none."""
     path = program.with_name(f"{name}-{processors}.jsonl")
     for _ in range(TRIES):
         run = recorded(go, [str(program), name], RACES, processors, path)
@@ -47,7 +47,7 @@ def good_recording(go: Go, program: Path, name: str, processors: int) -> Optiona
 
 
 def gone_wrong(program: Path, name: str, runs: int, processors: int) -> str:
-    """The number of runs that show the race."""
+    """The number of runs in which the race occurs."""
     command = [str(program), name, str(runs)]
     run = subprocess.run(
         command, env=environment(GOMAXPROCS=str(processors)), capture_output=True, text=True, check=False

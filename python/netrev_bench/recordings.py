@@ -19,7 +19,7 @@ AT_A_TIME = 100
 CHECKPOINTS = 64
 RESTARTS = 1_000
 BUFFER = 65_536  # bytes, as netrev-go writes it
-Asked = tuple[str, Optional[str]]  # a line and its reply; None for any reply of the first program
+Asked = tuple[str, Optional[str]]  # a line and its reply; None to accept whatever the first program replies
 LOOK: Asked = ("print lock 0", None)
 
 
@@ -49,8 +49,7 @@ def restarts(places: list[int], dice: random.Random) -> Iterator[Asked]:
 
 
 class Recording:
-    """A recording in a file, with the lines of each part and their replies. Replies to queries are the first
-    program's."""
+    """A recording in a file, with the lines of each part and the expected replies. For queries, these are the first program's replies."""
 
     def __init__(self, name: str, file: Path, steps: int) -> None:
         self.name, self.file, self.steps = name, file, steps
@@ -68,7 +67,7 @@ class Recording:
         return "".join(f"{line}\n" for line, _ in self.parts[part]).encode()
 
     def expect(self, program: str, part: str, replies: bytes) -> None:
-        """Compares a program's replies with the right ones."""
+        """Compares a program's replies with the expected ones."""
         asked = self.parts[part]
         came = replies.decode().splitlines()
         for index, (line, right) in enumerate(asked):
@@ -84,7 +83,7 @@ class Recording:
 
 
 def of_shape(folder: Path, shape: str, steps: int, sockets: int = 0) -> Recording:
-    """A recording of a shape with its own limits; or with this many sockets and descriptors, and large buffers."""
+    """A recording of a shape: with its own limits, or with this many sockets and descriptors and large buffers."""
     file = folder / f"{shape}-{steps}.jsonl"
     write_recording(shape, steps, file)
     if not sockets:
@@ -101,7 +100,7 @@ def large_name(shape: str, sockets: int) -> str:
 
 
 def give_limits(file: Path, large: Path, sockets: int) -> None:
-    """Writes the same steps after a header that has room for at least this many sockets and descriptors."""
+    """Writes the same steps after a header with room for at least this many sockets and descriptors."""
     with open(file, "rb") as steps, open(large, "wb") as out:
         header = json.loads(steps.readline())
         header |= {key: max(header[key], sockets) for key in ("sock", "desc")}

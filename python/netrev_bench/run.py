@@ -1,6 +1,6 @@
-"""Measures netrev beside the same machine in plain Rust without proofs:  python3 python netrev_bench.run [STEPS ..]
+"""Measures netrev beside the same machine in plain Rust without proofs: python3 python netrev_bench.run [STEPS ..]
 
-For each recording the programs in turn
+On each recording, the programs take turns to
 
     check     load the recording and accept it, in a process of its own
     walk      go to the end and back by 100 steps at a time, with a query after each
@@ -8,21 +8,21 @@ For each recording the programs in turn
     reverse   search backwards in the same way
     restarts  go to various checkpoints, 1,000 times, with a query after each
 
-The recordings are each shape of `bench/shapes.awk` with its own limits, at each of the sizes (10,000, 100,000 and 1,000,000 steps); each
-shape with the limits that netrev-go writes, many sockets and descriptors and buffers of 65,536 bytes, at the first size; and two
-runs of servers, tests of Go's library that are recorded first.
+The recordings are: each shape of `bench/shapes.awk` with its own limits, at each of the sizes (10,000, 100,000 and 1,000,000 steps); each
+shape with the limits that netrev-go writes, with many sockets and descriptors and buffers of 65,536 bytes, at the first size; and two runs
+of servers, which are tests of Go's library that are recorded first.
 
-Instructions, for a step of the recording or a restart, are counted by `valgrind --tool=callgrind`, because other work on the machine
-doesn't change them. Under callgrind the C library clears and copies without `rep`, because each repetition would count. Times are the
-least of three runs, or of RUNS: the program's own processor time, user and system. Memory is the greatest use. Ratios to the baseline
-are printed by instructions and by time, with their geometric means over the shapes. The last table has the system calls that write the
-replies to a walk, by `strace -c`: each program answers all lines of one read by one write.
+`valgrind --tool=callgrind` counts instructions, for each step of the recording or each restart, because other work on the machine doesn't
+change the count. Under callgrind the C library clears and copies without `rep`, because callgrind would count each repetition. Times are
+the least of three runs, or of RUNS: the program's own processor time, user and system. Memory is the peak use. It also prints the ratios to
+the baseline by instructions and by time, with their geometric means over the shapes. The last table has the system calls that write the
+replies to a walk, from `strace -c`: each program answers all lines of one read with one write.
 
-NETREV_BEFORE names an older netrev, which is measured in the same run and has its place in each table. All programs must give the same
-replies; a wrong one ends the run. If a tool is missing, a line on standard error says so, and its part is omitted: the columns of the
+NETREV_BEFORE names an older netrev, which is measured in the same run and has columns in each table. All programs must give the same
+replies; a wrong reply ends the run. If a tool is missing, a line on standard error says so, and its part is left out: the columns of the
 baseline or the older netrev, the instructions without valgrind, the writes without strace, the servers without Go. NETREV and
-NETREV_BASELINE name the programs, SHAPES the shapes, SOCKETS the numbers of sockets (16 239; empty: no such limits), COUNTED the sizes
-at which instructions are counted (10000). RUNS=0 omits the times, SERVERS=0 the servers. No time is limited.
+NETREV_BASELINE name the programs, SHAPES the shapes, SOCKETS the numbers of sockets (16 239; if empty, there are no such limits), COUNTED
+the sizes at which instructions are counted (10000). RUNS=0 omits the times, SERVERS=0 omits the servers. No time is limited.
 """
 
 import os
@@ -82,7 +82,7 @@ Measuring = Callable[[Recording], Figures]
 
 
 def leave_out(why: str) -> None:
-    """Prints what isn't measured."""
+    """Prints what isn't measured, and why."""
     print(f"run.py: left out: {why}", file=sys.stderr)
 
 
@@ -97,7 +97,7 @@ def measured(recordings: Iterable[Recording], measure: Measuring) -> Cases:
 
 
 def shapes(folder: Path, steps: int, sockets: int = 0) -> Iterator[Recording]:
-    """A recording of each shape, removed when the next one comes."""
+    """A recording of each shape; each is removed when the next one is made."""
     for shape in SHAPES:
         recording = of_shape(folder, shape, steps, sockets)
         yield recording
@@ -105,7 +105,7 @@ def shapes(folder: Path, steps: int, sockets: int = 0) -> Iterator[Recording]:
 
 
 class Sort:
-    """A sort of figures, of all recordings: the shapes with their own limits, those with more, and runs of servers."""
+    """One kind of figures for all recordings: the shapes with their own limits, the shapes with larger ones, and the runs of servers."""
 
     def __init__(self, name: str, titles: dict[str, str], sizes: list[int], measure: Measuring) -> None:
         self.name, self.sizes, self._measure = name, sizes, measure
@@ -154,7 +154,7 @@ def show(text: str) -> None:
 
 
 def show_ratios(sorts: list[Sort]) -> None:
-    """Prints the ratios to the baseline, by instructions beside by time."""
+    """Prints the ratios to the baseline, by instructions and by time side by side."""
     sizes = ", ".join(f"{sort.name} at {sort.sizes[-1]:,} steps" for sort in sorts)
     show(side_by_side(f"ratio to the baseline; {sizes}", {one.name: one.own.at(one.sizes[-1]) for one in sorts}, True))
     for sockets in SOCKETS:
@@ -166,7 +166,7 @@ def show_ratios(sorts: list[Sort]) -> None:
 
 
 def show_writes(programs: Programs, folder: Path, steps: int) -> None:
-    """Prints the number of lines of a walk, and of system calls by which each program writes the replies."""
+    """Prints the number of lines of a walk, and the number of system calls with which each program writes the replies."""
     rows = []
     for recording in shapes(folder, steps):
         counts = [writes(program, recording, "walk") for program in programs.values()]
@@ -175,7 +175,7 @@ def show_writes(programs: Programs, folder: Path, steps: int) -> None:
 
 
 def present() -> Programs:
-    """The programs that are measured."""
+    """The programs to measure."""
     if not NETREV_BEFORE:
         leave_out("an older netrev, as NETREV_BEFORE isn't set")
     elif not shutil.which(NETREV_BEFORE):

@@ -1,10 +1,10 @@
-"""Measures how fast a shared session searches with several workers:  python3 python netrev_bench.searching [WORKERS ..]
+"""Measures how fast a shared session searches with several workers: python3 python netrev_bench.searching [WORKERS ..]
 
-Prints, for 1, 2 and 4 workers or WORKERS, the positions a second of a `continue` and of a `reverse-continue` over a recording of
-1,000,000 steps in which no mark hits. For comparison, as many separate sessions with one worker each make the same searches at the
-same time; their positions are added. Each is the best of RUNS. The last column is the `continue` of the workers, divided by that of the
-sessions. Then come the instructions a position, as callgrind counts them over COUNTED positions in each direction; nothing without
-valgrind. There are no limits; a wrong reply ends it.
+For 1, 2 and 4 workers or WORKERS, prints the positions a second of a `continue` and of a `reverse-continue` over a recording of 1,000,000
+steps in which no mark hits. For comparison, as many separate sessions with one worker each make the same searches at the same time; their
+positions are added up. Each figure is the best of RUNS. The last column is the `continue` of the workers, divided by that of the sessions.
+Then come the instructions a position, as callgrind counts them over COUNTED positions in each direction, if valgrind is installed. No time
+is limited; a wrong reply ends the run.
 """
 
 import os
@@ -28,7 +28,7 @@ WITHOUT_REP = "GLIBC_TUNABLES=glibc.cpu.x86_rep_stosb_threshold=1000000000:glibc
 
 
 def ask(stream, line, right):
-    """Seconds until a line is answered, which must have this reply."""
+    """The seconds until a line is answered; the reply must be this one."""
     began = time.perf_counter()
     stream.write(f"{line}\n")
     stream.flush()
@@ -37,12 +37,12 @@ def ask(stream, line, right):
 
 
 def searches(steps):
-    """Each search, and the reply to it."""
+    """Each search, and its reply."""
     return {"continue": f"at {steps} end", "reverse-continue": "at 0 start"}
 
 
 def session(recording, steps, workers, runs, start=None, through=()):
-    """The seconds of each search, by run. With `start`, each begins when all sessions are ready."""
+    """The seconds of each search, by run. With `start`, each search begins when all sessions are ready."""
     with Server(recording, workers=workers, through=through) as server:
         with server.call(0) as caller, caller.makefile("rw", encoding="ascii", newline="\n") as stream:
             for line, right in MARKS.items():
@@ -58,7 +58,7 @@ def session(recording, steps, workers, runs, start=None, through=()):
 
 
 def search(recording, workers, sessions):
-    """Positions a second of each search, summed over all sessions, the best of all runs."""
+    """The positions a second of each search, summed over all sessions: the best of all runs."""
     start = threading.Barrier(sessions)
     with ThreadPoolExecutor(sessions) as pool:
         begun = [pool.submit(session, recording, STEPS, workers, RUNS, start) for _ in range(sessions)]
@@ -68,7 +68,7 @@ def search(recording, workers, sessions):
 
 
 def instructions(recording, workers, folder):
-    """The instructions a position, of both searches together."""
+    """The instructions a position for both searches together."""
     counts = []
     for runs in (0, 1):
         file = Path(folder) / "counted"

@@ -1,9 +1,9 @@
-"""Measures how fast a session is shared:  python3 python netrev_bench.serving
+"""Measures how fast a session is shared: python3 python netrev_bench.serving
 
-Prints commands and queries a second through one front, over a pipe (`netrev run`) and over the loopback, with all lines sent at once;
-commands a second in all through several fronts that place 1,000 each at the same time, each over its own connection, and how long the
-slowest front then takes until a query shows them all; and round trips a second of one caller that waits for each reply. Each is the
-best of three. There are no limits; a wrong reply ends it.
+Prints commands and queries a second through one front, over a pipe (`netrev run`) and over the loopback interface, with all lines sent at
+once; the total of commands a second through several fronts that place 1,000 each at the same time, each over its own connection, and how
+long the slowest front then takes until a query shows them all; and round trips a second of one caller that waits for each reply. Each
+figure is the best of three. No time is limited; a wrong reply ends the run.
 """
 
 import subprocess
@@ -22,7 +22,7 @@ RUNS = 3
 
 
 def run_piped(recording, lines, replies):
-    """Seconds of `netrev run` for these lines repeated, MANY in all, without loading."""
+    """The seconds in which `netrev run` answers these lines, repeated to MANY in total, without the time to load."""
     seconds = []
     for count in (0, MANY // len(lines)):
         asked = "".join(f"{line}\n" for line in lines) * count
@@ -50,7 +50,7 @@ def stepped_with_clocks(count):
 
 
 def place(caller, count):
-    """Places this many commands, sent at once, and returns the seconds until the last reply came."""
+    """Places this many commands, sent at once, and returns the seconds until the last reply."""
     lines = b"stepi\n" * count
     sender = threading.Thread(target=caller.sendall, args=(lines,))
     began = time.perf_counter()
@@ -66,7 +66,7 @@ def place(caller, count):
 
 
 def look(caller):
-    """Seconds until a query is answered, and the reply."""
+    """The seconds until a query is answered, and the reply."""
     began = time.perf_counter()
     caller.sendall(b"info position\n")
     reply = b""
@@ -76,8 +76,7 @@ def look(caller):
 
 
 def share(recording, fronts, each):
-    """Seconds until this many fronts have placed their commands at the same time, and the longest until one has caught
-    up."""
+    """The seconds until this many fronts have placed their commands at the same time, and the longest time until a front has caught up."""
     with Server(recording, fronts, journal=1_000_000) as server:
         callers = [server.call(front) for front in range(fronts)]
         expect("the first replies", {f"at 0 of {STEPS} forward\n"}, {look(caller)[1] for caller in callers})
@@ -97,7 +96,7 @@ def share(recording, fronts, each):
 
 
 def wait_for_each(recording, count):
-    """Seconds for this many round trips."""
+    """The seconds for this many round trips."""
     with Server(recording) as server:
         caller = server.call(0)
         began = time.perf_counter()

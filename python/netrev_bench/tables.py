@@ -1,4 +1,5 @@
-"""The tables of `netrev_bench.run`, as text: netrev before and now beside the baseline, their ratios, and the means of these."""
+"""The tables of `netrev_bench.run` as text: the older and the current netrev beside the baseline, their ratios, and the means of the
+ratios."""
 
 from collections.abc import Iterable, Iterator, Sequence
 from dataclasses import dataclass
@@ -14,8 +15,8 @@ Cases = dict[str, Figures]  # for each recording, by its name
 
 @dataclass
 class Measurement:
-    """Figures of one sort, such as times, by shape and number of steps, and then by program and figure. There is a
-    table for each figure; `titles` are the tables' titles."""
+    """Figures of one kind, such as times, by shape and number of steps, and then by program and figure. There is a table for each figure;
+    `titles` are the tables' titles."""
 
     sort: str
     titles: dict[str, str]
@@ -30,7 +31,7 @@ class Measurement:
         return list(dict.fromkeys(steps for _, steps in self.found))
 
     def at(self, steps: int) -> Cases:
-        """The figures at one size, by the shape."""
+        """The figures at one size, by shape."""
         return {shape: figures for (shape, size), figures in self.found.items() if size == steps}
 
     def has(self, program: str) -> bool:
@@ -62,7 +63,7 @@ def written(figure: float) -> str:
 
 
 def table(head: Sequence[str], rows: Iterable[Sequence[str]]) -> str:
-    """A table of Markdown: names at the left, figures at the right."""
+    """A Markdown table with names on the left and figures on the right."""
     lines = [f"| {' | '.join(head)} |", f"|---|{'--:|' * (len(head) - 1)}"]
     return "\n".join([*lines, *(f"| {' | '.join(row)} |" for row in rows)]) + "\n"
 
@@ -92,13 +93,13 @@ def grown(measured: Measurement, shape: str, name: str) -> Iterator[str]:
 
 
 def under(title: str, words: Sequence[str]) -> list[str]:
-    """Headings of neighbouring columns, the first with their topic."""
+    """Headings of neighbouring columns; the first one has their topic."""
     return [f"{title}: {words[0]}", *words[1:]]
 
 
 def figure_table(measured: Measurement, name: str) -> str:
-    """One figure: a row for each shape, the sizes side by side, and the growth from the first size to the last if there
-    are two."""
+    """The table of one figure: a row for each shape, the sizes side by side, and the growth from the first size to the last if there are
+    two."""
     sizes, with_before = measured.sizes, measured.has(BEFORE)
     head = [measured.titles[name]]
     for steps in sizes:
@@ -113,13 +114,12 @@ def figure_table(measured: Measurement, name: str) -> str:
 
 
 def arrow(ratios: Iterable[float]) -> str:
-    """The ratio before and now, in one cell; or only the present one."""
+    """The older and the current ratio in one cell, or only the current one."""
     return " → ".join(f"{ratio:.1f}" for ratio in ratios)
 
 
 def mean_table(measurements: Sequence[Measurement]) -> str:
-    """The geometric means over the shapes of the ratios to the baseline, each measurement's at its last size: a row for
-    each figure."""
+    """The geometric means, over the shapes, of the ratios to the baseline, each measurement at its last size: a row for each figure."""
     head = ["geometric mean of the ratios to the baseline"]
     rows = [[name] for name in NAMES if any(name in measured.titles for measured in measurements)]
     for measured in measurements:
@@ -132,7 +132,7 @@ def mean_table(measurements: Sequence[Measurement]) -> str:
 
 
 def cell(figures: Figures, name: str) -> str:
-    """One figure of all programs: `before → now / baseline`, without those that weren't measured."""
+    """One figure of all programs, as `before → now / baseline`, without programs that weren't measured."""
     netrevs = " → ".join(written(figures[program][name]) for program in (BEFORE, NOW) if program in figures)
     return f"{netrevs} / {written(figures[BASELINE][name])}" if BASELINE in figures else netrevs
 
@@ -143,13 +143,13 @@ def cases_table(title: str, names: Sequence[str], cases: Cases) -> str:
 
 
 def ratio_cell(figures: Figures, name: str) -> str:
-    """The ratio to the baseline before and now."""
+    """The older and the current ratio to the baseline."""
     return arrow(quotient(figures, name, program, BASELINE) for program in (BEFORE, NOW) if program in figures)
 
 
 def side_by_side(title: str, sorts: dict[str, Cases], has_mean: bool) -> str:
-    """The ratios to the baseline by each sort of figures, such as instructions and times, side by side: a row for each
-    case, and their geometric means if wanted."""
+    """The ratios to the baseline by each kind of figures, such as instructions and times, side by side: a row for each case, and their
+    geometric means if requested."""
     columns = [(name, sort) for name in NAMES for sort, cases in sorts.items() if has_figure(cases, name)]
     rows = [[case, *(ratio_cell(sorts[sort][case], name) for name, sort in columns)] for case in first_of(sorts)]
     if has_mean:
@@ -164,12 +164,12 @@ def has_figure(cases: Cases, name: str) -> bool:
 
 
 def first_of(sorts: dict[str, Cases]) -> Cases:
-    """The cases of the first sort, which all other sorts have too."""
+    """The cases of the first kind, which all other kinds have too."""
     return next(iter(sorts.values()))
 
 
 def mean_cell(cases: Cases, name: str) -> str:
-    """The geometric means over the cases of the ratios to the baseline, before and now."""
+    """The geometric means, over the cases, of the older and the current ratios to the baseline."""
     programs = [program for program in (BEFORE, NOW) if all(program in figures for figures in cases.values())]
     return arrow(
         geometric_mean(quotient(figures, name, program, BASELINE) for figures in cases.values()) for program in programs
@@ -177,8 +177,8 @@ def mean_cell(cases: Cases, name: str) -> str:
 
 
 def growth_table(title: str, name: str, limits: dict[str, Cases]) -> str:
-    """How a figure grows with the limits in the header. Each row is a shape. For each program it has the figure at each
-    limit, smallest first, and the ratio of the last to the first."""
+    """How a figure grows with the limits in the header. Each row is a shape. For each program it has the figure at each limit, smallest
+    limit first, and the ratio of the last to the first."""
     least, *_, greatest = limits.values()
     programs = [program for program in PROGRAMS if all(program in figures for figures in least.values())]
     head = [title]

@@ -1,10 +1,10 @@
-"""A fuzzer of netrev: random recordings and command lines, run by the program and by its model, netrev_machine.
+"""A fuzzer of netrev: random recordings and command lines, run by netrev and by its model, netrev_machine.
 
     randomsteps, texts, damage, lines   random recordings, texts and command lines
     cases, playing, counts              a case from its seed, the program's run, and counts of events
     keeping                             a case that differs, reduced and kept
 
-And of the tools around netrev. A fault is a traceback of Python, an unexpected file, terminal control or a long time:
+It also fuzzes the tools around netrev. There a fault is a Python traceback, an unexpected file, a terminal control, or a long time:
 
     around                              cases of all four sorts
     damaged_logs, logs                  the recorder's logs, and their text

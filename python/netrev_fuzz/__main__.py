@@ -1,10 +1,10 @@
-"""Runs the fuzzer, as make fuzz does:  python3 python netrev_fuzz [--minutes M] [--cases N] [--seed S] [--of nrdb]
+"""Runs the fuzzer, as `make fuzz` does: python3 python netrev_fuzz [--minutes M] [--cases N] [--seed S] [--of nrdb]
 
-Runs random cases until the time or their number is used up. Half of the time goes to cases for netrev, half to sessions of nrdb, but
-`--cases` runs none of these; `--of` runs one sort alone. Each case has a seed, `S-1`, `S-2`, .., or `S-nrdb-1`, .. for nrdb; `--case S-7`
-runs that one alone. If netrev's output differs from the model's, the case is kept in `out/fuzz/S-7/`, with as few lines as still show
-it, netrev's output (`told`) and the model's (`wanted`); `--again out/fuzz/S-7` runs it again. The program is $NETREV, else the built one.
-The status is 1 if there was a difference.
+Runs random cases until the time or their number is used up. Half of the time goes to cases for netrev and half to sessions of nrdb, except
+that `--cases` runs no sessions; `--of` runs only one kind. Each case has a seed: `S-1`, `S-2` and so on, or `S-nrdb-1` and so on for nrdb;
+`--case S-7` runs only that case. If netrev's output differs from the model's, the case is kept in `out/fuzz/S-7/`, reduced to the lines
+that still show the difference, with netrev's output (`told`) and the model's (`wanted`); `--again out/fuzz/S-7` runs it again. The program
+is $NETREV, or else the built one. The status is 1 if there was a difference.
 """
 
 import argparse
@@ -27,7 +27,9 @@ OF_NRDB = "-nrdb"
 
 
 def arguments(words: Optional[Sequence[str]]) -> argparse.Namespace:
-    parser = argparse.ArgumentParser(prog="fuzz", description="random cases for netrev, held against a model")
+    parser = argparse.ArgumentParser(
+        prog="fuzz", description="runs random cases with netrev and its model, and compares the outputs"
+    )
     parser.add_argument("--minutes", type=float, default=5)
     parser.add_argument("--cases", type=int, help="the greatest number of cases")
     parser.add_argument("--seed", default="")
@@ -38,7 +40,7 @@ def arguments(words: Optional[Sequence[str]]) -> argparse.Namespace:
 
 
 def play_one(netrev: str, case: Case, met: Met) -> bool:
-    """Runs one case and prints the result. Returns whether program and model differed."""
+    """Runs one case and prints the result. Returns whether netrev and the model differed."""
     with tempfile.TemporaryDirectory() as folder:
         differs = difference(netrev, case, Path(folder), met)
     print(f"{case.seed} ({case.sort}): {first_difference(*differs) if differs else 'no difference'}")
@@ -46,7 +48,7 @@ def play_one(netrev: str, case: Case, met: Met) -> bool:
 
 
 def seeds(seed: str, most: Optional[int]) -> Iterator[str]:
-    """The seeds of cases, without end or this many."""
+    """The seeds of cases: this many, or an endless sequence."""
     number = 0
     while most is None or number < most:
         number += 1
@@ -59,14 +61,14 @@ def case_of(seed: str) -> Case:
 
 
 def wanted_seeds(seed: str, cases: Optional[int], of: str) -> Iterator[str]:
-    """The seeds to run: those of the chosen program; netrev's if only a number of cases is given; otherwise endless seeds
-    of both, with the same time for each."""
+    """The seeds to run: the chosen program's; netrev's if only a number of cases is given; otherwise endless seeds of both, with the same
+    time for each."""
     of_netrev, of_nrdb = seeds(seed, cases), seeds(f"{seed}{OF_NRDB}", cases)
     return of_nrdb if of == "nrdb" else of_netrev if of or cases else by_turns(of_netrev, of_nrdb)
 
 
 def by_turns(*ways: Iterator[str]) -> Iterator[str]:
-    """Endless seeds of several sorts; each sort gets the same time."""
+    """Endless seeds of several kinds; each kind gets the same time."""
     spent = dict.fromkeys(range(len(ways)), 0.0)
     while True:
         least = min(spent, key=lambda way: spent[way])
@@ -84,7 +86,7 @@ def play(
     out: Path = ROOT / "out/fuzz",
     of: str = "",
 ) -> int:
-    """Runs cases, keeps each that differs, and returns their number."""
+    """Runs cases, keeps each that differs, and returns how many did."""
     until, found = time.monotonic() + 60 * minutes, 0
     with tempfile.TemporaryDirectory() as name:
         for case in map(case_of, wanted_seeds(seed, cases, of)):

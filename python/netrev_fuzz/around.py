@@ -1,11 +1,11 @@
-"""Runs the fuzzer of the tools around netrev, as make fuzz-around does:  python3 python netrev_fuzz.around [--of logs] [--minutes M]
+"""Runs the fuzzer of the tools around netrev, as `make fuzz-around` does: python3 python netrev_fuzz.around [--of logs] [--minutes M]
 [--cases N] [--seed S]
 
-Runs random cases of each sort for the same time: damaged `logs` of the recorder; logs of random `programs`, which must become complete
-recordings; `views` of nrdb over recordings with any file of lines beside them; `editors` that send the adapter any request; `browsers`
-that send any line. A fault is a traceback of Python, also one that nrdb reports in a line, too much time or memory, an unexpected file,
-or terminal control. Each case has a seed, `S-logs-1`, ..; `--case S-logs-1` runs that one alone. The program is $NETREV, else the built
-one. The status is 1 if there was a fault.
+Runs random cases of each kind for the same time: damaged `logs` of the recorder; logs of random `programs`, which must become complete
+recordings; `views` of nrdb over recordings with any file of lines beside them; `editors` that send the adapter any request; `browsers` that
+send any line. A fault is a Python traceback, including one that nrdb reports in a line, too much time or memory, an unexpected file, or a
+terminal control. Each case has a seed, `S-logs-1` and so on; `--case S-logs-1` runs only that case. The program is $NETREV, or else the
+built one. The status is 1 if there was a fault.
 """
 
 import argparse
@@ -62,8 +62,7 @@ def in_time() -> Iterator[None]:
 
 @contextmanager
 def tracebacks() -> Iterator[io.StringIO]:
-    """Context in which nrdb prints the tracebacks of its own errors, which it otherwise reports in a line, to this
-    stream."""
+    """In this context, nrdb prints the tracebacks of its own errors, which it otherwise reports in a line, to this stream."""
     printed, before = io.StringIO(), os.environ.get(WANTED_BY)
     os.environ[WANTED_BY] = "1"
     try:
@@ -93,7 +92,7 @@ def fault_of(seed: str, program: str) -> str:
 
 
 def seeds(seed: str, sorts: Sequence[str], cases: Optional[int], until: float) -> Iterator[str]:
-    """The seeds to run: this many of each sort, or without end until the time is up, each sort for the same time."""
+    """The seeds to run: this many of each kind, or without end until the time is up, each kind for the same time."""
     spent, played = dict.fromkeys(sorts, 0.0), Counter[str]()
     while time.monotonic() < until:
         left = [sort for sort in sorts if cases is None or played[sort] < cases]
@@ -107,7 +106,7 @@ def seeds(seed: str, sorts: Sequence[str], cases: Optional[int], until: float) -
 
 
 def play(program: str, all_seeds: Iterator[str]) -> tuple[Counter[str], int]:
-    """Runs cases and prints each fault; returns the numbers of cases by sort, and the number of faults."""
+    """Runs cases and prints each fault; returns the number of cases of each kind, and the number of faults."""
     played, found = Counter[str](), 0
     for seed in all_seeds:
         played[seed.rsplit("-", 2)[1]] += 1
@@ -120,11 +119,11 @@ def play(program: str, all_seeds: Iterator[str]) -> tuple[Counter[str], int]:
 
 
 def main(words: Optional[Sequence[str]] = None) -> int:
-    parser = argparse.ArgumentParser(prog="fuzz around", description="random cases for what is round netrev")
+    parser = argparse.ArgumentParser(prog="fuzz around", description="runs random cases for the tools around netrev")
     parser.add_argument("--minutes", type=float, default=5)
-    parser.add_argument("--cases", type=int, help="the greatest number of cases of each sort")
+    parser.add_argument("--cases", type=int, help="the greatest number of cases of each kind")
     parser.add_argument("--seed", default="")
-    parser.add_argument("--of", choices=tuple(SORTS), action="append", help="runs only cases of this sort")
+    parser.add_argument("--of", choices=tuple(SORTS), action="append", help="runs only cases of this kind")
     parser.add_argument("--case", metavar="SEED", help="runs this case")
     asked = parser.parse_args(words)
     program = os.environ.get("NETREV") or str(ROOT / "crates/netrev/out/netrev")

@@ -1,5 +1,5 @@
-"""Cases for the page: lines that a browser sends, also forbidden ones. None may read or write a file or end nrdb,
-and the page must be able to show every answer."""
+"""Cases for the page: lines that a browser sends, including forbidden ones. No line may read or write a file or end nrdb, and the page must
+be able to show every answer."""
 
 import os
 import random
@@ -53,7 +53,7 @@ SPELLED = (
 
 
 class Watched:
-    """Whether this process opens files. A hook can't be removed, so there is only one, which is active while a line is
+    """Notices when this process opens a file. An audit hook can't be removed, so there is only one, which is active while a line is
     answered."""
 
     def __init__(self) -> None:
@@ -81,7 +81,7 @@ WATCHED = Watched()
 
 
 class Told(Streams):
-    """Keeps what is sent to browsers."""
+    """Stores what is sent to browsers."""
 
     def __init__(self) -> None:
         super().__init__("recording.jsonl")
@@ -124,7 +124,7 @@ def wrong(seed: str, folder: Path, program: str) -> str:
 
 
 def typed(dice: random.Random, shared: Shared, told: Told, length: int) -> str:
-    """Sends lines; the fault of an answer."""
+    """Sends lines, and returns the fault of an answer, if any."""
     for _ in range(dice.choice([5, 30])):
         data = body(dice, length)
         try:
@@ -144,7 +144,7 @@ def typed(dice: random.Random, shared: Shared, told: Told, length: int) -> str:
 
 
 def files_wrong(folder: Path) -> str:
-    """The fault of the files in nrdb's folder: they must be those from before."""
+    """The fault of the files in nrdb's folder, which must be the same as before."""
     found = sorted(os.listdir(folder))
     if found != ["recording.jsonl", "recording.where"] or (folder / found[1]).read_text() != "mine":
         return f"files were written: {found}"

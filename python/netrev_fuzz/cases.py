@@ -1,4 +1,4 @@
-"""The cases: each is made from its seed, and has a recording's text, a script, and the program that runs them."""
+"""The cases: each is made from its seed, and has a recording's text, a script, and the subcommand that runs them."""
 
 import random
 from typing import Callable, NamedTuple, Optional, Sequence
@@ -22,8 +22,8 @@ Made = tuple[bytes, Optional[bytes]]  # a recording's text, and the script if th
 
 
 class Case(NamedTuple):
-    """A recording, the program of `run`, `check`, `upgrade`, `changes` and `suspects` that runs over it, and for
-    `run` the standard input."""
+    """A recording, the subcommand that runs over it (`run`, `check`, `upgrade`, `changes` or `suspects`), and for `run` the standard
+    input."""
 
     seed: str
     sort: str
@@ -50,7 +50,7 @@ def damaged_recording(dice: random.Random) -> Made:
 
 
 def refused_step(dice: random.Random) -> Made:
-    """A recording whose last step doesn't apply; in some, all steps do."""
+    """A recording whose last step doesn't apply; in some of them all steps do."""
     return texts.write_text(dice, with_refused_step(dice, Author(dice))), None
 
 
@@ -103,7 +103,7 @@ def lines(dice: random.Random) -> Made:
 
 
 def large_buffers(dice: random.Random) -> Made:
-    """Buffers of the greatest size, filled and emptied in few steps: seventeen times 65,536 bytes are one time too much."""
+    """Buffers of the largest size, filled and emptied in few steps: seventeen times 65,536 bytes are one time too many."""
     most = RANGES[2]["buf"]
     full = 16 - dice.choice([0, 0, 1])
     steps: list[Step] = [("sockopen", most, most), *[("arrive", 0, dice.randbytes(65_536))] * full]
@@ -117,7 +117,7 @@ def large_buffers(dice: random.Random) -> Made:
 
 
 def answers_of(limits: Limits, steps: Sequence[Step]) -> list[Answer]:
-    """The answers of these steps, which apply."""
+    """The answers to these steps, all of which apply."""
     world, answers = World(limits), []
     for step in steps:
         world, answer = apply(world, step)
@@ -126,7 +126,7 @@ def answers_of(limits: Limits, steps: Sequence[Step]) -> list[Answer]:
 
 
 def long_walk(dice: random.Random) -> Made:
-    """A walk past the 1,024 steps between two copies and sometimes past the 4,096 deltas that are kept."""
+    """A walk past the 1,024 steps between two copies, and sometimes past the 4,096 deltas that are stored."""
     recording, _ = Author(dice).recording(dice.choice([1_023, 1_024, 1_025, 2_100, 6_000]))
     return write_plain(recording), Speaker(dice, recording.steps).script(60)
 

@@ -1,7 +1,7 @@
-"""Cases for nrdb: a session over a random recording, while Ctrl-C is pressed, replies are slow and netrevs are
-killed. All output up to its end must be right (views.py).
+"""Cases for nrdb: a session over a random recording, while Ctrl-C is pressed, replies are slow, and netrev processes are killed. All output
+up to the end of the session must be right (views.py).
 
-nrdb runs in this process, with its own netrevs. Events happen at random points of its conversations: when lines are
+nrdb runs in this process, with its own netrev processes. Events happen at random points of its communication with netrev: when lines are
 sent, and when a reply is awaited. The signals are real, and a slow netrev is one that is stopped for a while.
 """
 
@@ -33,7 +33,7 @@ from .randomsteps import Author
 from .slow import Slow
 from .views import Judge
 
-# events at a point with their relative frequencies, and how often Ctrl-C is pressed then
+# the events at a point with their relative frequencies, and how often Ctrl-C is then pressed
 HAPPENS = {
     "ctrl-c": 8,
     "slow ctrl-c": 3,
@@ -80,7 +80,7 @@ def line_of(dice: random.Random, length: int) -> str:
 
 
 class Weather:
-    """The events at the points of a session's conversations."""
+    """The events at the points of a session's communication with netrev."""
 
     def __init__(self, dice: random.Random, chance: float) -> None:
         self.dice, self.chance = dice, chance
@@ -101,7 +101,7 @@ class Weather:
 
 
 def played(program: str, case: Case, folder: Path, met: Met) -> str:
-    """Runs a case: the first fault in its output, or none. Counts the events."""
+    """Runs a case, counts the events, and returns the first fault in its output, or none."""
     replayed = replay(case.recording, met)
     recording = recording_of(replayed.text.steps, replayed.worlds)
     judge = Judge(replayed.text.steps, replayed.worlds, ModelSession(recording, Observer()))
@@ -149,7 +149,7 @@ def followed(program: str, path: str, lines: Sequence[str], weather: Weather, ju
 
 
 def told_all(session: Session, line: str) -> str:
-    """Answers a line; how the session ended, if it did."""
+    """Answers a line, and returns how the session ended, if it did."""
     try:
         heard(lambda: session.run(line))
     except GivenUp:

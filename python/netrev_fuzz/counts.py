@@ -10,8 +10,8 @@ from netrev_words.vocabulary import KINDS
 
 
 class Met(Observer):
-    """Counts the events of the model: applied steps by kind and answer, refused ones by kind and reason, steps with
-    another recorded answer, faults, commands."""
+    """Counts of what the model did: applied steps by kind and answer, refused steps by kind and reason, steps with another recorded answer,
+    faults, and commands."""
 
     def __init__(self) -> None:
         self.cases: Counter[str] = Counter()
@@ -31,14 +31,14 @@ class Met(Observer):
         self.reasons[kind, reason] += 1
 
     def differed(self, kind: str, recorded: Answer, answer: Answer) -> None:
-        """A recorded answer that isn't the machine's: of the same sort, of another sort of that kind, or of none."""
+        """Counts a recorded answer that isn't the machine's: of the same sort, of another sort of that kind, or of none."""
         if recorded[0] == answer[0]:
             self.others["another number"] += 1
         else:
             self.others["another answer" if recorded[0] in KINDS[kind].answers else "none of the kind's"] += 1
 
     def printed(self, fault: str) -> None:
-        """A fault of a recording, without its line or step."""
+        """Counts a fault of a recording, without its line or step."""
         self.faults[fault.split(": ", 1)[1].split(" reason")[0]] += 1
 
     def asked(self, asked: Asked, reply: Reply) -> None:
@@ -46,7 +46,7 @@ class Met(Observer):
         self.replies[first_words(reply[0])] += 1
 
     def lines(self) -> Iterator[str]:
-        """The counts, a line for each sort."""
+        """The counts, one line for each kind."""
         kinds = by_first(self.answers)
         reasons: Counter[int] = Counter()
         for (_, reason), count in self.reasons.items():
@@ -65,12 +65,12 @@ class Met(Observer):
 
 
 def name_of(answer: Answer) -> str:
-    """The name of an answer; of a code with its number."""
+    """The name of an answer; a code has its number too."""
     return f"code {answer[1]}" if answer[0] == "code" else answer[0]
 
 
 def by_first(counts: Mapping[tuple[str, str], int]) -> dict[str, dict[object, int]]:
-    """Counts of pairs, as counts of the second elements for each first one."""
+    """Counts of pairs, regrouped: for each first element, the counts of the second elements."""
     found: dict[str, dict[object, int]] = {}
     for (first, second), count in sorted(counts.items()):
         found.setdefault(first, {})[second] = count
@@ -78,7 +78,7 @@ def by_first(counts: Mapping[tuple[str, str], int]) -> dict[str, dict[object, in
 
 
 def first_words(reply: str) -> str:
-    """The sort of a reply: its words, without numbers."""
+    """The kind of a reply: its text without numbers."""
     if reply.startswith("fault"):
         return reply
     if " = " in reply:

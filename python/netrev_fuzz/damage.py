@@ -1,5 +1,4 @@
-"""Damage to the text of a good recording: bytes, lines and numbers that are changed, cut, doubled, dropped or
-exchanged."""
+"""Damage to the text of a good recording: bytes, lines and numbers are changed, cut, duplicated, dropped or swapped."""
 
 import random
 import re
@@ -24,7 +23,7 @@ def byte_changed(dice: random.Random, text: bytes) -> bytes:
 
 
 def byte_likened(dice: random.Random, text: bytes) -> bytes:
-    """One byte becomes another that occurs in such texts."""
+    """Changes one byte to another that occurs in such texts."""
     if not text:
         return text
     place = dice.randrange(len(text))
@@ -80,7 +79,7 @@ def blank_line(dice: random.Random, text: bytes) -> bytes:
 
 
 def line_lengthened(dice: random.Random, text: bytes) -> bytes:
-    """A line becomes about as long as a line may be, by blanks, at one end or alone."""
+    """Pads a line with blanks, at one end or by themselves, to about the greatest length of a line."""
     lines = text.split(b"\n")
     place = dice.randrange(len(lines))
     line = b"" if dice.random() < 0.3 else lines[place]
@@ -90,7 +89,7 @@ def line_lengthened(dice: random.Random, text: bytes) -> bytes:
 
 
 def number_changed(dice: random.Random, text: bytes) -> bytes:
-    """One number becomes another, near it or at a limit."""
+    """Changes one number to another, near it or at a limit."""
     numbers = list(re.finditer(rb"-?\d+", text))
     if not numbers:
         return text
@@ -101,7 +100,7 @@ def number_changed(dice: random.Random, text: bytes) -> bytes:
 
 
 def word_changed(dice: random.Random, text: bytes) -> bytes:
-    """One text in quotes becomes another that occurs there, or one that doesn't."""
+    """Changes one text in quotes to another that occurs there, or to one that doesn't."""
     words = list(re.finditer(rb'"[^"\n]*"', text))
     if not words:
         return text
@@ -111,7 +110,7 @@ def word_changed(dice: random.Random, text: bytes) -> bytes:
 
 
 def last_element_changed(dice: random.Random, text: bytes) -> bytes:
-    """The last element of a line, in version 2 the recorded answer, is removed, doubled or changed."""
+    """Removes, duplicates or changes the last element of a line, in version 2 the recorded answer."""
     lines = text.split(b"\n")
     place = dice.randrange(len(lines))
     if found := re.fullmatch(rb"(\[.*),((?:\[[^\[\]]*\]|[^,\]]*))\](\s*)", lines[place]):

@@ -1,6 +1,6 @@
-"""Cases for the reader of logs: a log of a real program with changed fields, in another order, mixed with another,
-or with damaged bytes, and with any lines of tests beside it. The result must be a recording or an error message,
-in a process with little memory and time."""
+"""Cases for the reader of logs: a real program's log with changed fields, in another order, mixed with another log, or with damaged
+bytes, and with any lines of tests beside it. The result must be a recording or an error message, in a process with little memory and
+time."""
 
 import contextlib
 import io
@@ -27,9 +27,9 @@ from .damage import damaged
 from .logs import STACKS, binary, from_text
 
 EXAMPLES = Path(__file__).resolve().parents[2] / "examples"
-MEMORY, SECONDS = 2 * 2**30, 40  # bytes and processor time of a case
-ASKED = 0.05  # the part of the cases in which netrev also runs, which takes longest
-GREATEST = 100 * 2**20  # bytes of a recording
+MEMORY, SECONDS = 2 * 2**30, 40  # bytes of memory and seconds of processor time for a case
+ASKED = 0.05  # the fraction of the cases in which netrev runs too, which takes longest
+GREATEST = 100 * 2**20  # bytes in a recording
 RING = HEADER_BYTES + STACKS * 256
 SIDES = (ord("r"), ord("w"), ord("r") + ord("w"))
 SMALL = (*range(11), 16, 100, 1_000, 5_000, 65_536, 100_000, 1_000_000, *SIDES)
@@ -70,7 +70,7 @@ NAMES = (
     "x" * 300,
 )
 PLACES = ("a_test.go:7", "/else/a_test.go:31", "", ":", "a:b", "a,b:1.go:2", "\x1b:5", "a.go:99999999999")
-TESTS = 3  # the part of a case from which recordings are made
+TESTS = 3  # the number of tests of a case from which recordings are made
 
 Points = list[Point]
 
@@ -89,7 +89,7 @@ def logs() -> list[tuple[bytes, Log]]:
 
 
 def changed_fields(dice: random.Random, points: Points) -> Points:
-    """Points whose fields have other values, with right sums."""
+    """Points whose fields have other values, with correct checksums."""
     values = dice.choice([SMALL, LIMITS])
     for _ in range(dice.choice([1, 1, 2, 3, 10])):
         at = dice.randrange(len(points))
@@ -108,7 +108,7 @@ def changed_fields(dice: random.Random, points: Points) -> Points:
 
 
 def other_order(dice: random.Random, points: Points) -> Points:
-    """Points that were exchanged, omitted, doubled, moved or cut off."""
+    """Points that were swapped, omitted, duplicated, moved or cut off."""
     for _ in range(dice.choice([1, 1, 2, 3])):
         at, other = dice.randrange(len(points)), dice.randrange(len(points))
         how = dice.randrange(5)
@@ -138,7 +138,7 @@ def other_header(dice: random.Random, data: bytearray) -> bytearray:
 
 
 def damaged_bytes(dice: random.Random, data: bytearray) -> bytearray:
-    """Bytes that are changed, blank, lost, inserted or moved."""
+    """Bytes that were changed, zeroed, lost, inserted or moved."""
     for _ in range(dice.choice([1, 1, 2, 5, 30])):
         at, size = dice.randrange(len(data)), dice.choice([1, 8, 64, 512, 4_096])
         place, other = (RING + 64 * dice.randrange((len(data) - RING) // 64 or 1) for _ in range(2))
@@ -173,7 +173,7 @@ def log_of(seed: str) -> bytes:
     points = dice.choice(OF_POINTS)(dice, list(log.points))
     numbered = [point._replace(number=number) for number, point in enumerate(points)]
     made = bytearray(binary(numbered, log.stacks, log.begin, room=len(numbered) + 5))
-    struct.pack_into("<Q", made, 11 * 8, dice.randrange(2))  # whether it has the program's orders
+    struct.pack_into("<Q", made, 11 * 8, dice.randrange(2))  # whether the log has the program's orders
     return bytes(made)
 
 
@@ -210,7 +210,7 @@ def wrong(seed: str, folder: Path) -> str:
 
 
 def confined(seed: str, folder: Path) -> str:
-    """The fault, found in a process of its own with little time and little additional memory."""
+    """The fault, found in a separate process with little time and little additional memory."""
     held = int(Path("/proc/self/statm").read_text(encoding="utf-8").split()[0]) * resource.getpagesize()
     resource.setrlimit(resource.RLIMIT_AS, (held + MEMORY, held + MEMORY))
     resource.setrlimit(resource.RLIMIT_CPU, (SECONDS, SECONDS))
@@ -229,7 +229,7 @@ def confined(seed: str, folder: Path) -> str:
 
 
 def made_wrong(outcome: Outcome, name: Path) -> str:
-    """The fault of a recording, its lines, and the text about it."""
+    """The fault of a recording, its lines, and its report."""
     if name.exists() and name.stat().st_size > GREATEST:
         return f"the recording has {name.stat().st_size} bytes"
     if not all(line.isprintable() for line in outcome.lines):
@@ -258,7 +258,7 @@ def tests_wrong(log: Path, tests: Tests, folder: Path) -> str:
 
 
 def forms_wrong(told: list[Told]) -> str:
-    """The fault of the outputs for machines: a test that one of them lacks, or has twice."""
+    """The fault of the outputs for machines: a test that one of them lacks or has twice."""
     if [json.loads(line)["test"] for line in forms.json_lines(told).splitlines()] != [one.test for one in told]:
         return "the lines of JSON aren't the tests"
     if sum(1 for _ in ElementTree.fromstring(forms.junit(told)).iter("testcase")) != len(told):

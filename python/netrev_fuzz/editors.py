@@ -1,5 +1,5 @@
-"""Cases for the adapter: an editor that sends any requests, with arguments of any sort, and malformed messages.
-Each request must be answered once, and a malformed message must end the session."""
+"""Cases for the adapter: an editor that sends any request, with arguments of any kind, and malformed messages. Each request must be
+answered once, and a malformed message must end the session."""
 
 import io
 import json
@@ -63,7 +63,7 @@ HEADERS = (
 
 
 def value(dice: random.Random, path: str, depth: int = 0) -> Any:
-    """A value of an argument."""
+    """A value for an argument."""
     sort = dice.randrange(8 if depth < 3 else 5)
     if sort < 2:
         return dice.choice(TEXTS)
@@ -78,7 +78,7 @@ def value(dice: random.Random, path: str, depth: int = 0) -> Any:
 
 
 def request(dice: random.Random, number: int, path: str) -> dict[str, Any]:
-    """A request; arguments that belong to it are more likely than others."""
+    """A request, mostly with arguments that belong to it."""
     command = dice.choice(REQUESTS)
     if command in ("disconnect", "terminate") and dice.random() < 0.9:
         command = "continue"
@@ -99,7 +99,7 @@ def framed(message: Any) -> bytes:
 
 
 def conversation(seed: str, path: str) -> tuple[list[dict[str, Any]], bytes]:
-    """The requests of a seed, with their endings."""
+    """The requests of a seed, and the bytes that encode them."""
     dice = random.Random(seed)
     begun = [{"seq": 1, "type": "request", "command": "launch", "arguments": {"program": path}}]
     asked = begun if dice.random() < 0.9 else []
@@ -123,7 +123,7 @@ def wrong(seed: str, folder: Path, program: str) -> str:
 
 
 def told_in(data: bytes) -> Optional[list[dict[str, Any]]]:
-    """The messages of a stream; None if it is malformed."""
+    """The messages in a stream; None if it is malformed."""
     found = []
     while data:
         head, _, data = data.partition(b"\r\n\r\n")
@@ -134,7 +134,7 @@ def told_in(data: bytes) -> Optional[list[dict[str, Any]]]:
 
 
 def answers_wrong(asked: list[dict[str, Any]], told: Optional[list[dict[str, Any]]]) -> str:
-    """The fault of the answers: each request has one, in the order of the requests, up to a `disconnect`."""
+    """The fault of the answers: each request must have one, in the order of the requests, up to a `disconnect`."""
     if told is None:
         return "the stream has something else than messages"
     wanted = [(one["seq"], one["command"]) for one in asked]

@@ -1,4 +1,4 @@
-"""Random traffic over connections, with a bug planted at a random place, or without one, to measure `info suspects`:
+"""Random traffic over connections, with a bug planted at a random place or without a bug, to measure `info suspects`:
 
     python3 -m netrev_fuzz.injections FIRST LAST
 
@@ -18,21 +18,21 @@ from .little_go import Program, Turns
 
 LIMITS = Limits(gor=1500, sock=120, desc=10, buf=64)
 LETTERS = range(ord("a"), ord("z") + 1)
-BOTH, OWN_SIDE, RAW, CANCELS = range(4)  # what a connection does with deadlines; no deadlines above these numbers
+BOTH, OWN_SIDE, RAW, CANCELS = range(4)  # what a connection does with deadlines; above these numbers, it sets none
 
 
 class Bug(Enum):
-    """The bug that is planted, as text."""
+    """The planted bug, as text."""
 
     RELEASE = "a release never comes"
-    IDLE = "a reference is kept by who does nothing any more"
-    GONE = "a reference is kept by who is gone"
+    IDLE = "an idle goroutine keeps a reference"
+    GONE = "an ended goroutine keeps a reference"
     NO_EVENT = "an event is lost"
     OLD_TAG = "an event comes with an old tag"
-    TAKEN_BACK = "a passed deadline is taken back at once"
+    TAKEN_BACK = "a passed deadline is removed at once"
     NO_TRY = "a wait without a try"
     LEFT_BEHIND = "a deadline is left behind"
-    LOCK = "a read lock is held for ever"
+    LOCK = "a read lock is never released"
     NOT_EVICTED = "closed and never evicted"
 
 
@@ -53,11 +53,11 @@ HANGING = (
     Bug.OLD_TAG,
     Bug.NO_TRY,
     Bug.TAKEN_BACK,
-)  # those whose symptom is a goroutine that hangs at the end
+)  # bugs whose symptom is a goroutine that hangs at the end
 
 
 class Planted(NamedTuple):
-    """The place of a planted bug: goroutine, socket, descriptor, as far as it has them."""
+    """The place of a planted bug: its goroutine, socket and descriptor, if it has them."""
 
     socket: int
     goroutine: Optional[int] = None
@@ -77,7 +77,7 @@ class Traffic(Program):
         self.bug, self.length = bug, length
         self.begins = length * (0.3 + 0.4 * self.dice.random())
         self.planted: list[Planted] = []
-        self.passed: set[Planted] = set()  # connections whose deadline was left behind and has passed
+        self.passed: set[Planted] = set()  # connections with a leftover deadline that has passed
         self.busy: dict[int, int] = {}  # for each connection the number of readers and writers
         self.muted: set[int] = set()  # sockets at which nothing arrives any more
         self.fed: set[int] = set()
@@ -90,7 +90,7 @@ class Traffic(Program):
         self.planted.append(Planted(socket, goroutine, descriptor))
 
     def run(self) -> "Traffic":
-        """Runs it to its length."""
+        """Runs the program up to its length."""
         while len(self.steps) < self.length:
             chance, ready = self.dice.random(), self.ready()
             is_early = len(self.steps) < 0.9 * self.length
@@ -110,8 +110,8 @@ class Traffic(Program):
         return any(map(self.shows, self.planted))
 
     def shows(self, planted: Planted) -> bool:
-        """Whether the planted bug is visible at the end: a goroutine hangs although what it waits for has come; a
-        deadline has passed; or something is kept, which is always visible."""
+        """Whether the planted bug is visible at the end: a goroutine hangs although what it waits for has arrived, or a deadline has
+        passed; a kept lock or reference is always visible."""
         g, d = planted.goroutine, planted.descriptor
         if self.bug is Bug.LEFT_BEHIND:
             return planted in self.passed
@@ -157,7 +157,7 @@ class Traffic(Program):
             self.fed.add(s)
 
     def loses_event(self, s: int, d: int) -> bool:
-        """Plants a lost event, or one with an old tag, if a goroutine is parked for it."""
+        """Plants a lost event, or an event with an old tag, if a goroutine is parked for it."""
         parked = [g for g in self.world.inside(d, "r") if self.world.goroutines[g][0] == "parked"]
         if not parked or not (self.is_due(Bug.NO_EVENT) or self.is_due(Bug.OLD_TAG)):
             return False
@@ -211,7 +211,7 @@ class Traffic(Program):
             self.go(lambda g: self.controller(g, s))
 
     def user(self, s: int, uses: Callable[[int, int, int], Turns], style: int) -> Callable[[int], Turns]:
-        """A goroutine that uses a connection, which is in use for that time."""
+        """A goroutine that uses a connection, which counts as in use meanwhile."""
 
         def body(g: int) -> Turns:
             self.busy[s] += 1
@@ -240,8 +240,7 @@ class Traffic(Program):
                 return
 
     def raw_read(self, g: int, s: int) -> Turns:
-        """`RawConn.Read`: the program's function tries, and returns whether it is done. The bug is a function that
-        doesn't try."""
+        """`RawConn.Read`: the program's function tries, and returns whether it is done. The bug is a function that doesn't try."""
         if not (yield from self.rwlock(g, s, "r")):
             return False
         code = yield from self.reset(g, s, "r")
@@ -285,7 +284,7 @@ class Traffic(Program):
             yield from self.decref(g, s)
 
     def cancel_reads(self, g: int, s: int) -> Turns:
-        """Ends the reads by a deadline in the past, and removes it; the bug is not to wait in between."""
+        """Ends the reads with a deadline in the past, and removes the deadline; the bug is not to wait in between."""
         d = self.descriptors[s]
         parked = [one for one in self.world.inside(d, "r") if self.world.goroutines[one][0] == "parked"]
         if not (parked and self.is_due(Bug.TAKEN_BACK)):
@@ -321,8 +320,7 @@ class Traffic(Program):
 
 
 class Count(NamedTuple):
-    """Counts for a bug: how often it was planted with a symptom, was named first, and was named at all; and other
-    suspects."""
+    """The counts of a bug: how often it was planted with a symptom, was listed first, and was listed at all; and the other suspects."""
 
     shows: int = 0
     first: int = 0
@@ -334,7 +332,7 @@ class Count(NamedTuple):
 
 
 def judged(traffic: Traffic) -> Count:
-    """The rules' result for a recording."""
+    """What the rules find in a recording."""
     shown = [one for one in suspects_of(Recording(traffic.text())).suspects if one.is_shown]
     right = [
         traffic.bug is not None
@@ -346,7 +344,7 @@ def judged(traffic: Traffic) -> Count:
 
 
 def counted(bug: Optional[Bug], seeds: range) -> Count:
-    """The counts of a bug over these seeds, for recordings in which it is visible, or for good ones."""
+    """The counts of a bug over these seeds: for recordings in which it is visible, or for good ones."""
     total = Count()
     for seed in seeds:
         traffic = Traffic(seed, bug).run()

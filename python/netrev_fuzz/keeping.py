@@ -1,4 +1,4 @@
-"""Reduces a difference and keeps it, in a folder from which it can be run again."""
+"""Reduces a case that shows a difference, and stores it in a folder from which it can be run again."""
 
 from pathlib import Path
 
@@ -16,8 +16,8 @@ def with_part(case: Case, part: str, text: bytes) -> Case:
 
 
 def smaller(netrev: str, case: Case, folder: Path) -> Case:
-    """The case with lines of its recording and script removed, as long as there is a difference: the last ones first,
-    because later lines depend on earlier ones; until no line can be removed, or the tries are used up."""
+    """The case with lines of its recording and script removed while a difference remains. The last lines go first, because later lines
+    depend on earlier ones; it ends when no line can be removed, or the tries are used up."""
     left = TRIES
     for part in FILES:
         lines = getattr(case, part).split(b"\n")
@@ -35,7 +35,7 @@ def smaller(netrev: str, case: Case, folder: Path) -> Case:
 
 
 def keep(netrev: str, case: Case, differs: Difference, folder: Path) -> str:
-    """Writes a case, what was printed and what the model expects, to a folder."""
+    """Writes a case, netrev's output and the model's to a folder."""
     folder.mkdir(parents=True, exist_ok=True)
     small = smaller(netrev, case, folder)
     tells, want = difference(netrev, small, folder, Met()) or differs
@@ -49,6 +49,6 @@ def keep(netrev: str, case: Case, differs: Difference, folder: Path) -> str:
 
 
 def kept(folder: Path) -> Case:
-    """The case that is kept in a folder."""
+    """The case that is stored in a folder."""
     seed, sort, program = (folder / "case").read_text(encoding="utf-8").splitlines()
     return Case(seed, sort, program, *((folder / name).read_bytes() for name in FILES.values()))

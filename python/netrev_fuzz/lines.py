@@ -1,4 +1,4 @@
-"""Random scripts of command lines: mostly good ones, in all possible spellings, and bad ones."""
+"""Random scripts of command lines: mostly good ones, in all possible spellings, and some bad ones."""
 
 import random
 from typing import Sequence
@@ -19,7 +19,7 @@ NONSENSE = (
 
 
 def every_cell(limits: Limits, length: int, backwards: bool) -> bytes:
-    """A script that prints all cells at each position of a recording, on the way forwards or backwards."""
+    """A script that prints all cells at each position of a recording, forwards or backwards."""
     made = {"gor": limits.gor, **dict.fromkeys(SHOWS_SOCKET, limits.sock), **dict.fromkeys(SHOWS_DESC, limits.desc)}
     looks = [f"print {cell}" for cell in CELLS_OF_ALL]
     looks += [f"print {cell} {number}" for cell, most in made.items() for number in range(min(most, 9))]
@@ -58,7 +58,7 @@ class Speaker:
         return line if self.dice.random() < 0.9 else self.spaced(line)
 
     def spaced(self, line: bytes) -> bytes:
-        """The line with more spaces, sometimes about as many as a line may have."""
+        """The line with more spaces, sometimes about up to the greatest length of a line."""
         line = line.replace(b" ", b" " * self.dice.randint(1, 4))
         line = b" " * self.dice.randint(0, 3) + line
         if self.dice.random() < 0.2:

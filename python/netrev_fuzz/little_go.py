@@ -1,6 +1,5 @@
-"""A small Go that makes recordings. A goroutine is a generator that makes Go's calls, by the control flow of
-internal/poll and runtime/netpoll: one step of the model's machine at each turn. A random scheduler chooses the
-goroutine."""
+"""A small Go that makes recordings. A goroutine is a generator that makes Go's calls, with the control flow of internal/poll and
+runtime/netpoll: one step of the model's machine each time it is resumed. A random scheduler chooses the goroutine."""
 
 import json
 import random
@@ -12,7 +11,7 @@ from netrev_machine.steps import apply
 from netrev_words.recording import Answer, Limits
 
 Turns = Generator[None, None, Any]  # a call: it yields after each of its steps, and returns the result of Go's function
-CLOSED, EOF = -1, 0  # a read's result instead of a count; a code of the poller, negated, is one too
+CLOSED, EOF = -1, 0  # results of a read instead of a count; a negated code of the poller is one too
 
 
 class Program:
@@ -67,13 +66,13 @@ class Program:
     # ---- Go's calls
 
     def operation(self, kind: str, g: int, *arguments: Any) -> Turns:
-        """An operation that begins with this step; its first answer and its last one."""
+        """An operation that begins with this step; returns its first answer and its last one."""
         answer = self.do(kind, g, *arguments)
         yield
         return answer, (yield from self.goes_on(g, answer))
 
     def goes_on(self, g: int, answer: Answer = ()) -> Turns:
-        """Continues an operation until its goroutine is idle; the last answer."""
+        """Continues an operation until its goroutine is idle; returns the last answer."""
         while (step := step_by_status(g, self.world.goroutines[g])) or self.world.goroutines[g][0] in ASLEEP:
             if step:
                 answer = self.do(*step)
@@ -91,7 +90,7 @@ class Program:
         yield from self.gives("decref", g, s)
 
     def gives(self, kind: str, g: int, s: int, *side: str) -> Turns:
-        """Gives a reference back; the goroutine that gives back the last one destroys the descriptor."""
+        """Drops a reference; the goroutine that drops the last one destroys the descriptor."""
         answer, _ = yield from self.operation(kind, g, s, *side)
         if answer == LAST:
             self.do("pollclose", g, self.descriptors[s])
@@ -149,13 +148,13 @@ class Program:
             self.do("pollevent", d, self.world.descs[d].fdseq, "r", 0)
 
     def drain(self, s: int, count: int) -> None:
-        """The network takes bytes from a socket, with the event that there is room."""
+        """The network takes bytes from a socket, with the event that the socket has room."""
         if self.may("drain", s, count):
             d = self.descriptors[s]
             self.do("pollevent", d, self.world.descs[d].fdseq, "w", 0)
 
     def pass_time(self, most: int) -> None:
-        """Runs a firing, takes a due timer, or lets up to this much time pass."""
+        """Runs a firing, takes a due timer, or lets at most this much time pass."""
         world = self.world
         if world.firings:
             self.do("fire", self.dice.randrange(len(world.firings)))

@@ -1,5 +1,5 @@
-"""Logs of the recorder as text, for reading and writing: a line of JSON for the header, one for each stack, one for
-the line of each address, and one for each point, in the form of `netrev_go.points.Point`."""
+"""Logs of the recorder as text, for reading and writing: JSON lines for the header, each stack, the source line of each address, and each
+point, in the form of `netrev_go.points.Point`."""
 
 import json
 import struct
@@ -14,8 +14,8 @@ Symbols = dict[int, tuple[str, str, int]]
 
 
 class HolderRow(NamedTuple):
-    """A row of the table of locked mutexes: the mutex (0: the row is free), the goroutine that holds it, whether for
-    reading, the number of earlier points, and the addresses of the calls that locked it."""
+    """A row of the table of locked mutexes: the mutex (0 if the row is free), the goroutine that holds it, whether for reading, the number
+    of earlier points, and the addresses of the calls that locked it."""
 
     address: int
     goroutine: int = 0
@@ -34,9 +34,9 @@ def binary(
     holders_lost: int = 0,
     is_sparse: bool = False,
 ) -> bytes:
-    """The log with these points, each at the place of its number. `room` is the number of places. `holders` is the
-    table of locked mutexes (None: the log has none), which was full `holders_lost` times. In a sparse log a
-    point without a time has that of the point before."""
+    """The log with these points, each at the place for its number. `room` is the number of places. `holders` is the table of locked
+    mutexes (None if the log has none), which was full `holders_lost` times. In a sparse log, a point without a time has the previous
+    point's."""
     points = list(points)
     room = room or max((point.number for point in points), default=0) + 1
     last = max((point.number for point in points), default=-1) + 1
@@ -76,7 +76,7 @@ def packed(point: Point) -> bytes:
 
 
 def from_text(text: str) -> tuple[bytes, Symbols]:
-    """The log of a text, and its addresses' lines."""
+    """The log that a text describes, and the lines of its addresses."""
     points, stacks, symbols, header = [], {}, {}, {}
     for line in map(json.loads, text.splitlines()):
         if isinstance(line, list):

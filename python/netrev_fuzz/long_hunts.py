@@ -2,11 +2,11 @@
 
     python3 -m netrev_fuzz.long_hunts keeper|refused STEPS OUT.jsonl [SEED]
 
-`keeper`: each connection has a reader, and a keeper that extends its read deadline. One keeper extends the write deadline instead from
-some step on, so the old timer fires, and a reader gives up on a connection that was kept alive.
+`keeper`: each connection has a reader, and a keeper that extends its read deadline. From some step on, one keeper extends the write
+deadline instead, so the old timer fires, and a reader gives up on a connection that was meant to be kept alive.
 
-`refused`: each request is a write with a deadline. If one times out, the program looks at the connection by `RawConn.Control`; once
-that function never gives its reference back, and a later Close hangs.
+`refused`: each request is a write with a deadline. If one times out, the program checks the connection by `RawConn.Control`; once, that
+function never drops its reference, and a later Close hangs.
 """
 
 import sys
@@ -34,7 +34,7 @@ class Hunt(Program):
         self.planted: Optional[tuple[int, int]] = None  # the goroutine and the socket with the bug
 
     def run(self) -> "Hunt":
-        """Adds steps until the recording has the wanted length."""
+        """Adds steps until the recording has the requested length."""
         while len(self.steps) < self.length:
             self.move()
         return self
@@ -109,8 +109,7 @@ class Keeper(Hunt):
         yield from self.closed(g, s)
 
     def keep(self, g: int, s: int, is_done: list[bool]) -> Turns:
-        """Extends the deadline of a connection repeatedly. The bug: from some step on, it extends that of the wrong
-        side."""
+        """Extends the deadline of a connection repeatedly. The bug: from some step on, it extends the deadline of the wrong side."""
         times = 0
         while not is_done:
             for _ in range(self.dice.randrange(10, 40)):
@@ -124,7 +123,7 @@ class Keeper(Hunt):
 
     def use_network(self, s: int) -> None:
         if self.planted and self.planted[1] == s:
-            return  # (its peer is quiet)
+            return  # (its peer is silent)
         if self.dice.random() < 0.67:
             if self.is_open(s):
                 self.arrive(s, b"ping")
@@ -176,7 +175,7 @@ class Refused(Hunt):
             pass
 
     def control(self, g: int, s: int, may_leak: bool) -> Turns:
-        """`RawConn.Control`. The bug: once, after a failed write, it doesn't release its reference."""
+        """`RawConn.Control`. The bug: once, after a failed write, it doesn't drop its reference."""
         if self.do("incref", g, s)[0] != "yes":
             return (yield)
         for _ in range(4):

@@ -1,4 +1,4 @@
-"""Runs a case by the program and by the model, and compares their outputs."""
+"""Runs a case with netrev and with the model, and compares their outputs."""
 
 import subprocess
 from pathlib import Path
@@ -16,7 +16,7 @@ TIMEOUT = 120
 
 
 def wanted(case: Case, met: Met) -> Optional[Printed]:
-    """The model's output, or None if it doesn't know."""
+    """The model's output, or None if the model doesn't predict it."""
     want = printed(case.program, case.recording, case.script, met)
     met.doubted += want is None
     return want
@@ -37,7 +37,7 @@ def told(netrev: str, case: Case, folder: Path) -> Printed:
 
 
 def difference(netrev: str, case: Case, folder: Path, met: Met) -> Optional[Difference]:
-    """The outputs of program and model for a case if they differ, else None. For a session of nrdb, the fault."""
+    """The outputs of netrev and the model for a case if they differ, else None. For a session of nrdb, its fault."""
     if case.program == "nrdb":
         wrong = companion.played(netrev, case, folder, met)
         return (Printed(0, b"", wrong), Printed(0, b"")) if wrong else None
@@ -49,7 +49,7 @@ def difference(netrev: str, case: Case, folder: Path, met: Met) -> Optional[Diff
 
 
 def first_difference(tells: Printed, want: Printed) -> str:
-    """The first difference, in a few words."""
+    """A short description of the first difference."""
     if tells.wrong or want.wrong:
         return tells.wrong or want.wrong
     lines = zip(tells.output.split(b"\n"), want.output.split(b"\n"))

@@ -1,6 +1,6 @@
-"""Ctrl-C for the fuzzer: a real signal, pressed at any time, that arrives only while a session runs a line. Within
-`confined` the main thread has the signal blocked, except in what `heard` calls. So none arrives while the output
-is checked, and none after the end: all threads that may press have ended by then, and late signals are dropped."""
+"""Ctrl-C for the fuzzer: a real signal, which may be sent at any time but arrives only while a session runs a line. Within `confined`, the
+main thread blocks the signal, except in the call that `heard` makes. So no signal arrives while the output is checked, and none after the
+end: all threads that may send one have ended by then, and late signals are dropped."""
 
 import signal
 import threading
@@ -8,13 +8,13 @@ from contextlib import contextmanager
 from typing import Callable, Iterator, TypeVar
 
 CTRL_C = {signal.SIGINT}
-MEANWHILE = "netrev is stopped"  # the name of threads that may press Ctrl-C
+MEANWHILE = "netrev is stopped"  # the name of threads that may send Ctrl-C
 
 Of = TypeVar("Of")
 
 
 def pressed() -> None:
-    """The main thread's Ctrl-C."""
+    """Sends Ctrl-C to the main thread."""
     signal.pthread_kill(threading.main_thread().ident or 0, signal.SIGINT)
 
 
@@ -24,22 +24,21 @@ def nothing(*_: object) -> None:
 
 @contextmanager
 def confined() -> Iterator[None]:
-    """In this context, a Ctrl-C interrupts only what `heard` calls. One that comes while no session holds it back does
-    nothing."""
+    """In this context, a Ctrl-C interrupts only the call that `heard` makes. At any other time it does nothing."""
     before = signal.signal(signal.SIGINT, nothing)
     try:
         signal.pthread_sigmask(signal.SIG_BLOCK, CTRL_C)
         yield
     finally:
         settle()
-        signal.signal(signal.SIGINT, nothing)  # (a session that was abandoned may have left its own)
-        signal.pthread_sigmask(signal.SIG_UNBLOCK, CTRL_C)  # (signals that were pressed late come now)
+        signal.signal(signal.SIGINT, nothing)  # (a session that was abandoned may have left its own handler)
+        signal.pthread_sigmask(signal.SIG_UNBLOCK, CTRL_C)  # (signals that were sent late arrive now)
         signal.signal(signal.SIGINT, before)
 
 
 def heard(run: Callable[[], Of]) -> Of:
-    """The result of a call that a Ctrl-C may interrupt, for use within `confined`. It isn't a context manager: the
-    exception of a Ctrl-C could be raised in the manager's own code, before it blocks the signal again."""
+    """The result of a call that a Ctrl-C may interrupt, for use within `confined`. It isn't a context manager, because the exception of a
+    Ctrl-C could be raised in the manager's own code before it blocks the signal again."""
     try:
         signal.pthread_sigmask(signal.SIG_UNBLOCK, CTRL_C)
         return run()
@@ -49,9 +48,8 @@ def heard(run: Callable[[], Of]) -> Of:
 
 @contextmanager
 def undisturbed() -> Iterator[None]:
-    """In this context, no Ctrl-C comes to this thread; one that is pressed comes afterwards. An exception would leave a
-    thread unstarted that was to start, and Python takes a thread for ended if an exception is raised while it is
-    joined."""
+    """In this context, no Ctrl-C reaches this thread; one that is sent meanwhile arrives afterwards. An exception could leave a thread
+    unstarted, and if one is raised while a thread is joined, Python takes the thread for ended."""
     before = signal.pthread_sigmask(signal.SIG_BLOCK, ())
     try:
         signal.pthread_sigmask(signal.SIG_BLOCK, CTRL_C)

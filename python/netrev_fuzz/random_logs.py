@@ -1,7 +1,6 @@
-"""Random logs of a Go program's possible actions, and the recording that each must give. Goroutines read, write,
-dial, set deadlines, shut and close sockets over the small runtime; random numbers decide which goroutine runs,
-what the network does, which timer a processor takes and which clock it reads. The log may be cut, as a ring cuts
-it, and begin with notes."""
+"""Random logs of actions that a Go program may take, and the recording that each must give. Goroutines read, write, dial, set deadlines,
+shut down and close sockets on the small runtime; random numbers decide which goroutine runs, what the network does, which timer a processor
+takes and which clock it reads. The log may be cut as a ring cuts it, and may begin with notes."""
 
 from __future__ import annotations
 
@@ -24,7 +23,7 @@ from .small_runtime import AGAIN, BROKEN_PIPE, MODES, NIL, NO_ERROR, OTHER, READ
 FEW, PAGE, BUFFER = 64, 4_096, 65_536
 SIZES = (1, 2, 3, 5, FEW, FEW + 1, 1_000, PAGE - 1, PAGE, PAGE + 1, 5_000, BUFFER - 1, BUFFER, BUFFER + 1, 200_000)
 RESET_BY_PEER = -104
-ASKED = 0.05  # the part of the seeds for which netrev is run too
+ASKED = 0.05  # the fraction of the seeds for which netrev runs too
 WORDS = {NIL: 0, READY: 1, WAIT: 2}
 CODES_IN_WORDS = {1: "closed", 2: "timed out", 3: "event error"}
 PLACES = ("entering", "armed", "parking", "parked", "swapping", "checking")
@@ -36,13 +35,13 @@ Asked = Callable[[Recording], str]
 
 @dataclass(eq=False)
 class Called:
-    """A goroutine's call: its points, from the first to the last, the bytes that it moved, and how it ended."""
+    """A goroutine's call: its first and last points, the bytes that it moved, and how it ended."""
 
     goroutine: int
     name: str
     fd: Descriptor
     first: int
-    last: int = -1  # if it hasn't ended
+    last: int = -1  # -1 if it hasn't ended
     moved: int = 0
     outcome: str = "done"
     is_in_doubt: bool = False  # its error may have no step in a recording
@@ -68,7 +67,7 @@ def choices_of(dice: random.Random) -> Choices:
 
 
 class Program:
-    """A program of a few goroutines that use a few sockets, and the network and the poller around it."""
+    """A program with a few goroutines that use a few sockets, and the network and the poller around it."""
 
     def __init__(self, dice: random.Random) -> None:
         self.dice = dice
@@ -80,12 +79,12 @@ class Program:
         self.all: list[Descriptor] = []
         self.running: dict[int, Turns] = {}
         self.calls: list[Called] = []
-        self.at: dict[int, Descriptor] = {}  # the socket of a goroutine's call
+        self.at: dict[int, Descriptor] = {}  # the socket of each goroutine's call
         self.read_clock: dict[
             object, int
-        ] = {}  # the last clock reading of a goroutine, or of one that had a descriptor's lock
+        ] = {}  # the last reading of the clock by a goroutine, or under a descriptor's lock
         self.noted_from: int | None = None  # the number of the first point of the notes
-        self.events: list[tuple[Any, str, bool, int]] = []  # events that the system has fetched
+        self.events: list[tuple[Any, str, bool, int]] = []  # events that were fetched from the system
         weights = {"read": 4, "write": 4, "deadline": 4, "shut": 0.3, "close": 0.8, "dial": 1}
         often = {"reads": "read", "writes": "write", "deadlines": "deadline", "closes": "close", "locks": "read"}
         if self.choices.theme in often:
@@ -93,7 +92,7 @@ class Program:
         self.weights = weights
 
     def run(self) -> None:
-        """Runs all turns; each goroutine's call may be cut at the end."""
+        """Runs all turns; in the end, each goroutine's call may be cut off."""
         noting: Iterator[None] | None = None
         note_at = self.dice.randrange(self.choices.turns) if self.choices.ring == "noted" else -1
         for turn in range(self.choices.turns):
@@ -140,13 +139,13 @@ class Program:
         return self.noted_call(called, self.read(called, dice.choice(SIZES)))
 
     def noted_call(self, called: Called, turns: Turns) -> Turns:
-        """A call whose beginning and end are noted."""
+        """A call whose beginning and end are stored."""
         called.first = len(self.runtime.points)
         self.calls.append(called)
         yield from turns
         called.last = self.runtime.newest[called.goroutine]
 
-    # calls of net.Conn, after internal/poll/fd_unix.go
+    # calls of net.Conn, written after internal/poll/fd_unix.go
 
     def dial(self, g: int) -> Turns:
         runtime, dice = self.runtime, self.dice
@@ -238,7 +237,7 @@ class Program:
             called.outcome = CODES_IN_WORDS[1]
             return
         mode = dice.choice(("r", "w", "rw", "rw"))
-        # (another goroutine may read the clock later and pass its point at another descriptor first)
+        # (another goroutine may read the clock later and log its point at another descriptor first)
         now = max(
             runtime.clock - dice.randint(0, self.choices.lag), *(self.read_clock.get(one, 0) for one in (g, fd.pd))
         )
@@ -246,7 +245,7 @@ class Program:
         same = [one for one in (fd.pd.rd, fd.pd.wd) if runtime.begin + now < one < 2**62]
         if same and dice.random() < 0.4:  # the same time as the other side's
             d = same[0] - runtime.begin - now
-        if 0 < d <= runtime.clock - now:  # (a recording has no deadline that passes as it is set)
+        if 0 < d <= runtime.clock - now:  # (a recording has no deadline that has passed when it is set)
             d, now = d + runtime.clock - now, runtime.clock
         self.read_clock[g] = self.read_clock[fd.pd] = now
         called.name = {"r": "SetReadDeadline", "w": "SetWriteDeadline", "rw": "SetDeadline"}[mode]
@@ -261,7 +260,7 @@ class Program:
         else:
             fd.shut = True
             if self.dice.random() < 0.5:
-                yield  # another goroutine may pass its point first
+                yield  # another goroutine may log its point first
             fd.was_shut, called.name = True, "CloseWrite"
             self.runtime.log(Kind.CLOSE_WRITE, g, fd.address)
             yield
@@ -275,13 +274,13 @@ class Program:
             return
         yield from runtime.evict(g, fd.pd)
         if fd in self.sockets and self.dice.random() < 0.8:
-            self.sockets.remove(fd)  # otherwise goroutines try to use it
+            self.sockets.remove(fd)  # otherwise goroutines would try to use it
         yield from runtime.decref(g, fd)
 
     # the network, the poller and the processors
 
     def happens(self) -> None:
-        """An action of no goroutine."""
+        """An action that no goroutine makes."""
         runtime, dice = self.runtime, self.dice
         what = dice.choices(("clock", "pop", "fire", "event", "network"), (3, 3, 1, 2, 2))[0]
         if what == "clock":
@@ -369,12 +368,12 @@ def log_of(program: Program) -> Log:
 
 
 def wrong(seed: str) -> str:
-    """The fault of the recording of a seed's log; empty if there is none."""
+    """The fault in the recording of a seed's log; empty if there is none."""
     return wrong_with(program_of(seed))
 
 
 def wrong_with(program: Program, asked: Asked = lambda _: "") -> str:
-    """The fault that the model finds, or else a second checker, if one is given."""
+    """The fault that the model finds, or else the second checker, if one is given."""
     log = log_of(program)
     try:
         recording = make(log)
@@ -385,7 +384,7 @@ def wrong_with(program: Program, asked: Asked = lambda _: "") -> str:
 
 
 def wrong_by(seed: str, folder: Path, netrev: str) -> str:
-    """The fault of the recording of a seed's log, by the model, and for some seeds by netrev itself."""
+    """The fault in the recording of a seed's log, according to the model, and for some seeds also to netrev itself."""
 
     def asked(recording: Recording) -> str:
         path = folder / "made.jsonl"
@@ -402,7 +401,7 @@ def text_of(recording: Recording) -> bytes:
 
 
 def replayed(recording: Recording) -> tuple[Machine, list[tuple[Step, Any]], str]:
-    """The machine after the recording, its steps with their answers, and the first wrong one."""
+    """The machine after the recording, its steps with their answers, and the first wrong answer."""
     text = read_text(text_of(recording))
     machine = Machine(Limits(*text.limits))
     steps = list(zip(text.steps, text.answers))
@@ -417,8 +416,7 @@ def replayed(recording: Recording) -> tuple[Machine, list[tuple[Step, Any]], str
 
 
 def differs(program: Program, log: Log, recording: Recording, machine: Machine, steps: list[tuple[Step, Any]]) -> str:
-    """What the recording lacks of the log: the final state of sockets and descriptors, the bytes, and each
-    goroutine's steps."""
+    """What the recording lacks from the log: the final state of sockets and descriptors, the bytes, and each goroutine's steps."""
     sockets = sockets_of(program, log, recording)
     if not log.points or log.points[0].number == 0:
         if len(sockets) != sum(fd.pd is not None for fd in program.all):
@@ -445,7 +443,7 @@ def sockets_of(program: Program, log: Log, recording: Recording) -> dict[int, De
 
 
 def noted(program: Program, point: Point) -> Descriptor:
-    """The socket of a point of a note."""
+    """The socket that a point of a note is about."""
     return next(fd for fd in program.all if fd.address == point.at and point.number in fd.notes)
 
 
@@ -490,8 +488,7 @@ def bytes_differ(points: list[tuple[Point, int]], steps: list[tuple[Step, Any]])
 
 
 def order_differs(recording: Recording, points: list[tuple[Point, int]], steps: list[tuple[Step, Any]]) -> str:
-    """The first step of a goroutine that differs from the log. Reads and writes aren't compared, because they may
-    be split."""
+    """The first step of a goroutine that differs from the log. Reads and writes aren't compared, because they may be split."""
     names = {number: name for name, number in recording.numbers.items()}
     expected = [
         (SPELLED[Kind(point.kind)], point.goroutine, answer_of(point)) for point, _ in points if point.kind in SPELLED

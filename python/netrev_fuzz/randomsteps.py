@@ -1,6 +1,6 @@
-"""Random recordings. Most steps are a goroutine's next step, or possible actions of the network, the poller and the
-clock, so that waits, queues, timers, evictions and full buffers occur. The frequencies differ from recording to
-recording: most have a theme."""
+"""Random recordings. Most steps are a goroutine's next step, or possible actions of the network, the poller and the clock, so
+that waits, queues, timers, evictions and full buffers occur. The frequencies differ from recording to recording: most have a
+theme."""
 
 import random
 from typing import Iterator, Optional, Sequence
@@ -45,7 +45,7 @@ def random_limits(dice: random.Random, version: int) -> Limits:
 
 
 def random_answer(dice: random.Random, kind: str, near: Answer) -> Answer:
-    """A random answer: of the sort of the given one, another of the kind, or any."""
+    """A random answer: of the same sort as the given one, another answer of the kind, or any."""
     number = near[1] if len(near) == 2 else 0
     names = dice.choice([near[:1], OF_NRDB[kind].answers, PLAIN_ANSWERS + COUNTED_ANSWERS])
     name = dice.choice(names)
@@ -62,7 +62,7 @@ def other_answer(dice: random.Random, kind: str, answer: Answer) -> Answer:
 
 
 def features(world: World) -> Iterator[str]:
-    """Names for what a state has: statuses, full, free or closed objects, waiting timers."""
+    """Names for features of a state: statuses, full, free or closed objects, pending timers."""
     yield from {status[0] for status in world.goroutines}
     if len(world.descs) == world.limits.desc and not world.free:
         yield "no descriptor left"
@@ -121,11 +121,11 @@ class Author:
         return Recording(self.version, self.limits, steps, answers), worlds
 
     def any_answer(self, kind: str) -> Optional[Answer]:
-        """The recorded answer of a step that doesn't apply, which is never compared."""
+        """A recorded answer for a step that doesn't apply; it is never compared."""
         return random_answer(self.dice, kind, ("done",)) if self.version == 2 else None
 
     def rare_position(self, worlds: Sequence[World]) -> int:
-        """A position with something rare: each rare feature has the same chance."""
+        """A position with a rare feature: each rare feature has the same chance."""
         having: dict[str, list[int]] = {}
         for position, world in enumerate(worlds):
             for feature in features(world):
@@ -133,8 +133,8 @@ class Author:
         return self.dice.choice(having[self.dice.choice(sorted(having))])
 
     def refused_step(self, world: World) -> Optional[Step]:
-        """A step that doesn't apply, if one is found: among the candidates each reason has the same chance, and
-        each kind of that reason."""
+        """A step that doesn't apply, if one is found: each reason among the candidates has the same chance, and so has each kind with that
+        reason."""
         found: dict[int, dict[str, Step]] = {}
         for _ in range(80):
             step = self.wild_step(world) if self.dice.random() < 0.5 else self.step(world)
@@ -172,7 +172,7 @@ class Author:
         return self.dice.choices(list(weights), list(weights.values()))[0]
 
     def wild_step(self, world: World) -> Step:
-        """A step of any kind, with arguments many of which name nothing that exists."""
+        """A step of any kind, whose arguments often name nothing that exists."""
         self.past = self.dice.choice([0.05, 0.2, 0.6])
         idle = [g for g, status in enumerate(world.goroutines) if status == IDLE]
         g = self.dice.choice(idle) if idle and self.dice.random() < 0.6 else self.near(len(world.goroutines))
@@ -192,7 +192,7 @@ class Author:
         )
 
     def near(self, count: int) -> int:
-        """A number below the given one, and sometimes one past it."""
+        """A number below the given one, and sometimes one past that."""
         if self.dice.random() < self.past or count == 0:
             return self.dice.choice([count, count, count + 1, 4_294_967_295])
         return self.dice.randrange(count)
@@ -227,7 +227,7 @@ class Author:
         raise ValueError(form)
 
     def size(self, world: World) -> int:
-        """A count of bytes, often small, sometimes 0 or one past what a buffer may hold."""
+        """A count of bytes, often small, sometimes 0 or one more than a buffer may hold."""
         most = world.limits.buf
         if self.dice.random() < self.past:
             return self.dice.choice([0, most + 1, 65_536]) if most < 65_536 else 0

@@ -1,4 +1,4 @@
-"""A session of nrdb in this process, over a netrev of its own."""
+"""A session of nrdb in this process, with a netrev process of its own."""
 
 from contextlib import contextmanager
 from pathlib import Path

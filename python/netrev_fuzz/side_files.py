@@ -1,5 +1,5 @@
-"""Cases for the views of nrdb: a random recording that netrev accepts, and a file of lines for it, with any contents.
-Each command ends, prints no terminal controls, and writes only the files that it names."""
+"""Cases for the views of nrdb: a random recording that netrev accepts, and a file of lines for it with any contents. Each command must end,
+print no terminal controls, and write only the files that it names."""
 
 import io
 import json
@@ -31,7 +31,7 @@ NESTED = (b"[" * 100_000, b'{"call":' * 50_000, b"9" * 5_000, b"\xff", b"null", 
 
 
 def lines_of(dice: random.Random, steps: int) -> list[Any]:
-    """The lines of a well-formed file, with possible texts of a program."""
+    """The lines of a well-formed file, with texts that a program may have."""
     calls = dice.choice([1, 3, 10])
     found: list[Any] = [{"where": dice.choice([1, 2]), "steps": steps}]
     for number in range(1, calls + 1):
@@ -70,7 +70,7 @@ def lines_of(dice: random.Random, steps: int) -> list[Any]:
 
 
 def goroutines_of(dice: random.Random, ends: list[int], calls: int) -> list[Any]:
-    """Lines of all goroutines, with steps and times up to these numbers."""
+    """The lines about all goroutines, with steps and times up to these numbers."""
 
     def numbers(count: int) -> list[int]:
         return [dice.choice(ends) for _ in range(count)]
@@ -114,7 +114,7 @@ def file_of(dice: random.Random, steps: int) -> tuple[bytes, bool]:
 
 
 def wrong(seed: str, folder: Path, program: str) -> str:
-    """The fault of what the views of a seed print or write; empty if there is none."""
+    """The fault in what the views of a seed print or write; empty if there is none."""
     dice = random.Random(seed)
     recording, _ = Author(dice).recording(dice.choice([4, 20, 60]))
     path = folder / "recording.jsonl"
@@ -137,4 +137,6 @@ def wrong(seed: str, folder: Path, program: str) -> str:
         return f"a terminal may obey {obeyed[0]!r}"
     changed = [name for name, data in before.items() if (folder / name).read_bytes() != data]
     others = [name for name in os.listdir(folder) if not name.endswith(WRITTEN)]
-    return f"{changed or others}: this was written over, or isn't to be written" if changed or others else ""
+    return (
+        f"{changed or others}: this file was overwritten, or shouldn't have been written" if changed or others else ""
+    )

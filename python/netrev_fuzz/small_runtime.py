@@ -1,6 +1,6 @@
-"""A small runtime, written after internal/poll/fd_mutex.go and runtime/netpoll.go, that logs the recorder's points.
-It shares nothing with the model in Python: whether its log becomes a recording shows whether the two agree. A
-function that may be interrupted is a generator, which yields after each of its points."""
+"""A small runtime, written after internal/poll/fd_mutex.go and runtime/netpoll.go, that logs the recorder's points. It shares no code with
+the model in Python: whether its log becomes a recording shows whether the two agree. A function that may be interrupted is a generator,
+which yields after each of its points."""
 
 from __future__ import annotations
 
@@ -61,7 +61,7 @@ class PollDescriptor:
 
 @dataclass(eq=False)
 class Descriptor:
-    """poll.FD with its lock word, and the system's data of its socket."""
+    """poll.FD with its lock word, and the system's data about its socket."""
 
     address: int
     number: int
@@ -75,7 +75,7 @@ class Descriptor:
     output: int = 0
     peer_closed: bool = False
     shut: bool = False
-    was_shut: bool = False  # in the log's form
+    was_shut: bool = False  # as the log has it
     reset: bool = False  # by the other end
     is_gone: bool = False
     first: int = -1  # the number of its first point
@@ -297,7 +297,8 @@ class Runtime:
         yield
 
     def set_deadline(self, g: int, pd: PollDescriptor, mode: str, d: int, now: int) -> Turns:
-        """Sets a deadline. `now` is its reading of the clock; d is none if 0 and in the past if negative."""
+        """Sets a deadline. `now` is the time that it reads from the clock; there is no deadline if d is 0, and it is in the past if d is
+        negative."""
         self.log(Kind.SET_DEADLINE, g, pd.address, MODES[mode], d, 0, self.begin + now)
         if not pd.closing:
             rd, wd = pd.rd, pd.wd
@@ -346,7 +347,7 @@ class Runtime:
         return [timer for timer in self.heap if timer.when <= self.begin + self.clock]
 
     def pop(self, timer: Timer) -> None:
-        """A processor takes a timer that is due from its heap; it will run the timer's function."""
+        """A processor takes a due timer from its heap; it will run the timer's function."""
         self.heap.remove(timer)
         self.popped.append(timer)
 
@@ -369,8 +370,7 @@ class Runtime:
             self.unblock(pd, "w", False)
 
     def event(self, pd: PollDescriptor, mode: str, is_error: bool, tag: int) -> None:
-        """netpoll's loop over one event; its tag is the descriptor's at the time when the system was asked for
-        events."""
+        """netpoll's loop for one event, with the tag that the descriptor had when the system was asked for events."""
         is_stale = self.has_tags and tag != pd.fdseq
         c = tag if self.has_tags else 0
         self.log(Kind.EVENT, 0, pd.address, MODES[mode], int(is_error) + 2 * is_stale, c)

@@ -1,5 +1,4 @@
-"""Recordings as text: well formed in one of many ways, random bytes, random JSON, and numbers at the limits of a line's
-arguments."""
+"""Recordings as text: well formed in one of many ways, random bytes, random JSON, and numbers at the limits of a line's arguments."""
 
 import json
 import random
@@ -40,7 +39,7 @@ ENDS: dict[str, list[int]] = {
 }
 WITH_LIMITS = ("arrive", "syswrite", "setdeadline", "pollevent", "tick")
 TEXTS = ["r", "w", "rw", "wr", "", "R", "6869", "686", "6g", "ABcd", "0x12", " 12", "é1", "00", "done", "Done", "got"]
-# texts that aren't recorded answers
+# texts that aren't valid recorded answers
 NO_ANSWERS = [
     *("null", "0", "{}", "[]", '"Done"', '""', '"got"', '["done"]', '["got"]', '["got",1,1]', '["got","1"]'),
     '["got",-1]',
@@ -80,7 +79,7 @@ def write_text(dice: random.Random, recording: Recording) -> bytes:
 
 
 def shuffled_header(dice: random.Random, recording: Recording) -> bytes:
-    """The header with its keys in any order, and sometimes one key twice."""
+    """The header with its keys in any order, sometimes with a key twice."""
     items: list[tuple[str, object]] = list(header_of(recording).items())
     dice.shuffle(items)
     if dice.random() < 0.2:
@@ -102,7 +101,7 @@ def small_header(dice: random.Random) -> str:
 
 
 def random_json(dice: random.Random) -> bytes:
-    """Lines of pieces of JSON, mostly malformed, after a good header or not."""
+    """Lines made of pieces of JSON, mostly malformed, sometimes after a good header."""
     lines = []
     if dice.random() < 0.7:
         lines.append(small_header(dice))
@@ -133,7 +132,7 @@ def random_value(dice: random.Random, depth: int) -> object:
 
 
 def at_limits(dice: random.Random) -> bytes:
-    """A header and steps with arguments of the right number and form, most of them at a limit or one past."""
+    """A header and steps with arguments of the right number and form, most of them at a limit or one past it."""
     version = dice.choice(VERSIONS)
     lines = [limits_header(dice, version)]
     for _ in range(dice.randint(1, 5)):
@@ -171,7 +170,7 @@ def limits_header(dice: random.Random, version: int) -> str:
 
 
 def limits_argument(dice: random.Random, form: str) -> str:
-    """An argument as text: mostly the least or greatest one of its form, else one past it or of another form."""
+    """An argument as text: mostly the least or greatest one of its form, otherwise one past it or of another form."""
     if dice.random() < 0.05:
         return dice.choice(ODD)
     past = dice.random() < 0.1

@@ -1,6 +1,6 @@
-"""Checks nrdb's output in a session against the model's values at the same positions. A session is followed event
-by event, because it may stop anywhere, and all output up to there must be right. `Judge` gets the events in
-order, and reports the first wrong one."""
+"""Checks nrdb's output in a session against the model's values at the same positions. A session is followed event by event, because it may
+be interrupted anywhere, and all output up to that point must be right. `Judge` gets the events in order, and reports the first wrong
+one."""
 
 import re
 from fnmatch import fnmatchcase
@@ -33,7 +33,7 @@ class Judge:
         self.position = 0
 
     def value(self, cell: str, position: Optional[int] = None) -> str:
-        """The value that `print` shows of a cell, here or at another position."""
+        """The value of a cell as `print` shows it, at this position or another."""
         world = self.worlds[self.position if position is None else position]
         return look(world, f"print {cell}").partition(" = ")[2]
 
@@ -43,12 +43,12 @@ class Judge:
         return [] if shown in ("-", "absent") else [int(word) for word in shown.split()]
 
     def wrong(self, line: str, event: Event) -> str:
-        """The fault of an event that a line caused; empty if there is none."""
+        """The fault in an event that a line caused; empty if there is none."""
         judge: Callable[[str, Any], str] = getattr(self, f"wrong_{event['event']}")
         return judge(line, event)
 
     def wrong_reply(self, line: str, event: Event) -> str:
-        """netrev's reply must be the model's; after `goto` and `until` the model goes there too."""
+        """Checks netrev's reply against the model's; after `goto` and `until`, the model goes there too."""
         told, words = list(event["reply"]), line.split()
         if (
             words[0] in ("goto", "until", "reverse-until")
@@ -77,7 +77,7 @@ class Judge:
         return None
 
     def wrong_place(self, line: str, event: Event) -> str:
-        """The position, and the steps around it."""
+        """Checks the position, and the steps around it."""
         numbers = [event[side] and event[side]["number"] for side in ("last", "next")]
         length = len(self.steps)
         right = [self.position or None, self.position + 1 if self.position < length else None]
@@ -101,11 +101,11 @@ class Judge:
         return judge(line, event["rows"], event["rest"] or "")
 
     def differs(self, line: str, told: Any, right: Any) -> str:
-        """The text and the expected text, if they differ."""
+        """The text and the expected one, if they differ."""
         return "" if told == right else f"{line} at {self.position} tells {told}, and right is {right}"
 
     def made(self, cell: str) -> list[int]:
-        """The numbers at which a cell exists."""
+        """The numbers for which a cell exists."""
         numbers: list[int] = []
         while self.value(f"{cell} {len(numbers)}") != "absent":
             numbers.append(len(numbers))
@@ -128,7 +128,7 @@ class Judge:
         return self.differs(line, told, right) or next(filter(None, waits), "")
 
     def wrong_group(self, row: Mapping[str, Any]) -> str:
-        """Checks goroutines that sleep alike: each has that status, and queued ones are queued for one lock."""
+        """Checks goroutines that sleep alike: each must have that status, and queued ones must be queued for the same lock."""
         statuses = {self.value(f"gor {number}") for number in row["goroutines"]}
         is_one = len(statuses) == 1 if row["status"] == "queued" else True
         if is_one and all(status.split()[0] == row["status"] for status in statuses):
@@ -136,7 +136,7 @@ class Judge:
         return f"a group of {row} at {self.position} has {sorted(statuses)}"
 
     def wrong_wait(self, goroutine: int, status: str, words: str) -> str:
-        """Checks a place in a queue, the goroutine that has the lock, and since when."""
+        """Checks a place in a queue, which goroutine has the lock, and since when."""
         name, *rest = status.split()
         if name not in ("acquiring", "queued", "relock"):
             return ""
@@ -213,7 +213,7 @@ class Judge:
         return self.differs(line, told, right)
 
     def wrong_changed(self, line: str, rows: Rows, rest: str) -> str:
-        """Checks the cells that the last step changed: all that differ before and after it."""
+        """Checks the cells that the last step changed: they must be all that differ before and after it."""
         told = sorted((row["cell"], row["old"], row["new"]) for row in rows)
         numbers = {
             Of.ALL: [""],
@@ -226,7 +226,7 @@ class Judge:
         return self.differs(line, told, sorted(one for one in both if one[1] != one[2]))
 
     def wrong_timer(self, line: str, rows: Rows, rest: str) -> str:
-        """Checks the owners of the timers in the steps around the position, and their setters."""
+        """Checks the owners of the timers in the steps around the position, and the steps that set them."""
         told, right = [], []
         for row in rows:
             number = row["step"]
@@ -249,7 +249,7 @@ class Judge:
 
 
 def cell_and_rest(words: Sequence[str]) -> tuple[str, str]:
-    """The cell that these words begin with, and the remaining words."""
+    """The cell at the beginning of these words, and the remaining words."""
     length = 2 if cell_of(list(words[:2])) else 1
     return " ".join(words[:length]), " ".join(words[length:])
 
