@@ -24,7 +24,7 @@ from tests.test_stored_sentences import PROGRAMS, RECORDINGS, lines_of
 STORED = CAUSED / "sums.json"
 PARTS = 12  # of a recording, between which it is looked at
 # lines of NAME.where that are left out
-WITHOUT = {"times": "times", "orders": "orders|waits", "objects": "objects|channels|held|timers"}
+WITHOUT = {"orders": "orders|waits", "objects": "objects|channels|held|timers"}
 
 
 def read(path: Path) -> Recording:
