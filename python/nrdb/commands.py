@@ -92,7 +92,7 @@ OF_NRDB = {
         command(
             "explore [failures] [N]",
             "runs N schedules near the recorded one, 3000 by default, and writes those that end with a suspect; with `failures`, those "
-            "in which a call fails that succeeded",
+            "in which a call that succeeded fails",
         ),
         command("source FILE", "runs the commands in a file"),
         command("save breakpoints FILE", "writes the lines that set the marks again, for source FILE"),
@@ -143,7 +143,7 @@ TOPICS = {
 # Forms of netrev's commands that nrdb answers itself.
 FORMS = {
     "break": command(
-        "break FILE:LINE | FUNCTION", "stops before each step at which a goroutine comes to a line or a function"
+        "break FILE:LINE | FUNCTION", "stops before each step at which a goroutine reaches a line or a function"
     ),
     "tbreak": command("tbreak FILE:LINE | FUNCTION", "like break, but its first stop deletes it"),
     "delete": command(

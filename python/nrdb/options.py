@@ -78,7 +78,7 @@ def parser() -> Words:
     made.add_argument(
         "--explore-failures",
         action="store_true",
-        help="like --explore, for schedules in which a call fails that succeeded",
+        help="like --explore, for schedules in which a call that succeeded fails",
     )
     made.add_argument("--join", metavar="HOST:PORT", help="join a session that `netrev serve` shares")
     made.add_argument(

@@ -130,7 +130,7 @@ class Waits:
                 said[-1] += f", whose input holds {counted(unread, 'byte')} unread"
         word, deadline = world.values([f"{side}g {descriptor}", f"{side}d {descriptor}"])
         if word == "ready":
-            said.append("an event is there that it hasn't taken")
+            said.append("an event has come that it hasn't taken")
         if deadline == "0":
             return [*said, "no deadline"]
         if deadline.startswith("-"):

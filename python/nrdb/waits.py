@@ -13,7 +13,7 @@ from .words import duration
 
 MOST_NUMBERS = 8  # the most goroutines that are named
 LAST_USE, A_CONNECTION, A_RESPONSE, ALL_REQUESTS = (
-    "the last who uses the descriptor",
+    "the last user of the descriptor",
     "a connection of net/http",
     "a response of net/http",
     "the end of all requests of net/http",

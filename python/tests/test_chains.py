@@ -41,7 +41,7 @@ SAYS = {
     "latecomer": ("nobody took it: fastest had returned, by {bug}.", "1 goroutine put a result into a channel that"),
     "handshake": ("was in Read at {bug} in accept", "Nobody has accepted its connection: goroutine 1, which accepts at"),
     "verb": ("({bug} writes into it, and nothing flushes that before main.go:", "Perhaps the answer is in a buffer that wasn't flushed"),
-    "header": ("Read at {bug} in readFrame", "asked for 7 bytes and got 3: a Read returns what is there."),
+    "header": ("Read at {bug} in readFrame", "asked for 7 bytes and got 3: a Read returns what has arrived."),
     "panicked": ("left (*pages).show without the Done at {bug}, which isn't deferred", "a panic passes by it"),
     "lengthy": ("whose last was Read at {bug} in lines", "Perhaps a line was too long: a bufio.Scanner gives up"),
     "duplicated": ("Perhaps a second descriptor of it is open, as {bug} makes it", "and the end of the stream didn't come."),

@@ -69,7 +69,7 @@ def test_a_hang_of_a_program_that_ended_is_below_the_failed_call_that_it_explain
     recording = stored("guarded-bad")
     cause = causes_of(recording)[0]
     assert graph_of(recording).has_ended
-    assert "Goroutine 2, at the other end, waited then, and waits yet." in cause
+    assert "Goroutine 2, at the other end, was waiting then, and still is." in cause
     assert "Perhaps nobody unlocked it" in "\n".join(opening_words(recording))
 
 
@@ -78,7 +78,9 @@ def test_a_hang_of_the_goroutine_of_a_failed_call_is_below_that() -> None:
     assert re.search(
         r"^cause:  Write at main.go:\d+ in \(\*sink\).putAndTell, .* ended with (EPIPE|ECONNRESET)\.$", first
     )
-    waits = next(number for number, line in enumerate(says) if re.search(r"Goroutine \d+ waits since then\.$", line))
+    waits = next(
+        number for number, line in enumerate(says) if re.search(r"Goroutine \d+ has been waiting since then\.$", line)
+    )
     assert re.match(r" {10}All \d wait perhaps for goroutine \d+, which waits at main.go:\d+ in ", says[waits + 1])
 
 
@@ -115,7 +117,7 @@ def test_a_call_of_the_same_line_that_waits_yet_explains_one_that_failed() -> No
     graph, (cause,) = graph_of(recording), failures_of(recording)
     twin = Waiter(Name(9), recording.length, recording.lines.of(cause.call.first), cause.call)
     hang = Hang([twin, twin], [Need([], more=["It was dropped."])] * 2, [])
-    assert because_of(graph, hang, cause) == "Goroutine 9 waits in such a call yet."
+    assert because_of(graph, hang, cause) == "Goroutine 9 is still waiting in such a call."
     assert not because_of(graph, hang._replace(needs=[Need([])] * 2), cause)
 
 

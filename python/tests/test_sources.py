@@ -22,7 +22,7 @@ SAYS = {
     "reentered": "holds it, locked at {bug}.",
     "unreturned": "Perhaps they kept it on this way: {bug} returns without main.go:",
     "outlasted": "in a function that takes r.Context() at {bug}: net/http ends that context as the handler returns.",
-    "unpushed": "Perhaps what {bug} writes is in a buffer yet",
+    "unpushed": "Perhaps what {bug} writes is still in a buffer",
     "crowded": "that channel, made at {bug}, has room for 2 values, and net/rpc drops a call that is done while it is full.",
     "mistaken": "in a.waiting under id; {bug} under id puts entries there, and main.go:",
     "turnedAway": "has ended, from whose loop {bug} leads.",

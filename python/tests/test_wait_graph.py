@@ -223,7 +223,7 @@ class Programs(unittest.TestCase):
         first, reader, waits, *hang = self.first("relay")
         self.assertRegex(first, rf"^The end of a stream isn't passed on: Read at {bug_line('relay')} in pass, ")
         self.assertRegex(reader, r"^Read at main.go:\d+ in relay.func1 .* waits for it at the other end, socket \d+")
-        self.assertRegex(waits, r"^Goroutine \d waits yet\.$")
+        self.assertRegex(waits, r"^Goroutine \d is still waiting\.$")
         self.assertTrue(all(line.startswith("  ") for line in hang[:3]), hang)
         recording = Recording.read(str(CAUSED / "relay-bad.jsonl"))
         rules = [one.rule for one in all_suspects_of(recording).suspects if one.is_shown]

@@ -158,7 +158,7 @@ def says_of(index: Index, wait: Waiting, hand: Hand, wrote: Call, read: Call) ->
     was = "was" if Name(wrote.goroutine) == wait.name else "was perhaps"
     says = [
         f"{told(recording, wrote)} in {wrote.steps()} {was} its request. {told(recording, read)} got {counted(read.moved or 0, 'byte')} after "
-        f"that, in step {read.last}, and reads on since step {hand.call.first}: it handed that to nobody who waits there."
+        f"that, in step {read.last}, and reads on since step {hand.call.first}: it handed that to no goroutine that waits there."
     ]
     ways, place = ways_past(recording, hand.reader.stack, hand.line.file, hand.line.line), hand.line.place()
     by = ways_words(hand.line.file, ways)

@@ -211,7 +211,7 @@ def part_says(index: Index, call: Call, last: Call) -> list[str]:
     many = f"{'at least ' if asked == MOST_ASKED else ''}{asked}"
     return [
         f"{counted(unread, 'byte')} that had been written there were never read: {told(recording, last)}, the last Read, asked for {many} and got "
-        f"{got}. A Read returns what is there."
+        f"{got}. A Read returns what has arrived."
     ]
 
 

@@ -43,17 +43,17 @@ def because_of(graph: WaitGraph, hang: Hang, cause: Optional[Cause]) -> str:
         return ""
     call, waiters = cause.call, {waiter.name: waiter for waiter in waiters_of(hang)}
     if named := next((one for one in waiters.values() if one.call and one.since in cause.steps), None):
-        return f"{str(named.name).capitalize()} waits yet."
+        return f"{str(named.name).capitalize()} is still waiting."
     name = Name(call.goroutine)
     if name in waiters and has_stopped(graph, waiters[name], call):
-        return f"{str(name).capitalize()} waits since then."
+        return f"{str(name).capitalize()} has been waiting since then."
     if any(name in (need.gone, *need.ended) for need in hang.needs):
         return f"{str(name).capitalize()} has ended since, and others wait for that."
     other = next((waiters[one] for one in others_of(graph, call) if one in waiters), None)
     if other and other.since <= call.last:
-        return f"{str(other.name).capitalize()}, at the other end, waited then, and waits yet."
+        return f"{str(other.name).capitalize()}, at the other end, was waiting then, and still is."
     twin = next((root for root in hang.roots if is_twin(graph, root, call)), None)
-    return f"{str(twin.name).capitalize()} waits in such a call yet." if twin and hang.has_reason else ""
+    return f"{str(twin.name).capitalize()} is still waiting in such a call." if twin and hang.has_reason else ""
 
 
 def has_stopped(graph: WaitGraph, waiter: Waiter, call: Call) -> bool:

@@ -39,7 +39,7 @@ def left_in_buffer(index: Index, call: Call) -> list[str]:
         return []
     for frame in index.recording.lines.of(call.first).calls:
         if frame.of == OF_THE_PROGRAM and (place := unflushed_in(index.recording, frame)):
-            return [f"Perhaps what {place} writes is in a buffer yet: nothing flushes it before {frame.place()}."]
+            return [f"Perhaps what {place} writes is still in a buffer: nothing flushes it before {frame.place()}."]
     return []
 
 

@@ -41,7 +41,9 @@ def partial_reads(index: Index, call: Call) -> list[str]:
         if found:
             places = " and ".join(f"{one.file}:{number}" for number in found[:MOST])
             reads = "read" if found[1:] else "reads"
-            return [f"Perhaps a part was taken for the whole: {places} {reads} once, and a Read returns what is there."]
+            return [
+                f"Perhaps a part was taken for the whole: {places} {reads} once, and a Read returns what has arrived."
+            ]
     return []
 
 
@@ -57,7 +59,7 @@ def part_taken(index: Index, call: Call) -> list[str]:
         is_once = own and lines and within and own[0].line in partial_lines(lines, within)
         if is_once and is_of_a_body(index.recording, read):
             asked, got = asked_of(index.recording).of(read) or 0, size_of(index, read)
-            says = f"{told(index.recording, read)} asked for {counted(asked, 'byte')} and got {got}: a Read returns what is there."
+            says = f"{told(index.recording, read)} asked for {counted(asked, 'byte')} and got {got}: a Read returns what has arrived."
             return [says] if are_known(index) and 0 < got < asked else []
     return []
 

@@ -64,7 +64,7 @@ def hangs_table(recording: Recording, position: int) -> Table:
     at = f"at position {position}" if position else "at the end"
     rest = [] if graph.shown else [f"no call hangs {at}, but for those that wait for connections"]
     if graph.shown and not position:
-        rest.append(f"that is at the end, position {recording.length}: the session stands at the start")
+        rest.append(f"that is at the end, position {recording.length}: the session is at the start")
     if graph.idle:
         rest.append(f"{graph.idle} more in Go's own code alone, as idle connections of net/http are")
     return Table("hangs", [row for hang in graph.shown for row in rows_of(graph, hang)], "; ".join(rest))

@@ -23,7 +23,7 @@ from .waits import requests_data, waits_data
 MOST = 20_000  # the most steps of a part
 AT_ONCE = 8_000  # the steps of the part of a longer recording, unless a part is named
 STAGES = (
-    "netrev tells what each step changed",
+    "netrev lists what each step changed",
     "the rules look for suspects, and who waits for whom",
     "calls and their lines",
     "netrev's values of the part that is shown",

@@ -1,5 +1,6 @@
-"""Deadline left behind: a deadline passes that was set for both sides, or before the recording begins, and only the
-other side's was moved since; or its setter went over to the other side."""
+"""Deadline left behind: a deadline passes that was set for both sides or before the recording begins, and only the
+other side's deadline was moved since; or the goroutine that set it went over to setting the other side's deadline
+instead."""
 
 from typing import Iterator, Optional
 

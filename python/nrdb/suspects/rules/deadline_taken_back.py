@@ -1,4 +1,4 @@
-"""Deadline taken back too soon: a deadline that has passed is moved before the goroutine that it woke has looked why."""
+"""Deadline taken back too soon: a deadline that has passed is moved before the goroutine that it woke has checked why it was woken."""
 
 from typing import Iterator, Optional
 
@@ -36,7 +36,7 @@ def suspect_of(run: Run, use: Use, side: str, passing: Passing, setting: Setting
     status, how = run.changes.value(f"gor {who}", step - 1), "took it back" if setting.time == 0 else "moved it"
     says = (
         f"the {NAMES[side]} deadline of descriptor {d} passed at step {passing.step} ({passing.kind}), and step {step} by goroutine "
-        f"{setting.goroutine} {how} before goroutine {who}, {status.split()[0]}, had looked why it was woken"
+        f"{setting.goroutine} {how} before goroutine {who}, {status.split()[0]}, had checked why it was woken"
     )
     listed = run.facts.taken_back.get((step, d, side))
     return Suspect(
