@@ -1,6 +1,5 @@
-"""Go's control flow at a socket (internal/poll, runtime/netpoll): the next step of a goroutine, from its status and
-its operation, and what follows each answer. A call is a list of operations: `Read` locks, resets, reads and
-unlocks."""
+"""Go's control flow at a socket (internal/poll, runtime/netpoll): the next step of a goroutine, given its status and its operation, and
+what follows each answer. A call is a list of operations; `Read` locks, resets, reads and unlocks."""
 
 from enum import Enum, auto
 from typing import Any, NamedTuple, Optional
@@ -34,10 +33,10 @@ class Sort(Enum):
 
 SORTS = {sort.value: sort for sort in Sort}  # by the kind of the first step
 ENDS = {Sort.UNLOCK: (Sort.LOCK,), Sort.GIVE_UP: (Sort.REFER, Sort.CLOSE)}  # the operation that ends each of these
-# operations in between, which are skipped if an earlier one fails
+# operations in between, which are skipped if an earlier one failed
 TRIES = (Sort.RESET, Sort.WAIT, Sort.READ, Sort.WRITE)
 
-# the step that a goroutine of this status makes, whatever its operation; a sleeping goroutine makes none
+# the step that a goroutine with this status makes, whatever its operation; a sleeping goroutine makes none
 BY_STATUS = {
     "acquiring": "acquire",
     "relock": "rwlock",
@@ -52,7 +51,7 @@ ASLEEP = ("parked", "queued")
 
 
 class Names(NamedTuple):
-    """What the first step of an operation names: whether a goroutine, a socket or a descriptor, and whether a side or a mode."""
+    """The objects that the first step of an operation names: a goroutine, a socket or a descriptor, and a side or a mode."""
 
     goroutine: bool
     of: str
@@ -76,7 +75,7 @@ def step_by_status(g: int, status: Status) -> Optional[Step]:
 
 
 def first_step(sort: Sort, g: int, which: int, side: str, values: tuple[Any, ...]) -> Step:
-    """The step with which an operation begins, or tries again: of this socket or descriptor, if it names one."""
+    """The step with which an operation begins or tries again, at this socket or descriptor if it names one."""
     names = NAMES[sort]
     named = (*((g,) if names.goroutine else ()), *((which,) if names.of else ()), *((side,) if names.side else ()))
     return sort.value, *named, *values
@@ -85,7 +84,7 @@ def first_step(sort: Sort, g: int, which: int, side: str, values: tuple[Any, ...
 class Came(Enum):
     """The consequence of an answer."""
 
-    # the operation, or a part of it, is over; it goes on if something is left to read, to write or to release
+    # the operation, or a part of it, is over; it continues if something is left to read, write or release
     OVER = auto()
     STAYS = auto()  # the status determines the next step
     WAITS = auto()  # it waits first
@@ -93,10 +92,10 @@ class Came(Enum):
     FAILS = auto()
 
 
-LAST = ("last",)  # the answer after which a goroutine must destroy the closed descriptor: it gave up the last reference
+LAST = ("last",)  # the goroutine gave up the last reference to the closed descriptor and must destroy it
 CODES = {"code 0": Came.OVER, "code": Came.FAILS}
 STAYS = {"yes": Came.STAYS, "no": Came.STAYS, "wait": Came.STAYS}
-# by the kind of a step, and by its answer (`code` is any code but 0): the consequence, if the operation isn't over
+# by the kind of a step and its answer (`code` is any code but 0): the consequence, if the operation isn't over
 ANSWERS = {
     "incref": {"no": Came.FAILS},
     "increfclose": {"no": Came.FAILS},

@@ -1,7 +1,7 @@
-"""Runs the model instead of netrev:  python3 python netrev_machine run|check|upgrade|changes|suspects FILE
+"""Runs the model instead of netrev: python3 python netrev_machine run|check|upgrade|changes|suspects FILE
 
-It gives the program's answers, if the model can decide them. It is unproved, and slow for long recordings. Tests of nrdb that need no
-built program use it.
+It prints what netrev would, if the model can decide that. It is unproved, and slow for long recordings. Tests of nrdb that don't need a
+built netrev use it.
 """
 
 import sys
@@ -32,7 +32,7 @@ def run(recording: bytes) -> int:
 
 
 def main(words: list[str]) -> int:
-    """Runs the requested program; the exit status."""
+    """Runs the requested subcommand and returns the exit status."""
     if len(words) != 2 or words[0] not in ("run", "check", "upgrade", "changes", "suspects"):
         print(__doc__, file=sys.stderr)
         return 2

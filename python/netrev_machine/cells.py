@@ -1,4 +1,4 @@
-"""The output of `print` and `dump` for a state, by docs/reference/COMMANDS.md."""
+"""The output of `print` and `dump` for a state, as docs/reference/COMMANDS.md defines it."""
 
 from typing import Any, Callable, Optional
 
@@ -58,7 +58,7 @@ def value(world: World, name: str, number: Optional[int] = None) -> object:
 
 
 def dumped(world: World, name: str, s: int) -> str:
-    """The contents of a dump: bytes of a buffer, or the goroutines of a queue."""
+    """The contents for a dump: the bytes of a buffer, or the goroutines in a queue."""
     if s >= len(world.sockets):
         return "absent"
     socket = world.sockets[s]
@@ -68,7 +68,7 @@ def dumped(world: World, name: str, s: int) -> str:
 
 
 def look(world: World, asked: str) -> str:
-    """The reply to a query: `print CELL` or `dump WHAT S`, spelled with single spaces."""
+    """The reply to a query: `print CELL` or `dump WHAT S`, with single spaces."""
     verb, name, *rest = asked.split()
     numbers = [int(number) for number in rest]
     shown = value(world, name, *numbers) if verb == "print" else dumped(world, name, numbers[0])

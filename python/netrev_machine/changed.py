@@ -1,4 +1,4 @@
-"""The cells that the last step of a machine in place changed, from the machine's record of the step."""
+"""The cells that the last step of an in-place machine changed, found in the machine's record of the step."""
 
 from typing import Any, NamedTuple
 
@@ -6,14 +6,14 @@ from .cells import SHOWS_ALL, SHOWS_DESC, SHOWS_GOROUTINE, SHOWS_SOCKET, Shows
 from .in_place import WHOLE, Machine
 from .machine import Timer
 
-# the lists of queues, for `dump`
+# the lists of queues, as `dump` has them
 SHOWS_QUEUES: Shows = {"rq": lambda socket: socket.queues[0], "wq": lambda socket: socket.queues[1]}
 # (no step changes cells of a socket and of a descriptor, so `shut` comes last)
 OF_MANY: dict[str, Shows] = {"goroutines": SHOWS_GOROUTINE, "sockets": SHOWS_SOCKET, "descs": SHOWS_DESC}
 
 
 class Before(NamedTuple):
-    """The values of the whole machine before the step."""
+    """The values of cells of the whole machine before the step."""
 
     clock: int
     waiters: int
@@ -22,8 +22,8 @@ class Before(NamedTuple):
 
 
 def changed_cells(machine: Machine, with_queues: bool = False) -> list[str]:
-    """The cells that the last step changed, in the order of docs/reference/COMMANDS.md, and those of one name by
-    number; with queues also the lists of `dump rq` and `dump wq`, at the end."""
+    """The cells that the last step changed, in the order of docs/reference/COMMANDS.md, and by number within a name; with `with_queues`
+    also the lists of `dump rq` and `dump wq`, at the end."""
     whole: dict[str, Any] = {}
     first: dict[str, dict[int, Any]] = {}  # the values before the step
     for of, place, old in machine.changes:
@@ -45,7 +45,7 @@ def _of_all(machine: Machine, whole: dict[str, Any]) -> list[str]:
 
 
 def _of_many(now: list[Any], before: dict[int, Any], shows: Shows) -> list[str]:
-    """The cells of goroutines, sockets or descriptors, of those that were changed or made."""
+    """The cells of the goroutines, sockets or descriptors that were changed or made."""
     return [
         f"{name} {place}"
         for name, show in shows.items()

@@ -19,12 +19,11 @@ def lines_of(machine: Machine, number: int) -> list[str]:
 
 def _shown(machine: Machine, cell: str) -> object:
     name, *number = cell.split()
-    return value(cast(World, machine), name, *map(int, number))  # (it reads as one)
+    return value(cast(World, machine), name, *map(int, number))  # (it can be read like a World)
 
 
 def changes(recording: bytes, observer: Observer) -> tuple[list[str], bool]:
-    """The lines of all steps and the final line, and whether the recording has no fault. Raises Doubtful if the model
-    can't decide."""
+    """The lines of all steps and the final line, and whether the recording is free of faults. Raises Doubtful if the model can't decide."""
     lines: list[str] = []
     try:
         text = read_text(recording)

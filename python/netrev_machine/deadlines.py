@@ -1,5 +1,5 @@
-"""The machine's timers alone, for callers that don't need the other parts: a heap of armed timers, and the timers
-that went off and haven't run."""
+"""Only the machine's timers, for callers that don't need its other parts: a heap of armed timers, and the timers that went off but haven't
+run."""
 
 from __future__ import annotations
 
@@ -30,7 +30,7 @@ class Timer:
 
 @dataclass(slots=True)
 class Descriptor:
-    """The deadlines of a descriptor and their timers; each pair is for reading and writing."""
+    """The deadlines of a descriptor and their timers; each pair has an element for reading and one for writing."""
 
     closing: bool = False
     deadlines: list[int] = field(default_factory=lambda: [0, 0])
@@ -46,7 +46,7 @@ class Deadlines:
     def __init__(self) -> None:
         self.descriptors: dict[int, Descriptor] = {}
         self.heap: list[tuple[int, int, Timer]] = []  # including stopped timers
-        self._room = FEWEST  # the number above which it is swept
+        self._room = FEWEST  # the heap is swept above this number
         self.firings: list[Timer] = []
         self._keys: list[tuple[int, int, int]] = []  # the descriptor, side and sequence of each firing
         self._counts: dict[tuple[int, int, int], int] = defaultdict(int)  # how often each of these is in the list
@@ -54,7 +54,7 @@ class Deadlines:
         self.most_firings = 0
 
     def open(self, number: int) -> tuple[int, int]:
-        """Opens a descriptor, and records its sequences then."""
+        """Opens a descriptor, and returns its sequences at that time."""
         descriptor = self.descriptors.setdefault(number, Descriptor())
         descriptor.closing = False
         descriptor.deadlines = [0, 0]
@@ -98,7 +98,7 @@ class Deadlines:
     def set(
         self, number: int, mode: str, deadline: int, setter: Any = None, changes: list[tuple[int, bool]] | None = None
     ) -> None:
-        """Sets the deadline. `changes` are those of `changing`, if they are known."""
+        """Sets the deadline. `changes` is the result of `changing`, if that was computed already."""
         descriptor = self.descriptors[number]
         if descriptor.closing:
             return
@@ -126,7 +126,7 @@ class Deadlines:
         heapq.heappush(self.heap, (due, self.armings, timer))
 
     def _sweep(self) -> None:
-        """Removes stopped timers from the heap: most are stopped long before they are due."""
+        """Removes stopped timers from the heap, because most timers are stopped long before they are due."""
         self.heap = [entry for entry in self.heap if entry[2].armed]
         heapq.heapify(self.heap)
         self._room = max(FEWEST, 2 * len(self.heap))
@@ -137,7 +137,7 @@ class Deadlines:
         return self.heap[0][2] if self.heap else None
 
     def pop(self) -> Timer | None:
-        """The least timer goes off, if there is one."""
+        """Lets the least timer go off, if there is one."""
         timer = self.least()
         if timer:
             timer.armed = False
@@ -149,12 +149,12 @@ class Deadlines:
         return timer
 
     def place(self, number: int, side: int, sequence: int) -> int | None:
-        """The place of a firing in the list, if it is in it."""
+        """The index of a firing in the list, if the list has it."""
         key = number, side, sequence
-        return self._keys.index(key) if self._counts.get(key) else None  # (it is mostly none of hundreds)
+        return self._keys.index(key) if self._counts.get(key) else None  # (mostly it isn't one of hundreds)
 
     def fire(self, place: int, sides: str = "") -> tuple[Timer, bool]:
-        """The function of a timer runs, for these sides or those that it covers; the timer, and whether it is stale."""
+        """Runs the function of a timer, for these sides or those that it covers; returns the timer, and whether it is stale."""
         firing = self.firings.pop(place)
         self._counts[self._keys.pop(place)] -= 1
         descriptor = self.descriptors[firing.descriptor]

@@ -1,10 +1,10 @@
-"""A plain model of the shared debugger, for comparison with a session's replies.
+"""A simple model of the shared debugger, to compare a session's replies with.
 
-`Recording` has the facts about each position of a recording: the kinds of its steps from its text, and the replies
-of queries from one pass of `netrev run` over it. The vocabulary is in netrev_words/vocabulary.py.
+`Recording` has what is known about each position of a recording: the kinds of its steps, from its text, and the replies to queries, from
+one pass of `netrev run` over it. The vocabulary is in netrev_words/vocabulary.py.
 
-The model itself follows docs/reference/COMMANDS.md: `read_line` returns the meaning of a line, and
-`Recording.answer` its reply in a state of the session, and the state after it.
+The model itself follows docs/reference/COMMANDS.md: `read_line` returns the meaning of a line, and `Recording.answer` its reply in a state
+of the session, with the state after it.
 """
 
 from __future__ import annotations
@@ -31,18 +31,18 @@ CHECKPOINTS_FULL = "fault 404 checkpoints full"
 
 
 Reply = tuple[str, ...]  # the lines of a reply
-Marks = tuple[tuple[int, str], ...]  # their numbers, and the text of each in `info breakpoints`
+Marks = tuple[tuple[int, str], ...]  # the number of each, and its text in `info breakpoints`
 
 
 class Asked(NamedTuple):
-    """The meaning of a line: a command, which is placed, a query, or a line with the same answer in every state."""
+    """The meaning of a line: a command, which goes into the journal, a query, or a line with the same reply in every state."""
 
     sort: str
     what: Any = None
 
 
 class State(NamedTuple):
-    """The shared state: marks and checkpoints are pairs of a number and its object, in rising order."""
+    """The shared state: marks and checkpoints are pairs of a number and its object, in ascending order."""
 
     position: int = 0
     reverse: bool = False
@@ -57,7 +57,7 @@ COMMANDS = {"step", "seek", "turn", "mark", "delete", "checkpoint", "restart", "
 
 
 def read_line(line: bytes) -> Optional[Asked]:
-    """The meaning of a line of bytes without its line feed; None for a blank line."""
+    """The meaning of a line of bytes without its newline; None for a blank line."""
     if len(line) > MOST_LINE:
         return Asked("fault", TOO_LONG)
     text = line.removesuffix(b"\r").decode("latin-1")
@@ -71,7 +71,7 @@ def read_line(line: bytes) -> Optional[Asked]:
 
 
 def read_words(first: str, rest: list[str]) -> Optional[Asked]:
-    """The meaning of words whose first one is known; None if the rest is wrong."""
+    """The meaning of words whose first word is known; None if the others are wrong."""
     number = number_of(rest[0]) if len(rest) == 1 else None
     match first:
         case "stepi" | "reverse-stepi":
@@ -107,13 +107,13 @@ def read_words(first: str, rest: list[str]) -> Optional[Asked]:
 
 
 def is_command(asked: Optional[Asked]) -> bool:
-    """Whether a line is a command, which takes a place of the journal."""
+    """Whether a line is a command, which takes a place in the journal."""
     return asked is not None and asked.sort in COMMANDS
 
 
 @dataclass(frozen=True, eq=False)
 class Recording:
-    """A recording, and the results of some queries at each of its positions. It lives as long as the script."""
+    """A recording, and the results of some queries at each of its positions. It is used for a whole script."""
 
     path: Optional[Path]
     kinds: tuple[str, ...]
@@ -145,7 +145,7 @@ class Recording:
 
     @lru_cache(maxsize=None)
     def hits_of(self, mark: str) -> tuple[int, ...]:
-        """The positions at which a mark hits, rising."""
+        """The positions at which a mark hits, in ascending order."""
         sort, what = mark.split(" ", 1)
         if sort == "watch":
             values = self.shown[f"print {what}"]
@@ -259,7 +259,7 @@ class Recording:
 
 
 def left_standing(marks: Marks, hitting: Sequence[int]) -> Marks:
-    """The marks that remain after a stop at which these marks hit, without the temporary ones among them."""
+    """The marks that remain after a stop at which these marks hit: all except the temporary ones among these."""
     return tuple(mark for mark in marks if mark[0] not in hitting or not mark[1].startswith("tbreak "))
 
 

@@ -1,4 +1,4 @@
-"""The machine, changed in place: the 31 functions of steps.py run over it as over a World. It keeps the changes of each step, so a
+"""The machine, changed in place: the 31 functions of steps.py work on it as on a World. It stores the changes of each step, so that a
 refused step changes nothing, the last steps can be undone, and callers can ask what a step changed."""
 
 from __future__ import annotations
@@ -14,23 +14,23 @@ from .steps import OF_KIND
 ONE_OF_MANY = ("goroutines", "sockets", "descs")
 STATE = World._fields
 Itself = TypeVar("Itself", bound="Machine")
-WHOLE = -1  # the place of all other parts, each of which is replaced as a whole
+WHOLE = -1  # the place for all other parts, each of which is replaced as a whole
 
 
 class Change(NamedTuple):
-    """A change and the old value: of goroutines, sockets and descriptors the one at a place (None: it was new); of
-    all other parts the whole."""
+    """A change with the old value: for a goroutine, socket or descriptor, the one at a place (None if it was new); for any other part, the
+    whole part."""
 
     of: str
     place: int
     old: Any
 
 
-Changes = list[Change]  # of one step, in their order
+Changes = list[Change]  # the changes of one step, in order
 
 
 class Machine:
-    """The state, and the changes of the last steps, up to the given number."""
+    """The state, and the changes of the last steps, at most as many as given."""
 
     __slots__ = (*STATE, "steps", "_changes", "_seats")
 
@@ -43,17 +43,17 @@ class Machine:
         self.free: tuple[int, ...] = ()
         self.timers: tuple[Timer, ...] = ()
         self.firings: tuple[Timer, ...] = ()
-        self.steps: deque[Changes] = deque(maxlen=remembers)  # what each of the last steps changed; None remembers all
+        self.steps: deque[Changes] = deque(maxlen=remembers)  # the changes of the last steps; if None, of all
         self._changes: Changes = []
         self._seats: dict[tuple[Any, ...], int] = {}  # the goroutine inside the wait of a descriptor and side
 
     @property
     def changes(self) -> Changes:
-        """What the last step changed."""
+        """The changes of the last step."""
         return self.steps[-1] if self.steps else []
 
     def step(self, step: Step) -> Answer:
-        """Makes a step; its answer. If it raises Refused, nothing has changed."""
+        """Makes a step and returns its answer. If it raises Refused, nothing has changed."""
         changes: Changes = []
         self._changes = changes
         try:
@@ -65,14 +65,14 @@ class Machine:
         return answer
 
     def undo(self) -> bool:
-        """Leads back over the last step: whether one is remembered."""
+        """Undoes the last step; returns whether one was stored."""
         if not self.steps:
             return False
         self._lead_back(self.steps.pop())
         return True
 
     def copy(self: Itself) -> Itself:
-        """A copy of the machine, with no step to undo."""
+        """A copy of the machine, without any step to undo."""
         made = object.__new__(type(self))
         for name in STATE:
             value = getattr(self, name)
@@ -93,7 +93,7 @@ class Machine:
         return d < len(self.descs) and d not in self.free
 
     def inside(self, d: int, side: str) -> list[int]:
-        """The goroutines inside the wait of a descriptor and side: one at most."""
+        """The goroutines inside the wait of a descriptor and side: at most one."""
         g = self._seats.get((d, side))
         return [] if g is None else [g]
 
@@ -125,7 +125,7 @@ class Machine:
         return self
 
     def _put_all(self, name: str, old: list[Any], items: tuple[Any, ...]) -> None:
-        """Replaces these goroutines, sockets or descriptors, of which one may be new."""
+        """Replaces these goroutines, sockets or descriptors, one of which may be new."""
         if len(items) != len(old):
             self._changes.append(Change(name, len(old), None))
             old.extend(items[len(old) :])

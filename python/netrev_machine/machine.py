@@ -1,7 +1,7 @@
 """The machine's state, as in docs/internals/MACHINE.md. A state is immutable: a step makes the next one from it.
 
-A status is a tuple with the words of `print gor`: ("idle",), ("acquiring", 0, "r"), ("owing", 0, 2, 1). Values for
-both sides are pairs, reading first.
+A status is a tuple of the words of `print gor`: ("idle",), ("acquiring", 0, "r"), ("owing", 0, 2, 1). Values for both sides are pairs,
+reading first.
 """
 
 from __future__ import annotations
@@ -10,7 +10,7 @@ from typing import Any, NamedTuple, TypeVar, Union
 
 from netrev_words.recording import Answer, Limits
 
-Status = tuple[Any, ...]  # its name, its numbers and its side
+Status = tuple[Any, ...]  # a name, numbers and a side
 Word = Union[str, int]  # "nil", "ready", "wait" or a goroutine's number
 Item = TypeVar("Item")
 
@@ -23,7 +23,7 @@ GREATEST_COUNT = 2**32 - 1
 
 
 class Refused(Exception):
-    """A step that is refused, and the number of the reason."""
+    """The step is refused; `reason` is the number of the reason."""
 
     def __init__(self, reason: int) -> None:
         super().__init__(reason)
@@ -45,7 +45,7 @@ class Lock(NamedTuple):
 
 
 class Socket(NamedTuple):
-    """A socket. Of the buffers the input is that of reading, the output that of writing."""
+    """A socket. Its input buffer is for reading, its output buffer for writing."""
 
     capacities: tuple[int, int]
     lock: Lock = Lock()

@@ -14,7 +14,7 @@ class Observer:
     """Receives each step and each line, and ignores them."""
 
     def applied(self, kind: str, answer: Answer) -> None:
-        """A step of this kind applied, and had this answer."""
+        """A step of this kind applied and had this answer."""
 
     def refused(self, kind: str, reason: int) -> None:
         """A step of this kind didn't apply, for this reason."""

@@ -1,5 +1,4 @@
-"""The changes of a descriptor inside one step: the check, unblocking, deadlines with their timers, events and
-closing."""
+"""What changes of a descriptor inside one step: the check, unblocking, deadlines with their timers, events and closing."""
 
 from typing import Optional, Sequence
 
@@ -9,7 +8,8 @@ from .machine import GREATEST_SEQUENCE, Desc, Refused, Timer, Word, World, at, p
 
 
 def check(desc: Desc, side: str) -> int:
-    """The code of a side: 1 closing, 2 its deadline has passed, 3 an event error, for reading only, or 0."""
+    """The code of a side: 1 if the descriptor is closing, 2 if the side's deadline has passed, 3 after an event error (for reading only),
+    or 0."""
     if desc.closing:
         return 1
     if desc.deadlines[at(side)] < 0:
@@ -45,7 +45,8 @@ def unblock(world: World, d: int, side: str, readiness: bool) -> World:
 
 
 def opened(world: World, s: int) -> tuple[World, int]:
-    """The world with a descriptor opened for a socket, and its number. Reason 3 if none is free and all are made."""
+    """The world with a descriptor opened for a socket, and its number. Refused with reason 3 if no descriptor is free and all have been
+    made."""
     if not world.free and len(world.descs) == world.limits.desc:
         raise Refused(3)
     if world.free:
@@ -73,7 +74,7 @@ def event(world: World, d: int, mode: str, error: bool) -> World:
 
 
 def are_both(deadlines: Sequence[int]) -> bool:
-    """Whether both deadlines, of reading and of writing, are the same future time: then one timer serves both."""
+    """Whether the deadlines for reading and for writing are the same future time, so that one timer serves both."""
     read, write = deadlines
     return read > 0 and read == write
 
@@ -93,7 +94,7 @@ def followed(is_running: bool, place: int, before: Sequence[int], now: Sequence[
 
 
 def deadline_of(clock: int, time: int) -> int:
-    """The deadline for a time from now; no deadline, or a past one, is kept as given."""
+    """The deadline at a time from now; no deadline and a past one stay as given."""
     return min(clock + time, GREATEST_TIME) if time > 0 else time
 
 
@@ -140,7 +141,7 @@ def with_timer(world: World, d: int, side: str, combo: bool) -> World:
 
 
 def fired(world: World, firing: Timer) -> Optional[World]:
-    """Runs a firing; None if it is stale. Its sequence is that of the first side that it covers."""
+    """Runs a firing; None if it is stale. Its sequence belongs to the first side that it covers."""
     d, own = firing.desc, at(firing.covers[0])
     if firing.sequence != world.descs[d].sequences[own]:
         return None

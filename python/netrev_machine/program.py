@@ -1,5 +1,4 @@
-"""netrev as a model: the output of `run`, `check`, `upgrade`, `changes` and `suspects` for the bytes of a
-recording."""
+"""The model of netrev's program: the output of `run`, `check`, `upgrade`, `changes` and `suspects` for the bytes of a recording."""
 
 from typing import Callable, Iterable, NamedTuple, Optional
 
@@ -21,11 +20,11 @@ Listed = Callable[[bytes, Observer], tuple[list[str], bool]]
 LISTS: dict[str, Listed] = {
     "changes": changes,
     "suspects": suspects,
-}  # programs that print lines and then that of `check`
+}  # subcommands that print lines and then the output of `check`
 
 
 class Printed(NamedTuple):
-    """A status and the standard output; and another reason why it can't be right, if there is one."""
+    """An exit status and the standard output; and the reason why the output can't be right, if there is one."""
 
     status: int
     output: bytes
@@ -33,11 +32,11 @@ class Printed(NamedTuple):
 
 
 class Broken(Exception):
-    """The model comes to a state that isn't well-formed."""
+    """The model reached a state that isn't well formed."""
 
 
 class Replayed(NamedTuple):
-    """A recording whose steps all apply, the states of its positions, and the answers."""
+    """A recording whose steps all apply, with the states of its positions and the answers."""
 
     text: Text
     worlds: list[World]
@@ -55,7 +54,7 @@ def replay(recording: bytes, observer: Observer, keeps_worlds: bool = True, keep
 def held_together(
     replayed: Iterable[tuple[World, Optional[Answer]]], keeps_worlds: bool, keeps_answers: bool
 ) -> tuple[list[World], list[Answer]]:
-    """The states of all positions, of which the first ones are checked to be well formed, and the answers."""
+    """The states of all positions, and the answers. The first states are checked for being well formed."""
     worlds, answers = [], []
     for position, (world, answer) in enumerate(replayed):
         if position < HELD and (broken := breaches(world)):
@@ -68,7 +67,7 @@ def held_together(
 
 
 def printed(program: str, recording: bytes, script: bytes, observer: Observer) -> Optional[Printed]:
-    """The output of `netrev PROGRAM` over this recording, for `run` with this script; None if the model can't decide."""
+    """The output of `netrev SUBCOMMAND` over this recording, for `run` with this script; None if the model can't decide."""
     try:
         if program in LISTS:
             lines, is_good = LISTS[program](recording, observer)

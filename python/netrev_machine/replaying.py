@@ -1,4 +1,4 @@
-"""Replays a recording that was read, step by step."""
+"""Replays a parsed recording, step by step."""
 
 from typing import Callable, Iterator, Optional
 
@@ -11,7 +11,7 @@ from .steps import apply
 
 
 def differs(recorded: Answer, answer: Answer) -> bool:
-    """Whether a recorded answer isn't the machine's."""
+    """Whether a recorded answer differs from the machine's."""
     return recorded != answer
 
 
@@ -32,7 +32,7 @@ def answers(recording: Recording, observer: Observer, make: Callable[[Step], Ans
 
 
 def positions(recording: Recording, observer: Observer) -> Iterator[tuple[World, Optional[Answer]]]:
-    """The state of each position in turn with the answer that led to it, or the first Fault."""
+    """The state of each position in order, with the answer that led to it; raises the first Fault."""
     world = World(recording.limits)
     yield world, None
 

@@ -36,12 +36,12 @@ class Shown(dict[str, Looked]):
 
 
 def recording_of(steps: Sequence[Step], worlds: Sequence[World]) -> Recording:
-    """The debugger's data for a recording with these steps, and these states at its positions."""
+    """The debugger's data for a recording with these steps and with these states at its positions."""
     return Recording(None, tuple(step[0] for step in steps), Shown(worlds))
 
 
 class Session:
-    """Answers one line after the other."""
+    """Answers lines one after another."""
 
     def __init__(self, recording: Recording, observer: Observer) -> None:
         self.recording = recording
@@ -68,13 +68,13 @@ class Session:
 
 
 def lines_of(script: bytes) -> list[bytes]:
-    """The lines of a script, without their line feeds; the last one may lack it."""
+    """The lines of a script without their newlines; the last line may lack one."""
     lines = script.split(b"\n")
     return lines if lines[-1] else lines[:-1]
 
 
 def replies_to(session: Session, script: bytes) -> list[str]:
-    """The lines that `netrev run` prints to this script."""
+    """The lines that `netrev run` prints for this script."""
     replies: list[str] = []
     for line in lines_of(script):
         replies += session.answer(line) or ()

@@ -1,8 +1,7 @@
-"""The 31 kinds of step: each a function of the state and the arguments that returns the next state and the answer,
-or raises Refused with the first reason, in the order of the table of docs/internals/MACHINE.md.
+"""The 31 kinds of step: each is a function of the state and the arguments that returns the next state and the answer, or raises Refused
+with the first reason, in the order of the table in docs/internals/MACHINE.md.
 
-Answers are those of docs/internals/MACHINE.md in lower case; `number`, `code`, `got` and `put` come with their
-number.
+Answers are the words of docs/internals/MACHINE.md in lower case; `number`, `code`, `got` and `put` come with their number.
 """
 
 from typing import Callable
@@ -31,7 +30,7 @@ def idle(world: World, g: int) -> None:
 
 
 def within(world: World, g: int, place: str) -> Status:
-    """The descriptor and side of the wait in which a goroutine is at a place."""
+    """The descriptor and side of the wait in which a goroutine is at this place."""
     status = there(world, g)
     need(status[0] == place, 2)
     return status[1:]
@@ -288,5 +287,5 @@ OF_KIND = {function.__name__: function for function in KINDS}
 
 
 def apply(world: World, step: Step) -> Outcome:
-    """The next state and the answer of a step: a tuple of its kind and its arguments."""
+    """The next state and the answer of a step, which is a tuple of a kind and its arguments."""
     return OF_KIND[step[0]](world, *step[1:])

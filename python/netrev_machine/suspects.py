@@ -1,5 +1,5 @@
-"""The output of `netrev suspects` for a recording, by the definitions in docs/reference/COMMANDS.md word for word: each question goes over
-all steps, with the states before and after each. So it is quadratic, and meant for short recordings.
+"""The output of `netrev suspects` for a recording, following the definitions in docs/reference/COMMANDS.md word for word: each question
+goes over all steps, with the states before and after each. So it takes quadratic time, and is meant for short recordings.
 
     passed deadline  a `fire` by which the deadline of a side passes, with the `setdeadline` that set it
     timeout          a check answered `code 2`, by which a call ends, with the `setdeadline` that set the deadline
@@ -8,7 +8,7 @@ all steps, with the states before and after each. So it is quadratic, and meant 
     asleep           a goroutine parked at a side, though a check would end its wait, or its socket has what it waits for
     held reference   a goroutine that took more references of a closed socket than it gave back
 
-Each line has one finding. Those about deadlines come step by step, the others are about the last position.
+Each line has one finding. Findings about deadlines come step by step; the others are about the last position.
 """
 
 from typing import Iterator, NamedTuple, Optional, Sequence
@@ -31,7 +31,7 @@ TAKES_A_REFERENCE, GIVES_A_REFERENCE = ("incref", "increfclose", "rwlock"), ("de
 
 
 class Replayed(NamedTuple):
-    """The steps of a recording, their answers, and the states: that of position n is the one after step n."""
+    """The steps of a recording, their answers, and the states: the state of position n is the one after step n."""
 
     steps: Sequence[Step]
     answers: Sequence[Answer]
@@ -50,12 +50,13 @@ class Replayed(NamedTuple):
         return self.step(n)[0] == kind and self.answers[n - 1][0] == answer
 
     def between(self, before: int, until: int) -> range:
-        """The steps after one of them and before another."""
+        """The steps after the first of these steps and before the second."""
         return range(before + 1, until)
 
 
 def suspects(recording: bytes, observer: Observer, hunts: Sequence[str] = HUNTS) -> tuple[list[str], bool]:
-    """The lines, and whether there is no fault; Doubtful if the model can't decide. A fault is the only line."""
+    """The lines, and whether the recording is free of faults; raises Doubtful if the model can't decide. If there is a fault, it is the
+    only line."""
     try:
         text = read_text(recording)
         reached = list(positions(text, observer))
@@ -77,7 +78,7 @@ def suspect_lines(replayed: Replayed, hunts: Sequence[str] = HUNTS) -> list[str]
 
 
 def came_of_deadlines(replayed: Replayed) -> Iterator[str]:
-    """The effects of deadlines, step by step, reading before writing."""
+    """What deadlines cause, step by step, reading before writing."""
     for n in range(1, replayed.end + 1):
         yield from passed_deadlines(replayed, n)
         yield from timeouts(replayed, n)
@@ -85,13 +86,13 @@ def came_of_deadlines(replayed: Replayed) -> Iterator[str]:
 
 
 def passed_deadlines(replayed: Replayed, n: int) -> Iterator[str]:
-    """Step n, if it is a `fire` answered `done`, after which a deadline is -1 that wasn't before."""
+    """Step n, if it is a `fire` answered `done` that sets a deadline to -1."""
     for d, side in passings(replayed, n):
         yield f"at {n} {PASSED_DEADLINE} {setting(replayed, n, d, side)}"
 
 
 def passings(replayed: Replayed, n: int) -> Iterator[tuple[int, str]]:
-    """The sides whose deadlines pass by step n."""
+    """The sides whose deadlines pass in step n."""
     if replayed.has(n, "fire", "done"):
         for d, desc in enumerate(replayed.worlds[n].descs):
             for side in SIDES:
@@ -109,7 +110,7 @@ def timeouts(replayed: Replayed, n: int) -> Iterator[str]:
 
 
 def checked(replayed: Replayed, n: int) -> Optional[tuple[int, int, str]]:
-    """The goroutine, the descriptor and the side of step n, if it is a reset, the beginning of a wait, or its last check."""
+    """The goroutine, the descriptor and the side of step n, if it is a reset, the beginning of a wait, or the last check of one."""
     kind, *arguments = replayed.step(n)
     if kind in NAMES_ITS_SIDE:
         g, d, side = arguments
@@ -121,7 +122,7 @@ def checked(replayed: Replayed, n: int) -> Optional[tuple[int, int, str]]:
 
 
 def taken_back(replayed: Replayed, n: int) -> Iterator[str]:
-    """Step n, if it sets the deadline of a side that has passed, and the goroutine that this woke hasn't looked."""
+    """Step n, if it sets the deadline of a side whose deadline has passed, while the goroutine that this woke hasn't checked yet."""
     if replayed.step(n)[0] == "setdeadline":
         _, _, d, mode, _ = replayed.step(n)
         for side in SIDES:
@@ -131,8 +132,8 @@ def taken_back(replayed: Replayed, n: int) -> Iterator[str]:
 
 
 def woken(replayed: Replayed, until: int, d: int, side: str) -> Optional[int]:
-    """The goroutine that was parked at a side when its deadline passed last before a step, if the side wasn't set, the descriptor wasn't
-    opened, and the goroutine didn't look after that."""
+    """The goroutine that was parked at a side when its deadline last passed before a step, if since then the side's deadline wasn't set,
+    the descriptor wasn't opened, and the goroutine didn't check."""
     passed = [n for n in replayed.between(0, until) if (d, side) in passings(replayed, n)]
     if (
         not passed
@@ -147,14 +148,14 @@ def woken(replayed: Replayed, until: int, d: int, side: str) -> Optional[int]:
 
 
 def looked(replayed: Replayed, n: int, g: int, d: int, side: str) -> bool:
-    """Whether goroutine g looked at a side by step n: it checked it, or took its readiness."""
+    """Whether goroutine g checked a side in step n, or took its readiness."""
     if checked(replayed, n) == (g, d, side):
         return True
     return replayed.step(n)[0] in TAKES_READINESS and replayed.step(n)[1] == g and takes(replayed, n, d, side)
 
 
 def setting(replayed: Replayed, until: int, d: int, side: str) -> str:
-    """The last setting of a side's deadline before a step, and the first one after it of the other side alone."""
+    """The last setting of a side's deadline before a step, and the first setting of only the other side after it."""
     other = "w" if side == "r" else "r"
     set_at = last_setting(replayed, until, d, side)
     _, g, _, mode, _ = replayed.step(set_at)
@@ -180,7 +181,7 @@ def is_setting(replayed: Replayed, n: int, d: int) -> bool:
 
 
 def lost_wake_ups(replayed: Replayed) -> Iterator[str]:
-    """Each goroutine that is parked at the end at a side to which a try is owed."""
+    """Each goroutine that is parked at the end at a side that is owed a try."""
     for d, desc in enumerate(replayed.worlds[replayed.end].descs):
         for side in SIDES:
             parked, event = desc.words[at(side)], owed(replayed, d, side)
@@ -191,7 +192,7 @@ def lost_wake_ups(replayed: Replayed) -> Iterator[str]:
 
 
 def owed(replayed: Replayed, d: int, side: str) -> Optional[int]:
-    """The last event of a side, if the descriptor wasn't opened after it and no try at that side was answered `again` after it."""
+    """The last event of a side, if since then the descriptor wasn't opened and no try at that side was answered `again`."""
     events = [n for n in range(1, replayed.end + 1) if is_event(replayed, n, d, side)]
     opened = last_opening(replayed, d, replayed.end + 1)
     if not events or events[-1] < opened:
@@ -202,13 +203,13 @@ def owed(replayed: Replayed, d: int, side: str) -> Optional[int]:
 
 
 def is_event(replayed: Replayed, n: int, d: int, side: str) -> bool:
-    """Whether step n is an event of a descriptor that was done and whose mode names the side."""
+    """Whether step n is an event of a descriptor, answered `done`, whose mode includes the side."""
     step = replayed.step(n)
     return replayed.has(n, "pollevent", "done") and step[1] == d and side in step[3]
 
 
 def last_opening(replayed: Replayed, d: int, until: int) -> int:
-    """The last `pollopen` before a step that was answered this descriptor."""
+    """The last `pollopen` before a step whose answer was this descriptor."""
     openings = (n for n in replayed.between(0, until) if replayed.has(n, "pollopen", "number"))
     return max(n for n in openings if replayed.answers[n - 1][1] == d)
 
@@ -225,11 +226,11 @@ def takes(replayed: Replayed, n: int, d: int, side: str) -> bool:
     return before == "ready" and after != "ready"
 
 
-# goroutines that sleep although their side has to be answered
+# goroutines that sleep although their side must be answered
 
 
 def asleep(replayed: Replayed) -> Iterator[str]:
-    """Each goroutine that is parked at the end at a side that has to be answered."""
+    """Each goroutine that is parked at the end at a side that must be answered."""
     world = replayed.worlds[replayed.end]
     for d, desc in enumerate(world.descs):
         for side in SIDES:
@@ -239,7 +240,7 @@ def asleep(replayed: Replayed) -> Iterator[str]:
 
 
 def reasons_to_answer(world: World, d: int, side: str) -> list[str]:
-    """The reasons why a side needn't wait: the first result of a check, then the state of its socket."""
+    """The reasons why a side needn't wait: the result of a check first, then the state of its socket."""
     desc, socket = world.descs[d], world.sockets[world.descs[d].socket]
     reads = side == "r"
     holds = {
@@ -272,7 +273,7 @@ def held_references(replayed: Replayed) -> Iterator[str]:
 
 
 def moved(replayed: Replayed, n: int, s: int) -> int:
-    """1 if step n took a reference of a socket, -1 if it gave one back, else 0."""
+    """1 if step n took a reference to a socket, -1 if it gave one back, else 0."""
     kind, *arguments = replayed.step(n)
     if kind in TAKES_A_REFERENCE and arguments[1] == s:
         return int(replayed.answers[n - 1] == ("yes",))

@@ -1,6 +1,6 @@
-"""The invariants of each state, by the list "What always holds" of docs/internals/MACHINE.md. The fuzzer checks
-them for the model, at each state that a recording reaches: if a state breaks one, the pages contradict each
-other, or the model is wrong. `breaches` names the broken ones."""
+"""The invariants of each state, from the list "What always holds" of docs/internals/MACHINE.md. The fuzzer checks them for the model, in
+each state that a recording reaches: if a state breaks one, the pages contradict each other, or the model is wrong. `breaches` names the
+broken invariants."""
 
 from typing import Iterator
 
@@ -16,8 +16,8 @@ def breaches(world: World) -> list[str]:
 
 
 def waits(world: World) -> Iterator[str]:
-    """At most one goroutine is inside each wait, of an open descriptor; words hold exactly the parked goroutines,
-    and waiters counts them."""
+    """At most one goroutine is inside each wait, and only of an open descriptor; words hold exactly the parked goroutines, and waiters
+    counts them."""
     held: dict[int, Status] = {}
     for d, desc in enumerate(world.descs):
         for side in SIDES:
@@ -53,7 +53,7 @@ def current(world: World, timer: Timer) -> bool:
 
 
 def timers(world: World) -> Iterator[str]:
-    """An armed timer has its side's sequence, deadline and function; of each side one timer or firing at most counts."""
+    """An armed timer has its side's sequence, deadline and function; for each side, at most one timer or firing counts."""
     for timer in world.timers:
         desc, place = world.descs[timer.desc], at(timer.side)
         function = "write" if timer.side == "w" else "both" if is_combo(desc) else "read"

@@ -1,4 +1,4 @@
-"""The vocabulary and the text forms that all of netrev's Python shares, from the pages alone.
+"""The vocabulary and the text forms that all of netrev's Python code shares, written only from the pages.
 
     vocabulary, commands             the tables of kinds, arguments, cells, limits and reasons, and of commands
     recording, reading, writing      recordings, read from bytes and written as text

@@ -21,7 +21,7 @@ def is_launcher(path: Path) -> bool:
 
 
 def on_the_path() -> Optional[str]:
-    """The first netrev of the PATH that isn't a launcher."""
+    """The first netrev on the PATH that isn't a launcher."""
     for folder in os.environ.get("PATH", os.defpath).split(os.pathsep):
         found = shutil.which("netrev", path=folder) if folder else None
         if found and not is_launcher(Path(found)):
@@ -30,8 +30,7 @@ def on_the_path() -> Optional[str]:
 
 
 def netrev_program() -> Optional[str]:
-    """The program that NETREV names, else the one that is built here, the one that is installed beside the running
-    program, or another installed one."""
+    """The program that NETREV names; or else the one built here, the one installed beside the running program, or another installed one."""
     beside = Path(sys.argv[0]).resolve().with_name("netrev")
     there = [str(path) for path in (BUILT, beside, INSTALLED) if path.is_file() and not is_launcher(path)]
     return os.environ.get("NETREV") or next(iter(there), None) or on_the_path()

@@ -1,4 +1,4 @@
-"""Command lines to type: nrdb and netrev-go as this user can call them, from the current folder."""
+"""Command lines to type: how this user can call nrdb and netrev-go from the current folder."""
 
 from __future__ import annotations
 
@@ -54,7 +54,7 @@ def is_executable(path: Path) -> bool:
 
 
 def path_from_here(path: Path) -> str:
-    """A path for a shell in the current folder: a relative one unless it is longer."""
+    """A path for a shell in the current folder: the relative path unless it is longer."""
     try:
         relative = os.path.relpath(path, os.getcwd())
     except OSError:  # the current folder is gone
@@ -64,19 +64,19 @@ def path_from_here(path: Path) -> str:
 
 
 def file_word(path: object) -> str:
-    """A file's name as a command's argument: one that begins with `-` would be read as an option."""
+    """A file's name as an argument of a command: a name that begins with `-` would be read as an option."""
     return f"./{path}" if str(path).startswith("-") else str(path)
 
 
 def how_to_get_netrev(option: str = "NETREV") -> str:
-    """What to do if netrev's program isn't found. `option` names another one."""
+    """What to do if netrev's program isn't found. `option` is the option that names another program."""
     build = make_command("netrev")
     get = f"`{build}` builds it" if build else "the Debian package and the archive contain it"
     return f"{get}; {option} names another one"
 
 
 def make_command(target: str) -> str | None:
-    """How `make` makes a target of this clone; None if this isn't a clone."""
+    """How `make` makes a target in this clone; None if this isn't a clone."""
     top = PACKAGES.parent
     if PACKAGES.name != "python" or not (top / "Makefile").is_file():
         return None

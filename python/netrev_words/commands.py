@@ -1,12 +1,11 @@
-"""netrev's own commands, each a row of one table."""
+"""netrev's own commands, in one table with a row for each."""
 
 from dataclasses import dataclass
 
 
 @dataclass(frozen=True)
 class Command:
-    """A command: its name, its usage, what it does, and its short names. An empty line of nrdb repeats it if it
-    steps."""
+    """A command: its name, its usage, what it does, and its short names. If the command steps, an empty line in nrdb repeats it."""
 
     name: str
     usage: str

@@ -8,20 +8,20 @@ from pathlib import Path
 from typing import IO, Any, Iterator
 
 STREAMS = tuple(map(Path, ("/dev", "/dev/fd", "/proc/self/fd")))
-MOST_LINKS = 40  # the most links that the kernel follows
+MOST_LINKS = 40  # the number of links that the kernel follows at most
 OF_LINES = b'{"where":'  # the beginning of a file of lines beside a recording (docs/reference/RECORDING.md)
 
 
 def beside(path: Path) -> Path:
-    """A new name in the folder of a file, short whatever the file's name."""
+    """A new name in the folder of a file, which is short even if the file's name is long."""
     return path.with_name(f".netrev-{os.getpid()}-{secrets.token_hex(4)}")
 
 
 @contextmanager
 def whole(path: Path, mode: str = "w") -> Iterator[IO[Any]]:
-    """A file to write to, which replaces the old one at the end; raises an OSError that names it if it can't be
-    written. A path that isn't a regular file, such as a pipe or /dev/stdout, is written to directly. A link is
-    followed unless it belongs to another user."""
+    """A file to write to, which replaces the old one at the end; raises an OSError that names the file if it can't be written. A path
+    that isn't a regular file, such as a pipe or /dev/stdout, is written to directly. A link is followed unless it belongs to another
+    user."""
     try:
         check_name(path)
         check_links(path)

@@ -3,9 +3,9 @@
 - `NaN`, `Infinity`, numbers too large for floating point, and half of a surrogate pair;
 - arrays and objects nested 128 deep;
 
-and doesn't count as a whole number `-0`, a number with a point or an exponent, or one with more digits than 64 bits hold.
+and doesn't accept as a whole number `-0`, a number with a point or an exponent, or one with more digits than 64 bits hold.
 
-JSON parsers differ over numbers close to the largest floating-point one. There `Doubtful` is raised, and the case isn't judged.
+JSON parsers differ about numbers close to the largest floating-point number. `Doubtful` is raised for these, and the case isn't judged.
 """
 
 import json
@@ -26,7 +26,7 @@ class Doubtful(Exception):
 
 
 class Fraction:
-    """A number that doesn't count as a whole one."""
+    """A number that isn't accepted as a whole number."""
 
 
 def whole(text: str) -> object:
@@ -41,7 +41,7 @@ def fraction(text: str) -> Fraction:
     try:
         if DOUBTED[0] <= Decimal(text).copy_abs() <= DOUBTED[1]:
             raise Doubtful(text)
-    except InvalidOperation:  # an exponent beyond Decimal's
+    except InvalidOperation:  # the exponent is too large for Decimal
         pass
     if float(text) in (float("inf"), float("-inf")):
         raise NoJson(text)
@@ -53,7 +53,7 @@ def no_constant(text: str) -> NoReturn:
 
 
 def pairs(items: list[tuple[str, object]]) -> dict[str, object]:
-    """An object; of two equal keys the last one counts. Each string in it is checked."""
+    """An object; if a key occurs twice, the last one counts. Each string in it is checked."""
     for key, value in items:
         whole_text(key)
         whole_text(value)
@@ -79,7 +79,7 @@ def depth(text: str) -> int:
 
 
 def read_json(line: bytes) -> Any:
-    """The value that a line of bytes is."""
+    """The value of a line of bytes."""
     try:
         text = line.decode("utf-8")
         if depth(text) > DEEPEST:

@@ -1,4 +1,4 @@
-"""Ends a program at once, without freeing millions of small objects piece by piece."""
+"""Ends a program at once, without freeing millions of small objects one by one."""
 
 import atexit
 import os
@@ -10,14 +10,14 @@ from typing import Callable
 def ended_by(main: Callable[[], int]) -> None:
     """Runs a program, and ends the process with its status."""
     statuses: list[int] = []
-    atexit.register(leave, statuses)  # (first, so that it runs after everything else at the end)
+    atexit.register(leave, statuses)  # (registered first, so that it runs after everything else)
     statuses.append(main())
     sys.exit(statuses[0])
 
 
 def leave(ended: list[int]) -> None:
     """Ends the process with a status at once: freeing the data of a million steps would take a second."""
-    with suppress(OSError, ValueError):  # (Python reports output that can't be printed, as always)
+    with suppress(OSError, ValueError):  # (Python reports output that couldn't be written, as usual)
         for status in ended:
             for stream in filter(None, (sys.stdout, sys.stderr)):
                 stream.flush()

@@ -1,11 +1,11 @@
-"""Escapes text from outside: all text for a terminal or a page goes through `plain`."""
+"""Escapes text from outside: all text that goes to a terminal or a page passes through `plain`."""
 
 UNSAFE = {ord("\n"): "\\n", ord("\r"): "\\r", ord("\t"): "\\t"}
 
 
 def plain(text: str) -> str:
-    """The text with each character escaped that a terminal obeys or that can't be seen: controls, those of the
-    upper half too, marks that turn the direction of writing, unusual spaces, and bytes that aren't UTF-8."""
+    """The text with each character escaped that controls a terminal or is invisible: control characters, including those of the upper half,
+    marks that change the writing direction, unusual spaces, and bytes that aren't UTF-8."""
     return text if text.isprintable() else "".join(map(_shown, text))
 
 

@@ -1,4 +1,4 @@
-"""Which program netrev is: its path, its SHA-256, and the logic of its proofs if the package has it."""
+"""Which program netrev is: its path, its SHA-256, and, if the package says so, the logic of its proofs."""
 
 import hashlib
 import os
@@ -11,7 +11,7 @@ from .plain import plain
 
 PROVED = (
     PACKAGES / "proved.txt"
-)  # of a package: the checksum of its program, and the output of `rt version` when it was proved
+)  # in a package: the checksum of its program, and the output of `rt version` when it was proved
 UNKNOWN = "not recorded for this program"
 
 
@@ -45,7 +45,7 @@ def same_file(program: str, other: Path) -> bool:
 
 
 def proofs_of(sum_of_it: str) -> str:
-    """The toolchain and the logic that a program of this sum was proved with."""
+    """The toolchain and the logic with which a program with this checksum was proved."""
     try:
         proved, logic = PROVED.read_text(encoding="utf-8").split("\n")[:2]
     except (OSError, ValueError):

@@ -1,4 +1,4 @@
-"""Reads a text of bytes as a recording, or reports its first fault, by docs/reference/RECORDING.md."""
+"""Reads bytes as a recording, or reports the first fault, according to docs/reference/RECORDING.md."""
 
 import re
 from functools import lru_cache
@@ -20,7 +20,7 @@ RANGES = {
 
 
 def forms_of(kind: Kind) -> tuple[str, ...]:
-    """The forms of a kind's arguments. `n` is a capacity or a count of bytes; of times, those of a deadline have signs."""
+    """The forms of a kind's arguments. `n` is a capacity or a count of bytes; of the times, only deadlines are signed."""
     of_time = "deadline" if kind.name == "setdeadline" else "clock"
     return tuple({"rc": "n", "wc": "n", "time": of_time}.get(argument, argument) for argument in kind.arguments)
 
@@ -86,7 +86,7 @@ def read_header(line: bytes) -> tuple[int, Limits]:
 
 
 def step_of(version: int, value: Any) -> tuple[Step, Optional[Answer]]:
-    """The step of a line, and its recorded answer, which is None in version 1."""
+    """The step in a line, and its recorded answer, which is None in version 1."""
     if not isinstance(value, list) or not value or not isinstance(value[0], str) or value[0] not in KINDS[version]:
         raise LineFault("103 unknown step")
     kind, *arguments = value
@@ -106,7 +106,7 @@ def answer_of(value: Any) -> Answer:
 
 
 def read_text(text: bytes) -> Recording:
-    """The Recording of a text, or the Fault of its first faulty line."""
+    """The Recording in a text, or the Fault of its first faulty line."""
     version, limits = 0, None
     steps: list[Step] = []
     answers: list[Optional[Answer]] = []

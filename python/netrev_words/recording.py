@@ -4,15 +4,14 @@ from __future__ import annotations
 
 from typing import Any, NamedTuple, Optional, Sequence
 
-Step = tuple[Any, ...]  # the kind, and the arguments after it
-Answer = tuple[Any, ...]  # its name, and for some answers a number
+Step = tuple[Any, ...]  # the kind, then the arguments
+Answer = tuple[Any, ...]  # the name, and for some answers a number
 
 GREATEST_TIME = 2**63 - 1
 
 
 class Limits(NamedTuple):
-    """The header's keys except the version: the most goroutines, sockets and descriptors, and the bytes of a
-    buffer."""
+    """The header's keys except the version: the greatest numbers of goroutines, sockets and descriptors, and the bytes of a buffer."""
 
     gor: int
     sock: int
