@@ -15,6 +15,7 @@ COUNTED_BY = {Of.GOROUTINE: "gor", Of.SOCKET: "lock", Of.DESCRIPTOR: "fdseq"}
 LIMITS = {Of.GOROUTINE: "gor", Of.SOCKET: "sock", Of.DESCRIPTOR: "desc"}
 AT_FIRST, TIMES = 8, 8  # how many cells are asked for at first, and by what factor the number grows each time
 BLOCK = 16_384  # the number of steps after which the open descriptors are stored again
+PIECE = 256  # the same within a block, for positions near recent ones
 
 
 class World:
@@ -93,12 +94,20 @@ def opened_after(recording: Recording, blocks: int) -> Opened:
     return opened_after(recording, blocks - 1).after(recording, (blocks - 1) * BLOCK, blocks * BLOCK)
 
 
+@lru_cache(maxsize=2 * BLOCK // PIECE)
+def opened_within(recording: Recording, pieces: int) -> Opened:
+    """The descriptors that are open after this many pieces of a block."""
+    if pieces % (BLOCK // PIECE) == 0:
+        return opened_after(recording, pieces * PIECE // BLOCK)
+    return opened_within(recording, pieces - 1).after(recording, (pieces - 1) * PIECE, pieces * PIECE)
+
+
 @lru_cache(maxsize=4)
 def opened_by(recording: Recording, position: int) -> tuple[dict[int, int], int]:
     """The descriptors that are open after this many steps, each with its socket, and the number that the next
     `pollopen` takes."""
-    blocks = position // BLOCK
-    opened = opened_after(recording, blocks).after(recording, blocks * BLOCK, position)
+    pieces = position // PIECE
+    opened = opened_within(recording, pieces).after(recording, pieces * PIECE, position)
     return opened.now, opened.next()
 
 

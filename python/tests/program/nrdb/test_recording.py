@@ -1,6 +1,7 @@
 """The text of recordings: steps by number, whatever lines are between them; and the holders of references, in small
 recordings."""
 
+import itertools
 import json
 import tempfile
 import unittest
@@ -72,10 +73,15 @@ class Text(unittest.TestCase):
     def test_open_descriptors_are_found_though_a_kind_is_spelled_with_escapes(self):
         steps = ['["sockopen",16,16]', '["pollopen",0,0]', '["pollopen",0,0]', '["pollclose",0,0]', '["pollopen",0,0]']
         texts = ["\n".join([HEADER, *steps, ""]), "\n".join([HEADER, *steps, ""]).replace("pollo", "\\u0070ollo")]
-        for text in texts:
+        for text, (block, piece) in itertools.product(texts, ((16_384, 256), (4, 2), (4, 1), (2, 2), (1, 1))):
             recording = Recording(text.encode())
-            found = [opened_by(recording, position) for position in range(len(steps) + 1)]
-            self.assertEqual(found[2:], [({0: 0}, 1), ({0: 0, 1: 0}, 2), ({1: 0}, 0), ({1: 0, 0: 0}, 2)])
+            with mock.patch.multiple("nrdb.world", BLOCK=block, PIECE=piece):
+                found = [opened_by(recording, position) for position in (5, 0, 3, 1, 2, 4, 5)]
+            self.assertEqual(found[1:4:2], [({}, 0), ({}, 0)])
+            self.assertEqual(found[4], ({0: 0}, 1))
+            self.assertEqual(found[2], ({0: 0, 1: 0}, 2))
+            self.assertEqual(found[5], ({1: 0}, 0))
+            self.assertEqual((found[0], found[6]), (({1: 0, 0: 0}, 2), ({1: 0, 0: 0}, 2)))
 
     def test_without_steps(self):
         for data in (b"", b"\n\n", HEADER.encode()):
