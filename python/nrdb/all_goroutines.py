@@ -238,7 +238,7 @@ class AllGoroutines:
             self.left_out += map(LeftOut._make, zip(reasons, known(of_stacks), *rest))
 
     def add_owners(self, rows: Any) -> None:
-        """Adds the goroutines that took over a number, with the step after which each did so."""
+        """Adds the goroutines that took over a number, each with the step after which it did."""
         for number, step, goid in zip(*columns(rows, OF_OWNER)):
             self.owners.setdefault(number, []).append((step, goid))
             self._owned[goid] = number

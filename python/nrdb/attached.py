@@ -16,7 +16,7 @@ class Attached:
     pending: deque[str] = field(default_factory=deque)
 
     def begin(self, mark: str) -> None:
-        """The following lines replace those of this mark."""
+        """Replaces the lines of this mark by those that follow."""
         self.lines[mark], self.taking = [], mark
 
     def takes(self, line: str) -> bool:

@@ -31,7 +31,7 @@ def takings(recording: Recording, until: int, locks: Collection[Lock]) -> dict[L
 
 
 def locks_back(recording: Recording, until: int, sockets: set[int]) -> Iterator[tuple[int, bool, Lock]]:
-    """Each `rwlock` and `rwunlock` of these sockets, latest first, perhaps mixed with those of other sockets: its
+    """Each `rwlock` and `rwunlock` of these sockets, latest first, perhaps mixed with steps of other sockets: its
     number, whether it is a `rwlock`, and the lock."""
     if recording.has_escapes:
         for step in reversed(list(recording.steps_of(("rwlock", "rwunlock"), until))):

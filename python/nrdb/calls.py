@@ -52,8 +52,8 @@ class Book:
         return {kind: partial(self._seeing_errors, LOOKS.get(kind)) for kind in OF_A_GOROUTINE}
 
     def _seeing_errors(self, maker: Optional[Maker], notes: Notes, g: int, *arguments: Any) -> Look:
-        """For recordings with errors of the system: the innermost call gets the step's error, and may end with this
-        step."""
+        """Gives the innermost call the step's error, in recordings with errors of the system; the call may end with
+        this step."""
         made, goroutine, calls = maker and maker(self, notes, g, *arguments), notes.goroutine(g), self.open[g]
 
         def look(step: int) -> None:
@@ -110,7 +110,8 @@ def goes_on(book: Book, notes: Notes, g: int, *_: object) -> Look:
 
 
 def goes_on_or_sleeps(book: Book, notes: Notes, g: int) -> Look:
-    """`acquire`, `parkcommit` and `blockswap`: the goroutine may have slept before, and may sleep afterwards."""
+    """Handles `acquire`, `parkcommit` and `blockswap`: the goroutine may have slept before, and may sleep
+    afterwards."""
     goroutine, calls, asleep, settle = notes.goroutine(g), book.open[g], book.asleep, book.settle
 
     def look(step: int) -> None:
@@ -159,7 +160,7 @@ def locks(book: Book, notes: Notes, g: int, s: int, side: str) -> Look:
 
 
 def gives(book: Book, notes: Notes, g: int, s: int, side: str = "") -> Look:
-    """A call gives up its reference, with or without the lock of a side."""
+    """Handles a step by which a call gives up its reference, with or without the lock of a side."""
     goroutine, calls, locked, holds, settle = notes.goroutine(g), book.open[g], notes.locks, notes.holds[s], book.settle
 
     def look(step: int) -> None:

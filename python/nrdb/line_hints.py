@@ -13,7 +13,7 @@ from .commands import ALL_TOPICS, COMMANDS, SPELLINGS, TOPIC_SPELLINGS, TOPICS
 
 
 def hint(words: list[str], fault: str) -> str:
-    """The hint for the line of these words, which was answered with this fault."""
+    """The hint about a line of these words that netrev answered with this fault."""
     number = fault.split()[1]
     if number == "201":
         return unknown(words)

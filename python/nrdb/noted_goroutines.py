@@ -61,8 +61,8 @@ class Statuses(dict[str, Status]):
 
     def __init__(self) -> None:
         super().__init__()
-        # an idle goroutine pauses while it holds a reference, which is noted at its steps rather than when it leaves
-        # the status
+        # an idle goroutine pauses while it holds a reference; that pause is recorded at its steps rather than when it
+        # leaves the status
         self.pauses: dict[str, Pauses] = {IDLE: Pauses()}
         self[IDLE] = Status(IDLE, NoPauses())
 

@@ -136,7 +136,7 @@ def given(notes: Notes, g: int, s: int, side: str = "") -> Note:
 
 
 def fitting(holds: list[Hold], g: int, side: str) -> Hold:
-    """The reference that a goroutine gives up: its own last one of that sort, else another goroutine's, because Go only
+    """The reference that a goroutine gives up: its own last one of this sort, else another goroutine's, because Go only
     counts references."""
     of_the_sort = [one for one in holds if one.side == side]
     mine = [one for one in of_the_sort if one.goroutine == g]

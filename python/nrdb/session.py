@@ -52,7 +52,7 @@ class Session:
     path: str = ""
     breaks: Breaks = field(default_factory=Breaks)  # at places of the program
     frame: Optional[int] = None  # the frame of the stack, counted from the innermost; None for the program's own line
-    is_before: bool = False  # whether the stack is that of the next step, at a place of the program
+    is_before: bool = False  # whether the stack is the next step's, at a place of the program
     goroutine: Optional[Name] = None  # the chosen goroutine, until the session moves
     recorded: Optional[RecordedChanges] = None  # if the session has a recording
     errors: int = 0  # of nrdb's own

@@ -128,7 +128,7 @@ class SuspectList:
             self._lines = []
 
     def of(self, length: int) -> Optional[Listed]:
-        """The list for a recording with this many steps; None if netrev has no list of it."""
+        """The list for a recording with this many steps; None if netrev has none."""
         if self._lines is None:
             self._lines = self._read()
         *lines, last = self._lines or [""]

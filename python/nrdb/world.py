@@ -76,7 +76,7 @@ class Opened:
         return opened
 
     def next(self) -> int:
-        """The number that `pollopen` takes: that of the descriptor freed last, or the next new one."""
+        """The number that `pollopen` takes: the number of the descriptor freed last, or the next new one."""
         return self.free[-1] if self.free else self.made
 
     def take(self) -> int:

@@ -38,5 +38,5 @@ def excess_says(balances: list[Balance]) -> list[str]:
 
 
 def balances_words(balances: list[Balance]) -> str:
-    """The sentences of balances, the worst first."""
+    """The sentences about balances, worst first."""
     return "; ".join(one.says for one in sorted(balances, key=lambda one: -abs(one.missing))[:MOST_BALANCES])

@@ -95,7 +95,7 @@ def looker_of(stack: Stack) -> str:
 
 
 def last_step_before(index: Index, goroutine: int, step: int) -> int:
-    """The last step of the goroutine's call before the call of a step."""
+    """The last step of a goroutine's call before the call that a step belongs to."""
     calls = [one for one in index.by_goroutine.get(goroutine, ()) if 0 < one.last < step]
     return max((one.last for one in calls), default=0)
 
@@ -189,8 +189,8 @@ def under_way(index: Index, call: Call, step: int) -> str:
 
 
 def after_says(index: Index, step: int, goroutine: int) -> list[str]:
-    """Says, for a step of a goroutine that context.AfterFunc started, who had cancelled the context and where, or which
-    limit had passed."""
+    """Says, for a step of a goroutine that context.AfterFunc started, which goroutine had cancelled the context and
+    where, or which limit had passed."""
     lines = index.recording.lines
     known = lines.goroutines.get(lines.goid_of(goroutine, step))
     if known is None or known.made is None or not known.made.function.startswith(AFTER_FUNC):

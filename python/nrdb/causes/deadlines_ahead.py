@@ -1,4 +1,4 @@
-"""The deadlines of calls that wait and haven't passed yet: such a call ends by itself."""
+"""The deadlines, not yet passed, of calls that wait: such a call ends by itself."""
 
 from collections import defaultdict
 from functools import lru_cache

@@ -54,8 +54,8 @@ def dropped_answer(index: Index, wait: Waiting, hands: Mapping[int, list[Hand]])
 
 def hands_of(recording: Recording, wait: Waiting, waiters: Mapping[Name, Waiter]) -> list[Hand]:
     """The goroutines that wait to read and that put values into channels from which others took them at the waiter's
-    line, or that are in a function in which another goroutine does so. If no goroutine has done so, those in a function
-    whose source does so."""
+    line, or that are in a function in which another goroutine does so. If no goroutine has done so, the goroutines in a
+    function whose source does."""
     readers = {name: waiter for name, waiter in waiters.items() if waiter.call and waiter.call.name == "Read"}
     lines, own = recording.lines, wait.stack.own()
     taken = {
@@ -129,7 +129,7 @@ def has_put(recording: Recording, wait: Waiting, read: Call) -> bool:
 
 
 def is_answered(index: Index, wrote: Call) -> bool:
-    """Whether all requests at a socket were answered, as far as known: a goroutine of the other end read after the
+    """Whether, as far as known, all requests at a socket were answered: a goroutine of the other end read after the
     request, wrote, and reads on; or the other end made as many Writes."""
     other = index.other_end(wrote.socket)
     if other is None:

@@ -24,7 +24,7 @@ REQUEST = re.compile(r"\b(\w+) \*http\.Request\b")
 
 
 class EndedBefore(NamedTuple):
-    """A goroutine found the context of its request ended before it sent the request."""
+    """A request whose goroutine found the request's context ended before it sent the request."""
 
     use: Use
 

@@ -40,7 +40,7 @@ def end_says(index: Index, call: Call, other: int, position: int) -> list[str]:
 
 
 def half_closes(index: Index, socket: int, position: int) -> list[str]:
-    """The lines of the program that close a connection for writing, if none of them did so at a socket."""
+    """The lines of the program that close a connection for writing, if none of them has done so at this socket."""
     used = index.last_use(socket, position, ("Write",)) or index.last_use(socket, position, ("Read",))
     own = index.recording.lines.of(used.first).own() if used else None
     if own is None or own[0].of != OF_THE_PROGRAM:

@@ -19,7 +19,7 @@ from .words import place_of, told
 
 MOST_ASKED = 65_536  # the most bytes that a Read counts
 FEW_ASKED = 256  # bytes that a Read may ask for at once, as for a header
-FEWEST = 2  # earlier exchanges that show a habit
+FEWEST = 2  # how many earlier exchanges show a habit
 READ_FULL = "io.ReadAtLeast"
 
 
@@ -174,8 +174,8 @@ def reader_of(index: Index, other: int, wrote: Call, position: int) -> Optional[
 
 
 def lacking(index: Index, call: Call, other: int) -> list[str]:
-    """Says, for a Read in an io.ReadFull that waits, how many bytes it asked for and has, and that the other end wrote
-    no more."""
+    """Says, for a Read in an io.ReadFull that waits, how many bytes it asked for and how many it has, and that the
+    other end wrote no more."""
     recording = index.recording
     stack = recording.lines.of(call.first)
     if call.name != "Read" or not any(one.function == READ_FULL for one in stack.calls):

@@ -199,8 +199,8 @@ def of_the_other_end(index: Index, call: Call, begins: str, deep: int) -> Cause:
 
 
 def part_says(index: Index, call: Call, last: Call) -> list[str]:
-    """The last Read, for a connection whose other end was closed before all bytes were read, if the program itself
-    asked for more than it got."""
+    """Says, for a connection whose other end was closed before all bytes were read, that the last Read got less than it
+    asked for, if the program itself asked."""
     recording, own = index.recording, index.recording.lines.of(last.first).own()
     functions = [one.function for one in recording.lines.of(last.first).calls]
     is_direct = own is not None and (CONN_READ, own[0].function) in zip(functions, functions[1:])

@@ -75,7 +75,7 @@ def topics_of(graph: WaitGraph, failed: list[Cause], hangs: list[Hang]) -> list[
 
 
 def count_in(hangs: list[Hang], topics: list[Topic]) -> int:
-    """The number of these hangs that are in topics."""
+    """The number of these hangs that belong to topics."""
     return sum(any(topic.hang is hang for topic in topics) for hang in hangs)
 
 
@@ -128,7 +128,8 @@ def has_to_do_with(graph: WaitGraph, hang: Hang, call: Call) -> bool:
 
 
 def left_by(graph: WaitGraph, call: Call) -> list[str]:
-    """Says that the goroutine of a failed call, which was its last, ended, and which goroutine waits for it."""
+    """Says that the goroutine of a failed call ended after that call, which was its last, and which goroutine waits for
+    it."""
     name, index = Name(call.goroutine), index_of(graph.recording)
     left = next((waiter for waiter in graph.waiters.values() if graph.needs[waiter.name].gone == name), None)
     ended = ended_behind(index, call, graph.position)
@@ -280,7 +281,7 @@ def is_telling(recording: Recording, call: Call) -> bool:
 
 
 def once(recording: Recording, causes: list[Cause], counts: list[int]) -> list[Cause]:
-    """The causes, with those of the same lines merged into one that gives their number."""
+    """The causes, with causes of the same lines merged into one that gives their number."""
     kept: dict[object, Cause] = {}
     many: dict[object, int] = {}
     at: Callable[[int], object] = recording.lines.words

@@ -86,7 +86,7 @@ def ways_without_an_answer(recording: Recording, stack: Stack, writes: Iterable[
 
 
 def writes_to(writer: str, function: str) -> Test:
-    """Whether a statement writes into a buffer, or by an encoder over one."""
+    """A test whether a statement writes into a buffer, directly or by an encoder over it."""
     name = re.escape(writer)
     made = re.findall(rf"\b(\w+) :?= \w+\.NewEncoder\({name}\)", function)
     encoders = "|".join([rf"NewEncoder\({name}\)", *made])

@@ -1,4 +1,5 @@
-"""Goroutines that were the only readers of a connection and have ended, while it is open and bytes came after that."""
+"""Goroutines that were the only readers of a connection and have ended, while the connection is still open and bytes
+came afterwards."""
 
 from typing import Iterator, NamedTuple, Optional
 
@@ -39,7 +40,7 @@ def gone_readers(index: Index, position: int) -> Iterator[GoneReader]:
 
 
 def gone_reader(index: Index, socket: int, position: int) -> Optional[GoneReader]:
-    """The ended reader of a socket at a position, except if it was closed at this end; None if it has none."""
+    """The ended reader of a socket at a position; None if it has none, or if the socket was closed at this end."""
     other = index.recording.lines.peers.get(socket)
     if other is None:
         return None

@@ -25,8 +25,8 @@ STARTED_BY_GROUP = "sync.(*WaitGroup).Go"
 
 
 class Member(NamedTuple):
-    """A goroutine that may call Done, and the line at which it does so, if known, else the goroutine that started
-    it."""
+    """A goroutine that may call Done, with the line at which it does (if known), or else with the goroutine that
+    started it."""
 
     name: Name
     line: Call
@@ -81,8 +81,8 @@ class Groups:
         return Need(says) if says else None
 
     def _passed_by(self, count: Count, does: Callable[[Name], str]) -> list[str]:
-        """Says that a goroutine added in a function that itself calls Done later, not deferred, and has left that
-        function without it."""
+        """Says that a goroutine called Add in a function that itself calls Done later, not deferred, and has left that
+        function without calling Done."""
         lines = self._recording.lines
         if not count.done_by <= {use.goid for use in count.added}:
             return []

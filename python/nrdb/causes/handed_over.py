@@ -37,7 +37,8 @@ def puts_of(recording: Recording) -> dict[int, list[Use]]:
 
 
 def asked_at(index: Index, wait: Waiting) -> set[int]:
-    """The sockets at which a goroutine wrote, or those of the goroutines to which it passed a request by a channel."""
+    """The sockets at which a goroutine wrote, or at which the goroutines wrote to which it passed a request by a
+    channel."""
     lines, put = index.recording.lines, put_before(index.recording, wait)
     takers = {use.goid for use in lines.uses.get(put.object, ()) if use.what == TOOK} if put else set()
     own = [] if wait.name.is_goid else index.by_goroutine.get(wait.name.number, [])

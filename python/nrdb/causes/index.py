@@ -107,11 +107,12 @@ class Index:
         return next((one for one in begun if not one.last or one.last > position), None)
 
     def is_listening(self, call: Call) -> bool:
-        """Whether a call accepts connections, which need not come."""
+        """Whether a call accepts connections, of which none may ever come."""
         return any(one.function in ACCEPTS for one in self.recording.lines.of(call.first).calls)
 
     def moved(self, socket: int, name: str, until: int) -> int:
-        """The number of bytes that the calls with a name moved at a socket, among those that ended up to a step."""
+        """The number of bytes moved at a socket by the calls with a name, counting only calls that ended up to a
+        step."""
         calls = self.by_socket.get(socket, ())
         return sum(one.moved or 0 for one in calls if one.name == name and 0 < one.last <= until)
 
@@ -132,7 +133,7 @@ class Index:
 
 
 def back(calls: Sequence[Call], step: int) -> Iterator[Call]:
-    """The calls that began up to a step, the last one first."""
+    """The calls that began up to a step, latest first."""
     return (calls[at] for at in range(bisect_right(calls, step, key=FIRST) - 1, -1, -1))
 
 

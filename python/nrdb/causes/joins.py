@@ -1,4 +1,4 @@
-"""Hangs that explain a failed call or follow from one: those of the goroutine at the other end, or of the goroutine
+"""Hangs that explain a failed call or follow from one: hangs of the goroutine at the other end, or of the goroutine
 that waited for the failed one."""
 
 from typing import Iterator, NamedTuple, Optional

@@ -35,7 +35,7 @@ TAKEN_AT, GIVEN_AT = attrgetter("taken"), attrgetter("given")
 
 
 def ways_that_keep(recording: Recording, balances: Iterable[Balance]) -> list[str]:
-    """The paths of the function that takes and gives back on which its calls kept what they took."""
+    """The paths, in the function that takes and gives back, on which its calls kept what they took."""
     taken = {line for one in balances if one.missing > 0 for line in one.taken}
     given = {line for one in balances for line in one.given}
     says = []
@@ -103,7 +103,7 @@ def gives_on_most_ways(recording: Recording, balances: Iterable[Balance]) -> boo
 
 
 def gives_back(recording: Recording, given: Iterable[Call]) -> Optional[Test]:
-    """A test whether a statement gives something back, made from the statements that did so; None if their text isn't
+    """A test whether a statement gives something back, made from statements that did; None if their text isn't
     known."""
     patterns = {pattern for line in given if (pattern := pattern_of(text_at(recording, line)))}
     return has("|".join(sorted(patterns))) if patterns else None

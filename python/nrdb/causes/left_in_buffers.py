@@ -44,8 +44,8 @@ def left_in_buffer(index: Index, call: Call) -> list[str]:
 
 
 def unflushed_in(recording: Recording, frame: LineCall) -> str:
-    """The last line of a function, before the goroutine's line, that writes into a buffer which isn't flushed up to
-    there; empty if there is none."""
+    """The last line of a function, before the goroutine's line, that writes into a buffer which isn't flushed between
+    the two; empty if there is none."""
     lines = source_of(recording, frame.file)
     within = range_of(lines, frame) if lines else None
     if not lines or not within:

@@ -18,7 +18,7 @@ MOST = 2
 
 
 class Function(NamedTuple):
-    """A function of the source: its name, its receiver's name, if it has one, its owner, and its lines."""
+    """A function of the source: its name, its receiver's name (if it has a receiver), its owner, and its lines."""
 
     name: str
     receiver: str

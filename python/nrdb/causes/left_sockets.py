@@ -1,5 +1,5 @@
 """Connections that a function dialed or accepted and left open on one of its paths, so that the other end waits.
-Derived from where their goroutine has been since, and from the program's source."""
+Derived from the later places of their goroutine, and from the program's source."""
 
 import re
 from typing import Optional
@@ -49,7 +49,7 @@ def kept_by(index: Index, opened: Call, line: LineCall) -> list[str]:
 
 
 def left_by(index: Index, opened: Call, line: LineCall) -> list[str]:
-    """Says that a function left a socket open that it opened at a line."""
+    """Says that a function left open a socket that it opened at a line."""
     text = text_at(index.recording, line).strip()
     taken = TAKEN.match(text)
     if taken is None:

@@ -114,8 +114,8 @@ def left_open(index: Index) -> Iterator[Cause]:
 
 
 def serves_on(recording: Recording, last: Call) -> list[str]:
-    """The place where the last handler that used the socket of a net/http server still waits, although the client has
-    gone."""
+    """The place at which the last handler that used the socket of a net/http server still waits, although the client
+    has gone."""
     wait = waits_of(recording).at(Name(last.goroutine), recording.length)
     if wait is None or not has(wait.stack, SERVE) or not wait.stack.own():
         return []

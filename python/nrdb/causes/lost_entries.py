@@ -15,7 +15,7 @@ MOST = 2
 
 
 class Place(NamedTuple):
-    """A line, and its key."""
+    """A line that uses a table, and the key that it uses."""
 
     place: str
     key: str
@@ -47,7 +47,7 @@ def entry_says(recording: Recording, line: Call) -> list[str]:
 
 
 def places_of(recording: Recording, file: str, pattern: str) -> list[Place]:
-    """The lines of a package that fit a pattern, with the key that it finds."""
+    """The lines of a package that match a pattern, each with the key that the pattern finds."""
     found = re.compile(pattern)
     return [
         Place(f"{name}:{number}", match[1])

@@ -57,7 +57,7 @@ class MutexHolders:
 
     @property
     def are_known(self) -> bool:
-        """Whether the recording has the holders of mutexes at this position: it has those of its end."""
+        """Whether the recording has the holders of mutexes at this position; it has them only for its end."""
         return self._recording.lines.held is not None and self._position == self._recording.length
 
     def need(self, wait: Waiting) -> Need:

@@ -13,7 +13,7 @@ class Certainty(IntEnum):
     """The strength of the evidence that a goroutine could give what another needs."""
 
     PERHAPS = 1  # from stacks alone
-    LIKELY = 2  # it did so before
+    LIKELY = 2  # it has done the same before
     KNOWN = 3  # it has what is needed, as the recording's steps show
 
 

@@ -194,8 +194,8 @@ class Needs:
         return [f"Socket {call.socket} has no room: its other end, socket {other}, {ended}."]
 
     def _started_for(self, opened: Call) -> Optional[Name]:
-        """The goroutine that was started next by the one that opened a socket, before it opened another: a server
-        starts one for each connection."""
+        """The goroutine that the opener of a socket started next, before it opened another socket: a server starts a
+        goroutine for each connection."""
         lines, following = self._recording.lines, self._index.next_of(opened)
         until = following.first if following else self._recording.length + 1
         maker = lines.goid_of(opened.goroutine, opened.first)
@@ -208,7 +208,7 @@ class Needs:
         return name_of_goid(lines, first.goid) if first else None
 
     def _stopped(self, last: Call) -> int:
-        """The last step of a goroutine that is in no call any more; 0 if it waits for something else."""
+        """The last step of a goroutine that is no longer in a call; 0 if it waits for something else."""
         is_busy = self._index.inside(last.goroutine, self._position) or self._waits.at(
             Name(last.goroutine), self._position
         )

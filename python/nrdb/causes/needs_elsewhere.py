@@ -144,7 +144,7 @@ class NeedsElsewhere:
         return closed_later(self._recording, wait, self._stacks()) if need and need.by == wait.name else need
 
     def excess_of(self, names: set[Name]) -> list[str]:
-        """The calls of these goroutines that gave something back to a channel more often than they took it."""
+        """The calls of these goroutines that gave something back to a channel more often than they took from it."""
         return self._channels.excess_of(names)
 
     def _of_close(self, waiter: Waiter) -> Need:
@@ -213,8 +213,8 @@ class NeedsElsewhere:
         return now is not None and now.is_of_go and now.call is not None and now.call.name in READING
 
     def _ended_before(self, wait: Waiting, elsewhere: bool = False) -> Optional[Name]:
-        """The goroutine that ended the last wait of the same goroutine at the same line, and now waits itself: at the
-        same channel or mutex, or at any."""
+        """The goroutine that ended this goroutine's last wait at the same line and now waits itself, at the same
+        channel or mutex, or at any."""
         earlier = (
             one for one in reversed(self._waits.of[wait.name])
             if one.last is not None and one.by is not None and one.last <= wait.first

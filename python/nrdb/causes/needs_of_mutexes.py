@@ -35,7 +35,7 @@ class Holder(NamedTuple):
 
 
 def of_once(stack: Stack) -> str:
-    """Says that a goroutine that waits in a sync.Once's Do is already in it; empty if it isn't."""
+    """Says that a goroutine that waits in a sync.Once's Do is already running that Do; empty if it isn't."""
     lines = [
         outer for inner, outer in zip(stack.calls, stack.calls[1:])
         if inner.function in DO and outer.function not in DO and outer.of == OF_THE_PROGRAM

@@ -110,7 +110,8 @@ def lost_with(index: Index, file: str, line: int, read: Call, last: Call, why: s
 
 
 def may_have_more(index: Index, read: Call, other: int) -> bool:
-    """Whether a Read may have got more than one message: as many bytes as are counted, or those of two Writes."""
+    """Whether a Read may have got more than one message: it got as many bytes as are counted, or those of two
+    Writes."""
     most, moved = index.recording.lines.bytes, read.moved or 0
     if most is not None and moved >= most:
         return True
@@ -128,7 +129,7 @@ def is_of_one_statement(index: Index, frame: LineCall) -> bool:
 
 
 def is_buffered(stack: Stack) -> bool:
-    """Whether a buffered reader reads."""
+    """Whether a read is made by a buffered reader."""
     return any(one.function.startswith(BUFFERED) for one in stack.calls)
 
 

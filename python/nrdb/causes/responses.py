@@ -12,8 +12,8 @@ WRITE_LOOP, SERVE = "net/http.(*persistConn).writeLoop", "net/http.(*conn).serve
 
 
 def socket_of(index: Index, wait: Waiting, position: int) -> Optional[int]:
-    """The socket on which the request was written: the connection's socket, for the connection whose goroutine the
-    waiter last gave a request. Another goroutine may have given it one since."""
+    """The socket on which the request was written: it belongs to the connection whose goroutine last got a request from
+    the waiter. Another goroutine may have given that goroutine a request since."""
     lines = index.recording.lines
     goid = wait.name.number if wait.name.is_goid else lines.goid_of(wait.name.number)
     put = [

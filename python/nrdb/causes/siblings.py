@@ -65,7 +65,7 @@ def lines_of(recording: Recording) -> Lines:
 
 
 def kinds_of(recording: Recording, did: Collection[int]) -> list[Kind]:
-    """The `go` statements of which only some goroutines did something, those of which most did first."""
+    """The `go` statements of which only some goroutines did something, ordered by how many did."""
     found: dict[Call, Kind] = {}
     for goid, known in recording.lines.goroutines.items():
         if known.made and known.made.of == OF_THE_PROGRAM:

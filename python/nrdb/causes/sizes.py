@@ -18,14 +18,14 @@ def are_known(index: Index) -> bool:
 
 
 def moved_at(index: Index, socket: int, name: str, until: int) -> int:
-    """The number of bytes that the calls with a name moved at a socket, among those that ended up to a step."""
+    """The number of bytes moved at a socket by the calls with a name, counting only calls that ended up to a step."""
     calls = index.by_socket.get(socket, ())
     return sum(size_of(index, call) for call in calls if call.name == name and 0 < call.last <= until)
 
 
 @lru_cache(maxsize=2)
 def sizes_of(index: Index) -> dict[int, int]:
-    """The number of bytes that each call moved besides the counted ones, by its first step."""
+    """For each call, by its first step, the number of bytes that it moved beyond those that the recording counts."""
     found: dict[int, int] = defaultdict(int)
     lines, length = index.recording.lines, index.recording.length
     for step, size in lines.sizes.items():

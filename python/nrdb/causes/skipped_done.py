@@ -23,8 +23,8 @@ MOST_CALLS = 3  # the most lines between a loop and Done
 
 
 class Rounds(NamedTuple):
-    """A loop that takes values from a channel at a line, and calls Done at another, or a function that does so (0:
-    none)."""
+    """A loop that takes values from a channel at a line and calls Done at another line, itself or by a function (0: it
+    takes none)."""
 
     line: Call
     head: int

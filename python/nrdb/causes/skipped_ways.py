@@ -167,7 +167,7 @@ class Walk(NamedTuple):
         return joined(behind, one.number), exits
 
     def leave(self, exit: Exit) -> None:
-        """Notes a path, if something is taken there and not given back."""
+        """Records a path, if something is taken there and not given back."""
         if exit.state.is_open and exit.state.block:
             self.ways.append(Way(exit.state.block, PASSES))
         elif exit.state.is_open:

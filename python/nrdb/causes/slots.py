@@ -19,7 +19,7 @@ ENTERS = {FOR_ROOM: PUT, FOR_VALUE: TOOK}  # how a slot is taken
 
 
 class Slot(NamedTuple):
-    """A goroutine has a slot: the line that took it, and the line that gives it back."""
+    """A slot that a goroutine has: the line that took it, and the line that gives it back."""
 
     name: Name
     taken: Call
@@ -54,8 +54,7 @@ def has_more(recording: Recording, at: At, goid: int, enters: str) -> bool:
 
 
 def slots_in(recording: Recording, name: Name, use: Use, stack: Stack, leavings: list[Giving]) -> Iterator[Slot]:
-    """The slot that a goroutine took in a call that it is still in, after the line of the taking, and that gives it
-    back later."""
+    """The slot that a goroutine took at an earlier line of a call that it is still in, and that it gives back later."""
     taken = recording.lines.stacks[use.stack]
     own = taken.own()
     for call in stack.calls:

@@ -90,8 +90,9 @@ def timers_of_select(recording: Recording, wait: Waiting) -> list[str]:
 
 
 def ways_past_reset(recording: Recording, wait: Waiting) -> str:
-    """Says, for a timer that has gone off, from the program's source: ` Perhaps on this way: after main.go:65,
-    main.go:67 goes on without main.go:75, which sets it anew.`; empty if there is no such path."""
+    """Says, from the program's source, on which path a timer that has gone off was perhaps not set anew: ` Perhaps on
+    this way: after main.go:65, main.go:67 goes on without main.go:75, which sets it anew.`; empty if there is no such
+    path."""
     own = wait.stack.own()
     lines = source_of(recording, own[0].file) if own and own[0].of == OF_THE_PROGRAM else None
     within = range_of(lines, own[0]) if lines and own else None

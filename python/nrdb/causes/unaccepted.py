@@ -61,7 +61,7 @@ def is_datagram(index: Index, socket: int) -> bool:
 
 
 def has_opened(index: Index, socket: int, part: str) -> bool:
-    """Whether a function of that name, or with that part in its name, opened a socket."""
+    """Whether a function with this name, or with this part in its name, opened a socket."""
     opened = next((one for one in index.by_socket.get(socket, ()) if one.name == OPEN), None)
     return opened is not None and any(part in one.function for one in index.recording.lines.of(opened.first).calls)
 

@@ -66,7 +66,7 @@ def unclosed(recording: Recording, wait: Waiting, stacks: Iterable[tuple[Name, S
 
 
 def ways_without(source: Lines, closing: Closing, name: str) -> list[Way]:
-    """The paths of a function that makes a channel, and closes it at a line, on which it isn't closed."""
+    """The paths on which a channel isn't closed, in a function that makes the channel and closes it at a line."""
     field = re.escape(name.rpartition(".")[2])
     makes, closes = rf"\b{field}\b(?::| :?=) *make\(chan\b", rf"\bclose\((?:[\w.]+\.)?{field}\)"
     if not any(re.search(makes, source[number - 1]) for number in closing.within if number < closing.number):

@@ -63,7 +63,8 @@ def is_same(one: str, other: str) -> bool:
 
 
 def sent_at(index: Index) -> Iterator[Sent]:
-    """The datagrams that went to a known address from a known one: by connected sockets, or by Writes that name it."""
+    """The datagrams that went from a known address to a known one: by connected sockets, or by Writes that name the
+    address."""
     lines = index.recording.lines
     for socket, (own, peer) in lines.addresses.items():
         for call in index.by_socket.get(socket, ()) if peer else ():

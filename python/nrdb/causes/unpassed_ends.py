@@ -16,7 +16,8 @@ SETTLED = 16  # steps after the end of the stream within which a relay would hav
 
 
 class UnpassedEnd(NamedTuple):
-    """The Read that met the end of a stream, the relay's last Write, and the Read at the other end of that socket which hangs."""
+    """The Read that met the end of a stream, the relay's last Write, and the Read that hangs at the other end of that
+    Write's socket."""
 
     met: Call
     wrote: Call
@@ -59,7 +60,7 @@ def last_write_of_relay(index: Index, met: Call) -> Optional[Call]:
 
 
 def is_over(index: Index, met: Call) -> bool:
-    """Whether a goroutine had its chance to close the other socket: it has ended, or enough steps came since."""
+    """Whether a goroutine had a chance to close the other socket: it has ended, or enough steps have come since."""
     return index.recording.length - met.last >= SETTLED or has_ended(index.recording, Name(met.goroutine))
 
 

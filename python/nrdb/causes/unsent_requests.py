@@ -25,7 +25,7 @@ READS = re.compile(
 
 class Unsent(NamedTuple):
     """A request that wasn't written: its goroutine, its stack, and the step after which it was handed over; the Close;
-    and the step after which the same goroutine handed one over from the same line before (0: none)."""
+    and the step after which the same goroutine last handed over a request from the same line (0: none)."""
 
     use: Use
     name: Name

@@ -26,7 +26,7 @@ MAIN = 1  # Go's own number of the main goroutine
 
 
 class Edge(NamedTuple):
-    """A goroutine waits for another."""
+    """An edge of the graph: a goroutine that waits for another."""
 
     waiter: Name
     on: Name
@@ -98,7 +98,8 @@ class Hang(NamedTuple):
 
     @property
     def is_quiet(self) -> bool:
-        """Whether no goroutine waits for it and it may have nothing to do: a read, a select, a value from a channel."""
+        """Whether no goroutine waits for this hang, and it may be of a goroutine that has nothing to do: a read, a
+        select, a wait for a value from a channel."""
         call, wait = self.root.call, self.root.wait
         reads = call is not None and call.name in READING and not call.is_asking
         idles = wait is not None and wait.kind in QUIET
@@ -129,7 +130,7 @@ class WaitGraph:
 
     @property
     def shown(self) -> list[Hang]:
-        """The hangs, without those of Go's own code alone."""
+        """The hangs, except those of Go's own code alone."""
         return [hang for hang in self.hangs if not hang.is_of_go]
 
     @property
@@ -144,7 +145,7 @@ class WaitGraph:
 
     @property
     def has_ended(self) -> bool:
-        """Whether the program ended by itself, as far as known: its main goroutine was neither in a call nor in a wait
+        """Whether, as far as known, the program ended by itself: its main goroutine was neither in a call nor in a wait
         at the end."""
         if self.main is None or self.position < self.recording.length:
             return False
@@ -280,8 +281,9 @@ def waiters_of(hang: Hang) -> Iterator[Waiter]:
 
 
 def order(hang: Hang) -> tuple[bool, bool, int, int, int]:
-    """Certain deadlocks come first, then what others wait for with a known reason, then what most wait for; last what
-    may have nothing to do. Reads that wait for one another are a deadlock without a known reason."""
+    """The sort key of hangs: certain deadlocks come first, then hangs that others wait for and whose reason is known,
+    then those that most goroutines wait for, and last those that may have nothing to do. Reads that wait for one
+    another are a deadlock without a known reason."""
     is_certain = hang.is_deadlock and hang.certainty > Certainty.PERHAPS and not hang.until
     are_reads = all(root.call and root.call.name in READING for root in hang.roots)
     has_reason = hang.has_reason and (hang.is_deadlock or hang.waiting > 0 or hang.needs[0].is_odd)

@@ -21,7 +21,7 @@ ENDED = {
     Outcome.EOF: "met the end of the stream",
 }
 POLL = "internal/poll.(*FD)."
-# Go's own functions by the names that programs use, if they differ from those of internal/poll.
+# The names that programs use for Go's own functions, if they differ from those of internal/poll.
 NAMES = {
     "Accept": "Accept",
     "ReadFrom": "Read",

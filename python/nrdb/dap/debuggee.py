@@ -76,7 +76,7 @@ class Debuggee:
         return {"name": self.path.name, "path": str(self.path)}
 
     def is_at(self, path: str) -> bool:
-        """Whether a path is that of the recording."""
+        """Whether a path leads to the recording."""
         try:
             return Path(path).resolve() == self.path
         except (OSError, RuntimeError, ValueError):  # (not a path, or one whose links form a circle)

@@ -16,7 +16,7 @@ from .messages import Body, Unanswerable
 from .roots import Roots
 from .wishes import Unset, Wish, is_in, refused
 
-FIRST = 1_000_000  # the first number of these breakpoints, above those of all marks
+FIRST = 1_000_000  # the first number of these breakpoints, above all marks
 FUNCTIONS = "functions"  # in place of a file
 
 

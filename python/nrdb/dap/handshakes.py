@@ -25,7 +25,7 @@ class Connection:
         connected.setsockopt(socket.IPPROTO_TCP, socket.TCP_NODELAY, 1)
         reader = self._opened.enter_context(connected.makefile("rb"))
         writer = self._opened.enter_context(connected.makefile("wb"))
-        self._opened.callback(self.hang_up)  # so that no thread reads any more when the streams are closed
+        self._opened.callback(self.hang_up)  # so that no thread is still reading when the streams are closed
         self.wire = Wire(reader, writer, MOST_BYTES)
         self.initialize: Optional[Request] = None
         self.launch: Optional[Request] = None

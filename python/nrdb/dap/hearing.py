@@ -34,7 +34,7 @@ class Source(Protocol):
         """Whether a request must not be started, because the editor ends the session or has cancelled it."""
 
     def close(self) -> None:
-        """Ends the reading: no more requests are needed."""
+        """Ends the reading, because no more requests are needed."""
 
 
 class Reading:

@@ -7,7 +7,7 @@ from ..session import Session
 from .messages import Body
 from .wishes import HERE, IN_BRACES, Wish
 
-FIRST = 2_000_000  # the first number of these breakpoints, above those of all others
+FIRST = 2_000_000  # the first number of these breakpoints, above all other breakpoints
 MOST = 1_000  # the most messages that a move prints
 
 

@@ -23,7 +23,7 @@ from .roots import Roots
 
 NETWORK = 65_536  # the number of the network's thread; a goroutine's is at most 4,096
 GOIDS = 10**6  # thread numbers above this belong to goroutines without steps, and add Go's own number to it
-IN_QUEUES = ("acquiring", "queued", "relock", "owing")  # statuses whose number is that of a socket
+IN_QUEUES = ("acquiring", "queued", "relock", "owing")  # statuses whose number is a socket's
 
 
 def thread_of(maker: Maker) -> int:

@@ -38,8 +38,8 @@ def text_of(stop: Stop, recording: Recording) -> str:
 
 
 class Moves:
-    """Moves of a session. They pass marks whose conditions don't hold. A pause stops a move where netrev is. `tells` is
-    called with the progress of a long move."""
+    """Moves of a session. They pass marks whose conditions don't hold. A pause stops a move at the position that netrev
+    has reached. `tells` is called with the progress of a long move."""
 
     def __init__(
         self,

@@ -65,7 +65,8 @@ class Wish:
     message: str = ""
 
     def stops(self, session: Session, positions: Sequence[int]) -> list[int]:
-        """Those of the positions at which it is reached where it stops or prints its message, rising."""
+        """The positions at which the breakpoint stops or prints its message, among those at which it is reached;
+        rising."""
         condition, times = self.condition, self.times
         met = [one for one in positions if condition is None or session.holds(condition, one)]
         return [one for count, one in enumerate(met, 1) if times is None or times.holds(count)]

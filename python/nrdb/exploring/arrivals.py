@@ -1,6 +1,6 @@
 """The times at which bytes arrived at and left a socket. A recorder of Go doesn't see these times: it writes the bytes
-just before the read or write that shows them, although the event that reported them came earlier. So in other schedules
-such bytes come with that event."""
+just before the read or write that shows them, although the event that reported them came earlier. In other schedules,
+such bytes therefore come with that event."""
 
 from dataclasses import replace
 from typing import NamedTuple, Optional

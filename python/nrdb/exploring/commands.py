@@ -47,7 +47,7 @@ class Explored(NamedTuple):
 
 def explored(session: Session, most: int = MOST, is_of_failures: bool = False) -> Explored:
     """Runs schedules near the recorded one, and writes those that end with a suspect, or, if none does, those in which
-    a call fails that succeeded in the recording."""
+    a call that succeeded in the recording fails."""
     recording = session.text()
     if recording.length > MOST_STEPS:
         raise Misused(messages.TOO_LONG.format(most=MOST_STEPS))

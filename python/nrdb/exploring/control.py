@@ -69,7 +69,7 @@ class Stream:
 
 
 class NotMade(Exception):
-    """The object of a step doesn't exist yet: another goroutine must make it first."""
+    """Raised if the object of a step doesn't exist yet, so that another goroutine must make it first."""
 
 
 class Numbers:

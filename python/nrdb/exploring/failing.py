@@ -78,7 +78,7 @@ def went_well(script: Script, call: list[Operation]) -> bool:
 
 def failing_delays(script: Script) -> list[Delay]:
     """Delays of calls that went well: until another goroutine next closes their socket, until another goroutine next
-    sets a deadline in the past, and until a deadline that an earlier call had has passed."""
+    sets a deadline in the past, and until the deadline of an earlier call has passed."""
     sets, closes, ends = _of_socket(script, Sort.SET), _of_socket(script, Sort.CLOSE), ends_of(script)
     found: list[Delay] = []
     for (g, at), begins in script.watched.items():

@@ -79,8 +79,8 @@ class Waiting:
                 self.network = []
 
     def look_again(self, due: Key) -> int:
-        """Makes all check again without success. Returns how many checks of the network are from now on made when they
-        are due."""
+        """Records that all have checked again without success. Returns how many checks by the network will from now on
+        be made when they are due."""
         for actor, which in self.later:
             (self.first if actor == GOROUTINE else self.network).append(which)
         self.later = []

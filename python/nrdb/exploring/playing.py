@@ -75,7 +75,7 @@ class Player(Standing):
         return True
 
     def _push_goroutine(self, g: int) -> None:
-        """Schedules a goroutine's next step at its time."""
+        """Schedules a goroutine's next step for the time at which it is due."""
         if (other := self.passing.has_still_to_go_on(g)) is not None:
             self.passing.wait(other, GOROUTINE, g, (self.now, self._at))
             return

@@ -6,7 +6,7 @@ from netrev_words.recording import Answer, Step
 
 
 class Delay(NamedTuple):
-    """A goroutine pauses before its step of this number, until after the recorded time of another step."""
+    """A pause of a goroutine before its step with this number, until after the recorded time of another step."""
 
     before: int
     until: int

@@ -1,6 +1,6 @@
 """A script: what each goroutine, the network and the clock did in a recording, without the order. A goroutine's script
 is a list of operations, which are the parts of its calls. If the machine answers differently, the goroutine continues
-with another operation than the next one."""
+with an operation other than the next one."""
 
 from dataclasses import dataclass, field
 from typing import Any, NamedTuple, Optional
@@ -19,7 +19,7 @@ class Operation:
     socket: int
     use: int = -1  # the use of a descriptor
     side: str = ""
-    values: tuple[Any, ...] = ()  # the step's arguments besides the object and the side
+    values: tuple[Any, ...] = ()  # the step's arguments other than the object and the side
     steps: list[int] = field(default_factory=list)
     kinds: list[str] = field(default_factory=list)
     moved: list[int] = field(default_factory=list)  # for each try of a write, the number of bytes it moved
@@ -39,7 +39,7 @@ class Item(NamedTuple):
 
 
 class Order(NamedTuple):
-    """A goroutine's operation begins after another's has ended."""
+    """An order: a goroutine's operation begins after an operation of another goroutine has ended."""
 
     operation: int
     other: int

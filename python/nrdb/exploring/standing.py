@@ -89,7 +89,7 @@ class Standing:
         heapify(self._heap)
 
     def is_as(self, other: "Standing") -> bool:
-        """Whether it equals the other one, so that both continue in the same way."""
+        """Whether this state equals the other one, so that both continue in the same way."""
         return (
             self.places == other.places
             and self.off == other.off
@@ -116,7 +116,7 @@ class Standing:
         )
 
     def _watch(self, g: int, place: Place) -> None:
-        """Records the first watched call that fails, and the end of that call."""
+        """Records the first watched call that fails, and that call's end."""
         made = self.steps[-1]
         begins = self.script.watched.get((g, place.operation))
         if self.failed is None and begins is not None and (why := fault_of(made)):
@@ -147,7 +147,7 @@ class Standing:
         return self._streams[g, at]
 
     def _next(self, g: int) -> Optional[Step]:
-        """The next step of a goroutine; None if it has no more, sleeps or doesn't exist."""
+        """The next step of a goroutine; None if the goroutine has no more steps, sleeps or doesn't exist."""
         board = self.board
         if g >= len(board.goroutines) or g in self.asleep:
             return None

@@ -9,7 +9,7 @@ from ..reducing.events import Event, Events
 from .scripts import Operation
 
 ROOM = 4_096  # the number of bytes that a read asks for, if unknown
-OF_EACH = ("g", "s", "d", "side", "mode")  # the arguments of an operation besides its values
+OF_EACH = ("g", "s", "d", "side", "mode")  # the arguments of an operation other than its values
 
 
 class TakenApart:
@@ -209,7 +209,8 @@ def _rests(events: Events, count: int) -> list[bool]:
 
 
 def _finish(operations: list[Operation], is_at_rest: bool) -> None:
-    """Completes the call that a goroutine is in at the end, and sets where each failing operation leads."""
+    """Completes the call that a goroutine is in at the end, and sets where the goroutine continues if an operation
+    fails."""
     open_ones: list[int] = []
     for at, operation in enumerate(operations):
         if operation.sort in (Sort.LOCK, Sort.REFER, Sort.CLOSE):
@@ -226,7 +227,7 @@ def _finish(operations: list[Operation], is_at_rest: bool) -> None:
 
 
 def _end(operations: list[Operation], open_ones: list[int], at: int) -> None:
-    """Sets where a goroutine continues if the operations that this one ends fail, or the tries in between."""
+    """Sets where a goroutine continues if the operations that this one ends fail, or if the tries in between fail."""
     ending = operations[at]
     for begun in reversed(open_ones):
         one = operations[begun]

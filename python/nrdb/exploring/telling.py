@@ -101,7 +101,7 @@ class Telling:
         return f"{finding.key[0]}, in {file}: {named}{ended} hangs: {says}"
 
     def _fails(self, failed: Failed, reason: Reason, finding: Finding) -> str:
-        """Which call fails, and why."""
+        """Says which call fails, and why."""
         first = self.script.goroutines[failed.goroutine][failed.begins]
         call = self.call_of(failed.goroutine, first.steps[0])
         named = self._named(call) if call else f"a call on socket {first.socket}"

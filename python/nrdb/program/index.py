@@ -1,4 +1,4 @@
-"""The positions at which goroutines reach a line or a function of the program, by the stacks of NAME.where."""
+"""The positions at which goroutines reach a line or a function of the program, found in the stacks of NAME.where."""
 
 import re
 from functools import lru_cache

@@ -120,8 +120,8 @@ def calls_of(recording: Recording) -> list[Call]:
 
 
 def stack_at(session: Session) -> Stack:
-    """The stack of the chosen goroutine; else that of the last step, or, before a place of the program, of the next
-    step."""
+    """The stack of the chosen goroutine; else the stack of the last step, or, before a place of the program, of the
+    next step."""
     if session.goroutine:
         found = stack_of(session.text(), session.goroutine, session.stands().position)
         return found.stack if found else Stack((), None)

@@ -113,7 +113,7 @@ class HangTarget(CellTarget):
 
 
 class StepsTarget(Target):
-    """Steps that must remain with their answers: a call that fails, and the cause of that."""
+    """Steps that must remain with their answers: a call that fails, and its cause."""
 
     def __init__(self, events: Events, steps: Sequence[int]) -> None:
         self.steps, self.until = list(steps), len(events.all)

@@ -21,7 +21,7 @@ class Telling(Protocol):
     """Receives events."""
 
     def tell(self, event: str, **values: Any) -> None:
-        """Sends an event of that name with these values."""
+        """Sends an event with this name and these values."""
 
 
 def refusing(why: str) -> Answering:

@@ -62,7 +62,7 @@ def play_no_descriptor(_folder):
 
 
 def answered(port):
-    """A caller that has got the reply to a step; None if the port isn't open yet, or isn't any more."""
+    """A caller that has got the reply to a step; None if the port isn't open, or is closed again."""
     for _ in range(50):
         try:
             caller = socket.create_connection((LOOPBACK, port), timeout=PATIENCE)
@@ -79,8 +79,7 @@ def answered(port):
 
 
 def play_ended_front(_folder):
-    """A front that has ended has no port any more, so a later caller is refused and doesn't wait for the other front's
-    end."""
+    """A front that has ended has no port, so a later caller is refused and doesn't wait for the other front's end."""
     with Server(FIRST, fronts=2) as server:
         with server.call(1) as other:
             expect("the replies", ["at 1", "bye"], talk(server.call(0), ["stepi", "quit"]))

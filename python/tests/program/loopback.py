@@ -354,7 +354,7 @@ def more_behind_quit(caller):
 
 
 def no_end_behind_quit(caller):
-    """Sends without end after `quit`: netrev takes some of it, and closes."""
+    """Sends without end after `quit`: netrev reads some of it, and closes."""
     caller.sendall(b"quit\n")
     expect("the reply", b"bye\n", caller.recv(100))
     try:
@@ -374,8 +374,8 @@ def stays_behind_quit(caller):
 
 
 def test_hostile(parked):
-    """Each of these callers disconnects badly. The next caller of the front is served at the front's position, and the
-    session ends."""
+    """Each of these callers disconnects in a bad way. The next caller of the front is served at the front's position,
+    and the session ends."""
     for leave, status, position, placed in (
         (half_a_line, 0, 3, 2),
         (half_a_line_and_reset, 3, 3, 1),

@@ -1,22 +1,22 @@
 """Tests `serve` of the built program with each of its allocations refused in turn.
 
 Two callers, each at its own front, send fixed lines one after the other, so the right replies are known: first over a
-short recording, which one worker searches, then over a recording of more than three thousand steps, which three
-workers search. In the second case, the allocations before callers are served aren't refused, because they are like
-those of the first. The allocations come in the same order each time, except those of threads that are starting; so
-each number is refused until, in as many successive sessions as run at the same time, there is no allocation with that
-number. A refused allocation must be reported once, and in one of these ways:
+short recording, which one worker searches, then over a recording of more than three thousand steps, which three workers
+search. In the second case, the allocations before callers are served aren't refused, because they are like those of the
+first. The allocations come in the same order each time, except those of threads that are starting. So each number is
+refused until there is no allocation with that number in as many successive sessions as run at the same time. A refused
+allocation must be reported once, and in one of these ways:
 
-- before a caller is served, as `fault 108 memory`, with status 1;
-- in place of a reply to a query, or to a line that first has to complete another front's search,
+- before a caller is served, as `fault 108 memory`, with status 1; - in place of a reply to a query, or to a line that
+first has to complete another front's search,
   as `fault 301 memory`, after which the line is sent again;
 - in place of a reply to a search, as `fault 302 memory, placed N`, after which `resume` gives the reply, and no other
   line;
 - at the end in place of `placed K`, as `fault 108 memory` with status 1.
 
-All other replies must be right, and every reply must be right if netrev could do without the allocation. So no
-command is lost or placed twice. Finally, no thread can be started: then fronts are served one after the other, and
-each searches by itself.
+All other replies must be right, and every reply must be right if netrev could do without the allocation. So no command
+is lost or placed twice. Finally, no thread can be started: then fronts are served one after the other, and each
+searches by itself.
 """
 
 from bisect import bisect_left

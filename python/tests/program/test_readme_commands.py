@@ -56,7 +56,7 @@ def skip_without_go() -> None:
 
 
 def by_their_paths(room: Room) -> None:
-    """Records as README does, but calls netrev-go by its path; the command after `next:` must then run too."""
+    """Records as README does, but calls netrev-go by its path; the command after `next:` must run in that case too."""
     if commands_of_go():
         assert room.run('export NETREV="$PWD/out/look/netrev"') == (0, "")
         command = "cp -r examples/toy other && cd other && ../tools/go/netrev-go test ./..."
