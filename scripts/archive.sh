@@ -1,10 +1,10 @@
 #!/bin/sh
-# Packs a program of netrev with all that belongs to it:  scripts/archive.sh VERSION PROGRAM LOG FOLDER [PROVED]
+# Packs a netrev program with everything that belongs to it:  scripts/archive.sh VERSION PROGRAM LOG FOLDER [PROVED]
 #
-# FOLDER gets netrev-VERSION-linux-x86_64.tar.gz, and its sum beside it. It contains PROGRAM, nrdb, netrev-go, their man pages and
-# completions, README and the pages, the editors' files, the examples, the licenses, LOG (the gate's), and SHA256SUMS of all that.
-# If PROGRAM is proved, PROVED is the file that says by which toolchain (scripts/proved.sh); that it passed a gate is for the caller to
-# know (scripts/package.sh).
+# FOLDER gets netrev-VERSION-linux-x86_64.tar.gz, and its checksum beside it. The archive contains PROGRAM, nrdb,
+# netrev-go, their man pages and completions, README and the pages, the editors' files, the examples, the licenses, LOG
+# (the gate's), and SHA256SUMS of all of these. If PROGRAM is proved, PROVED is the file that names the toolchain
+# (scripts/proved.sh); the caller has to make sure that PROGRAM passed a gate (scripts/package.sh).
 set -eu
 cd "$(dirname "$0")/.."
 version=$1 program=$2 log=$3 folder=$4 proved=${5:-}

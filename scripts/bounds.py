@@ -1,11 +1,11 @@
 #!/usr/bin/env python3
 """Finds the numbers that no proof needs:  scripts/bounds.py [--list] [CRATE ..]
 
-Each constant and each bound of a loop is made one less in a copy of the repository, where `rt ci` tries it as an edit that must fail. A
-number whose change is refused is fixed by a contract. One whose crate is still proved rests on the source alone: with a smaller one netrev is
-slower, or gives up earlier, and no theorem says so.
+Makes each constant and each loop bound one less in a copy of the repository, where `rt ci` tries the change as an edit that must fail. If
+the change is refused, a contract fixes the number. If the crate is still proved, the number rests only on the source: with a smaller one
+netrev is slower, or gives up earlier, and no theorem excludes that.
 
-Without names it tries the crates of netrev. With --list it prints what it would change. A crate takes minutes. The status is 0 if each
+Without names it tries netrev's crates. With --list it prints what it would change. A crate takes some minutes. The status is 0 if each
 change was tried, else 1.
 """
 
@@ -39,7 +39,7 @@ class Number(NamedTuple):
 
     @property
     def edit(self) -> str:
-        """The edit that makes it one less."""
+        """The edit that makes the number one less."""
         before, _, after = self.line.rpartition(self.text)
         return f"file: {self.file}\nold: {self.line}\nnew: {before}({self.text}) - 1{after}\n"
 
@@ -59,7 +59,7 @@ def crates_of_netrev() -> list[str]:
 
 
 def numbers_of(crate: str) -> Iterator[Number]:
-    """The numbers of a crate, file by file. A line that a file has twice can't be named by an edit, and is left out."""
+    """The numbers of a crate, file by file. Lines that occur twice in a file can't be named by an edit, and are left out."""
     folder = ROOT / "crates" / crate
     for path in sorted((folder / "src").rglob("*.rt")):
         source, file = path.read_text("utf-8"), str(path.relative_to(folder))
@@ -70,7 +70,7 @@ def numbers_of(crate: str) -> Iterator[Number]:
 
 
 def verdicts(numbers: list[Number]) -> dict[tuple[str, str], str]:
-    """What the prover says of each number that is one less, by its crate and its name."""
+    """The prover's verdict on each decreased number, by crate and name."""
     with tempfile.TemporaryDirectory(prefix="netrev-bounds-") as folder:
         copy = Path(folder) / "netrev"
         shutil.copytree(ROOT, copy, ignore=shutil.ignore_patterns("must-fail", ".git", "target"))

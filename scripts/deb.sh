@@ -1,9 +1,10 @@
 #!/bin/sh
 # Makes a Debian package of the archive that scripts/archive.sh left in a folder:  scripts/deb.sh VERSION [FOLDER]
 #
-# FOLDER (out if left out) gets netrev_VERSION_amd64.deb. It contains netrev, the very file of the archive, nrdb, netrev-go, their
-# man pages and completions, the editors' files, the examples, the pages, the licenses and the gate's log. If lintian (a Debian
-# package) is installed, it must find nothing. COMPRESSION=gzip packs faster than xz, and larger.
+# FOLDER (out by default) gets netrev_VERSION_amd64.deb. It contains the netrev of the archive, byte for byte, nrdb,
+# netrev-go, their man pages and completions, the editors' files, the examples, the pages, the licenses and the gate's
+# log. If lintian (a Debian package) is installed, it must report nothing. COMPRESSION=gzip packs faster than xz, but
+# less tightly.
 set -eu
 cd "$(dirname "$0")/.."
 version=$1 folder=${2:-out}
@@ -50,7 +51,7 @@ License: Apache-2.0
  On Debian systems the text of this license is in /usr/share/common-licenses/Apache-2.0.
 END
 cat > "$root/usr/share/lintian/overrides/netrev" <<END
-# The program is the very file whose sum the gate left, so nothing is stripped from it or linked into it anew.
+# The program must keep the checksum that the gate stored, so nothing is stripped from it or linked into it again.
 netrev: unstripped-binary-or-object [usr/bin/netrev]
 END
 cat > "$root/DEBIAN/control" <<END
@@ -72,7 +73,7 @@ Description: record-and-replay debugger for network programs in Go
 END
 cat > "$root/DEBIAN/postinst" <<END
 #!/bin/sh
-# Compiles for the Python that is here, as Debian's own packages do.
+# Compiles the modules for the installed Python, as Debian's own packages do.
 set -e
 if [ "\$1" = configure ] && command -v py3compile > /dev/null; then
 	py3compile -p netrev /usr/lib/netrev
@@ -80,7 +81,7 @@ fi
 END
 cat > "$updates/netrev.rtupdate" <<END
 #!/bin/sh
-# Compiles anew where Debian's Python has become another one.
+# Compiles the modules again when Debian's Python has changed its version.
 set -e
 if [ "\$1" = rtupdate ]; then
 	py3clean -p netrev /usr/lib/netrev
@@ -89,7 +90,7 @@ fi
 END
 cat > "$root/DEBIAN/prerm" <<END
 #!/bin/sh
-# Takes away what Python has compiled.
+# Removes what Python has compiled.
 set -e
 [ ! -d /usr/lib/netrev ] || find /usr/lib/netrev -name __pycache__ -prune -exec rm -rf {} +
 END

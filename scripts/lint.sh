@@ -1,13 +1,13 @@
 #!/bin/sh
-# Looks over netrev's Python with black and mypy, as pyproject.toml says:  scripts/lint.sh [--if-there]
+# Runs black and mypy on netrev's Python code, as pyproject.toml configures them:  scripts/lint.sh [--if-there]
 #
-# With --if-there, as the gate calls it, a tool that isn't on this machine is named and left out; else that is a failure.
+# If a tool isn't installed, that is a failure; with --if-there, as the gate calls it, the tool is named and left out.
 # Both are Debian packages.
 set -eu
 cd "$(dirname "$0")/.."
 status=0 how=${1-}
 
-# Whether a tool is here; where it isn't, says so by its name.
+# Whether a tool is installed; if not, prints its name.
 is_here() {
 	command -v "$1" > /dev/null && return
 	echo "left out: $1: it isn't on this machine (Debian: apt-get install $1)"

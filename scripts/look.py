@@ -1,5 +1,5 @@
 #!/usr/bin/env python3
-"""Opens nrdb's prompt on a recording, with a netrev that is compiled and not proved:  scripts/look.py FILE [SCRIPT]
+"""Opens nrdb's prompt on a recording, with a netrev that is compiled but not proved:  scripts/look.py FILE [SCRIPT]
 
 With SCRIPT netrev runs the commands of that file instead, as `netrev run FILE < SCRIPT`.
 """
@@ -21,7 +21,7 @@ def say(text: str) -> None:
 
 
 def prompt(recording: Path) -> int:
-    """Replaces this process by nrdb."""
+    """Replaces this process with nrdb."""
     program = unproved_netrev(say)
     say(f"{BANNER} Ctrl-D ends the session.\n")
     os.execv(ROOT / "nrdb", [str(ROOT / "nrdb"), str(recording), "--netrev", str(program)])

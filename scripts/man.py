@@ -1,8 +1,8 @@
 #!/usr/bin/env python3
 """Writes a man page to standard output:  scripts/man.py [netrev | nrdb | netrev-go] > netrev.1
 
-netrev's is docs/reference/COMMANDS.md: headings become sections, and each row of a table an entry. Those of nrdb and netrev-go are made
-from their parsers and from their pages' tables of exit statuses.
+netrev's page is made from docs/reference/COMMANDS.md: headings become sections, and each row of a table becomes an entry. The pages of nrdb
+and netrev-go are made from their parsers and from their pages' tables of exit statuses.
 """
 
 from __future__ import annotations
@@ -62,7 +62,7 @@ and the pages of netrev's docs folder: the guide, COMMANDS, RECORDING, MACHINE, 
 
 
 def text(words: str) -> str:
-    """A line of Markdown as one of roff: code and emphasis in bold, links by their text."""
+    """A line of Markdown converted to roff: code and emphasis in bold, and a link as its text."""
     words = words.replace("\\", "\\e")
     words = re.sub(r"\[([^]]+)\]\([^)]*\)", r"\1", words)
     words = re.sub(r"\*\*([^*]+)\*\*|`([^`]+)`", lambda found: rf"\fB{found[1] or found[2]}\fR", words)
@@ -77,8 +77,7 @@ def rows_of(table: list[str]) -> list[list[str]]:
 
 
 def entries(table: list[str]) -> list[str]:
-    """A table as a list: the first column as the term, the others below it. Four columns are two tables side by
-    side."""
+    """A table as a list: the first column is the term, and the other columns are below it. Four columns are two tables side by side."""
     rows = rows_of(table)
     if len(rows[0]) == 4:
         rows = [row[:2] for row in rows] + [row[2:] for row in rows]
@@ -90,7 +89,7 @@ def entries(table: list[str]) -> list[str]:
 
 
 def block(lines: list[str]) -> list[str]:
-    """One paragraph, list, table or block of code of Markdown, or a heading."""
+    """Converts a paragraph, a list, a table, a block of code or a heading from Markdown."""
     first = lines[0]
     if first.startswith("# "):
         return []
@@ -109,7 +108,7 @@ def block(lines: list[str]) -> list[str]:
 
 
 def page(markdown: str) -> str:
-    """The whole page, block by block: a blank line ends one."""
+    """Converts the whole page, block by block: blank lines separate blocks."""
     blocks = [part.splitlines() for part in re.split(r"\n\n+", markdown.strip())]
     return TITLE + HEAD + "\n".join(line for lines in blocks for line in block(lines)) + "\n" + TAIL
 
@@ -120,17 +119,17 @@ OTHERS: dict[str, tuple[argparse.ArgumentParser, str, str, str]] = {
         cli.parser(),
         "the companion at netrev's prompt",
         "[options] [FILE]",
-        "nrdb walks a recording in both directions: netrev's replies come as they are, and what nrdb adds to them begins with | and "
+        "nrdb walks a recording in both directions: it prints netrev's replies unchanged, and what it adds to them begins with | and "
         "is unproved. `help` at its prompt lists the commands. Its exit status is netrev's: 0 done, 1 the recording was "
-        "refused, 2 other words, 3 the file, the program or the connection failed; and 4 where --suspects, "
-        "--explore or --explore-failures prints some.",
+        "refused, 2 usage error, 3 the file, the program or the connection failed; and 4 if --suspects, "
+        "--explore or --explore-failures prints findings.",
     ),
     "netrev-go": (
         options.parser(),
-        "record a Go program as it is",
+        "record an unchanged Go program",
         f"[options] {' | '.join(options.COMMANDS)} ..",
         "Put options of netrev-go before the command, and Go's own after run, test and build. These end with Go's own status, and print "
-        "their own words on standard error. When Go's status is 0, --fail-on makes it 3 and --strict 5. 4 means that Go wasn't run, "
+        "netrev-go's messages on standard error. When Go's status is 0, --fail-on makes it 3 and --strict 5. 4 means that Go wasn't run, "
         "and 2 a usage error.",
     ),
 }
@@ -152,7 +151,7 @@ def options_of(parser: argparse.ArgumentParser) -> Iterator[str]:
 
 
 def other_page(name: str) -> str:
-    """The page of a program by its parser."""
+    """The page of a program, from its parser."""
     parser, summary, called, does = OTHERS[name]
     head = [
         f'.TH {name.upper()} 1 "" "netrev {VERSION}" "User commands"',

@@ -1,16 +1,15 @@
 #!/usr/bin/env python3
-"""Measures the processor minutes of a run:  scripts/minutes.py LOG COMMAND ..  or  scripts/minutes.py LOG
+"""Measures the processor time of a run:  scripts/minutes.py LOG COMMAND ..  or  scripts/minutes.py LOG
 
-With a command, runs it, samples each second which checks are running, and writes to LOG what each took: a line for each crate and
-kind of check, in processor seconds. The status is the command's. Without one, prints LOG as a table:
+With a command, runs it, samples the running checks every second, and writes their processor seconds to LOG, with a line for each crate and
+kind of check. The status is the command's. Without a command, prints LOG as a table:
 
     proofs   each crate's own, from which the libraries and the program are built
     tests    the proofs once more with the crate's tests
     seeds    the beginning of the crate's edits, and the final check of the unchanged crate
     edits    the edits that must fail
 
-The rest is the remaining time of the command: the compilers, the programs and tests that ran, and the checks since their last
-sample.
+The rest is the command's remaining time: for the compilers, for the programs and tests that ran, and for checks after their last sample.
 """
 
 import os
@@ -28,7 +27,7 @@ CHECKS = ("check", "build")
 
 
 def processes():
-    """The running processes: by number, the parent's number and the ticks that it and its ended children have used."""
+    """The running processes: for each number, the parent's number, and the ticks used by the process and its ended children."""
     found = {}
     for name in filter(str.isdigit, os.listdir("/proc")):
         try:
@@ -64,11 +63,11 @@ def check_of(number):
 
 
 class Watch:
-    """The observed time of the checks below a process."""
+    """The observed times of the checks below a process."""
 
     def __init__(self, top):
         self.top = top
-        self.kinds = {}  # by process, its crate and kind
+        self.kinds = {}  # by process, the crate and kind
         self.ticks = {}
         self.least_free = None
 
@@ -81,7 +80,7 @@ class Watch:
         self.note_memory()
 
     def walk(self, number, check, found, below, sums):
-        """Adds the time of each process to the check that it belongs to: a check's own children belong to it."""
+        """Adds the time of each process to the check that it belongs to; the children of a check belong to the check."""
         if check is None and number != self.top:
             kind = self.kinds.get(number) or check_of(number)
             if kind:
@@ -109,7 +108,7 @@ class Watch:
 
 
 def run(log, words):
-    """Runs the command and writes the log; the command's status."""
+    """Runs the command and writes the log; returns the command's status."""
     begun = time.monotonic()
     with subprocess.Popen(words) as process:
         watch = Watch(process.pid)

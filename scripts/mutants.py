@@ -2,20 +2,19 @@
 """Tries mutants:  scripts/mutants.py [--plant FILE] [--list] CRATE [NAME ..]
                scripts/mutants.py around [--seed N] [--count N] [--list] [FILE ..]
 
-`around` draws mutants of nrdb, netrev_calls and netrev_go by a seed, and tries them against their tests (scripts/mutating).
-Otherwise the edits of a crate are tried, many in one check.
+`around` draws mutants of nrdb, netrev_calls and netrev_go by a seed, and tries them against their tests (scripts/mutating). Otherwise the
+edits of a crate are tried, many in a single check.
 
-The gate tries each edit of crates/CRATE/must-fail alone, over the whole crate. Here the edits of different functions go into one
-copy of the repository, and only their functions are checked, each separately, because the proof of a function doesn't
-rest on another's body. So all edits of a crate are tried in minutes. This is a tool for developers, and no part of the
-gate.
+The gate tries each edit of crates/CRATE/must-fail alone, over the whole crate. This script puts the edits of different functions into one
+copy of the repository, and checks only these functions, each separately, because the proof of a function doesn't rest on another's body. So
+all edits of a crate are tried in minutes. This is a tool for developers, and not a part of the gate.
 
-An edit counts as refused if a function that it changes isn't proved because of a goal of its own; a call of another function
-that isn't proved doesn't count. An edit that changes more than bodies (a constant, a type, a definition) is named and left to
-`rt must-fail`, which tries it alone.
+An edit counts as refused if a function that it changes isn't proved because of a goal of its own. A goal that fails only because the
+function calls another one that isn't proved doesn't count. An edit that changes more than bodies (a constant, a type, a definition) is
+named and left to `rt must-fail`, which tries it alone.
 
---plant FILE tries other mistakes than the crate's: a file of edits in the form of must-fail/, each after a line `name: NAME`.
---list checks nothing, and prints which function each edit changes, and in which check it is tried.
+--plant FILE tries mistakes other than the crate's: FILE contains edits in the form of must-fail/, each after a line `name: NAME`. --list
+checks nothing, and prints which function each edit changes, and in which check it is tried.
 
 The status is 0 if each edit is refused, else 1.
 """
@@ -44,7 +43,7 @@ class Wrong(Exception):
 
 @dataclass
 class Change:
-    """One line's text and its replacement."""
+    """The old text and the new text of a line."""
 
     file: str
     old: str
@@ -53,7 +52,7 @@ class Change:
 
 @dataclass
 class Edit:
-    """A mistake: its changes, and the functions whose bodies they are in."""
+    """A mistake: its changes, and the functions whose bodies they change."""
 
     name: str
     changes: list = field(default_factory=list)
@@ -61,7 +60,7 @@ class Edit:
 
 
 def read_edits(text, name):
-    """The edits of a text, named in it or, if there is only one, by the file."""
+    """The edits in a text. Each has its name there, but a single one may be named by its file."""
     edits, file, old = [], "", ""
     for line in text.split("\n"):
         key, _, rest = line.partition(":")
@@ -80,7 +79,7 @@ def read_edits(text, name):
 
 
 def name_of_impl(head):
-    """The beginning of a method's printed name: its type's name, and then that of the trait, if there is one."""
+    """The beginning of a method's printed name: the name of its type, and then of the trait, if there is one."""
     impls = list(IMPL.finditer(head))
     if not impls:
         return None
@@ -90,8 +89,8 @@ def name_of_impl(head):
 
 
 def function_at(crate, file, text, place):
-    """The end of the name that the prover prints for the function whose body contains a place of a source, or None. A
-    method's name goes by its type, wherever its block is."""
+    """The end of the name that the prover prints for the function whose body contains a place in a source; None if no body does. A method
+    is named after its type, wherever its block is."""
     if not file.startswith("src/"):
         return None
     head = text[:place]
@@ -100,7 +99,7 @@ def function_at(crate, file, text, place):
         return None
     indent, name = found[-1][1], found[-1][2]
     body = head[found[-1].end() :]
-    # (the item ended if a line of its indentation closes it, and begins after its clauses)
+    # (the item has ended if a line with its indentation closes it; its body begins after its clauses)
     if re.search(rf"^{indent}}}$", body, re.M) or not re.search(rf"(?:^{indent}|\) |> |\w ){{$", body, re.M):
         return None
     module = [part for part in Path(file).with_suffix("").parts[1:] if part not in ("lib", "main", "mod")]
@@ -111,12 +110,12 @@ def function_at(crate, file, text, place):
 
 
 def place_functions(crate, folder, edit):
-    """Notes the functions whose bodies the edit changes; none if it also changes something else."""
+    """Stores the functions whose bodies the edit changes; none if the edit also changes something else."""
     for change in edit.changes:
         path = folder / change.file
         text = path.read_text(encoding="utf-8") if path.is_file() else ""
         if text.count(change.old) != 1:
-            raise Wrong(f"{edit.name}: its text stands in {change.file} {text.count(change.old)} times, and not once")
+            raise Wrong(f"{edit.name}: its text occurs {text.count(change.old)} times in {change.file}, not once")
         place = text.index(change.old) + len(change.old) - len(change.old.lstrip())
         function = function_at(crate, change.file, text, place)
         if function is None:
@@ -126,7 +125,7 @@ def place_functions(crate, folder, edit):
 
 
 def batches_of(edits):
-    """The edits in as few batches as possible; no batch has two edits of one function."""
+    """The edits in as few batches as possible; no batch has two edits of the same function."""
     batches: list[list[Edit]] = []
     for edit in edits:
         for batch in batches:
@@ -190,7 +189,7 @@ def verdict(edit, said, output):
 
 
 def try_batch(crate, batch, jobs):
-    """Tries some edits in one check, and returns the names of those that weren't refused."""
+    """Tries a batch of edits in one check, and returns the names of those that weren't refused."""
     functions = set().union(*(edit.functions for edit in batch))
     with tempfile.TemporaryDirectory(prefix="mutants-") as room:
         said, output = check(copied(Path(room), crate, batch), functions, jobs)

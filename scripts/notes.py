@@ -1,14 +1,14 @@
 #!/usr/bin/env python3
 """The release notes of a version, from CHANGELOG.md:  scripts/notes.py VERSION CHANGELOG
 
-They are the sections of that version and of what is unreleased; older versions are left out."""
+They are the sections of that version and of the unreleased changes; older versions are left out."""
 
 import re
 import sys
 from pathlib import Path
 
 UNRELEASED = "Unreleased"
-# a heading of the second level that names a version, as "## 1.0.0", "## [1.0.0] - 2026-11-29" or "## Unreleased"
+# a second-level heading that names a version, such as "## 1.0.0", "## [1.0.0] - 2026-11-29" or "## Unreleased"
 HEADING = re.compile(r"^## \[?(Unreleased|\d[\w.+-]*)\]?.*\n", re.MULTILINE)
 
 

@@ -1,8 +1,9 @@
 #!/bin/sh
-# Makes out/netrev-VERSION-linux-x86_64.tar.gz (scripts/archive.sh) of the program that passed the gate:  scripts/package.sh VERSION [PROGRAM]
+# Makes out/netrev-VERSION-linux-x86_64.tar.gz (scripts/archive.sh) of the program that passed the gate:
+# scripts/package.sh VERSION [PROGRAM]
 #
-# PROGRAM must be the one that the gate ran, by the sum that it left (out/gate.sum). If none is named, it is the one built here,
-# by the gate or since then of the same files; netrev is proved first only if none is built.
+# PROGRAM must be the one that the gate ran, according to the checksum in out/gate.sum. The default is the program built
+# here, by the gate or later from the same files; if none was built, netrev is proved and built first.
 set -eu
 cd "$(dirname "$0")/.."
 version=$1 program=${2:-}
@@ -13,7 +14,7 @@ fail() {
 	exit 1
 }
 
-# The first file of the crates that is newer than another one.
+# Prints the first file of the crates that is newer than a given file.
 newer_than() {
 	find crates crates.txt -path '*/out' -prune -o -newer "$1" -type f -print | head -n 1
 }

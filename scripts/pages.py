@@ -1,7 +1,7 @@
 #!/usr/bin/env python3
 """Checks the pages against the tree:  scripts/pages.py [--diagram] [--write] [RULE ..]
 
-The gate runs all rules. These are about pages and Python, and what pages say about the source:
+The gate runs all rules. These are about pages and Python code, and about what pages say of the source:
 
     quotes, texts, runs  the quotes of docs/proof/THEOREM.md, and the computed sessions, equal their files
     beliefs              the reading list of docs/proof/THEOREM.md is what scripts/beliefs.py prints, and within its limits
@@ -25,8 +25,8 @@ And these are about the source itself:
     forgotten            `mem::forget`, and all that leaks memory, is in one file
     refused              no function of the program reports refused memory without an error that says so
 
-`--diagram` prints the diagram of the crates. `--write` first writes the imports of the packages into CONTRIBUTING.md's table.
-RULE .. runs only these rules. Prints each finding with its file and line; the status is 1 if there is one.
+`--diagram` prints the diagram of the crates. `--write` first updates the imports of the packages in CONTRIBUTING.md's table. With RULE ..,
+only these rules run. Prints each finding with its file and line; the status is 1 if there is any.
 """
 
 import argparse
@@ -52,7 +52,7 @@ from page_rules.tree import Finding, Tree
 
 Rule = Callable[[Tree], Iterator[Finding]]
 
-# the subjects of the rules of pages: without one of them they would find nothing
+# what the rules of pages examine: without one of these, they would find nothing
 NEEDED = (
     "docs/proof/THEOREM.md",
     "docs/proof/TRUSTED.md",
@@ -90,7 +90,7 @@ RULES: dict[str, Rule] = {
 
 
 def main(given_words: list[str] | None = None) -> int:
-    """Runs the rules named by these words or by those of the command line."""
+    """Runs the rules named by these words, or by the command line's."""
     given = argparse.ArgumentParser(description=__doc__, formatter_class=argparse.RawDescriptionHelpFormatter)
     given.add_argument("--diagram", action="store_true", help="print the diagram of the crates")
     given.add_argument("--write", action="store_true", help="put the imports into the table of CONTRIBUTING.md first")

@@ -1,14 +1,15 @@
 #!/bin/sh
 # Proves and builds a program, and leaves it at crates/NAME/out/NAME:  scripts/prove.sh [NAME]
 #
-# NAME is netrev if it is left out. `rt ci` proves the program and the crates below it in a copy that has no others; what an earlier
-# run on this machine proved of the same files, in any checkout, isn't proved again. CPU says for which processors the program is
-# built, as x86-64-v3; without it, for all of x86-64. With CPU the proofs, which are the same, are made in this checkout.
+# The default NAME is netrev. `rt ci` proves the program and the crates below it in a copy without the other crates.
+# What an earlier run on this machine proved for the same files, in any checkout, isn't proved again. CPU names the
+# processors for which the program is built, such as x86-64-v3; by default it is all of x86-64. With CPU the proofs,
+# which are the same, are made in this checkout.
 set -eu
 cd "$(dirname "$0")/.."
 top=${1:-netrev}
 
-# The crates below one and itself, by the lines of crates.txt.
+# Prints a crate and the crates below it, from the lines of crates.txt.
 below() {
 	awk -v top="$1" '
 		/^[a-z]/ { name = $1; sub(/:$/, "", name); line = $0; sub(/^[^:]*:/, "", line); needs[name] = line }

@@ -1,8 +1,8 @@
 #!/bin/sh
-# pytest, by a Python that has it:  scripts/pytest.sh [--beside] [WORDS ..]
+# Runs pytest with a Python that has it:  scripts/pytest.sh [--beside] [WORDS ..]
 #
-# With --beside as many tests run side by side as there are processors, or JOBS, where pytest-xdist is there. Both are Debian packages, which
-# another python3 on the PATH than Debian's doesn't see.
+# With --beside, and if pytest-xdist is installed, as many tests run in parallel as there are processors, or JOBS. Both
+# are Debian packages; if the first python3 on the PATH isn't Debian's, it doesn't see them.
 set -eu
 for python in python3 /usr/bin/python3 ""; do
 	[ -z "$python" ] || ! "$python" -c "import pytest" 2> /dev/null || break

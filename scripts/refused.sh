@@ -1,13 +1,13 @@
 #!/bin/sh
-# Plays the built program with each of its allocations refused in turn:  scripts/refused.sh
+# Runs the built program with each of its allocations refused in turn:  scripts/refused.sh
 #
-# Over each example `run`, `check`, `upgrade`, `changes` and `suspects`, and besides a recording that is refused, a file that is missing and words
-# that ask for nothing. A refused allocation is told once, and of nothing else: while netrev loads as `fault 108 memory`
-# with status 1, and after that in place of one reply: of a look as `fault 301 memory`, and the look is sent again; of a
-# `continue` or `reverse-continue` as `fault 302 memory, placed N`, and its reply is asked for by `resume`. Then that reply
-# and all others are the right ones. `upgrade` tells it as in loading, behind the first lines of the right text, all whole.
-# Where nothing is refused, or netrev could do without, status, replies and standard error are the right ones. The first
-# difference ends it.
+# It does so for `run`, `check`, `upgrade`, `changes` and `suspects` over each example, and also for a recording that is
+# refused, a missing file and a usage error. netrev must report a refused allocation once, and change nothing else.
+# While it loads, it reports `fault 108 memory` with status 1. After that, the report replaces one reply: a query gets
+# `fault 301 memory`, and is sent again; a `continue` or `reverse-continue` gets `fault 302 memory, placed N`, and
+# `resume` asks for its reply. That reply and all others must then be right. `upgrade` reports it as in loading, after
+# the first lines of the right text, all of them whole. If nothing is refused, or netrev could do without the
+# allocation, then status, replies and standard error must be right. The first difference ends the script.
 set -eu
 here=$(cd "$(dirname "$0")" && pwd)
 examples=$here/../examples
@@ -21,14 +21,14 @@ cc -O2 -fPIC -shared -o "$work/refused.so" "$here/refused.c" -ldl
 echo "fault 108 memory" > "$work/no-memory"
 : > "$work/nothing"
 
-# Sends a line to the netrev that runs, and reads the first line of its reply.
+# Sends a line to the running netrev, and reads the first line of its reply.
 ask() {
 	echo "$1" >&5
 	read -r reply <&6
 }
 
-# Sends the script line by line, each once the one before is answered, and writes the replies. Where memory was refused
-# the reply is asked for once more, and that leaves a line in $work/asked.
+# Sends the script line by line, each after the reply to the previous one, and writes the replies. If memory was
+# refused, it asks for the reply once more, and leaves a line in $work/asked.
 answer() {
 	while read -r line; do
 		ask "$line" || return 0
@@ -53,7 +53,7 @@ answer() {
 	done < "$input" > "$work/output"
 }
 
-# Plays netrev with these words, its allocation $number refused, or none where that is 0.
+# Runs netrev with these words and its allocation $number refused, or no allocation if $number is 0.
 play() {
 	status=0
 	: > "$work/asked"
@@ -77,20 +77,20 @@ differs() {
 	exit 1
 }
 
-# Whether it ended with status $1, with $2 on standard error and what is in $work/right on its output.
+# Whether it ended with status $1, printed what is in $work/right, and printed $2 on standard error.
 is_right() {
 	[ "$status" = "$1" ] && cmp -s "$work/output" "$work/right" && cmp -s "$work/errors" "$2"
 }
 
-# Whether it ended with status 1 behind the first lines of what is in $work/right, and said then that memory ran out.
+# Whether it ended with status 1 after the first lines of $work/right, and then reported that memory ran out.
 is_begun() {
 	head -n "$(($(wc -l < "$work/output") - 1))" "$work/right" | cat - "$work/no-memory" > "$work/begun"
 	[ "$status" = 1 ] && cmp -s "$work/output" "$work/begun"
 }
 
-# Refuses each allocation of netrev with the words from $3 on, until none is left to refuse. It is right to end with
-# status $1 and $2 on standard error, as it has to in the end. It is that too where it could do without the allocation,
-# and where one line had to be sent again.
+# Refuses each allocation of netrev, run with the words from $3 on, until none is left to refuse. It must end with
+# status $1 and $2 on standard error once nothing is refused. It may also do so if it could do without the allocation,
+# or if one line had to be sent again.
 refuse_each() {
 	ends=$1 says=$2
 	shift 2
@@ -115,7 +115,7 @@ refuse_each() {
 	told=$((told + loading + lines + writing))
 }
 
-# What the steps changed, and the suspects, with each allocation refused.
+# Checks `changes` and `suspects` with each allocation refused.
 play_lists() {
 	for program in changes suspects; do
 		python3 "$here/../python" netrev_machine "$program" "$2" > "$work/right" || [ "$1" != 0 ]
@@ -123,7 +123,7 @@ play_lists() {
 	done
 }
 
-# An example with all its memory, and then with each allocation refused.
+# Checks an example with all its memory, and then with each allocation refused.
 play_example() {
 	name=$1
 	recording=$examples/$name.jsonl
@@ -142,7 +142,7 @@ play_example() {
 	play_lists 0 "$recording"
 }
 
-# A recording that is refused, whatever the program is: $work/right has its fault.
+# Checks a recording that every subcommand refuses: $work/right has the fault.
 play_refused() {
 	refuse_each 1 "$work/nothing" run "$1"
 	refuse_each 1 "$work/nothing" check "$1"
@@ -162,7 +162,7 @@ for recording in "$examples"/*.jsonl; do
 	fi
 done
 
-# The recording of twelve steps, with six lines of which two search.
+# The recording of twelve steps, with six lines, two of which search.
 recording=$here/recordings/woken-by-an-event.jsonl
 input=$work/script
 printf '%s\n' "watch rg 0" continue "stepi 3" "print in 0" reverse-continue "info position" quit > "$input"

@@ -1,10 +1,11 @@
 #!/bin/sh
-# Installs what the gate uses beside the toolchain:  scripts/setup.sh
+# Installs what the gate uses in addition to the toolchain:  scripts/setup.sh
 #
-# Debian packages, by apt-get and as root: pytest and pytest-xdist run the tests in Python, black and mypy check the Python sources,
-# chromium opens the pages, Emacs with dap-mode walks a recording, and go-dap decodes the adapter's messages. Two releases of Go go
-# into the user's cache. What can't be installed is named, with the command that installs it, and the gate goes on: it names at its
-# end each test that it left out. The status is always 0. out/setup.log has what apt-get printed.
+# The Debian packages are installed with apt-get as root: pytest and pytest-xdist run the tests in Python, black and
+# mypy check the Python sources, chromium opens the pages, Emacs with dap-mode debugs a recording, and go-dap decodes
+# the adapter's messages. Two releases of Go go into the user's cache. If something can't be installed, it is named,
+# with the command that installs it, and the gate continues; at its end it names each test that it left out. The status
+# is always 0. out/setup.log has apt-get's output.
 set -eu
 cd "$(dirname "$0")/.."
 mkdir -p out
@@ -13,7 +14,7 @@ packages="black mypy python3-pytest python3-pytest-xdist chromium emacs-nox elpa
 began=$(date +%s)
 : > "$log"
 
-# The packages that aren't installed.
+# Prints the packages that aren't installed.
 missing() {
 	for package in $packages; do
 		dpkg-query -W -f '${Status}\n' "$package" 2> /dev/null | grep -q ' installed$' || echo "$package"
@@ -25,7 +26,8 @@ install() {
 	DEBIAN_FRONTEND=noninteractive timeout 900 apt-get install -y --no-install-recommends "$@" < /dev/null
 }
 
-# Installs these packages, with fresh lists if the old ones don't do, and one by one if they can't be had together.
+# Installs these packages, with updated lists if the old ones aren't enough, and one by one if they can't be installed
+# together.
 install_all() {
 	install "$@" || { timeout 300 apt-get update && install "$@"; } || for package in "$@"; do
 		install "$package" || echo "$package can't be installed"

@@ -1,9 +1,9 @@
 #!/usr/bin/env python3
-"""Compares the public calls that stay as they are with the sources:  scripts/surface.py [--list CRATE]
+"""Compares the list of stable public calls with the sources:  scripts/surface.py [--list CRATE]
 
-scripts/surface.txt has a line for each: a crate's name alone, and below it each call with its arguments and its result. A call
-that is renamed, or takes or returns something else, is reported and fails the gate; for an intended change, change the line too.
-Calls that aren't listed may change. `--list CRATE` prints all public calls of a crate, in the table's form.
+scripts/surface.txt has a line for each crate's name, and below it a line for each call, with its arguments and result. The gate fails if
+such a call is renamed, or if its arguments or result change; for an intended change, edit the line too. Calls that aren't listed may
+change. `--list CRATE` prints all public calls of a crate, in the table's form.
 """
 
 import argparse
@@ -18,14 +18,14 @@ TABLE = ROOT / "scripts" / "surface.txt"
 # the first line of a block of methods: an impl without a trait, or a trait
 OWNER = re.compile(r"(?:impl(?:<.*?>)? (?P<type>\w+)(?:<.*>)?(?: \{)?|pub trait (?P<trait>\w+).*)$")
 CALL = re.compile(r"(?P<public>pub )?fn (?P<name>\w+)")
-# the mark of an argument that a body doesn't use, which doesn't concern the call
+# the mark of an argument that a body doesn't use, which is no part of the call's form
 UNUSED = re.compile(r"(?<=[(\s])_(?=\w+:)")
-# what follows a signature: clauses, bounds, the body
+# what follows a signature: clauses, bounds and the body
 BEHIND = re.compile(r"\s(?:where|requires|ensures|ghost|decreases)\b|\s?\{|;")
 
 
 def without_comments(text: str) -> str:
-    """The lines of a source, with comments and attributes left empty."""
+    """A source with its comments and attributes replaced by empty lines."""
     return "\n".join("" if line.lstrip().startswith(("//", "#[")) else line for line in text.split("\n"))
 
 
@@ -83,7 +83,7 @@ def table(text: str) -> dict[str, list[str]]:
 
 
 def missing(wanted: dict[str, list[str]]) -> list[str]:
-    """The faults: each call of the table that its crate doesn't have as listed, with the calls of that name."""
+    """The faults: each call in the table that its crate doesn't have in this form, with the calls of that name that it has."""
     faults = []
     for crate, calls in wanted.items():
         there = crate_calls(crate)
@@ -96,7 +96,7 @@ def missing(wanted: dict[str, list[str]]) -> list[str]:
 
 
 def main() -> int:
-    """Compares, or lists."""
+    """Compares the calls, or lists them."""
     words = argparse.ArgumentParser(description=__doc__, formatter_class=argparse.RawDescriptionHelpFormatter)
     words.add_argument("--list", metavar="CRATE", help="print all public calls of a crate")
     asked = words.parse_args()

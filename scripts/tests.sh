@@ -1,9 +1,9 @@
 #!/bin/sh
-# All tests in Python, and those scripts that play the built programs or look over the tree:  scripts/tests.sh
+# Runs all tests in Python, and the scripts that test the built programs or check the tree:  scripts/tests.sh
 #
-# First those that may run side by side, then alone those that measure time or memory, or need a port that they are told. What
-# is left out for want of a tool is named in out/left-out.txt, and all of them where pytest itself isn't here. The
-# status is how many failed, 100 at most.
+# First come the tests that may run in parallel, then, one by one, those that measure time or memory or need a given
+# port. Tests that are left out for lack of a tool are named in out/left-out.txt, as are all tests if pytest itself
+# isn't installed. The status is the number of failed tests, at most 100.
 set -eu
 cd "$(dirname "$0")/.."
 mkdir -p out
@@ -15,7 +15,7 @@ for program in "${NETREV:-crates/netrev/out/netrev}" "${NETREV_PLAIN:-crates/net
 	[ -x "$program" ] || { echo "$program isn't built" >&2; exit 1; }
 done
 
-# Runs tests. pytest fails as one where it has no test, or can't run them.
+# Runs tests. If pytest has no test, or can't run them, that counts as one failure.
 play() {
 	{ sh scripts/pytest.sh "$@" 2>&1 && echo 0 > out/tests.status || echo $? > out/tests.status; } | tee out/tests.log
 	read -r status < out/tests.status

@@ -1,9 +1,9 @@
 #!/bin/sh
-# Installs the Debian package in a throw-away root, and does there what README shows:  scripts/try_deb.sh DEB [GO]
+# Installs the Debian package in a temporary root, and does there what README shows:  scripts/try_deb.sh DEB [GO]
 #
-# GO is a folder with a Go release as Debian's packages unpack it (`python3 python netrev_go.fetching 1.27` prints the one of its
-# commands). debootstrap (a Debian package) makes the root; it needs root's rights and Debian's mirror. The root has no Go of its own, so apt
-# must not bring one: recommended packages are left out.
+# GO is a folder with a Go release as Debian's packages unpack it (`python3 python netrev_go.fetching 1.27` prints the
+# folder of its commands). debootstrap (a Debian package) makes the root; it needs root's rights and Debian's mirror.
+# The root has no Go of its own, and apt must not install one, so recommended packages are left out.
 set -eu
 deb=$(readlink -f -- "$1")
 cd "$(dirname "$0")/.."

@@ -1,8 +1,8 @@
 #!/bin/sh
-# Tries an archive as a user would who has nothing else of netrev:  scripts/try_package.sh ARCHIVE
+# Tries an archive as a user without anything else of netrev would:  scripts/try_package.sh ARCHIVE
 #
-# Unpacks it in an empty folder. With no toolchain on the PATH, and no variable that names anything of this checkout, it checks
-# the sums, runs all examples, and a hunt in nrdb.
+# It unpacks the archive in an empty folder. There, without a toolchain on the PATH and without variables that name
+# anything in this checkout, it verifies the checksums, and runs all examples and a hunt in nrdb.
 set -eu
 archive=$(readlink -f -- "$1")
 room=$(mktemp -d)

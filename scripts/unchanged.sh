@@ -1,7 +1,8 @@
 #!/bin/sh
-# Fails if a file that a release is made of has changed after the gate passed:  scripts/unchanged.sh
+# Fails if a file from which a release is made has changed since the gate passed:  scripts/unchanged.sh
 #
-# It goes by the times of files: the gate's log (out/gate.log) must be the newest. What is built or compiled doesn't count.
+# It compares the times of files: the gate's log (out/gate.log) must be the newest. Built and compiled files don't
+# count.
 set -eu
 cd "$(dirname "$0")/.."
 log=out/gate.log

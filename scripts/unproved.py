@@ -1,7 +1,7 @@
 """Compiles a netrev without its proofs, and keeps it in out/look as long as its sources stay the same.
 
-`rt try` compiles netrev in a minute or two, runs it in a temporary folder and keeps nothing. So the program is copied while it runs: it
-gets a named pipe to check, and waits there for a writer that never comes.
+`rt try` compiles netrev in a minute or two, runs it in a temporary folder, and keeps nothing. So the program is copied while it runs: it is
+given a named pipe to check, and waits for a writer that never comes.
 """
 
 from __future__ import annotations
@@ -21,9 +21,9 @@ from typing import IO, Callable, Iterator, Optional
 ROOT = Path(__file__).resolve().parent.parent
 KEPT = ROOT / "out/look"
 EXAMPLE = ROOT / "examples/first.jsonl"
-PATIENCE = 3600  # seconds; on a machine that was busy otherwise, compiling took ten minutes
-REMINDER = 30  # seconds between two lines that say how long it has been compiling
-STOP_PATIENCE = 120  # seconds that `rt try` has to end its program and remove it
+PATIENCE = 3600  # seconds; on a busy machine, compiling took ten minutes
+REMINDER = 30  # seconds between two lines that say how long compiling has taken
+STOP_PATIENCE = 120  # seconds in which `rt try` may end its program and remove it
 ELF = b"\x7fELF"
 CHECK = "check"
 NO_TOOLCHAIN = (
@@ -38,8 +38,8 @@ class UnprovedError(Exception):
 
 
 def unproved_netrev(say: Say) -> Path:
-    """An unproved netrev of the current sources: the one that an earlier call kept, or a new one. It is locked against
-    removal until this process ends, or the program that this process becomes."""
+    """An unproved netrev of the current sources: the one that an earlier call kept, or a new one. A lock protects it from removal until
+    this process ends, or the program that replaces this process."""
     program = KEPT / f"netrev-{source_sum(kit_name())}"
     KEPT.mkdir(parents=True, exist_ok=True)
     with exclusive(KEPT / "lock", say):
@@ -56,14 +56,14 @@ def unproved_netrev(say: Say) -> Path:
 
 
 def kit_name() -> str:
-    """The toolchain's name for itself."""
+    """The name that the toolchain gives itself."""
     if shutil.which("rt") is None:
         raise UnprovedError(NO_TOOLCHAIN)
     return subprocess.run(["rt", "version"], capture_output=True, text=True, check=False).stdout
 
 
 def source_sum(kit: str) -> str:
-    """A checksum of the toolchain's name and of everything that the program is compiled from, names and contents."""
+    """A checksum of the toolchain's name, and of the names and contents of all files from which the program is compiled."""
     folders = [*ROOT.glob("crates/*/src"), *ROOT.glob("crates/*/specs")]
     files = [ROOT / "crates.txt", ROOT / "HANDLES", *(path for folder in folders for path in folder.rglob("*"))]
     total = hashlib.sha256(kit.encode())
@@ -89,7 +89,7 @@ def is_intact(program: Path) -> bool:
 
 @contextmanager
 def exclusive(path: Path, say: Say) -> Iterator[None]:
-    """Holds a lock, for which other calls wait."""
+    """Holds a lock, for which other calls have to wait."""
     with open(path, "w", encoding="utf-8") as lock:
         try:
             fcntl.flock(lock, fcntl.LOCK_EX | fcntl.LOCK_NB)
@@ -100,17 +100,17 @@ def exclusive(path: Path, say: Say) -> Iterator[None]:
 
 
 def name_it(program: Path) -> None:
-    """Gives the program the name out/look/netrev too, for users: NETREV=out/look/netrev. It is a hard link, because `rt ci` refuses a
-    tree with symbolic links."""
+    """Gives the program the additional name out/look/netrev, for users: NETREV=out/look/netrev. It is a hard link, because `rt ci` refuses
+    a tree with symbolic links."""
     new = KEPT / "new"
     new.unlink(missing_ok=True)
     os.link(program, new)
     new.replace(KEPT / "netrev")
-    new.unlink(missing_ok=True)  # (nothing is renamed if both are links to one file already)
+    new.unlink(missing_ok=True)  # (if both are already links to the same file, nothing is renamed)
 
 
 def remove_unused() -> None:
-    """Removes the kept programs that no session has locked, and what an interrupted call left."""
+    """Removes the kept programs that no session has locked, and the files that an interrupted call left."""
     for path in KEPT.glob("netrev-*"):
         if path.suffix == ".sha256":
             continue
@@ -142,7 +142,7 @@ def keep_copy(program: Path, say: Say) -> None:
 
 @contextmanager
 def trying(log: IO[bytes]) -> Iterator[tuple[subprocess.Popen[bytes], str]]:
-    """`rt try`, which compiles netrev and lets it check a pipe; and the pipe."""
+    """Runs `rt try`, which compiles netrev and lets it check a pipe; yields the process and the pipe."""
     with tempfile.TemporaryDirectory(prefix="netrev-look-") as folder:
         pipe = f"{folder}/pipe"
         os.mkfifo(pipe)
@@ -152,7 +152,7 @@ def trying(log: IO[bytes]) -> Iterator[tuple[subprocess.Popen[bytes], str]]:
 
 @contextmanager
 def started(command: list[str], log: IO[bytes]) -> Iterator[subprocess.Popen[bytes]]:
-    """A process in netrev's crate, which is stopped at the end, in every case."""
+    """A process in netrev's crate, which is always stopped at the end."""
     ending = (signal.SIGINT, signal.SIGTERM, signal.SIGHUP)
     mask = signal.pthread_sigmask(signal.SIG_BLOCK, ending)  # until there is a process to stop
     process = subprocess.Popen(
@@ -172,7 +172,7 @@ def started(command: list[str], log: IO[bytes]) -> Iterator[subprocess.Popen[byt
 
 
 def stop(process: subprocess.Popen[bytes]) -> None:
-    """Interrupts `rt try` as Ctrl-C does, so that it ends its program and removes it; kills both if that takes long."""
+    """Interrupts `rt try` as Ctrl-C does, so that it ends its program and removes it; kills both if that takes too long."""
     for number in (signal.SIGINT, signal.SIGKILL):
         try:
             os.killpg(process.pid, number)
@@ -212,7 +212,7 @@ def running_program(ancestor: int, pipe: str) -> Optional[Path]:
 
 
 def parent_of(folder: Path) -> int:
-    """The parent of a process, by its folder in /proc; 0 if the process has ended."""
+    """The parent of a process, given its folder in /proc; 0 if the process has ended."""
     try:
         return int((folder / "stat").read_text().rpartition(")")[2].split()[1])
     except (OSError, ValueError, IndexError):
@@ -220,15 +220,15 @@ def parent_of(folder: Path) -> int:
 
 
 def is_below(process: int, ancestor: int, parents: dict[int, int]) -> bool:
-    """Whether a process is the given ancestor or descends from it."""
+    """Whether a process is the given ancestor, or a descendant of it."""
     while process and process != ancestor:
         process = parents.get(process, 0)
     return process == ancestor
 
 
 def program_checking(folder: Path, pipe: str) -> Optional[Path]:
-    """The program of a process, if it checks the pipe. The toolchain starts it by a loader of its own, so the program
-    is the word before `check`."""
+    """The program of a process, if it is checking the pipe. The toolchain starts it with its own loader, so the program is the word before
+    `check`."""
     try:
         *words, check, last = map(os.fsdecode, (folder / "cmdline").read_bytes().split(b"\0")[:-1])
         if not words or (check, last) != (CHECK, pipe):

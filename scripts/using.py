@@ -1,9 +1,9 @@
 #!/usr/bin/env python3
 """Tries the programs of docs/reference/LIBRARY.md:  scripts/using.py [NAME ..]
 
-Makes a repository in a folder of its own, from copies of the crates and of the page's programs, and runs each, or those of these
-names, by `rt try` over examples/first.jsonl. The status is 1 if one prints something else than the page shows. Nothing is proved, and
-each takes a minute of processor time to compile.
+Makes a repository in a separate folder, from copies of the crates and of the page's programs, and runs each program, or those with these
+names, with `rt try` over examples/first.jsonl. The status is 1 if a program prints something other than the page shows. Nothing is proved,
+and each program takes a minute of processor time to compile.
 """
 
 import re
@@ -32,7 +32,7 @@ class Program(NamedTuple):
 
 
 def programs(page: str) -> list[Program]:
-    """The programs of the page, and their output according to the page."""
+    """The programs on the page, with the output that the page shows."""
     return [
         Program(found[1], found[2], found[3], found[4], re.sub("^    ", "", found[5], flags=re.MULTILINE))
         for found in PROGRAM.finditer(page)
@@ -40,7 +40,7 @@ def programs(page: str) -> list[Program]:
 
 
 def make_repository(folder: Path, made: list[Program]) -> None:
-    """Puts the crates into the folder, without build results, and these programs."""
+    """Puts the crates, without build results, and these programs into the folder."""
     shutil.copytree(ROOT / "crates", folder / "crates", ignore=shutil.ignore_patterns("out", "must-fail"))
     shutil.copy(ROOT / "HANDLES", folder)
     rows = [f"{program.crate}: {program.imports}\n" for program in made]
@@ -52,7 +52,7 @@ def make_repository(folder: Path, made: list[Program]) -> None:
 
 
 def prints_it(folder: Path, program: Program) -> bool:
-    """Whether the program prints what the page shows; else prints the difference."""
+    """Whether the program prints what the page shows; prints the difference if it doesn't."""
     with FIRST.open("rb") as recording:
         command = ["rt", "try", "--seconds", str(SECONDS)]
         place = folder / "crates" / program.crate
@@ -63,7 +63,7 @@ def prints_it(folder: Path, program: Program) -> bool:
 
 
 def main() -> int:
-    """Tries those that are named, or all."""
+    """Tries the programs that are named, or all."""
     found = programs(PAGE.read_text(encoding="utf-8"))
     asked = [program for program in found if program.name in sys.argv[1:] or not sys.argv[1:]]
     if not asked or len(asked) < len(sys.argv[1:]):

@@ -1,8 +1,8 @@
 #!/usr/bin/env python3
 """Stores the verdicts in a log of `rt ci`:  scripts/verdicts.py [LOG]
 
-Each verdict in the log (out/gate.log) goes into out/verdicts.json, with a checksum of its crate's files. Stored verdicts of crates
-that the log doesn't mention stay. scripts/pages.py compares docs/proof/TRUSTED.md and crates.txt with them.
+Each verdict in the log (out/gate.log) goes into out/verdicts.json, with a checksum of its crate's files. Stored verdicts on crates that the
+log doesn't mention stay. scripts/pages.py compares docs/proof/TRUSTED.md and crates.txt with them.
 """
 
 import argparse
@@ -17,7 +17,7 @@ ROOT = Path(__file__).resolve().parent.parent
 
 
 def main(given_words: list[str] | None = None) -> int:
-    """Keeps the verdicts of the log that is named by these words or by those of the command line."""
+    """Stores the verdicts in the log that these words, or the command line's, name."""
     given = argparse.ArgumentParser(description=__doc__, formatter_class=argparse.RawDescriptionHelpFormatter)
     given.add_argument("--root", type=Path, default=ROOT, help=argparse.SUPPRESS)
     given.add_argument("log", nargs="?", type=Path, metavar="LOG", help="the log (out/gate.log)")

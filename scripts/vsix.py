@@ -1,7 +1,7 @@
-"""Packs the extension for VS Code without node:  scripts/vsix.py OUT.vsix, or scripts/vsix.py --check FILE.vsix
+"""Packs the extension for VS Code without node:  scripts/vsix.py OUT.vsix,  or  scripts/vsix.py --check FILE.vsix
 
-editors/vscode is an extension without code. A .vsix is a zip file of it, with two XML files that describe it. The same folder gives
-the same bytes. --check reads a packed one and reports its faults; the status is 1 if it has any.
+editors/vscode is an extension without code. A .vsix is a zip file of the extension, with two XML files that describe it. The same folder
+gives the same bytes. --check reads a packed file and reports its faults; the status is 1 if it has any.
 """
 
 import argparse
@@ -20,12 +20,12 @@ WITHIN, TYPES, MANIFEST = "extension/", "[Content_Types].xml", "extension.vsixma
 SORTS = {".json": "application/json", ".md": "text/markdown", ".txt": "text/plain", ".vsixmanifest": "text/xml"}
 OF_TYPES = "{http://schemas.openxmlformats.org/package/2006/content-types}"
 OF_MANIFEST = "{http://schemas.microsoft.com/developer/vsx-schema/2011}"
-CODE = ("main", "browser", "activationEvents", "scripts", "dependencies")  # of package.json, if there are any
+CODE = ("main", "browser", "activationEvents", "scripts", "dependencies")  # keys that package.json must not have
 WHEN = (2020, 1, 1, 0, 0, 0)
 
 
 def types() -> str:
-    """The file that gives each ending its type."""
+    """The file that gives each file ending its type."""
     rows = "".join(f'<Default Extension="{ending}" ContentType="{sort}"/>' for ending, sort in SORTS.items())
     return f'<?xml version="1.0" encoding="utf-8"?>\n<Types xmlns="{OF_TYPES[1:-1]}">{rows}</Types>\n'
 
@@ -91,8 +91,7 @@ def faults(file: Path) -> list[str]:
 
 
 def faults_of_parts(data: dict[str, bytes]) -> Iterator[str]:
-    """The faults of the parts' names: each ending needs a type, and each part must be in the folder that is
-    unpacked."""
+    """The faults in the parts' names: each ending needs a type, and each part must be in the folder that is unpacked."""
     known = {one.get("Extension") for one in ElementTree.fromstring(data[TYPES]).iter(f"{OF_TYPES}Default")}
     for name in data:
         if name != TYPES and Path(name).suffix not in known:
@@ -102,7 +101,7 @@ def faults_of_parts(data: dict[str, bytes]) -> Iterator[str]:
 
 
 def faults_of_manifest(data: dict[str, bytes], package: dict[str, Any]) -> Iterator[str]:
-    """The faults of the manifest: it agrees with package.json, and names what exists."""
+    """The faults in the manifest: it must agree with package.json, and name only existing files."""
     top = ElementTree.fromstring(data[MANIFEST])
     identity = top.find(f"{OF_MANIFEST}Metadata/{OF_MANIFEST}Identity")
     for key, named in (("Id", "name"), ("Version", "version"), ("Publisher", "publisher")):
@@ -114,7 +113,7 @@ def faults_of_manifest(data: dict[str, bytes], package: dict[str, Any]) -> Itera
 
 
 def faults_of_package(package: dict[str, Any]) -> Iterator[str]:
-    """The faults of package.json: the extension has no code, and takes no files from a language of VS Code's own."""
+    """The faults in package.json: the extension has no code, and claims no files of a language that VS Code knows."""
     yield from (f"package.json has {name}, and the extension has no code" for name in CODE if name in package)
     if "languages" in package["contributes"]:
         yield "package.json has a language of its own, which would take files from another one"
@@ -124,7 +123,7 @@ def faults_of_package(package: dict[str, Any]) -> Iterator[str]:
 
 
 def main() -> int:
-    """Packs or checks; returns the exit status."""
+    """Packs or checks a file; returns the exit status."""
     parser = argparse.ArgumentParser(
         prog="vsix.py", description="packs the extension for VS Code, or checks a packed one"
     )

@@ -26,7 +26,7 @@ PLANTED: list[tuple[str, str, str, str, str]] = [
         "crates/counting/specs/Count.antt",
         "one : ℕ",
         "one : ℕ\n\nabbrev two : ℕ",
-        "no law rests on two, and laws rest",
+        "no law rests on two, but laws rest",
     ),
     (
         "beliefs",
@@ -149,7 +149,7 @@ PLANTED: list[tuple[str, str, str, str, str]] = [
         "crates/counting/src/lib.rt",
         "    of.len()",
         '    w.send(b"fault 108 memory\\n")',
-        "fault 108 memory stands in crates/nr_recording",
+        "fault 108 memory is allowed only in crates/nr_recording",
     ),
     (
         "lines",

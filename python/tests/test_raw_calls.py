@@ -29,9 +29,9 @@ def test_the_tree_is_as_trusted_says() -> None:
 @pytest.mark.parametrize(
     "path, old, new, says",
     [
-        (TRUSTED, "| `LoggedCallers::let_go` of", "| the last one, of", "LoggedCallers::let_go gets at"),
+        (TRUSTED, "| `LoggedCallers::let_go` of", "| the last one, of", "LoggedCallers::let_go reaches a stream"),
         (TRUSTED, "| `LoggedReader::read` of", "| `LoggedReader::reads` of", "LoggedReader::reads is in the table"),
-        (TRUSTED, f"| `{LOOPBACK}` |", "| the loopback |", f"{LOOPBACK} gets at"),
+        (TRUSTED, f"| `{LOOPBACK}` |", "| the loopback |", f"{LOOPBACK} reaches a stream"),
         (
             LOGGED,
             "self.reader.read(buffer)",

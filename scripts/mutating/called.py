@@ -1,7 +1,8 @@
-"""A plugin of pytest's that notes which functions each test calls, also in the processes that it starts.
+"""A pytest plugin that records which functions each test calls, also in the processes that it starts.
 
-It writes a line of JSON for each test into the file that NETREV_CALLS names: the test, its seconds, and the functions, each as
-`FILE|NAME` with the file below the current folder. Functions that the set-up of a module's first test calls count for all its tests."""
+For each test it writes a line of JSON to the file that NETREV_CALLS names: the test, its seconds, and the functions, each as `FILE|NAME`
+with the file relative to the current folder. Functions that the set-up of a module's first test calls count for all tests of the
+module."""
 
 from __future__ import annotations
 
@@ -25,10 +26,10 @@ PACKAGES = ("python/nrdb/", "python/netrev_calls/", "python/netrev_go/")
 
 
 class Tracer:
-    """Collects the codes that are called."""
+    """Collects the code objects that are called."""
 
     def __init__(self) -> None:
-        self.codes: dict[int, CodeType] = {}  # by identity: a code's own hash is of all that is in it
+        self.codes: dict[int, CodeType] = {}  # by identity, because a code object's own hash covers everything in it
 
     def __call__(self, frame: FrameType, event: str, argument: object) -> None:
         code = frame.f_code
@@ -48,7 +49,7 @@ class Tracer:
 
 
 def name_of(code: CodeType, root: str) -> str:
-    """`FILE|NAME` of a function of the packages; the empty text for another."""
+    """A function of the packages as `FILE|NAME`; empty for other functions."""
     file = code.co_filename
     if not file.startswith(root) or not file.startswith(PACKAGES, len(root)):
         return ""
@@ -57,7 +58,7 @@ def name_of(code: CodeType, root: str) -> str:
 
 
 def qualified(name: str) -> str:
-    """A function's name (from Python 3.11 on), without those of lambdas and comprehensions within it."""
+    """A function's qualified name (from Python 3.11 on), without the parts for lambdas and comprehensions in it."""
     parts = name.split(".")
     while parts and parts[-1].startswith("<"):
         parts.pop()
@@ -65,7 +66,7 @@ def qualified(name: str) -> str:
 
 
 def note_process(folder: str) -> None:
-    """Notes what this process calls, in a file of the folder as it ends."""
+    """Records what this process calls, in a file that is written to the folder when the process ends."""
     tracer, root = Tracer(), os.environ["NETREV_CALLED_ROOT"]
 
     def write() -> None:
@@ -86,7 +87,7 @@ def note_process(folder: str) -> None:
 
 
 class Notes:
-    """What the tests call, and the file that it is written into."""
+    """What the tests call, and the file to which it is written."""
 
     def __init__(self) -> None:
         self.root = f"{os.getcwd()}/"
@@ -123,7 +124,7 @@ class Notes:
         self.set_up[item.path] |= self.tracer.functions(self.root)
 
     def of_processes(self) -> set[str]:
-        """The functions that processes which have ended called."""
+        """The functions that were called by processes that have ended."""
         found: set[str] = set()
         for path in Path(self.folder).iterdir():
             try:

@@ -1,5 +1,5 @@
-"""The mutants of a Python module: each changes one place of its text. The kinds are everyday mistakes: a
-comparison, a dropped case, swapped sides, off by one, a forgotten step."""
+"""The mutants of a Python module: each changes one place of its text. The kinds are everyday mistakes: a wrong comparison, a dropped case,
+swapped sides, off by one, a forgotten step."""
 
 from __future__ import annotations
 
@@ -46,7 +46,7 @@ CALLS_FORGOTTEN = {
 class Mutant:
     """A change of a file: the text from one place to another becomes a new one."""
 
-    file: str  # below the repository's folder
+    file: str  # relative to the repository's folder
     line: int
     function: str  # qualified name; empty for the module
     code: str  # the innermost function's qualified name
@@ -59,7 +59,7 @@ class Mutant:
     source: str  # the line as it was
 
     def name(self) -> str:
-        """A name that stays the same when lines above it change."""
+        """A name that stays the same when the lines above it change."""
         return f"{self.file}|{self.function}|{' '.join(self.source.split())}|{_brief(self.old)} -> {_brief(self.new)}"
 
     def applied(self, text: str) -> str:
@@ -86,7 +86,7 @@ class Finder(ast.NodeVisitor):
         self.found: list[Mutant] = []
 
     def place(self, line: int, column: int) -> int:
-        """The place in the text of a line and a column, which counts bytes."""
+        """The offset in the text for a line and a column, which counts bytes."""
         return self.starts[line - 1] + len(self.lines[line - 1].encode()[:column].decode())
 
     def span(self, node: ast.AST) -> tuple[int, int]:
@@ -96,7 +96,7 @@ class Finder(ast.NodeVisitor):
     def put(self, kind: str, begin: int, end: int, new: str) -> None:
         line = self.text.count("\n", 0, begin) + 1
         old = self.text[begin:end]
-        new += "\n" * (old.count("\n") - new.count("\n"))  # text below stays on its line
+        new += "\n" * (old.count("\n") - new.count("\n"))  # the text below stays on its line
         function = ".".join(self.names).split(".<locals>")[0]
         code = ".".join(self.names).removesuffix(".<locals>")
         source = self.lines[line - 1].strip()
@@ -111,7 +111,7 @@ class Finder(ast.NodeVisitor):
         begin, end = self.span(node)
         return self.text[begin:end]
 
-    # what isn't mutated: types, assertions, and constants of the form `if TYPE_CHECKING`
+    # not mutated: types, assertions, and constants of the form `if TYPE_CHECKING`
     def visit_AnnAssign(self, node: ast.AnnAssign) -> None:
         if node.value:
             self.visit(node.value)
@@ -123,10 +123,10 @@ class Finder(ast.NodeVisitor):
         pass
 
     def visit_JoinedStr(self, node: ast.JoinedStr) -> None:
-        pass  # (its parts have no places of their own before Python 3.12)
+        pass  # (before Python 3.12 its parts have no positions)
 
     def visit_Raise(self, node: ast.Raise) -> None:
-        pass  # (an error's text, which is in a table, isn't tested)
+        pass  # (the text of an error comes from a table, and isn't tested)
 
     def visit_ClassDef(self, node: ast.ClassDef) -> None:
         self.names.append(node.name)
@@ -216,7 +216,7 @@ class Finder(ast.NodeVisitor):
         self.generic_visit(node)
 
     def elements(self, elements: list[ast.expr]) -> None:
-        """Forgets one of a set's elements."""
+        """Drops each of a set's elements in turn."""
         for element in elements:
             if len(elements) > 1:
                 self.of_node(CASE, element, self.source(elements[0] if element is not elements[0] else elements[1]))
@@ -242,7 +242,7 @@ class Finder(ast.NodeVisitor):
         self.generic_visit(node)
 
     def is_kept_order(self, node: ast.Call) -> bool:
-        """Whether the order of the arguments doesn't matter, or types check it."""
+        """Whether swapping the arguments isn't worth trying: their order doesn't matter, or types check it."""
         return isinstance(node.func, ast.Name) and node.func.id in (
             "isinstance", "issubclass", "min", "max", "map", "filter", "field", "getattr", "hasattr", "TypeVar",
         )  # fmt: skip
@@ -297,7 +297,7 @@ class Finder(ast.NodeVisitor):
         self.generic_visit(node)
 
     def forgotten(self, node: ast.stmt, target: ast.expr) -> None:
-        """Forgets an assignment that gives a new value to a variable."""
+        """Drops an assignment that gives a variable a new value."""
         if self.functions and not self.is_method_of_set_up and isinstance(target, (ast.Attribute, ast.Subscript)):
             self.of_node(FORGOTTEN, node, "pass")
 

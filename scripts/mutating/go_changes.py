@@ -1,4 +1,4 @@
-"""The mutants of a file of the recorder's Go, found by its text: comments and strings are left alone."""
+"""The mutants of a file of the recorder's Go, found in its text; comments and strings stay as they are."""
 
 from __future__ import annotations
 
@@ -29,7 +29,7 @@ REPLACED: tuple[tuple[str, re.Pattern[str], str], ...] = (
 
 
 def go_mutants_of(root: Path, path: Path) -> Iterator[Mutant]:
-    """The mutants of a file within functions. A mutant that Go doesn't compile is detected when it is tried."""
+    """The mutants in a file's functions. Mutants that don't compile are detected when they are tried."""
     text = path.read_text(encoding="utf-8")
     masked = LEFT_ALONE.sub(lambda found: re.sub(r"[^\n]", "\0", found[0]), text)
     functions = list(FUNCTION.finditer(masked))

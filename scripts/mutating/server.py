@@ -1,10 +1,9 @@
-"""A plugin of pytest that tries one mutant after the other, each in a process of its own that starts with all tests
-loaded.
+"""A pytest plugin that tries one mutant after another, each in a process of its own that starts with all tests loaded.
 
-It reads requests, a line of JSON each, from the first of the two descriptors in NETREV_MUTANTS: the file, its text
-before and after the change, and the tests, each with its time limit in seconds. Into the second it writes the result:
-the test that failed, nothing, or "too long" and the test. Meanwhile the mutant's file is on the disk, for the processes
-that tests start; in this process the loaded function gets the code of the changed one.
+It reads requests, a line of JSON each, from the first of the two descriptors in NETREV_MUTANTS: the file, its text before and after the
+change, and the tests, each with its time limit in seconds. To the second descriptor it writes the result: the test that failed, nothing, or
+"too long" and the test. Meanwhile the mutant's file is on disk, for processes that tests start; in this process, the loaded function gets
+the code of the changed one.
 """
 
 from __future__ import annotations
@@ -46,7 +45,7 @@ def changed_codes(file: str, before: str, behind: str) -> dict[tuple[str, int, s
 
 
 def put_in(file: str, before: str, behind: str) -> bool:
-    """Gives the loaded functions the mutant's code; whether that succeeded, or the module isn't loaded yet."""
+    """Gives the loaded functions the mutant's code; returns whether that succeeded, or the module isn't loaded yet."""
     if not any(getattr(module, "__file__", None) == file for module in list(sys.modules.values())):
         return True
     changed = changed_codes(file, before, behind)
@@ -61,7 +60,7 @@ def put_in(file: str, before: str, behind: str) -> bool:
 
 
 def run_until_one_fails(items: list[pytest.Item], begun: int) -> str:
-    """Runs tests until one fails; its name. Writes a line into a descriptor as each begins."""
+    """Runs tests until one fails, and returns its name. Writes a line to a descriptor when each test begins."""
     for item, following in zip(items, [*items[1:], None]):
         os.write(begun, b"\n")
         reports = runtestprotocol(item, log=False, nextitem=following)
@@ -71,7 +70,7 @@ def run_until_one_fails(items: list[pytest.Item], begun: int) -> str:
 
 
 def tried(request: dict[str, Any], items: list[tuple[pytest.Item, float]]) -> str:
-    """The test that fails, of these with the seconds that each may take, in a process of its own."""
+    """The first of these tests, each with the seconds that it may take, that fails in a process of its own."""
     reading, writing = os.pipe()
     process = os.fork()
     if process == 0:
@@ -98,7 +97,7 @@ def tried(request: dict[str, Any], items: list[tuple[pytest.Item, float]]) -> st
 
 
 def what_failed(lines: io.FileIO, items: list[tuple[pytest.Item, float]]) -> str:
-    """What the process writes in its last line, unless a test takes too long."""
+    """The last line that the process writes, unless a test takes too long."""
     text, begun = b"", 0
     while not text.strip():
         item, patience = items[max(begun - 1, 0)]
@@ -113,7 +112,7 @@ def what_failed(lines: io.FileIO, items: list[tuple[pytest.Item, float]]) -> str
 
 
 def pytest_runtestloop(session: pytest.Session) -> bool:
-    """Runs the tests of each request, instead of all tests."""
+    """Runs the tests of each request instead of all tests."""
     requests, answers = (int(number) for number in os.environ["NETREV_MUTANTS"].split(","))
     items = {item.nodeid: item for item in session.items}
     with open(requests, encoding="utf-8") as lines, open(answers, "w", encoding="utf-8", buffering=1) as replies:

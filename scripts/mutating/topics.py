@@ -1,7 +1,7 @@
-"""The tests that are tried against a mutant: those that call the function that it changes, the quickest first.
+"""The tests to try against a mutant: those that call the function that it changes, the fastest first.
 
-One run of the tests records what each of them calls (`called.py`); a file of tests that has changed is run again. `topics.txt` names
-the tests of the recorder's Go, whose calls can't be recorded."""
+One run of the tests records what each of them calls (`called.py`); a test file that has changed since is run again. `topics.txt` names the
+tests of the recorder's Go, whose calls can't be recorded."""
 
 from __future__ import annotations
 
@@ -19,14 +19,14 @@ from pathlib import Path
 from .changes import Mutant
 
 OVERRIDES = Path(__file__).with_name("topics.txt")
-NOTED = ("python/tests", "python/tests/program/nrdb")  # folders of tests whose calls are noted
+NOTED = ("python/tests", "python/tests/program/nrdb")  # folders of tests whose calls are recorded
 MOST = 60.0  # seconds of tests for a mutant
-FEW = 4  # the part of these for a function that no test called
+FEW = 4  # the fraction of these for a function that no test called
 
 
 @dataclass(frozen=True)
 class Test:
-    """A test, how long it took when its calls were noted, and the functions that it calls, each as `FILE|NAME`."""
+    """A test, how long it took when its calls were recorded, and the functions that it calls, each as `FILE|NAME`."""
 
     name: str
     seconds: float
@@ -34,13 +34,13 @@ class Test:
 
     @property
     def group(self) -> str:
-        """Its class or, for a function, its file: tests of a class share what takes long to make."""
+        """Its class, or, if it is a function, its file: tests of a class share what is slow to set up."""
         return self.name.partition("[")[0].rpartition("::")[0]
 
 
 @dataclass
 class Topics:
-    """The tests of each function. The tests of one mutant take at most `most` seconds together."""
+    """The tests of each function. The tests of one mutant take at most `most` seconds in total."""
 
     tests: Sequence[Test] = ()
     most: float = MOST
@@ -56,20 +56,20 @@ class Topics:
                 self._of_files[file].append(test)
 
     def tests_of(self, mutant: Mutant) -> list[Test]:
-        """The tests for a mutant of Python code, the quickest group first. If no test called the function, perhaps
-        because it is new, a few tests of its file."""
+        """The tests for a mutant of Python code, the fastest group first. If no test called the function, perhaps because it is new, these
+        are a few tests of its file."""
         called = self._of_functions[f"{mutant.file}|{mutant.code}"] if mutant.is_inside else []
         if called:
             return quickest(called, self.most)
         return quickest(self._of_files[mutant.file], self.most / FEW if mutant.is_inside else self.most)
 
     def files_of(self, file: str) -> list[str]:
-        """The files of tests that `topics.txt` names."""
+        """The test files that `topics.txt` names."""
         return next((tests for pattern, tests in self.overrides if fnmatch(file, pattern)), [])
 
 
 def quickest(tests: Iterable[Test], most: float) -> list[Test]:
-    """Tests that take at most `most` seconds together, group by group, the quickest group first."""
+    """Tests that take at most `most` seconds in total, group by group, the fastest group first."""
     groups: dict[str, list[Test]] = defaultdict(list)
     for test in tests:
         groups[test.group].append(test)
@@ -93,7 +93,7 @@ def digest(path: Path) -> str:
 
 
 def read_topics(notes: Path, most: float = MOST) -> Topics:
-    """The topics of the tests whose calls are noted."""
+    """The topics of the tests whose calls are recorded."""
     rows = [json.loads(line) for line in notes.read_text(encoding="utf-8").splitlines()] if notes.exists() else []
     tests = [Test(row["test"], row["seconds"], frozenset(row["functions"])) for row in rows if "test" in row]
     return Topics(tests, most, read_overrides(OVERRIDES.read_text(encoding="utf-8")))
@@ -104,7 +104,7 @@ def files_of_tests(root: Path) -> list[str]:
 
 
 def note_calls(root: Path, notes: Path, python: str) -> None:
-    """Notes what the tests call, of those files of tests that have changed since."""
+    """Records what the tests call, for the test files that have changed since the last time."""
     rows = [json.loads(line) for line in notes.read_text(encoding="utf-8").splitlines()] if notes.exists() else []
     digests = {row["file"]: row["digest"] for row in rows if "file" in row}
     files = {file: digest(root / file) for file in files_of_tests(root)}
@@ -132,6 +132,6 @@ def _file_of(row: dict[str, str]) -> str:
 
 
 def read_overrides(text: str) -> list[tuple[str, list[str]]]:
-    """Lines `PATTERN: TEST ..`, of which the first one counts that a file's name matches."""
+    """Lines `PATTERN: TEST ..`; the first line whose pattern matches a file's name counts."""
     lines = [line for line in text.splitlines() if line.strip() and not line.startswith("#")]
     return [(pattern.strip(), tests.split()) for pattern, _, tests in (line.partition(":") for line in lines)]

@@ -24,17 +24,17 @@ from .topics import Test, Topics
 
 ROOT = Path(__file__).resolve().parent.parent.parent
 PACKAGES = ("python/nrdb", "python/netrev_calls", "python/netrev_go")
-UNTOUCHED = ("messages",)  # modules that contain only texts, and folders of them
+UNTOUCHED = ("messages",)  # modules, or folders of modules, that contain only texts
 FOUND, SURVIVED, UNTESTED, UNBUILT = "found", "survives", "no test calls it", "can't be compiled"
 FAILS_ANYWAY = "its test fails without it too"
 PATIENCE, GO_PATIENCE = 600, 1_800  # seconds
 COMPILING = "from netrev_go.toolchain import find_go, overlay; overlay(find_go())"
-LONGEST, TIMES = 30.0, 20.0  # seconds that any test may take, and how many times as long as when its calls were noted
+LONGEST, TIMES = 30.0, 20.0  # seconds for any test, and the factor over its time when its calls were recorded
 
 
 @dataclass
 class Verdict:
-    """The result of a mutant."""
+    """The result of trying a mutant."""
 
     mutant: Mutant
     answer: str
@@ -43,7 +43,7 @@ class Verdict:
 
 
 def copied(root: Path, room: Path) -> None:
-    """A copy of the repository: its Python and the files at its top; all other folders are the repository's own."""
+    """A copy of the repository: copies of its Python folder and of the files at its top, and links to all other folders."""
     room.mkdir(parents=True)
     for path in root.iterdir():
         if path.is_file():
@@ -69,7 +69,7 @@ def all_mutants(root: Path, parts: Iterable[str] = PACKAGES) -> Iterator[Mutant]
 
 
 def drawn(mutants: Iterable[Mutant], count: int, seed: int) -> list[Mutant]:
-    """So many mutants, the same number of each kind; fewer if not so many exist."""
+    """This many mutants, the same number of each kind; fewer if there aren't so many."""
     dice = random.Random(seed)
     piles: dict[str, list[Mutant]] = {kind: [] for kind in KINDS}
     for mutant in mutants:
@@ -114,7 +114,7 @@ class Server:
             raise RuntimeError(f"pytest didn't load the tests: {self.output.read().decode()[-2_000:]}")
 
     def first_failed(self, file: Path, before: str, behind: str, tests: list[Test]) -> str:
-        """The first of the tests that fails with a mutant; the empty text if none does."""
+        """The first of the tests that fails with a mutant; empty if none does."""
         patient = [(test.name, LONGEST + TIMES * test.seconds) for test in tests]
         request = {"file": str(file), "before": before, "behind": behind, "tests": patient}
         os.write(self._requests, f"{json.dumps(request)}\n".encode())
@@ -126,7 +126,7 @@ class Server:
 
 
 class Worker:
-    """A copy of the repository in which one mutant after the other is tried."""
+    """A copy of the repository in which one mutant after another is tried."""
 
     def __init__(self, room: Path, topics: Topics, python: str) -> None:
         self.room, self.topics, self.python = room, topics, python
@@ -135,14 +135,14 @@ class Worker:
         self._server: Server | None = None
 
     def put(self, file: str, text: str) -> None:
-        """Writes a file with a time that differs from those of its compiled modules."""
+        """Writes a file with a modification time that differs from those in its compiled modules."""
         path = self.room / file
         path.write_text(text, encoding="utf-8")
         self.time += 2
         os.utime(path, (self.time, self.time))
 
     def run_anew(self, tests: list[str], patience: float) -> str:
-        """The first of the tests, or files of them, that fails in a new pytest; the empty text if none does."""
+        """The first of the tests, or test files, that fails in a new pytest; empty if none does."""
         process = subprocess.Popen(
             [*pytest_by(self.python), "-x", *tests], cwd=self.room, env={**os.environ, "PYTHONHASHSEED": "0"},
             stdin=subprocess.DEVNULL, stdout=subprocess.PIPE, stderr=subprocess.STDOUT, start_new_session=True,
@@ -180,7 +180,7 @@ class Worker:
             self.put(mutant.file, text)
 
     def passes(self, name: str) -> bool:
-        """Whether a test passes in the unchanged copy, which is checked once."""
+        """Whether a test passes in the unchanged copy; checked only once."""
         if name not in self.passing:
             tests = [test for test in self.topics.tests if test.name == name]
             self.passing[name] = not self.server().first_failed(self.room, "", "", tests)
@@ -203,7 +203,7 @@ class Worker:
         return Verdict(mutant, FOUND, failed, took)
 
     def verdict_of_go(self, mutant: Mutant, text: str, begin: float) -> Verdict:
-        """The verdict of a mutant of the recorder's Go, which runs in the programs that tests record."""
+        """The verdict on a mutant of the recorder's Go, which runs in the programs that tests record."""
         files = self.topics.files_of(mutant.file)
         if not files:
             return Verdict(mutant, UNTESTED)
@@ -266,7 +266,7 @@ def tried(mutants: list[Mutant], topics: Topics, room: Path, at_once: int, pytho
 
 
 def python_with_pytest() -> str:
-    """A Python that has pytest, as scripts/pytest.sh looks for it."""
+    """A Python that has pytest, found as scripts/pytest.sh finds it."""
     for python in (sys.executable, "/usr/bin/python3"):
         if not subprocess.run([python, "-c", "import pytest"], stderr=subprocess.DEVNULL, check=False).returncode:
             return python

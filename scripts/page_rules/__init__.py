@@ -1,1 +1,1 @@
-"""The rules of scripts/pages.py, a module for each sort."""
+"""The rules of scripts/pages.py, one module for each kind."""

@@ -1,9 +1,7 @@
-"""The definitions that a law rests on: those that it names, those that these name, and so on, over the crates'
-specs/.
+"""The definitions that a law rests on, in the crates' specs/: those that it names, those that these name, and so on.
 
-It reads words, not types: a word that a definition contains and imports, or that its file defines, counts as named.
-So it may count a definition too many, and omits none that is named. Definitions of the toolchain's libraries aren't
-followed.
+It reads words, not types: a word that a definition contains and imports, or that its file defines, counts as named. So it may count too
+many definitions, but misses none that is named. Definitions of the toolchain's libraries aren't followed.
 """
 
 import re
@@ -12,7 +10,7 @@ from dataclasses import dataclass, field
 
 from page_rules.tree import Tree
 
-# the first line of a definition: at the left, or in a `module _` with parameters
+# the first line of a definition: not indented, or in a `module _` with parameters
 HEAD = re.compile(
     r"(?:  )?(?:(?:abbrev|unfoldable|opaque) (?:pub )?(?:abbrev )?|(?:pub )?(?:record|data) )([^\s(]\S*)(?=\s|$)(?! \{)"
 )
@@ -29,7 +27,7 @@ NO_CODE = ("--", "infix", "module ")
 
 @dataclass(frozen=True, order=True)
 class Place:
-    """A definition: its crate, its file below specs/, and its name."""
+    """The place of a definition: its crate, its file below specs/, and its name."""
 
     crate: str
     module: str
@@ -48,12 +46,12 @@ class Definition:
 
     @property
     def comments(self) -> int:
-        """The number of its comment's lines."""
+        """The number of lines in its comment."""
         return sum(line.lstrip().startswith("--") for line in self.lines)
 
     @property
     def words(self) -> set[str]:
-        """All words and signs of it, without comments and texts."""
+        """All words and signs in it, without comments and strings."""
         code = " ".join(
             TEXT.sub("", COMMENT.sub("", line)) for line in self.lines if not line.lstrip().startswith("--")
         )
@@ -62,7 +60,7 @@ class Definition:
 
 @dataclass
 class Module:
-    """The definitions of a file of specs/, and the origins of its other names."""
+    """The definitions in a file of specs/, and the origins of the other names in it."""
 
     definitions: dict[str, Definition] = field(default_factory=dict)
     owners: dict[str, str] = field(default_factory=dict)  # for a constructor, the type that it makes
@@ -70,7 +68,7 @@ class Module:
     aliases: dict[str, str] = field(default_factory=dict)
 
     def add_import(self, line: str) -> None:
-        """Notes the names that a line imports."""
+        """Stores the names that a line imports."""
         found = USE.fullmatch(line)
         if found is None:
             return
@@ -89,8 +87,7 @@ def _name_of(line: str, in_module: bool) -> str:
 
 
 def _pieces(block: list[str], in_module: bool) -> Iterator[tuple[str, list[str]]]:
-    """A block's definitions, each with its lines. A block that continues an earlier one has the earlier one's first
-    word."""
+    """A block's definitions, each with its lines. A block that continues an earlier one has that block's first word."""
     name, kept = "", []  # type: str, list[str]
     for line in block:
         found = "" if name and CONSTRUCTOR.match(line) else _name_of(line, in_module)
@@ -104,7 +101,7 @@ def _pieces(block: list[str], in_module: bool) -> Iterator[tuple[str, list[str]]
 
 
 def module_of(text: str) -> Module:
-    """The definitions of a file."""
+    """Reads the definitions of a file."""
     module, last = Module(), ""
     in_module = IN_MODULE.search(text) is not None
     code = [line for line in text.split("\n") if not line.startswith("use ")]
@@ -132,7 +129,7 @@ class Beliefs:
         self._modules: dict[str, Module] = {}
 
     def module(self, place: Place) -> Module:
-        """The file of a definition, or an empty one."""
+        """The file of a definition; an empty one if there is none."""
         if place.path not in self._modules:
             text = self.tree.text(place.path) if self.tree.has(place.path) else ""
             self._modules[place.path] = module_of(text)
@@ -142,7 +139,7 @@ class Beliefs:
         return self.module(place).definitions.get(place.name)
 
     def _elsewhere(self, path: str, name: str) -> Iterator[Place]:
-        """The places of a name of another file. A type that a source declares has the module `declared`."""
+        """The places of a name from another file. A type that a source declares has the module `declared`."""
         crate, _, module = path.partition(".specs.")
         if crate in self.tree.crates and module:
             yield Place(crate, module, name)
@@ -169,7 +166,7 @@ class Beliefs:
         return {one for word in words for one in self._named_by(place, word)} - {place}
 
     def below(self, seeds: set[Place], closed: set[Place]) -> set[Place]:
-        """All that these rest on, including themselves. Closed ones count, but not what they name."""
+        """All that these definitions rest on, including themselves. Closed ones count, but not what they name."""
         seen: set[Place] = set()
         left = set(seeds)
         while left:

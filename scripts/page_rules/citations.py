@@ -1,9 +1,7 @@
-"""Checks that each function, clause and definition that docs/proof/PROMISES.md cites exists, and each name of the
-sources in other pages.
+"""Checks that each function, clause and definition that docs/proof/PROMISES.md cites exists, and each name of the sources in other pages.
 
-The right column of PROMISES names functions and, after a colon, the labels of their clauses: `Snaps::load`: `film`,
-`good`. Names after "against", "over", "with" and the like are definitions. "The same" refers to the names of the
-row before.
+The right column of PROMISES names functions and, after a colon, the labels of their clauses: `Snaps::load`: `film`, `good`. Names after
+"against", "over", "with" and the like are definitions. "The same" refers to the names in the previous row.
 """
 
 import re
@@ -14,7 +12,7 @@ from page_rules.sources import Crate, crates_of
 from page_rules.tree import Finding, Tree
 
 PROMISES = "docs/proof/PROMISES.md"
-# the end of the labels in a cell: all code font up to one of these words
+# where the labels in a cell end: they are all code font before one of these words
 UP_TO = re.compile(r"\b(?:against|over|with|by|of|within|in|which|for|whatever)\b|\(")
 NAME = re.compile(r"(?:\w+::)*[\w-]+")
 QUALIFIED = re.compile(r"(?:\w+::)*?(?:(?P<owner>\w+)::)?(?P<name>[\w-]+)")
@@ -24,14 +22,14 @@ OUTSIDE_CODE = re.compile(r"([;:])(?=(?:[^`]*`[^`]*`)*[^`]*$)")
 
 
 class Cited:
-    """The names that a section may cite: of its crate, and of the crates below it."""
+    """The names that a section may cite: those of its crate and of the crates below it."""
 
     def __init__(self, crates: dict[str, Crate], own: list[str]) -> None:
         self.own = [crates[name] for name in own]
         self.all = self.own + [crate for name, crate in crates.items() if name not in own]
 
     def members_of(self, subject: str) -> set[str]:
-        """The labels of a subject: of a function's clauses, of all of an `impl`, of a definition."""
+        """The labels of a subject: a function's clauses, all clauses of an `impl`, or a definition."""
         if found := IMPL.fullmatch(subject):
             trait, owner = found.groups()
             functions = [one for crate in self.all for one in crate.functions if trait in (one.owner, one.trait)]
@@ -65,7 +63,7 @@ class Cited:
 
 
 def _wrong_in(part: str, cited: Cited, before: list[str]) -> Iterator[str]:
-    """The citations of a part of a cell that don't exist. Its subjects are added to the list of earlier ones."""
+    """The citations in a part of a cell that don't exist. Its subjects are added to the list of earlier ones."""
     left, colon, right = (OUTSIDE_CODE.split(part, maxsplit=1) + ["", ""])[:3]
     subjects = CODE.findall(left) if colon else CODE.findall(part)
     before.extend(subjects)
@@ -110,7 +108,7 @@ OURS = re.compile(r"[A-Za-z]\w*(?:::\w+)+|[a-z]+(?:_[a-z0-9]+)+|(?:[A-Z][a-z0-9]
 
 
 def names(tree: Tree) -> Iterator[Finding]:
-    """Names in code font that exist nowhere here."""
+    """Names in code font that don't exist anywhere here."""
     sources = tree.matching("crates/*.rt", "crates/*.antt", "*.py", "*.go", "*.sh")
     words = {*tree.crates, *ELSEWHERE, *re.findall(r"\w+", "".join(map(tree.text, sources)))}
     for page in tree.pages:
@@ -124,7 +122,7 @@ IN_FILE = re.compile(r"((?:`[^`]+`(?:, | and )?)+) (?:in|of) `([\w./*-]+\.(?:rt|
 
 
 def in_files(tree: Tree) -> Iterator[Finding]:
-    """Names that a page has in a file that doesn't have them."""
+    """Names that a page attributes to a file that doesn't contain them."""
     for page in tree.pages:
         for block in prose(tree.text(page)) if page != HISTORY else ():
             for cited, path in IN_FILE.findall(block.text):

@@ -1,4 +1,4 @@
-"""Rules of comments and lines: no comment leans on the one before it, and no line of a definition is too long."""
+"""Rules for comments and lines: no comment depends on the one before it, and no line of a definition is too long."""
 
 import re
 from collections.abc import Iterator
@@ -7,13 +7,13 @@ from page_rules.tree import Finding, Tree
 
 MOST_COLUMNS = 100
 
-# the first line of a comment: of a doc comment, of one of a definition, of a docstring
+# the first line of a comment: of a doc comment, of a definition's comment, or of a docstring
 FIRST = re.compile(r"^(?P<indent>\s*)(?P<mark>///|--|\"\"\") ?(?P<text>\S.*)$")
-# first words of a comment that need another text to have a meaning
+# first words of a comment that mean something only together with another text
 LEANS = re.compile(
     r"the same(?! \w)|the same (of|for|where|with|in|but|by)\b|so (are|is|do|does|did|has|have|can|may)\b"
     r"|those (who|that|which)\b|likewise\b|ditto\b"
-    # a sentence that ends without its predicate: "The timers of both sides are."
+    # a sentence that ends without its predicate, such as "The timers of both sides are."
     r"|the (?!.*\b(that|which|it|they)\b)\w[\w ]* (are|is|do|does|has|have)\.$",
     re.IGNORECASE,
 )
@@ -39,10 +39,10 @@ def _leaning(tree: Tree, paths: list[str]) -> Iterator[Finding]:
 
 
 def leaning_docstrings(tree: Tree) -> Iterator[Finding]:
-    """Docstrings of Python that mean nothing without the text before them."""
+    """Python docstrings that mean nothing without the text before them."""
     return _leaning(tree, tree.matching("python/*.py", "scripts/*.py"))
 
 
 def leaning_comments(tree: Tree) -> Iterator[Finding]:
-    """Comments of the crates that mean nothing without the one before."""
+    """Comments of the crates that mean nothing without the comment before them."""
     return _leaning(tree, tree.matching("crates/*/src/*.rt", "crates/*/specs/*.antt"))

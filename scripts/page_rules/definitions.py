@@ -1,8 +1,7 @@
 """The definitions of the crates: which modules of specs/ a caller needs, and which names two crates share.
 
-`specs/Lib.antt` of a crate names its modules under two headings: those that callers need, and internal ones. A
-caller needs a module that another crate imports, or that a contract of the crate's public functions and types
-cites.
+`specs/Lib.antt` of a crate names its modules under two headings: those that callers need, and internal ones. A caller needs a module if
+another crate imports it, or if a contract of the crate's public functions and types cites it.
 """
 
 import re
@@ -21,14 +20,14 @@ FOR_CALLERS, INSIDE = "what callers need", "inner"
 IMPORT = re.compile(r"use Rattle\.(\w+)\.specs\.([A-Z]\w*)(?:\.\{([^}]*)\}| as (\w+))")
 EXPORT = re.compile(r"^pub (mod|use) ([^;]+);", re.MULTILINE)
 MEMBER = re.compile(r"^    ghost (\w+) = (.*(?:\n        .*)*)", re.MULTILINE)
-# members that no caller reads: laws, which are the same as in their trait, and private ones of a type
+# members that no caller reads: laws, which are the same as in their trait, and private members of a type
 NOT_READ = re.compile(
     r".*_is_unique|.*_unique|.*_are|refused_has_no_step|memory_is_.*|means_well_formed|allowance_is_within|invariant"
 )
 
 
 def _exports(tree: Tree, crate: str) -> tuple[set[str], set[str]]:
-    """The public modules of a crate, and the names that it exports. A program exports only to its `main`."""
+    """The public modules of a crate, and the names that it exports. A program exports names only to its `main`."""
     if not tree.has(f"crates/{crate}/src/lib.rt"):
         return {PurePosixPath(path).stem for path in tree.matching(f"crates/{crate}/src/*.rt")}, set()
     found = EXPORT.findall(tree.text(f"crates/{crate}/src/lib.rt"))
@@ -37,7 +36,7 @@ def _exports(tree: Tree, crate: str) -> tuple[set[str], set[str]]:
 
 
 def _public_contracts(tree: Tree, crate: str, path: str) -> str:
-    """The contracts that a caller sees: those of public functions, and of the views of public types."""
+    """The contracts that a caller sees: those of public functions, and those of the views of public types."""
     modules, names = _exports(tree, crate)
     text = without_comments(tree.text(path))
     is_public = PurePosixPath(path).stem in {*modules, "lib"}
@@ -98,10 +97,10 @@ def defined(tree: Tree) -> dict[str, dict[str, tuple[str, int]]]:
 
 
 def shared_names(tree: Tree) -> Iterator[Finding]:
-    """Names that definitions of two crates have, and that the glossary doesn't list with each of these crates."""
+    """Names that definitions of two crates have, and that the glossary doesn't list with both crates."""
     if not tree.has(GLOSSARY):
         return
-    together: dict[int, set[str]] = defaultdict(set)  # the code font of an item or of a table's row
+    together: dict[int, set[str]] = defaultdict(set)  # the code font in an item or in a table's row
     for block in blocks(tree.text(GLOSSARY)):
         if block.heading == SHARED:
             together[block.line].update(CODE.findall(block.text))

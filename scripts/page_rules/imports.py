@@ -1,8 +1,7 @@
-"""Checks CONTRIBUTING.md's table of Python packages: each package imports those that its row names, which are above
-it.
+"""Checks CONTRIBUTING.md's table of Python packages: each package imports only those that its row names, which are above it.
 
-A row is a folder below python/, or some files of one, and a module belongs to the row with the longest matching
-path. So no two packages import one another.
+A row is a folder below python/, or some files of one, and a module belongs to the row with the longest matching path. So no two packages
+import each other.
 """
 
 import ast
@@ -21,7 +20,7 @@ PLACES, IMPORTS = 0, 2  # columns
 
 @dataclass
 class Row:
-    """A row of the table: its places below python/, its line in the page, and the rows that it names by their first places."""
+    """A row of the table: its places below python/, its line in the page, and the rows that it names, by their first places."""
 
     places: list[str]
     line: int
@@ -33,12 +32,12 @@ class Row:
         return self.places[0]
 
     def fits(self, path: str) -> int:
-        """The length of the row's place that fits a module, by its path below python/; 0 if none does."""
+        """The length of the row's place that matches a module, by its path below python/; 0 if none does."""
         return max((len(place) for place in self.places if f"{path}/".startswith(f"{place}/")), default=0)
 
 
 def rows_of(tree: Tree) -> list[Row]:
-    """The table's rows, in its order."""
+    """The table's rows, in order."""
     rows: list[Row] = []
     for block in blocks(tree.text(PAGE)) if tree.has(PAGE) else ():
         if block.kind != "cell" or block.heading != HEADING:
@@ -52,7 +51,7 @@ def rows_of(tree: Tree) -> list[Row]:
 
 
 def imported(tree: Tree, path: str) -> Iterator[tuple[int, str]]:
-    """The lines of a module that import, and the paths of the modules below python/ that they name."""
+    """The lines with imports of a module, and the paths of the modules below python/ that they name."""
     folder = path.split("/")[1:-1]
     for node in ast.walk(ast.parse(tree.text(path))):
         if isinstance(node, ast.Import):
@@ -69,7 +68,7 @@ def imported(tree: Tree, path: str) -> Iterator[tuple[int, str]]:
 
 
 def _path_of(tree: Tree, name: list[str]) -> str:
-    """The module of a dotted name, or of one of its names; empty if it isn't below python/."""
+    """The module for a dotted name, or for its beginning; empty if it isn't below python/."""
     for length in range(len(name), 0, -1):
         path = "/".join(name[:length])
         for file in (f"{path}.py", f"{path}/__init__.py"):
@@ -79,7 +78,7 @@ def _path_of(tree: Tree, name: list[str]) -> str:
 
 
 def uses(tree: Tree, rows: list[Row]) -> Iterator[tuple[str, int, Row, str, Row]]:
-    """The imports between modules of two rows: the module, its line, its row, the imported module, and that one's
+    """The imports between modules of two rows: the importing module, its line, its row, the imported module, and the imported module's
     row."""
     for path in tree.matching("python/*.py"):
         own = _row_of(rows, path.removeprefix(PYTHON))
@@ -90,7 +89,7 @@ def uses(tree: Tree, rows: list[Row]) -> Iterator[tuple[str, int, Row, str, Row]
 
 
 def imports(tree: Tree) -> Iterator[Finding]:
-    """Imports that the table doesn't allow, and those in the table that no module makes."""
+    """Imports that the table doesn't allow, and imports in the table that no module makes."""
     rows = rows_of(tree)
     if not rows:
         yield Finding(PAGE, 1, f"no table under {HEADING!r}")
@@ -117,9 +116,9 @@ def imports(tree: Tree) -> Iterator[Finding]:
 
 
 def written(tree: Tree) -> str:
-    """The page with the table's column of imports as the tree has them, in the order of the rows. The packages, their
-    descriptions and the row that imports all above stay; an import from below a row isn't written, because it is a
-    fault of the tree."""
+    """The page, with the table's column of imports as they are in the tree, in the order of the rows. The packages, their
+    descriptions and the row that imports everything above it stay; an import from a lower row isn't written, because it is a fault of
+    the tree."""
     rows, lines = rows_of(tree), tree.text(PAGE).split("\n")
     met: dict[str, set[str]] = {row.name: set() for row in rows}
     for _, _, own, _, other in uses(tree, rows):
@@ -135,6 +134,6 @@ def written(tree: Tree) -> str:
 
 
 def _row_of(rows: list[Row], path: str) -> Row | None:
-    """The row of a module: that with the longest place."""
+    """The row of a module: the one with the longest matching place."""
     longest = max(rows, key=lambda row: row.fits(path))
     return longest if longest.fits(path) else None

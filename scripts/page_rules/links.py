@@ -1,4 +1,4 @@
-"""Checks that each path and each link of a page exists, and that each anchor is a heading's."""
+"""Checks that each path and each link in a page exists, and that each anchor belongs to a heading."""
 
 import re
 from collections.abc import Iterator
@@ -11,13 +11,13 @@ from page_rules.tree import Finding, Tree
 
 # the form of a path in code font: folders, or a file with one of these endings
 PATH = re.compile(r"(?:[\w.*-]+/)+[\w.*-]*|[\w.*-]+\.(?:rt|antt|md|py|sh|edit|jsonl|script|replies|nrdb|session|where)")
-# a part of a path that a reader fills in
+# a part of a path that the reader fills in
 FILLED_IN = re.compile(r"[A-Z][A-Z0-9_]*(?:-[\w-]+)?(?:\.\w+){0,2}|my\.\w+|\.\.\.")
-# folders that a program makes, packages of Go's own sources, and media types
+# folders that a program makes, packages in Go's own sources, and media types
 ELSEWHERE = re.compile(
     r"(?:.*/)?out/|recordings/|(?:internal|runtime|net|encoding|go/parser|go/ast|std|text|application)(?:/|$)"
 )
-# names in an archive, examples of a page, and a reader's own files
+# names in an archive, examples in a page, and a reader's own files
 NAMED_ONLY = {"bin/nrdb", "src/m.rt", "bad.jsonl", "recording.jsonl", "recording.where", "now.jsonl", "bug.md", "./pkg"}
 # the history page, whose files needn't exist any more
 HISTORY = "CHANGELOG.md"
@@ -45,7 +45,7 @@ def links(tree: Tree) -> Iterator[Finding]:
 
 
 def is_there(tree: Tree, path: str) -> bool:
-    """Whether a file or folder has this path, or one that ends so: a page names `src/kind.rt` if the crate is clear."""
+    """Whether a file or folder has this path, or a path that ends with it: a page names `src/kind.rt` if the crate is clear."""
     wanted = path.rstrip("/")
     if "*" in wanted:
         return any(fnmatch(place, wanted) or fnmatch(place, "*/" + wanted) for place in tree.places)

@@ -1,9 +1,8 @@
-"""Checks the lists of docs/internals/ARCHITECTURE.md: the files that name most kinds, cells or commands, all
-crates, and their imports.
+"""Checks the lists in docs/internals/ARCHITECTURE.md: the files that name most kinds, cells or commands, all crates, and the crates'
+imports.
 
-A developer who adds a kind, a cell or a command changes the files that name all of them. The page has a list for
-each of the three, so each file that names most of them must be there, among those to change or among those that
-needn't be.
+A developer who adds a kind, a cell or a command changes the files that name all of them. The page has a list for each of the three, so each
+file that names most of them must be in that list, among the files to change or among those that needn't change.
 """
 
 import re
@@ -30,11 +29,11 @@ IN_ALL = (*IN_CODE, ".md")
 
 @dataclass(frozen=True)
 class Vocabulary:
-    """Names of which some files have most, each in one of its spellings."""
+    """Names, each in one of several spellings; some files contain most of them."""
 
     what: str
-    heading: str  # the section of the page that lists these files
-    least: int  # the least number of names for a file to count
+    heading: str  # the section of the page that lists those files
+    least: int  # a file counts if it contains at least this many names
     names: tuple[tuple[str, ...], ...]
     files: tuple[str, ...]  # the endings of the files to examine
 
@@ -48,7 +47,7 @@ def _has(name: str, text: str) -> bool:
 
 
 def _found(tree: Tree, path: str, pattern: re.Pattern[str]) -> list[tuple[str, ...]]:
-    """The matches of a pattern in a file: each time the spellings of a name."""
+    """The matches of a pattern in a file, each with the spellings of a name."""
     found = pattern.findall(tree.text(path)) if tree.has(path) else []
     return [(one,) if isinstance(one, str) else one for one in found]
 
@@ -68,7 +67,7 @@ def vocabularies(tree: Tree) -> list[Vocabulary]:
 
 
 def named_many(tree: Tree) -> Iterator[Finding]:
-    """Files that name most kinds, cells or commands, and that the page's list omits."""
+    """Files that name most kinds, cells or commands and are missing from the page's list."""
     page = list(codes(tree.text(ARCHITECTURE))) if tree.has(ARCHITECTURE) else []
     paths = tree.matching(
         "crates/*/src/*", "crates/*/specs/*", "crates/*/proofs/*", "python/*", "docs/*", "*.md", "bench/*"
@@ -85,13 +84,13 @@ def named_many(tree: Tree) -> Iterator[Finding]:
 
 
 def _below(tree: Tree, crate: str) -> set[str]:
-    """The crates that a crate imports, and all that these import."""
+    """The crates that a crate imports, directly or indirectly."""
     imports = tree.crates[crate]
     return set(imports).union(*(_below(tree, other) for other in imports))
 
 
 def drawn(tree: Tree) -> str:
-    """The program's crates as a diagram. An arrow that a longer path implies is left out."""
+    """The program's crates, as a diagram. An arrow is left out if a longer path implies it."""
     rows = ["flowchart TD"]
     shown = {PROGRAM, *_below(tree, PROGRAM)} if PROGRAM in tree.crates else set(tree.crates)
     for crate, imports in reversed(tree.crates.items()):
@@ -103,7 +102,7 @@ def drawn(tree: Tree) -> str:
 
 
 def diagram(tree: Tree) -> Iterator[Finding]:
-    """Whether the page's diagram is that of crates.txt, and the page's list has all crates."""
+    """Whether the page's diagram agrees with crates.txt, and the page's list has all crates."""
     if not tree.has(ARCHITECTURE) or not tree.crates:
         return
     text = tree.text(ARCHITECTURE)

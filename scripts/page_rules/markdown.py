@@ -1,4 +1,4 @@
-"""A page's parts: headings, paragraphs, items and cells of tables, links and words in code font."""
+"""The parts of a page: headings, paragraphs, items, cells of tables, links, and words in code font."""
 
 import re
 from collections.abc import Iterator
@@ -13,7 +13,7 @@ CELLS = re.compile(r"(?<!\\)\|")
 
 @dataclass(frozen=True)
 class Block:
-    """A part of a page, and its first line. A cell of a table is a part, named by its column."""
+    """A part of a page, and its first line. The cell of a table is a part, named by its column."""
 
     line: int
     kind: str  # "heading", "text", "cell" or "code"

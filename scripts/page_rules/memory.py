@@ -1,7 +1,7 @@
 """Finds values whose memory is never freed, and places that report refused memory.
 
-No contract says that undoing frees memory, so each place that forgets a value is checked. And no contract says when
-an allocation is refused, so only code with the library's error may report a refusal.
+No contract says that undoing frees memory, so each place that forgets a value is checked. And no contract says when an allocation is
+refused, so only code that has the library's error may report a refusal.
 """
 
 import re
@@ -18,36 +18,35 @@ MAY_FORGET = "crates/nr_rev/src/keeper.rt"
 
 
 def forgotten(tree: Tree) -> Iterator[Finding]:
-    """Code of the crates that forgets a value, except in the one file that may."""
+    """Places in the crates that forget a value, except in the one file that may."""
     for path in tree.matching("crates/*/src/*.rt"):
         for number, line in enumerate(without_comments(tree.text(path)).split("\n"), 1):
             if path != MAY_FORGET and (found := FORGETS.search(line)):
-                yield Finding(path, number, f"{found[0]} leaks memory, and stands in {MAY_FORGET} alone")
+                yield Finding(path, number, f"{found[0]} leaks memory, and is allowed only in {MAY_FORGET}")
 
 
 # the library's refusal as a type: in the result of a function, in a conversion from it, and in an import under its own name
 TYPE = re.compile(
     r", AllocError>|\bFrom<AllocError>|\bfn from\(\w+: AllocError\)|^use std::alloc::(?:AllocError|\{[\w, ]*\});$"
 )
-# its name anywhere else makes one, or renames it
+# if its name occurs anywhere else, a refusal is made there, or renamed
 MADE = re.compile(r"\bAllocError\b")
 # a library's own name for a refused allocation, without the type that carries the refusal
 SAID = re.compile(r"\b(?:\w+::OutOfMemory|Category::Memory)\b.*=>")
-# the output after refused memory
+# the line that reports a refusal
 PRINTED = re.compile(r'"fault 108 memory')
 MESSAGE = re.compile(r"\s*#\[error\(")
-# the file of the type that carries a refusal, and that of the types that are printed so, each of which contains one
+# the file of the type that carries a refusal, and the file of the types that contain one and are printed that way
 CARRIES = "crates/nr_rev/src/memory.rt"
 PRINTS = "crates/nr_recording/src/fault.rt"
 
 
 def refused(tree: Tree) -> Iterator[Finding]:
-    """Places of the program that report refused memory without the library's refusal, by making one, or by printing
-    the line themselves."""
+    """Places in the program that report refused memory without the library's refusal: they make one, or print the line themselves."""
     for crate in verdict.below(tree, verdict.PROGRAM):
         for path in tree.matching(f"crates/{crate}/src/*.rt"):
             for number, line in enumerate(without_comments(tree.text(path)).split("\n"), 1):
                 if path != CARRIES and not SAID.search(line) and (found := MADE.search(TYPE.sub("", line))):
                     yield Finding(path, number, f"{found[0]}: nothing here says that memory was refused")
                 if path != PRINTS and not MESSAGE.match(line) and (found := PRINTED.search(line)):
-                    yield Finding(path, number, f"{found[0].strip(chr(34))} stands in {PRINTS} alone")
+                    yield Finding(path, number, f"{found[0].strip(chr(34))} is allowed only in {PRINTS}")

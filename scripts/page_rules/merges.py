@@ -1,4 +1,4 @@
-"""No page has the marks of a merge conflict."""
+"""Checks that no page contains the marks of a merge conflict."""
 
 import re
 from collections.abc import Iterator
@@ -9,7 +9,7 @@ MARKER = re.compile(r"(?:<{7}|>{7}|\|{7})(?: |$)|={7}$")
 
 
 def markers(tree: Tree) -> Iterator[Finding]:
-    """Lines of pages that mark a conflict."""
+    """Lines in pages that mark a conflict."""
     for page in tree.pages:
         for number, line in enumerate(tree.text(page).split("\n"), 1):
             if MARKER.match(line):

@@ -1,4 +1,4 @@
-"""Checks that quotes in docs/proof/THEOREM.md and the computed sessions equal their sources, character by character.
+"""Checks that the quotes in docs/proof/THEOREM.md and the computed sessions equal their sources, character by character.
 
     quotes  each block of code of the page is in the file that the line above the block names
     texts   each file of examples/ equals its bytes in crates/nr_programs/specs/Examples.antt
@@ -15,7 +15,7 @@ PAGE = "docs/proof/THEOREM.md"
 EXAMPLES = "crates/nr_programs/specs/Examples.antt"
 SHORT = "crates/nr_programs/specs/ShortRuns.antt"
 
-# a line that names a file, and the block below it
+# a line that names a file, and the block after it
 QUOTE = re.compile(r"^`([^`\n]+)`:?\n\n```\w*\n(.*?)^```$", re.MULTILINE | re.DOTALL)
 BLOCK = re.compile(r"^```", re.MULTILINE)
 # a comment that names a file, the name of its bytes, and the bytes
@@ -43,7 +43,7 @@ ESCAPES = {"n": "\n", "r": "\r", "t": "\t", '"': '"', "\\": "\\"}
 
 
 def quotes(tree: Tree) -> Iterator[Finding]:
-    """Quotes of the page that differ from their files."""
+    """Quotes in the page that differ from their files."""
     page = tree.text(PAGE) if tree.has(PAGE) else ""
     found = list(QUOTE.finditer(page))
     if page and (2 * len(found) != len(BLOCK.findall(page)) or not found):
@@ -55,7 +55,7 @@ def quotes(tree: Tree) -> Iterator[Finding]:
 
 
 def bytes_of(text: str) -> bytes | None:
-    """The bytes of a definition, or None if it isn't only texts."""
+    """The bytes of a definition; None if it contains anything other than strings."""
     parts = TEXT.findall(text)
     if TEXT.sub("", text).replace("++", "").split():
         return None
@@ -63,7 +63,7 @@ def bytes_of(text: str) -> bytes | None:
 
 
 def texts(tree: Tree) -> Iterator[Finding]:
-    """Definitions with other bytes than their files."""
+    """Definitions whose bytes differ from their files'."""
     source = tree.text(EXAMPLES) if tree.has(EXAMPLES) else ""
     found = list(BYTES.finditer(source))
     if source and not found:
@@ -110,7 +110,7 @@ def _is_run(tree: Tree, name: str, limits: str, steps: str) -> bool:
 
 
 def runs(tree: Tree) -> Iterator[Finding]:
-    """Definitions that aren't the run of their recording."""
+    """Definitions that aren't the runs of their recordings."""
     for path in filter(tree.has, (EXAMPLES, SHORT)):
         source = tree.text(path)
         found = list(RUN.finditer(source))

@@ -1,10 +1,8 @@
-"""Checks that the calls that reach a stream, a caller or a log are made only in the places that
-docs/proof/TRUSTED.md lists.
+"""Checks that the calls that reach a stream, a caller or a log are made only in the places that docs/proof/TRUSTED.md lists.
 
-The laws speak of logs. A call past the logs, such as of a reader that was taken out of its source, would be in none
-of them, and an entry without a call would be in one. So each such call of the program's sources is listed here with
-the functions that make it, and the functions that no contract checks are the rows of TRUSTED's table of code that
-is read by eye.
+The laws are about logs. A call that bypasses the logs, for example on a reader taken out of its source, would be missing from all of them,
+and an entry without a call would be in one of them. So each such call in the program's sources is listed here with the functions that make
+it. Those functions that no contract checks are the rows of TRUSTED's table of code that is read by eye.
 """
 
 import re
@@ -18,7 +16,7 @@ from page_rules.tree import Finding, Tree
 PAGE = "docs/proof/TRUSTED.md"
 LOOPBACK = "crates/netrev/src/loopback.rt"
 
-# a call, and the functions that make it, each this often: of a raw stream, of its wrapper, or of a log
+# a call, and the functions that make it, each this often: on a raw stream, on its wrapper, or on a log
 CALLS: dict[str, dict[str, int]] = {
     ".read(": {"LoggedReader::read": 1, "Source::read": 1, "answer_by": 1, "read_away": 1},
     ".write(": {"LoggedWriter::write": 1, "write_some": 1},
@@ -53,7 +51,7 @@ CALLS: dict[str, dict[str, int]] = {
     ".forever(": {},
 }
 
-# the functions above whose entries a contract checks; all others are read by eye
+# the functions above whose entries a contract checks; the others are read by eye
 HELD = {
     "Buffered::into_inner",
     "LoggedCallers::give_up",
@@ -72,7 +70,7 @@ HELD = {
     "serve_one",
     "write_some",
 }
-# a function that makes none of these calls and is read by eye too, because it joins those that do
+# a function that makes none of these calls but is read by eye too, because it joins functions that do
 JOINS = {"LoggedCallers::serve_next"}
 # files that are read by eye as a whole
 FILES = {LOOPBACK, "crates/netrev/src/main.rt"}
@@ -82,13 +80,13 @@ ROW = re.compile(r"^\| `([\w:./]+)`", re.MULTILINE)
 
 
 def _count(call: str, line: str) -> int:
-    """The number of times that a call occurs in a line: a method's, or a function's of this name."""
+    """How often a call occurs in a line: of a method, or of a function with this name."""
     before = "" if call.startswith(".") else r"(?<!\w)"
     return 0 if re.search(rf"\bfn {re.escape(call)}", line) else len(re.findall(before + re.escape(call), line))
 
 
 def _made(tree: Tree) -> dict[str, Counter[tuple[str, str]]]:
-    """The functions of each file that make each call, and how often."""
+    """For each file, the functions that make each call, and how often."""
     made: dict[str, Counter[tuple[str, str]]] = {call: Counter() for call in CALLS}
     for crate in verdict.below(tree, verdict.PROGRAM):
         for path in tree.matching(f"crates/{crate}/src/*.rt"):
@@ -100,7 +98,7 @@ def _made(tree: Tree) -> dict[str, Counter[tuple[str, str]]]:
 
 
 def _by_eye(tree: Tree, made: dict[str, Counter[tuple[str, str]]]) -> Iterator[Finding]:
-    """Places read by eye that TRUSTED's table lacks, or has without need."""
+    """Places to be read by eye that are missing from TRUSTED's table, or in it without need."""
     text = tree.text(PAGE)
     if HEADING not in text:
         return
@@ -114,15 +112,16 @@ def _by_eye(tree: Tree, made: dict[str, Counter[tuple[str, str]]]) -> Iterator[F
     wanted = (wanted | (JOINS if wanted else set())) - {"crates/netrev/src/main.rt"}
     for name in sorted(wanted - rows):
         yield Finding(
-            PAGE, 1, f"{name} gets at a stream, a caller or a log, and isn't in the table of what is read by eye"
+            PAGE,
+            1,
+            f"{name} reaches a stream, a caller or a log, and is missing from the table of code that is read by eye",
         )
     for name in sorted(rows - wanted):
-        yield Finding(PAGE, 1, f"{name} is in the table of what is read by eye, and makes no such call")
+        yield Finding(PAGE, 1, f"{name} is in the table of code that is read by eye, but makes no such call")
 
 
 def raw_calls(tree: Tree) -> Iterator[Finding]:
-    """Calls past the logs, calls that a function makes more or less often than listed, and differences from TRUSTED's
-    table."""
+    """Calls that bypass the logs, calls that a function makes more or less often than listed, and differences from TRUSTED's table."""
     made = _made(tree)
     for call, functions in made.items():
         wanted = CALLS[call]

@@ -1,11 +1,10 @@
 """Checks the reading list of docs/proof/THEOREM.md: the definitions that its laws rest on, by crate and file, and their lines.
 
-A file comes after those that it rests on, and a crate after those that it imports. Lines are those of definitions, without imports; a
-law's are counted without comments, a file's with them. A definition that a law has only in a premise, which
-another contract proves, counts, but the definitions that it uses don't: the law only says what follows from the premise.
+A file comes after the files that it rests on, and a crate after the crates that it imports. The counted lines are the definitions', without
+imports; a law's are counted without comments, a file's with comments. If a law has a definition only in a premise, which another contract
+proves, that definition counts, but not the definitions that it uses: the law only says what follows from the premise.
 
-The definitions that the laws rest on are in files of their own, which contain nothing else, and each crate lists these under one
-heading.
+The definitions that the laws rest on are in files of their own, and each crate lists these files under one heading.
 """
 
 import re
@@ -19,9 +18,9 @@ from page_rules.tree import Finding, Tree
 
 PAGE = "docs/proof/THEOREM.md"
 HEADING = "## Reading list"
-# other places with the numbers as text
+# other places that have the numbers in their text
 PAGES = (PAGE, "docs/proof/TRUSTED.md")
-# the heading in a crate's specs/Lib.antt of the files that the laws rest on
+# the heading in a crate's specs/Lib.antt for the files that the laws rest on
 BELIEVED = "-- what the laws of THEOREM.md rest on, whole files"
 LISTED = re.compile(r"pub mod (\w+)")
 IN_WORDS = re.compile(r"([\d,]+) definitions in ([\d,]+) lines")
@@ -29,8 +28,7 @@ IN_WORDS = re.compile(r"([\d,]+) definitions in ([\d,]+) lines")
 
 @dataclass(frozen=True)
 class Law:
-    """A law, by the definitions that its contract cites: CRATE/FILE:NAME. A developer who needs more lines for one
-    changes the number here."""
+    """A law, by the definitions that its contract cites: CRATE/FILE:NAME. If a law needs more lines, its number here has to be changed."""
 
     says: str
     cites: tuple[str, ...]
@@ -60,7 +58,7 @@ LAWS = (
     ),
 )
 
-# the hunts, whose files have definitions of the proofs as well
+# the hunts, whose files also contain definitions of the proofs
 HUNTS = (
     Law("what `suspects` writes", ("nr_programs/Suspects:ShowsSuspects",), 1700),
     Law(
@@ -89,13 +87,13 @@ HUNTS = (
 
 @dataclass(frozen=True)
 class Count:
-    """The number of definitions that some laws rest on, and of their lines and files."""
+    """The numbers of definitions that some laws rest on, and of their lines and files."""
 
     definitions: int
     lines: int  # without comments
     comments: int  # comment lines
     files: int
-    types: int  # of Rust, that the definitions name
+    types: int  # of Rust types that the definitions name
 
     def row(self, says: str, most_lines: int) -> str:
         """A row of the page's table."""
@@ -105,7 +103,7 @@ class Count:
 
 
 def placed(text: str) -> Place:
-    """A definition by its CRATE/FILE:NAME."""
+    """The place of a definition in the form CRATE/FILE:NAME."""
     file, _, name = text.partition(":")
     crate, _, module = file.partition("/")
     return Place(crate, module, name)
@@ -129,7 +127,7 @@ class ReadingList:
         return self.beliefs.below(set(map(placed, law.cites)), set(map(placed, law.handed)))
 
     def defined(self, places: Iterable[Place]) -> list[Place]:
-        """Those of some places that are definitions, not types of Rust."""
+        """The places that belong to definitions, not to Rust types."""
         return [place for place in places if self.beliefs.definition(place)]
 
     def lines(self, places: Iterable[Place]) -> int:
@@ -144,7 +142,7 @@ class ReadingList:
         return Count(len(here), self.lines(here) - comments, comments, len({place.path for place in here}), len(types))
 
     def _behind(self, path: str, by_file: dict[str, set[Place]], ordered: list[str]) -> None:
-        """Appends a file to the ordered ones, after those of its crate that it rests on."""
+        """Appends a file to the list, after those files of its crate that it rests on."""
         if path in ordered:
             return
         named = set().union(*map(self.beliefs.named, sorted(by_file[path])))
@@ -164,7 +162,7 @@ class ReadingList:
         return [(path, sorted(by_file[path])) for path in ordered]
 
     def strays(self) -> Iterator[tuple[str, str]]:
-        """Definitions that no law rests on, in files with some that the laws rest on: the file and the name."""
+        """Definitions that no law rests on, in files that also have definitions that laws rest on: the file and the name."""
         by_file: dict[str, list[Place]] = {}
         for place in self.defined(self.all):
             by_file.setdefault(place.path, []).append(place)
@@ -173,7 +171,7 @@ class ReadingList:
             yield from ((path, name) for name in sorted(others))
 
     def misplaced(self) -> Iterator[tuple[str, str]]:
-        """Files that a crate lists under the heading although no law rests on them, and the reverse: the list and the
+        """Files that a crate lists under the heading although no law rests on them, and files that it should list: the list and the
         name."""
         for crate in self.tree.crates:
             wanted = {_file(path) for path, _ in self.files(crate)}
@@ -204,7 +202,7 @@ def _is_type(place: Place) -> bool:
 
 
 def _file(path: str) -> str:
-    """The page's name for a file."""
+    """The name of a file in the page."""
     return path.rpartition("/")[2].removesuffix(".antt")
 
 
@@ -214,27 +212,33 @@ def reading_list(tree: Tree) -> Iterator[Finding]:
         return
     found, hunts = ReadingList(tree, LAWS), ReadingList(tree, HUNTS)
     for cited in found.missing + hunts.missing:
-        yield Finding(PAGE, 1, f"there is no definition {cited} for the laws to rest on")
+        yield Finding(PAGE, 1, f"no definition {cited} exists, but the laws rest on it")
     for path, name in found.strays():
-        yield Finding(path, 1, f"no law rests on {name}, and laws rest on what stands beside it")
+        yield Finding(path, 1, f"no law rests on {name}, but laws rest on other definitions of this file")
     for path, name in found.misplaced():
-        yield Finding(path, 1, f"{name}: the files that the laws rest on, and no others, stand under {BELIEVED!r}")
+        yield Finding(
+            path, 1, f"{name}: only the files that the laws rest on belong under {BELIEVED!r}, and all of them"
+        )
     for law, places in (*zip(LAWS, found.of_laws), *zip(HUNTS, hunts.of_laws)):
         if (lines := found.count(places).lines) > law.most_lines:
-            yield Finding(PAGE, 1, f"{law.says} rests on {lines:,} lines of definitions, and may on {law.most_lines:,}")
+            yield Finding(
+                PAGE,
+                1,
+                f"{law.says} rests on {lines:,} lines of definitions, but at most {law.most_lines:,} are allowed",
+            )
     yield from _differences(tree.text(PAGE), [row for row in tables(tree) if row])
     counts = [found.count(places) for places in (*found.of_laws, found.all, *hunts.of_laws, hunts.all)]
     yield from _in_words(tree, {(f"{count.definitions:,}", f"{count.lines:,}") for count in counts})
 
 
 def tables(tree: Tree) -> list[str]:
-    """The page's tables: those of the laws, and those of the hunts."""
+    """The page's tables: the laws' and the hunts'."""
     rows = list(ReadingList(tree, LAWS).rows())
     return [*rows, "", *ReadingList(tree, HUNTS).rows()] if HUNTS else rows
 
 
 def _in_words(tree: Tree, counted: set[tuple[str, str]]) -> Iterator[Finding]:
-    """Sentences with other numbers of definitions and lines than the counted ones."""
+    """Sentences whose numbers of definitions and lines differ from the counted ones."""
     for page in filter(tree.has, PAGES):
         for block in prose(tree.text(page)):
             for numbers in IN_WORDS.findall(block.text):
@@ -243,7 +247,7 @@ def _in_words(tree: Tree, counted: set[tuple[str, str]]) -> Iterator[Finding]:
 
 
 def _differences(page: str, wanted: list[str]) -> Iterator[Finding]:
-    """The first row of the page's tables that differs from the printed one, is missing or superfluous."""
+    """The first row of the page's tables that differs from the computed one, is missing, or shouldn't be there."""
     _, heading, rest = page.partition(f"{HEADING}\n")
     at = page.count("\n", 0, len(page) - len(rest)) + 1
     section = rest.split("\n## ")[0].split("\n") if heading else []

@@ -1,5 +1,4 @@
-"""The contents of a crate's sources, as `rt fmt` lays them out: functions with the labels of their clauses, and
-definitions."""
+"""The contents of a crate's sources as `rt fmt` lays them out: functions with the labels of their clauses, and definitions."""
 
 import re
 from collections.abc import Iterator
@@ -49,12 +48,12 @@ class Crate:
     text: str = ""
 
     def called(self, name: str, owner: str = "") -> list[Function]:
-        """The functions of a name, of an owner or a module if given."""
+        """The functions with this name, and with this owner or module if one is given."""
         return [one for one in self.functions if one.name == name and owner in ("", one.owner, one.trait, one.module)]
 
 
 def without_comments(text: str) -> str:
-    """A source whose comments are empty lines."""
+    """A source in which comments are replaced by empty lines."""
     return "\n".join("" if line.lstrip().startswith(("//", "--")) else line for line in text.split("\n"))
 
 
@@ -102,7 +101,7 @@ def lines_by_function(text: str) -> Iterator[tuple[str, str]]:
 
 
 def crate_of(tree: Tree, name: str) -> Crate:
-    """What a crate has."""
+    """Reads the contents of a crate."""
     crate = Crate()
     for path in tree.matching(f"crates/{name}/src/*.rt"):
         text = without_comments(tree.text(path))

@@ -1,4 +1,4 @@
-"""The files of the repository, as the rules read them, and the findings of rules."""
+"""The files of the repository, as the rules read them, and the rules' findings."""
 
 import os
 import re
@@ -8,7 +8,7 @@ from fnmatch import fnmatch
 from functools import cached_property
 from pathlib import Path
 
-# folders with build results, or kept beside the committed files
+# folders for build results, and for files that aren't committed
 LEFT_OUT = {".git", "out", "__pycache__", ".mypy_cache", "build", "dist"}
 
 
@@ -50,12 +50,12 @@ class Tree:
 
     @cached_property
     def endings(self) -> set[str]:
-        """The ends of the paths of files and folders, as `src/kind.rt` or `src/kind` of `crates/nr_rev/src/kind.rt`."""
+        """The ends of all paths of files and folders, such as `src/kind.rt` and `src/kind` for `crates/nr_rev/src/kind.rt`."""
         places = self.places.union(os.path.splitext(path)[0] for path in self.paths if "/" in path)
         return {"/".join(place.split("/")[at:]) for place in places for at in range(place.count("/") + 1)}
 
     def matching(self, *patterns: str) -> list[str]:
-        """The files whose paths match one of these; a `*` stands for folders too."""
+        """The files whose paths match one of these patterns; `*` also matches folders."""
         return [path for path in self.paths if any(fnmatch(path, pattern) for pattern in patterns)]
 
     def has(self, path: str) -> bool:
@@ -78,7 +78,7 @@ class Tree:
 
     @cached_property
     def crates(self) -> dict[str, list[str]]:
-        """The crates of crates.txt, lowest first, and the crates that each imports."""
+        """The crates of crates.txt, lowest first, with the crates that each imports."""
         if not self.has("crates.txt"):
             return {}
         rows = [line.split(":") for line in self.text("crates.txt").splitlines() if line.strip()]
@@ -92,5 +92,5 @@ def line_at(text: str, offset: int) -> int:
 
 
 def has_word(word: str, flags: int = 0) -> re.Pattern[str]:
-    """Finds a word, or some words in a row, also across the end of a line."""
+    """Finds a word, or several words in a row, also across a line break."""
     return re.compile(r"(?<!\w)" + r"\s+".join(map(re.escape, word.split())) + r"(?!\w)", flags)

@@ -1,7 +1,8 @@
-"""Checks that docs/proof/TRUSTED.md says what the verdict on the program takes as given, and that no function that it calls may wait.
+"""Checks that docs/proof/TRUSTED.md says what the verdict on the program takes as given, and that no function that the program calls may
+wait.
 
-The last line of a crate's check is its verdict. The gate stores it (scripts/verdicts.py), with a checksum of the crate's files. If `rt
-ci` reuses an earlier proof it prints no verdict; then the stored one counts, as long as the files are unchanged. Without one, a note says
+The last line of a crate's check is its verdict. The gate stores it (scripts/verdicts.py), with a checksum of the crate's files. If `rt ci`
+reuses an earlier proof, it prints no verdict; then the stored one counts, as long as the files are unchanged. If there is none, a note says
 so, and only the page, README.md and crates.txt are compared.
 """
 
@@ -15,15 +16,15 @@ from page_rules.tree import Finding, Tree
 PAGE, README, CRATES = "docs/proof/TRUSTED.md", "README.md", "crates.txt"
 KEPT = "out/verdicts.json"
 PROGRAM = "netrev"
-# functions that take `Wait` and that no program calls, by crate
+# by crate, functions that take `Wait` and that no program calls
 WRAPPERS = {"nr_lines": 1}
 # the number of a crate's functions doesn't concern trust
 NOT_OF_TRUST = {"functions"}
 
 SECTION = re.compile(r"^== (\w+)$")
-# on the page a line may be broken
+# on the page, a line break may occur here
 LINE = re.compile(r"^    (logic=proved .*(?:\n    \S.*)*)", re.MULTILINE)
-# words of lines that aren't a verdict on a crate: of its tests, and of a check that continued an earlier one
+# words of lines that aren't a verdict on a crate: about its tests, or from a check that continued an earlier one
 NO_VERDICT = re.compile(r" (?:tests|incremental)=")
 KIT = re.compile(r"rattle-kit-\w+ logic (\w+)")
 MAY_WAIT = re.compile(r"^(\w+)\b[^:\n]*\bmay_wait=(\d+)", re.MULTILINE)
@@ -66,7 +67,7 @@ def _own_sum(tree: Tree, crate: str) -> str:
 
 
 def sums(tree: Tree) -> dict[str, str]:
-    """For each crate a checksum of the files that a verdict covers: its own, and those of all that it imports."""
+    """For each crate, a checksum of the files that its verdict covers: its own, and those of all crates that it imports."""
     found: dict[str, str] = {}
     for name, imports in tree.crates.items():
         summed = [_own_sum(tree, name), *(found.get(other, "") for other in imports)]
@@ -75,7 +76,7 @@ def sums(tree: Tree) -> dict[str, str]:
 
 
 def kept(tree: Tree) -> dict[str, str]:
-    """The verdicts that are kept for the files as they are, by crate."""
+    """The stored verdicts that are valid for the current files, by crate."""
     file = tree.root / KEPT
     records = json.loads(file.read_text(encoding="utf-8")) if file.exists() else {}
     now = sums(tree) if records else {}
@@ -83,7 +84,7 @@ def kept(tree: Tree) -> dict[str, str]:
 
 
 def _of_page(tree: Tree, page: Words) -> Iterator[str]:
-    """Statements of the page that README.md and crates.txt contradict."""
+    """Statements in the page that README.md and crates.txt contradict."""
     if found := KIT.search(tree.text(README) if tree.has(README) else ""):
         if found.group(1) != page.get("sum"):
             yield f"the verdict is of logic {page.get('sum')}, and {README} names {found.group(1)}"
@@ -96,7 +97,7 @@ def _of_page(tree: Tree, page: Words) -> Iterator[str]:
 
 
 def _of_verdicts(tree: Tree, page: Words, lines: dict[str, str]) -> Iterator[str]:
-    """Statements of the page that these verdicts contradict."""
+    """Statements in the page that these verdicts contradict."""
     waits = dict(MAY_WAIT.findall(tree.text(CRATES)))
     for name, line in lines.items():
         words = words_of(line)
@@ -108,7 +109,7 @@ def _of_verdicts(tree: Tree, page: Words, lines: dict[str, str]) -> Iterator[str
 
 
 def verdict(tree: Tree) -> Iterator[Finding]:
-    """Statements of the page about the verdict that are wrong."""
+    """Wrong statements in the page about the verdict."""
     if not tree.has(PAGE):
         return
     lines = LINE.findall(tree.text(PAGE))

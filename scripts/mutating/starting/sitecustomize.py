@@ -1,4 +1,4 @@
-"""Python imports this as it starts, in the processes that tests start while it is noted which functions each test calls."""
+"""Python imports this at its start, in processes that tests start while their calls are recorded."""
 
 import os
 
