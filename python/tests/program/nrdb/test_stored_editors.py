@@ -112,7 +112,8 @@ def conversation(name: str, number: int) -> str:
         for line in (by_number.get(one.get("request_seq", 0), ""), json.dumps(one, sort_keys=True))
         if line
     ]
-    return "\n".join(lines).replace(str(ROOT), "ROOT").replace(folder, "FOLDER")
+    found = "\n".join(lines).replace(str(Path(path).resolve()), "PATH").replace(path, "PATH")
+    return found.replace(str(ROOT), "ROOT").replace(folder, "FOLDER")
 
 
 def sums_of(name: str) -> list[str]:
