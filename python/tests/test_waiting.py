@@ -92,22 +92,25 @@ class Asked(unittest.TestCase):
         (group,) = [row for row in json.loads(out.getvalue().splitlines()[-1])["rows"] if "goroutines" in row]
         self.assertEqual((group["goroutines"], group["goids"]), ([4, 5, 6, 7, 8], {"5": 41, "6": 43}))
 
+    def asked(self, text: str, line: str) -> tuple[str, Counter[str]]:
+        """The output of a line in a new session, and the lines that it sends to netrev."""
+        asked: Counter[str] = Counter()
+        session, out = self.session(text, asked)
+        asked.clear()
+        session.run(line)
+        return out.getvalue(), asked
+
     def test_a_lock_is_asked_for_once_however_many_wait(self) -> None:
         asked: dict[int, Counter[str]] = {}
         for count in (3, 60):
-            asked[count] = Counter()
-            session, out = self.session(waiters(count), asked[count])
-            asked[count].clear()
-            session.run("info goroutines")
-            asked_for_groups = asked[count].copy()
-            asked[count].clear()
-            session.run("info goroutines all")
+            shown, asked_for_groups = self.asked(waiters(count), "info goroutines")
+            shown_all, asked[count] = self.asked(waiters(count), "info goroutines all")
             self.assertEqual(asked_for_groups, asked[count])
-            self.assertIn(f"place {count} of {count}, goroutine 0 has the lock since step {count + 5}", out.getvalue())
-            self.assertIn("relock 0 w", out.getvalue())
-            is_group = (
-                f"queued for socket 0's read lock, which goroutine 0 has since step {count + 5}" in out.getvalue()
+            self.assertIn(
+                f"place {count} of {count}, goroutine 0 has the lock since step {count + 5}", shown + shown_all
             )
+            self.assertIn("relock 0 w", shown + shown_all)
+            is_group = f"queued for socket 0's read lock, which goroutine 0 has since step {count + 5}" in shown
             self.assertEqual(is_group, count == 60)
         few, many = (
             {line: times for line, times in one.items() if not line.startswith("print gor ")} for one in asked.values()
