@@ -1,4 +1,4 @@
-// Programs that hang or come too late, each for a reason of its own:  netrev-go run main.go NAME
+// Programs that hang or come too late, each for a different reason:  netrev-go run main.go NAME
 package main
 
 import (
@@ -33,7 +33,7 @@ func pair() (*net.TCPConn, *net.TCPConn) {
 
 const moment = 5 * time.Millisecond
 
-// past takes a read back by a deadline that is past, and the deadline too, before the reader has run.
+// past ends a read with a deadline in the past, and removes the deadline before the reader has run.
 func past(end, _ *net.TCPConn) {
 	go end.Read(make([]byte, 8))
 	time.Sleep(moment)
@@ -41,7 +41,7 @@ func past(end, _ *net.TCPConn) {
 	end.SetReadDeadline(time.Time{})
 }
 
-// lost waits for what has come already, without trying to read it.
+// lost waits for bytes that have already arrived, without trying to read them.
 func lost(end, other *net.TCPConn) {
 	other.Write([]byte("hi"))
 	time.Sleep(moment)
@@ -53,7 +53,7 @@ func lost(end, other *net.TCPConn) {
 	}()
 }
 
-// leak keeps a reference for ever, by a Control that doesn't return.
+// leak keeps a reference forever, in a Control that doesn't return.
 func leak(end, _ *net.TCPConn) {
 	raw, err := end.SyscallConn()
 	must(err)
@@ -73,7 +73,7 @@ func late(end, _ *net.TCPConn) {
 	end.SetReadDeadline(time.Now().Add(2 * moment))
 }
 
-// writers want one lock, while the buffer is full, and are sent away.
+// writers want the same lock while the buffer is full, and are woken by the close.
 func writers(end, other *net.TCPConn) {
 	end.SetWriteBuffer(4096)
 	other.SetReadBuffer(4096)
@@ -121,7 +121,7 @@ func busy(*net.TCPConn, *net.TCPConn) {
 	}
 }
 
-// half closes its write side, writes all the same, and reads what the other end has still to say.
+// half closes its write side, then writes nevertheless, and reads what the other end still sends.
 func half(end, other *net.TCPConn) {
 	end.Write([]byte("all"))
 	end.CloseWrite()

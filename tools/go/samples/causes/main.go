@@ -1,5 +1,5 @@
-// Programs with an ordinary bug each, at the line that is marked BUG: what netrev-go prints first has to name it. As `good` each does
-// the same without meeting its bug.
+// Programs with an ordinary bug each, at the line marked BUG, which netrev-go's first output must name. With `good`,
+// each does the same without reaching its bug.
 //
 //	causes NAME bad|good
 package main
@@ -24,7 +24,7 @@ func must(err error) {
 	}
 }
 
-// pair is the two ends of one connection.
+// pair returns the two ends of a connection.
 func pair() (near, far net.Conn) {
 	listener, err := net.Listen("tcp", "127.0.0.1:0")
 	must(err)
@@ -40,7 +40,7 @@ func pair() (near, far net.Conn) {
 	return near, <-accepted
 }
 
-// echo answers each line behind a pause.
+// echo answers each line after a pause.
 func echo(end net.Conn, pause time.Duration) {
 	lines := bufio.NewScanner(end)
 	for lines.Scan() {
@@ -56,7 +56,7 @@ func ask(end net.Conn, text string) error {
 	return err
 }
 
-// idleClose: who closes what seems idle doesn't know that somebody has begun to use it.
+// idleClose: a goroutine closes a connection that seems idle, but another has begun to use it.
 func idleClose(bad bool) error {
 	near, far := pair()
 	pause := time.Duration(0)
@@ -71,7 +71,7 @@ func idleClose(bad bool) error {
 	return ask(near, "one")
 }
 
-// half: a proxy passes the end of one direction on by closing both.
+// half: when one direction ends, a proxy closes both.
 func half(bad bool) error {
 	client, front := pair()
 	back, server := pair()
@@ -102,7 +102,7 @@ func half(bad bool) error {
 	return nil
 }
 
-// stale: the cancel of one question comes so late that it hits the next one.
+// stale: the cancellation of one question comes so late that it hits the next one.
 func stale(bad bool) error {
 	near, far := pair()
 	go echo(far, 3*short)
@@ -119,7 +119,7 @@ func stale(bad bool) error {
 	return ask(near, "second")
 }
 
-// left: one way out of a handler leaves its connection open.
+// left: one path through a handler leaves its connection open.
 func left(bad bool) error {
 	near, far := pair()
 	text := "GET /"
@@ -138,7 +138,7 @@ func left(bad bool) error {
 	return ask(near, text)
 }
 
-// once: a deadline for the whole connection, and not for each question.
+// once: a deadline is set for the whole connection, and not for each question.
 func once(bad bool) error {
 	near, far := pair()
 	pause := time.Duration(0)
@@ -159,7 +159,7 @@ func once(bad bool) error {
 	return nil
 }
 
-// pool: a connection is given back with the deadline of who had it.
+// pool: a connection is used again with the deadline of its previous user.
 func pool(bad bool) error {
 	near, far := pair()
 	pause := time.Duration(0)
@@ -185,7 +185,7 @@ func pool(bad bool) error {
 	return ask(near, "long question")
 }
 
-// piece: one Read is taken for the whole message.
+// piece: a single Read is taken to return the whole message.
 func piece(bad bool) error {
 	near, far := pair()
 	go func() {
@@ -207,7 +207,7 @@ func piece(bad bool) error {
 	return nil
 }
 
-// both: each end writes all before it reads.
+// both: each end writes everything before it reads.
 func both(bad bool) error {
 	near, far := pair()
 	size := 1000
@@ -236,7 +236,7 @@ func both(bad bool) error {
 	return nil
 }
 
-// body: the one connection to a host is never given back, since a body isn't closed.
+// body: the only connection to a host is never released, because a body isn't closed.
 func body(bad bool) error {
 	listener, err := net.Listen("tcp", "127.0.0.1:0")
 	must(err)

@@ -1,5 +1,5 @@
-// Programs in which a call fails, or waits for ever, for something that another goroutine did before: it left a connection open, a mutex locked, a buffer
-// unflushed. The line marked BUG brings that about, and the first cause names it. With `good` each program does the same without its bug.
+// Programs in which a call fails, or waits forever, because of something that another goroutine did before: it left a connection open, a mutex locked,
+// or a buffer unflushed. The line marked BUG causes that, and the first cause names it. With `good` each program does the same without its bug.
 //
 //	chains NAME bad|good
 package main
@@ -130,7 +130,7 @@ func pollInTurn(address string, names []string) {
 	}
 }
 
-// looped: the connections of a loop are closed when its function returns.
+// looped: the connections opened in a loop are closed only when its function returns.
 func looped(isBad bool) {
 	listener, names := listen(), []string{"a", "b", "c", "d"}
 	go serveSlots(listener, 2)
@@ -209,7 +209,7 @@ func (s *store) session(isBad bool) func(net.Conn) {
 	}
 }
 
-// locked: a function returns with a mutex locked, and its goroutine serves on.
+// locked: a function returns with a mutex locked, and its goroutine continues to serve.
 func locked(isBad bool) {
 	listener, s := listen(), &store{values: map[string]string{"a": "1"}}
 	go serve(listener, s.session(isBad))
@@ -276,7 +276,7 @@ func (t *table) set(name, value string) {
 	t.rows[name] = value
 }
 
-// readers: a goroutine locks an RWMutex for reading twice, and a writer comes between.
+// readers: a goroutine locks an RWMutex for reading twice, and a writer comes in between.
 func readers(isBad bool) {
 	listener, t := listen(), &table{rows: map[string]string{"a": "1"}}
 	go serve(listener, func(end net.Conn) {
@@ -354,7 +354,7 @@ func withdrawn(isBad bool) {
 	}
 }
 
-// lazy is a connection that is dialed once it is needed.
+// lazy is a connection that is dialed when it is first needed.
 type lazy struct {
 	once    sync.Once
 	address string
@@ -372,7 +372,7 @@ func (l *lazy) conn(isBad bool) (net.Conn, error) {
 	return l.end, l.err
 }
 
-// remembered: a sync.Once keeps the error of the first dial, before the server listened.
+// remembered: a sync.Once keeps the error of the first dial, which came before the server listened.
 func remembered(isBad bool) {
 	listener := listen()
 	l := &lazy{address: listener.Addr().String()}
@@ -390,7 +390,7 @@ func remembered(isBad bool) {
 	ask(end, "hello")
 }
 
-// refused: a client dials an address at which nobody listens.
+// refused: a client dials an address at which no server listens.
 func refused(isBad bool) {
 	listener, other := listen(), listen()
 	go serve(listener, echo)
@@ -440,7 +440,7 @@ func firstOf(addresses []string, room int) string {
 	return <-answers
 }
 
-// fanned: the function that takes one answer of three returns, and the channel has no room for the others.
+// fanned: a function that takes only one of three answers returns, and the channel has no room for the others.
 func fanned(isBad bool) {
 	addresses, room := []string{}, 3
 	for count := range 3 {
@@ -475,7 +475,7 @@ func fastest(address string, isBad bool) net.Conn {
 	return first // BUG latecomer
 }
 
-// latecomer: of two dials the first one is used, and the other's connection stays in the channel.
+// latecomer: the first of two dialed connections is used, and the other one stays in the channel.
 func latecomer(isBad bool) {
 	listener := listen()
 	go serve(listener, echo)
@@ -514,7 +514,7 @@ func connect(ctx context.Context, end net.Conn) error {
 	return secure.HandshakeContext(ctx)
 }
 
-// handshake: a server shakes hands in its accept loop, and a client that says nothing holds up all others.
+// handshake: a server shakes hands in its accept loop, where a silent client holds up all others.
 func handshake(isBad bool) {
 	listener := listen()
 	go accept(listener, &tls.Config{Certificates: []tls.Certificate{certificate()}}, isBad)
@@ -612,7 +612,7 @@ func send(end net.Conn, body string) {
 	}
 }
 
-// header: a frame's header is read as a whole, and its body by one Read.
+// header: a frame's header is read completely, but its body with a single Read.
 func header(isBad bool) {
 	listener := listen()
 	go serve(listener, func(end net.Conn) {
@@ -691,7 +691,7 @@ func inherit(end net.Conn, isBad bool) {
 	end.Close()
 }
 
-// duplicated: a connection is closed, and a second descriptor of it isn't.
+// duplicated: a connection is closed, but a second descriptor for it isn't.
 func duplicated(isBad bool) {
 	listener := listen()
 	go serve(listener, func(end net.Conn) { inherit(end, isBad) })
@@ -721,7 +721,7 @@ func serveAll(count int, isBad bool) []string {
 	return addresses
 }
 
-// shared: the goroutines of a loop share a variable, and all accept at the last listener.
+// shared: the goroutines started in a loop share a variable, so all accept at the last listener.
 func shared(isBad bool) {
 	for _, address := range serveAll(2, isBad) {
 		end, err := net.Dial("tcp", address)

@@ -1,8 +1,8 @@
-// A server of many connections at once, with two goroutines each: one reads, and one waits for what it shall write:
+// A server of many connections at once, with two goroutines each: one reads, and one waits for texts to write:
 //
 //	crowd CONNECTIONS SECONDS
 //
-// Each connection carries one round trip, and then all wait. It prints how many goroutines there are.
+// Each connection makes one round trip, and then all wait. It prints the number of goroutines.
 package main
 
 import (
@@ -26,7 +26,7 @@ func number(at int) int {
 	return value
 }
 
-// read passes on what arrives.
+// read passes on the texts that arrive.
 func read(connection net.Conn, texts chan<- string, done chan<- bool) {
 	defer close(done)
 	bytes := make([]byte, 64)

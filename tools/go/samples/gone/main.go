@@ -1,6 +1,6 @@
-// Programs in which what one goroutine waits for went nowhere: an answer that was read and dropped, a goroutine that ended, a call of Done that is
-// missing, a ticker that was stopped. The line that is marked BUG brings that about, and is named first. As `good` each does the same without its
-// bug.
+// Programs in which a goroutine waits for something that was lost: an answer that was read and dropped, a goroutine
+// that ended, a missing call of Done, a ticker that was stopped. The line marked BUG causes that, and is named first.
+// With `good`, each does the same without its bug.
 //
 //	gone NAME bad|good
 package main
@@ -39,7 +39,7 @@ func dial(listener net.Listener) net.Conn {
 	return end
 }
 
-// serve accepts connections, and has a goroutine for each.
+// serve accepts connections, and starts a goroutine for each.
 func serve(listener net.Listener, session func(net.Conn)) {
 	for {
 		end, err := listener.Accept()
@@ -65,7 +65,7 @@ func ask(end net.Conn, line string) (string, error) {
 	return bufio.NewReader(end).ReadString('\n')
 }
 
-// A client has one connection for many calls at once.
+// A client uses one connection for many calls at once.
 type client struct {
 	end     net.Conn
 	lock    sync.Mutex
@@ -97,7 +97,7 @@ func (c *client) route() {
 	}
 }
 
-// unmatched: an answer comes of which the client finds no call.
+// unmatched: an answer arrives for which the client finds no call.
 func unmatched(bad bool) error {
 	listener := listen()
 	go serve(listener, echo)
@@ -111,7 +111,7 @@ func unmatched(bad bool) error {
 	return nil
 }
 
-// deliver hands on what comes, if somebody is there.
+// deliver passes on each line, if a receiver is waiting.
 func deliver(end net.Conn, answer chan<- string) {
 	for in := bufio.NewScanner(end); in.Scan(); {
 		select {
@@ -121,7 +121,7 @@ func deliver(end net.Conn, answer chan<- string) {
 	}
 }
 
-// missed: an answer comes before the client waits for it.
+// missed: an answer arrives before the client waits for it.
 func missed(bad bool) error {
 	listener, answer := listen(), make(chan string)
 	go serve(listener, echo)
@@ -153,7 +153,7 @@ func sum(lines <-chan string, sums chan<- int) {
 	}
 }
 
-// quits: a goroutine of three returns, and the others wait for it.
+// quits: one of three goroutines returns, and the others wait for it.
 func quits(bad bool) error {
 	listener, lines, sums := listen(), make(chan string), make(chan int)
 	go serve(listener, echo)
@@ -183,7 +183,7 @@ func visit(listener net.Listener, line string, group *sync.WaitGroup) {
 	group.Done()
 }
 
-// skipped: one goroutine of some returns without Done.
+// skipped: one of several goroutines returns without calling Done.
 func skipped(bad bool) error {
 	listener, group := listen(), &sync.WaitGroup{}
 	go serve(listener, echo)
@@ -196,7 +196,7 @@ func skipped(bad bool) error {
 	return nil
 }
 
-// surplus: more is added to a WaitGroup than goroutines are started.
+// surplus: more is added to a WaitGroup than the number of goroutines.
 func surplus(bad bool) error {
 	listener, group, lines := listen(), &sync.WaitGroup{}, []string{"one", "two", "three"}
 	go serve(listener, echo)
@@ -229,7 +229,7 @@ func (l *limiter) pause() {
 	l.ticker.Stop() // BUG stilled
 }
 
-// stilled: a ticker is stopped from which others get their turn.
+// stilled: a ticker is stopped although other goroutines get their tokens from it.
 func stilled(bad bool) error {
 	listener, limits := listen(), &limiter{time.NewTicker(short), make(chan bool)}
 	go serve(listener, echo)
@@ -297,7 +297,7 @@ type text struct{ *strings.Reader }
 
 func (t text) Close() error { return nil }
 
-// reread: a request is sent again whose body was read before.
+// reread: a request whose body was already read is sent again.
 func reread(bad bool) error {
 	listener := listen()
 	go http.Serve(listener, http.HandlerFunc(func(w http.ResponseWriter, r *http.Request) { io.Copy(io.Discard, r.Body) }))
@@ -318,7 +318,7 @@ func (s slots) within(work func()) {
 	work()
 }
 
-// nested: a goroutine that has a slot waits for others that need one.
+// nested: a goroutine that holds a slot waits for others that need one.
 func nested(bad bool) error {
 	listener, free := listen(), make(slots, map[bool]int{true: 2, false: 9}[bad])
 	go serve(listener, echo)
@@ -347,7 +347,7 @@ func greet(end net.Conn) string {
 	return name
 }
 
-// readahead: a reader with a buffer is thrown away with what it has read.
+// readahead: a buffered reader is dropped together with what it has read ahead.
 func readahead(bad bool) error {
 	listener, bodies := listen(), make(chan string)
 	go serve(listener, func(end net.Conn) {
@@ -381,7 +381,7 @@ func reckon(questions <-chan question) {
 	}
 }
 
-// unanswered: a request that went through a channel has no answer.
+// unanswered: a request sent through a channel gets no answer.
 func unanswered(bad bool) error {
 	listener, questions := listen(), make(chan question)
 	go reckon(questions)
@@ -423,7 +423,7 @@ func (s *shelf) count(book string) int {
 	return s.books[book]
 }
 
-// outlived: a Read of a connection that is closed then has timed out, long before a mutex isn't unlocked.
+// outlived: a Read times out on a connection that is then closed, long before a mutex is left locked.
 func outlived(bad bool) error {
 	listener, books := listen(), &shelf{books: map[string]int{}}
 	go serve(listener, func(end net.Conn) {

@@ -1,5 +1,5 @@
-// Programs in which those who should have handed something on have ended, or never come to it. The line that is marked BUG brings that about, and is named
-// in the first cause. As `good` each does the same without its bug.
+// Programs in which the goroutines that should have handed something on have ended, or never get there. The line marked
+// BUG causes that, and the first cause names it. With `good`, each does the same without its bug.
 //
 //	hands NAME bad|good
 package main
@@ -37,7 +37,7 @@ func dial(listener net.Listener) net.Conn {
 	return end
 }
 
-// serve accepts connections, and has a goroutine for each.
+// serve accepts connections, and starts a goroutine for each.
 func serve(listener net.Listener, session func(net.Conn)) {
 	for {
 		end, err := listener.Accept()
@@ -84,7 +84,7 @@ func (c *caller) call(name string) string {
 	return <-answer
 }
 
-// severed: who hands the answers on ends with its connection, and tells nobody.
+// severed: the goroutine that hands out the answers ends with its connection, and tells no caller.
 func severed(isBad bool) {
 	listener := listen()
 	go serve(listener, func(end net.Conn) {
@@ -133,7 +133,7 @@ func (o *office) send(text string) {
 	<-one.sent
 }
 
-// dismissed: the clerks go before all letters are sent.
+// dismissed: the clerks end before all letters are sent.
 func dismissed(isBad bool) {
 	listener, o := listen(), &office{letters: make(chan letter, 8), quit: make(chan bool)}
 	go serve(listener, func(end net.Conn) {
@@ -195,7 +195,7 @@ func (b *batch) feed(end net.Conn) {
 	}
 }
 
-// repeated: what comes twice is counted twice, and done once.
+// repeated: a job that occurs twice is counted twice, but done once.
 func repeated(isBad bool) {
 	listener, b := listen(), &batch{jobs: make(chan string, 8), known: map[string]bool{}}
 	go serve(listener, func(end net.Conn) {
@@ -235,7 +235,7 @@ func crawlInTurn(client *http.Client, address string) {
 	}
 }
 
-// deferred: the bodies of a loop are closed as its function returns.
+// deferred: the bodies read in a loop are closed only when its function returns.
 func deferred(isBad bool) {
 	address := serveWeb(func(w http.ResponseWriter, r *http.Request) {
 		w.Write(make([]byte, 1<<16))
@@ -268,7 +268,7 @@ func events(quit chan bool) http.HandlerFunc {
 	}
 }
 
-// hidden: a writer round another one has no Flush.
+// hidden: a writer that wraps another one has no Flush.
 func hidden(isBad bool) {
 	quit := make(chan bool)
 	handler := events(quit)
@@ -299,7 +299,7 @@ func ask(end net.Conn, name string) error {
 	}
 }
 
-// mingled: two wait for their answers at one socket, and each throws the other's away.
+// mingled: two goroutines wait for answers at one socket, and each drops the other's.
 func mingled(isBad bool) {
 	server, err := net.ListenPacket("udp", "127.0.0.1:0")
 	must(err)
@@ -365,7 +365,7 @@ func (d *tower) fetch(end net.Conn, name string, isBad bool) (string, error) {
 	return text, err
 }
 
-// stranded: who waits for another's answer isn't told that it failed.
+// stranded: a goroutine that waits for another's answer isn't told that it failed.
 func stranded(isBad bool) {
 	listener, d := listen(), &tower{flights: map[string]*flight{}}
 	go serve(listener, func(end net.Conn) {

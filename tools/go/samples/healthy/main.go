@@ -1,4 +1,4 @@
-// Healthy programs: bytes go each way that Go has, and at the end somebody waits who may. Nothing is to be suspected of them.
+// Healthy programs: bytes move in each way that Go has, and the goroutines that still wait at the end may do so. There should be no suspects in them.
 //
 //	healthy NAME
 package main
@@ -38,7 +38,7 @@ func listen(network string) net.Listener {
 	return listener
 }
 
-// leftover are folders to be taken away at the end.
+// leftover are folders to be removed at the end.
 var leftover []string
 
 func dial(listener net.Listener) net.Conn {
@@ -47,7 +47,7 @@ func dial(listener net.Listener) net.Conn {
 	return end
 }
 
-// serve accepts until the listener is closed.
+// serve accepts connections until the listener is closed.
 func serve(listener net.Listener, each func(end net.Conn)) {
 	for {
 		end, err := listener.Accept()
@@ -98,7 +98,7 @@ func proxy(network string, limit int64) {
 	}
 }
 
-// Much goes through a proxy whose client reads slowly, so that its writer waits.
+// Much data goes through a proxy whose client reads slowly, so that its writer waits.
 func slow() {
 	server, front := listen("tcp"), listen("tcp")
 	const size = 1 << 20
@@ -120,7 +120,7 @@ func slow() {
 	}
 }
 
-// A file is sent, and the client stays.
+// A file is sent, and the client's connection stays open.
 func sendfile() {
 	file, err := os.CreateTemp("", "healthy")
 	must(err)
@@ -149,7 +149,7 @@ func sendfile() {
 	time.Sleep(moment)
 }
 
-// Several buffers are written by one call, also more than the other end takes at once.
+// Several buffers are written with one call, also more than the other end accepts at once.
 func buffers(network string) {
 	server := listen(network)
 	got := make(chan int64)
@@ -169,7 +169,7 @@ func buffers(network string) {
 	ask(client, "still there")
 }
 
-// Listeners at which nobody knocks, or knocked once.
+// Listeners to which no client connects, or only one.
 func idle() {
 	for i := 0; i < 3; i++ {
 		go serve(listen("tcp"), echo)
@@ -180,7 +180,7 @@ func idle() {
 	time.Sleep(moment)
 }
 
-// A pool of connections between two requests, and goroutines that would hear of an end.
+// A pool of connections between two requests, and goroutines that would notice the end of one.
 func pool() {
 	server := listen("tcp")
 	go serve(server, echo)
@@ -198,7 +198,7 @@ func pool() {
 	time.Sleep(moment)
 }
 
-// Deadlines that are moved with each request, and none that passes.
+// Deadlines that are moved with each request, and never pass.
 func deadlines() {
 	server := listen("tcp")
 	go serve(server, func(end net.Conn) {
@@ -219,7 +219,7 @@ func deadlines() {
 	}
 }
 
-// Datagrams, also empty ones, and a reader that waits for more.
+// Datagrams, some of them empty, and a reader that waits for more.
 func datagrams(address string) {
 	server, err := net.ListenPacket("udp", address)
 	if err != nil { // there is no such address here
@@ -251,7 +251,7 @@ func datagrams(address string) {
 	time.Sleep(moment)
 }
 
-// Messages with what goes beside them.
+// Messages with control data.
 func messages() {
 	here, err := net.ListenUDP("udp4", &net.UDPAddr{IP: net.IPv4(127, 0, 0, 1)})
 	must(err)
@@ -277,7 +277,7 @@ func messages() {
 	time.Sleep(moment)
 }
 
-// A socket is handed over by a message beside the bytes.
+// A socket is handed over in a message's control data.
 func handed() {
 	server := listen("unix")
 	go serve(server, func(end net.Conn) {
@@ -322,7 +322,7 @@ func pipe() {
 	time.Sleep(moment)
 }
 
-// What a raw connection's function says: whether it is done, or would wait.
+// The results of a raw connection's function: it is done, or would wait.
 func raw() {
 	server := listen("tcp")
 	go serve(server, echo)

@@ -1,5 +1,5 @@
-// A net/http server that hands a connection over. Its handler sets both deadlines for the first answer, and later moves that of
-// reading alone: so a write fails by the one for writing, which was left behind.
+// A net/http server that hands a connection over. Its handler sets both deadlines for the first answer, and later moves
+// only the read deadline, so a write fails at the write deadline that was left behind.
 package main
 
 import (
@@ -43,7 +43,7 @@ func echo(w http.ResponseWriter, r *http.Request) {
 	}
 }
 
-// talk sends a line each moment, until no answer comes.
+// talk sends a line at regular intervals, until no answer comes.
 func talk(address string) {
 	connection, err := net.Dial("tcp", address)
 	if err != nil {

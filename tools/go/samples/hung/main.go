@@ -28,7 +28,7 @@ func main() {
 	}
 }
 
-// ask sends a body of four bytes, whatever its length is said to be.
+// ask sends a body of four bytes, whatever length it announces.
 func ask(address string, announced int) string {
 	connection, err := net.Dial("tcp", address)
 	if err != nil {

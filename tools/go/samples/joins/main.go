@@ -1,5 +1,5 @@
-// Programs in which a call fails since a goroutine hangs, or a goroutine hangs since a call failed, and whose reason is one step further. The line
-// that is marked BUG brings that about, and is named in the first cause. As `good` each does the same without its bug.
+// Programs in which a call fails because a goroutine hangs, or a goroutine hangs because a call failed, and whose reason is one
+// step further. The line marked BUG causes that, and the first cause names it. With `good`, each does the same without its bug.
 //
 //	joins NAME bad|good
 package main
@@ -38,7 +38,7 @@ func dial(listener net.Listener) net.Conn {
 	return end
 }
 
-// serve accepts connections, and has a goroutine for each.
+// serve accepts connections, and starts a goroutine for each.
 func serve(listener net.Listener, session func(net.Conn)) {
 	for {
 		end, err := listener.Accept()
@@ -100,7 +100,7 @@ func gaveup(isBad bool) {
 	writers.Wait()
 }
 
-// guarded: a client's Read ends with a timeout, since the server's goroutine waits for a mutex that another left locked.
+// guarded: a client's Read times out, because the server's goroutine waits for a mutex that another left locked.
 type ledger struct {
 	mutex  sync.Mutex
 	counts map[string]int
@@ -148,7 +148,7 @@ func guarded(isBad bool) {
 	}
 }
 
-// rounds: calls over net/rpc lock two of three mutexes each, in a circle.
+// rounds: calls over net/rpc each lock two of three mutexes, in a circle.
 type Bank struct {
 	accounts [3]struct {
 		mutex   sync.Mutex
@@ -195,7 +195,7 @@ func rounds(isBad bool) {
 	clients.Wait()
 }
 
-// uncased: a select has no case for the channel that ends all others.
+// uncased: a select has no case for the channel that ends all other goroutines.
 type feed struct {
 	quit, lines chan string
 	done        sync.WaitGroup
@@ -252,7 +252,7 @@ func uncased(isBad bool) {
 	made.done.Wait()
 }
 
-// pooled: a call that ends early keeps its connection of a pool.
+// pooled: a call that returns early doesn't return its connection to the pool.
 type pool struct {
 	ends  chan net.Conn
 	isBad bool
@@ -297,7 +297,7 @@ func pooled(isBad bool) {
 	clients.Wait()
 }
 
-// stuck: after a Write that failed, a goroutine that holds a mutex waits for a receiver.
+// stuck: after a failed Write, a goroutine that holds a mutex waits for a receiver.
 type sink struct {
 	mutex sync.Mutex
 	end   net.Conn
@@ -351,7 +351,7 @@ func stuck(isBad bool) {
 	writers.Wait()
 }
 
-// polled: a request is served until its context ends, which a Shutdown doesn't bring about.
+// polled: a request is served until its context ends, which Shutdown doesn't cause.
 func polled(isBad bool) {
 	listener, quit := listen(), make(chan struct{})
 	ends := quit

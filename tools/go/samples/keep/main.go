@@ -1,13 +1,13 @@
-// A server that runs, with clients over keep-alive connections that ask it again and again:  keep CONNECTIONS SECONDS BUG PAUSE
+// A server with clients over keep-alive connections that send requests repeatedly:  keep CONNECTIONS SECONDS BUG PAUSE
 //
-// A client pauses so many milliseconds between two requests. One more connection is as old as the server: a line each 20 ms, and its answer. After so many seconds there is a bug, or none:
+// A client pauses PAUSE milliseconds between requests. One connection is as old as the server: a line every 20 ms, and its answer. After SECONDS there is a bug, or none:
 //
 //	none      the program ends
-//	deadline  the old connection's server has set both deadlines once, and moves that of reading alone: a write fails
-//	mutex     a write to a client that reads no more holds the mutex that each request wants
-//	wakeup    the old connection's server reads by the descriptor, and waits before it has tried to read
+//	deadline  the old connection's server has set both deadlines once, and then moves only the read deadline: a write fails
+//	mutex     a write to a client that has stopped reading holds the mutex that each request needs
+//	wakeup    the old connection's server reads from the descriptor, and waits before it has tried to read
 //
-// Without a bug there are connections at which goroutines wait all the time: two that read one, one that reads with a deadline, one that writes.
+// Even without a bug, goroutines wait all the time: two read the same connection, one reads with a deadline, and one writes.
 package main
 
 import (
@@ -92,13 +92,13 @@ func echo(connection net.Conn) {
 	}
 }
 
-// A byDescriptor reads with calls of the system's. It tries first, and waits if there is nothing: after so many seconds it waits first.
+// A byDescriptor reads with system calls. It tries first, and waits if nothing is there; after some seconds, it waits first.
 type byDescriptor struct{ syscall.RawConn }
 
 func (b byDescriptor) Read(into []byte) (n int, failed error) {
 	isLate := atomic.LoadInt64(&isStuck) != 0
 	if isLate {
-		time.Sleep(3 * moment) // the next line is there
+		time.Sleep(3 * moment) // the next line has arrived by then
 	}
 	err := b.RawConn.Read(func(descriptor uintptr) bool { // BUG wakeup
 		if isLate {
@@ -117,7 +117,7 @@ func (b byDescriptor) Read(into []byte) (n int, failed error) {
 	return n, failed
 }
 
-// talk sends a line each moment, until no answer comes.
+// talk sends a line at regular intervals, until no answer comes.
 func talk(connection net.Conn) {
 	answers := bufio.NewReader(connection)
 	for {
@@ -130,7 +130,7 @@ func talk(connection net.Conn) {
 	}
 }
 
-// idle is what waits all the time: two reads of one connection, a read with a deadline, and a write.
+// idle starts the calls that wait all the time: two reads of one connection, a read with a deadline, and a write.
 func idle() {
 	listener := listen()
 	for i := 0; i < 3; i++ {
@@ -151,14 +151,14 @@ func idle() {
 	}
 }
 
-// kept are connections that are open to the end.
+// kept are connections that stay open to the end.
 var kept []net.Conn
 
 type zeros struct{}
 
 func (zeros) Read(into []byte) (int, error) { return len(into), nil }
 
-// ask is a client with a connection of its own.
+// ask is a client with its own connection.
 func ask(address string, text string) {
 	client := &http.Client{Transport: &http.Transport{}}
 	for {

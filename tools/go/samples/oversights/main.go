@@ -1,5 +1,5 @@
-// Further programs with an ordinary bug each, at the line that is marked BUG, as samples/causes has them: what netrev-go prints first
-// should name it. They were written before anybody saw what it says of them. As `good` each does the same without its bug.
+// More programs with an ordinary bug each, at the line marked BUG, like those of samples/causes: netrev-go's first output
+// should name it. They were written before its output about them was known. With `good`, each does the same without its bug.
 //
 //	oversights NAME bad|good
 package main
@@ -23,7 +23,7 @@ func must(err error) {
 	}
 }
 
-// pair is the two ends of one connection.
+// pair returns the two ends of a connection.
 func pair() (near, far net.Conn) {
 	listener, err := net.Listen("tcp", "127.0.0.1:0")
 	must(err)
@@ -39,7 +39,7 @@ func pair() (near, far net.Conn) {
 	return near, <-accepted
 }
 
-// echo answers each line behind a pause.
+// echo answers each line after a pause.
 func echo(end net.Conn, pause time.Duration) {
 	lines := bufio.NewScanner(end)
 	for lines.Scan() {
@@ -55,7 +55,7 @@ func ask(end net.Conn, text string) error {
 	return err
 }
 
-// within is what work ends with, or an error where it goes on for too long.
+// within returns work's error, or another one if work takes too long.
 func within(work func() error) error {
 	done := make(chan error, 1)
 	go func() { done <- work() }()
@@ -67,7 +67,7 @@ func within(work func() error) error {
 	}
 }
 
-// forgotten: the deadline of a handshake stays behind it.
+// forgotten: the deadline of a handshake isn't removed after it.
 func forgotten(bad bool) error {
 	near, far := pair()
 	go echo(far, 0)
@@ -88,7 +88,7 @@ func forgotten(bad bool) error {
 	return ask(near, "work")
 }
 
-// earlier: who sets a deadline for each answer sets that of reading, and leaves the one for writing that an earlier call set.
+// earlier: a read deadline is set for each answer, but the write deadline of an earlier call stays.
 func earlier(bad bool) error {
 	near, far := pair()
 	go echo(far, 0)
@@ -116,9 +116,9 @@ func earlier(bad bool) error {
 	return nil
 }
 
-// unread: an end of a connection is sent a report that it never reads, and waits until its writer is through.
+// unread: one end never reads a report that it is sent, and waits until the writer is done.
 func unread(bad bool) error {
-	const size = 2 << 20 // more than what both ends keep
+	const size = 2 << 20 // more than both ends buffer
 	near, far := pair()
 	must(near.(*net.TCPConn).SetReadBuffer(64 << 10))
 	must(far.(*net.TCPConn).SetWriteBuffer(64 << 10))
@@ -139,7 +139,7 @@ func unread(bad bool) error {
 	})
 }
 
-// dead: a connection whose question failed is closed, and goes back into the pool all the same.
+// dead: a connection whose question failed is closed, and nevertheless returned to the pool.
 func dead(bad bool) error {
 	near, far := pair()
 	go echo(far, 0)
@@ -160,7 +160,7 @@ func dead(bad bool) error {
 	return question("two")
 }
 
-// client has one connection and a lock for it.
+// client has a connection, and a lock for it.
 type client struct {
 	lock sync.Mutex
 	end  net.Conn
@@ -179,7 +179,7 @@ func (one *client) send(text string) error {
 	return err
 }
 
-// mutex: a lock is held over a Read, and who would have caused its answer waits for the lock.
+// mutex: a lock is held during a Read, and the goroutine that would cause the answer waits for the lock.
 func mutex(bad bool) error {
 	near, far := pair()
 	go echo(far, 0)
@@ -201,7 +201,7 @@ func mutex(bad bool) error {
 	})
 }
 
-// waiting: a client's Close waits for its reader before it closes what the reader reads.
+// waiting: a client's Close waits for its reader before it closes the connection that the reader reads.
 func waiting(bad bool) error {
 	near, far := pair()
 	go echo(far, 0)
@@ -223,7 +223,7 @@ func waiting(bad bool) error {
 	})
 }
 
-// writers: two goroutines write messages of two pieces to one connection, and nothing keeps the pieces together.
+// writers: two goroutines write messages in two pieces to one connection, and nothing keeps the pieces together.
 func writers(bad bool) error {
 	near, far := pair()
 	var lock sync.Mutex
@@ -257,7 +257,7 @@ func writers(bad bool) error {
 	})
 }
 
-// dialBack: a server that ends closes its listener while a handler still dials to it.
+// dialBack: a server that stops closes its listener while a handler still dials it.
 func dialBack(bad bool) error {
 	listener, err := net.Listen("tcp", "127.0.0.1:0")
 	must(err)
@@ -293,7 +293,7 @@ func dialBack(bad bool) error {
 	return <-failed
 }
 
-// shutdown: a server waits for its handlers, and one of them waits for the next question of a connection that is kept alive.
+// shutdown: a server waits for its handlers, one of which waits for the next question on a keep-alive connection.
 func shutdown(bad bool) error {
 	listener, err := net.Listen("tcp", "127.0.0.1:0")
 	must(err)

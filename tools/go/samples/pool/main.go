@@ -1,10 +1,10 @@
-// A pool of connections to PostgreSQL, by Debian's golang-github-lib-pq-dev:  pool CONNECTIONS SECONDS BUG PAUSE
+// A pool of connections to PostgreSQL, with Debian's golang-github-lib-pq-dev:  pool CONNECTIONS SECONDS BUG PAUSE
 //
-// PGHOST, PGPORT, PGUSER and PGDATABASE name the database, as for psql. All connections are opened first. As many goroutines each read an account,
-// book on it, and pause so many milliseconds; one audits an account that no other uses. After so many seconds there is a bug, or none:
+// PGHOST, PGPORT, PGUSER and PGDATABASE name the database, as for psql. All connections are opened first. The same number of goroutines each read an account,
+// book on it, and pause PAUSE milliseconds; one audits an account that no other goroutine uses. After SECONDS seconds the program has a bug, or none:
 //
 //	none   the program ends
-//	mutex  an update that holds the mutex waits for a row, whose lock a transaction has that waits for the mutex
+//	mutex  an update that holds the mutex waits for the lock of a row, and the transaction that has it waits for the mutex
 package main
 
 import (
@@ -34,7 +34,7 @@ func number(at int) int {
 	return value
 }
 
-// A ledger books one amount after the other.
+// A ledger books one amount after another.
 type ledger struct {
 	sync.Mutex
 	database *sql.DB
@@ -48,7 +48,7 @@ func (l *ledger) book(account int) error {
 	return err
 }
 
-// total is what an account has.
+// total returns the balance of an account.
 func (l *ledger) total(account int) (total int, err error) {
 	rows, err := l.database.Query("SELECT total FROM accounts WHERE id = $1", account)
 	if err != nil {
@@ -63,7 +63,7 @@ func (l *ledger) total(account int) (total int, err error) {
 	return total, rows.Err()
 }
 
-// audit locks an account's row, looks at it, and counts that.
+// audit locks an account's row, reads it, and counts the audit.
 func (l *ledger) audit(account int) error {
 	transaction, err := l.database.Begin()
 	if err != nil {
@@ -80,7 +80,7 @@ func (l *ledger) audit(account int) error {
 	return transaction.Commit()
 }
 
-// work books on an account again and again.
+// work books on an account repeatedly.
 func (l *ledger) work(account int, pause time.Duration) {
 	for {
 		_, err := l.total(account)
@@ -91,7 +91,7 @@ func (l *ledger) work(account int, pause time.Duration) {
 	}
 }
 
-// opened has all connections of the pool open.
+// opened returns a pool with all its connections open.
 func opened(connections int) *sql.DB {
 	database, err := sql.Open("postgres", "sslmode=disable")
 	must(err)

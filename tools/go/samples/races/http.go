@@ -9,7 +9,7 @@ import (
 	"time"
 )
 
-// served is a server of net/http's at the loopback, and its address.
+// served starts a net/http server on the loopback, and returns it with its address.
 func served(handler http.Handler, connections chan<- net.Conn) (*http.Server, string) {
 	listener, err := net.Listen("tcp", "127.0.0.1:0")
 	must(err)
@@ -22,7 +22,7 @@ func served(handler http.Handler, connections chan<- net.Conn) (*http.Server, st
 	return server, listener.Addr().String()
 }
 
-// httpHijack takes a connection over, sets both deadlines, and moves that of reading alone.
+// httpHijack takes a connection over, sets both deadlines, and then moves only the read deadline.
 func httpHijack() bool {
 	done := make(chan bool, 1)
 	server, address := served(http.HandlerFunc(func(w http.ResponseWriter, r *http.Request) {
@@ -48,7 +48,7 @@ func httpHijack() bool {
 	return ended(done)
 }
 
-// httpWatchdog ends an upload that takes too long by a deadline in the past, and takes it back for the answer.
+// httpWatchdog ends an upload that takes too long with a deadline in the past, and removes it for the answer.
 func httpWatchdog() bool {
 	connections := make(chan net.Conn, 1)
 	done := make(chan bool, 1)
@@ -70,7 +70,7 @@ func httpWatchdog() bool {
 	return ended(done)
 }
 
-// httpIdle ends a server's connection that should be idle, by a deadline. The server takes it back before it reads a request.
+// httpIdle ends a server's connection that should be idle with a deadline. The server removes the deadline before it reads a request.
 func httpIdle() bool {
 	connections := make(chan net.Conn, 1)
 	server, address := served(http.HandlerFunc(func(http.ResponseWriter, *http.Request) {}), connections)

@@ -12,13 +12,13 @@ import (
 
 const (
 	moment = 2 * time.Millisecond
-	limit  = 250 * time.Millisecond // what isn't done by then hangs
+	limit  = 250 * time.Millisecond // what isn't done by then counts as hanging
 	hour   = time.Hour
 )
 
 var past = time.Unix(1, 0)
 
-// Each says whether it went well.
+// Each returns whether it went well.
 var races = map[string]func() bool{
 	"taken-back": takenBack, "lost-wake-up": lostWakeUp, "left-behind": leftBehind, "behind-shut": behindShut,
 	"early-cancel": earlyCancel, "http-hijack": httpHijack, "http-watchdog": httpWatchdog, "http-idle": httpIdle,
@@ -43,7 +43,7 @@ func pair() (*net.TCPConn, *net.TCPConn) {
 	return end.(*net.TCPConn), other.(*net.TCPConn)
 }
 
-// ended says whether what is awaited came in time, and was well.
+// ended returns whether the expected result came in time, and was good.
 func ended(done <-chan bool) bool {
 	select {
 	case well := <-done:

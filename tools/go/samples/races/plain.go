@@ -2,7 +2,7 @@ package main
 
 import "time"
 
-// takenBack ends a read by a deadline in the past, and takes the deadline back when the reader should have seen it.
+// takenBack ends a read with a deadline in the past, and removes the deadline when the reader should have seen it.
 func takenBack() bool {
 	end, other := pair()
 	defer end.Close()
@@ -19,7 +19,7 @@ func takenBack() bool {
 	return ended(done)
 }
 
-// lostWakeUp waits for bytes without trying to read them first. They come later, if all goes well.
+// lostWakeUp waits for bytes without trying to read them first. If all goes well, they arrive later.
 func lostWakeUp() bool {
 	end, other := pair()
 	defer end.Close()
@@ -38,7 +38,7 @@ func lostWakeUp() bool {
 	return ended(done)
 }
 
-// leftBehind sets both deadlines, and moves that of reading alone. The answer is written in time, if all goes well.
+// leftBehind sets both deadlines, and then moves only the read deadline. If all goes well, the answer is written in time.
 func leftBehind() bool {
 	end, other := pair()
 	defer end.Close()
@@ -56,7 +56,7 @@ func leftBehind() bool {
 	return ended(done)
 }
 
-// behindShut shuts the side of writing when the answer should be out.
+// behindShut shuts the write side when the answer should have been sent.
 func behindShut() bool {
 	end, other := pair()
 	defer end.Close()
@@ -73,7 +73,7 @@ func behindShut() bool {
 	return ended(done)
 }
 
-// earlyCancel ends a read by a deadline in the past. The reader first takes back what deadline there is.
+// earlyCancel ends a read with a deadline in the past. The reader first removes any deadline.
 func earlyCancel() bool {
 	end, other := pair()
 	defer end.Close()

@@ -6,16 +6,16 @@ import (
 	"time"
 )
 
-// Echo is what is called.
+// Echo is the receiver of the calls.
 type Echo struct{}
 
-// Say answers what it is asked.
+// Say answers with the question.
 func (Echo) Say(asked string, answer *string) error {
 	*answer = asked
 	return nil
 }
 
-// rpcKeepalive ends the wait for a call by a deadline, while another goroutine takes deadlines back now and then.
+// rpcKeepalive ends the wait for a call with a deadline, while another goroutine removes deadlines now and then.
 func rpcKeepalive() bool {
 	end, other := pair()
 	defer end.Close()
@@ -43,7 +43,7 @@ func rpcKeepalive() bool {
 	return ended(done)
 }
 
-// rpcCall gives a call both deadlines, and then moves that of reading alone, since the answer may take its time.
+// rpcCall sets both deadlines for a call, and then moves only the read deadline, because the answer may take a while.
 func rpcCall() bool {
 	end, other := pair()
 	defer end.Close()

@@ -12,7 +12,7 @@ import (
 
 var server, client = configurations()
 
-// configurations are those of a server with a certificate of its own, and of a client that trusts it.
+// configurations returns those of a server with its own certificate, and of a client that trusts it.
 func configurations() (*tls.Config, *tls.Config) {
 	key, err := ecdsa.GenerateKey(elliptic.P256(), rand.Reader)
 	must(err)
@@ -23,7 +23,7 @@ func configurations() (*tls.Config, *tls.Config) {
 	return &tls.Config{Certificates: []tls.Certificate{own}}, &tls.Config{InsecureSkipVerify: true}
 }
 
-// tlsShut shuts the side of writing below TLS when the answer should be out.
+// tlsShut shuts the write side below TLS when the answer should have been sent.
 func tlsShut() bool {
 	end, other := pair()
 	defer end.Close()
@@ -42,7 +42,7 @@ func tlsShut() bool {
 	return ended(done)
 }
 
-// tlsHandshake ends a handshake with a silent client by a deadline, which it takes back to send a last word.
+// tlsHandshake ends a handshake with a silent client with a deadline, which it removes to send a last message.
 func tlsHandshake() bool {
 	end, other := pair()
 	defer end.Close()

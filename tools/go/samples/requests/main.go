@@ -1,5 +1,5 @@
-// Requests of net/http's client that end because their context does: one by its client's Timeout, one by a deadline of the program's, and one
-// that the program cancels. Two before them go well, on one connection.
+// Requests of net/http's client that end because their context ends: one by the client's Timeout, one by a deadline of
+// the program, and one that the program cancels. Two earlier requests succeed, on one connection.
 package main
 
 import (

@@ -1,5 +1,5 @@
-// Programs in which many goroutines wait for one thing: the line that is marked BUG brings that about, and is named first, and not the
-// lines of those that wait. As `good` each does the same without its bug.
+// Programs in which many goroutines wait for one thing: the line marked BUG causes that, and is named first, before the
+// lines of the waiting goroutines. With `good`, each does the same without its bug.
 //
 //	roots NAME bad|good
 package main
@@ -32,7 +32,7 @@ func listen() net.Listener {
 	return listener
 }
 
-// within is what work ends with, or an error where it goes on for too long.
+// within returns work's error, or another one if work takes too long.
 func within(work func() error) error {
 	done := make(chan error, 1)
 	go func() { done <- work() }()
@@ -44,7 +44,7 @@ func within(work func() error) error {
 	}
 }
 
-// room has clients, to whom everything is sent that one of them says.
+// room has clients, each of which is sent everything that one of them says.
 type room struct {
 	lock    sync.Mutex
 	clients []net.Conn
@@ -72,7 +72,7 @@ func (r *room) serve(client net.Conn) {
 	}
 }
 
-// hub: a lock is held over a Write, and one client doesn't read.
+// hub: a lock is held during a Write, and one client doesn't read.
 func hub(bad bool) error {
 	listener, chat := listen(), &room{}
 	go func() {
@@ -123,7 +123,7 @@ func name(client *http.Client, address string, bad bool) error {
 	return nil
 }
 
-// bodies: a client doesn't close the bodies of answers that it has no use for, and then has no connection left.
+// bodies: a client doesn't close the bodies of answers that it doesn't need, until no connection is left.
 func bodies(bad bool) error {
 	server := httptest.NewServer(http.HandlerFunc(func(w http.ResponseWriter, r *http.Request) {
 		w.WriteHeader(http.StatusBadGateway)
@@ -151,7 +151,7 @@ func pass(to, from net.Conn, bad bool) {
 	}
 }
 
-// relay: it copies both ways, and doesn't pass the end of one side on.
+// relay: it copies both ways, and doesn't pass on the end of one side.
 func relay(bad bool) error {
 	back, front := listen(), listen()
 	go func() {
@@ -204,7 +204,7 @@ func visit(address, line string) {
 	end.Close()
 }
 
-// slots: a server with two slots for its clients keeps a slot after each odd line.
+// slots: a server with two slots for its clients doesn't release a slot after an odd line.
 func slots(bad bool) error {
 	listener, free := listen(), make(chan bool, 2)
 	go func() {
@@ -231,7 +231,7 @@ func slots(bad bool) error {
 	})
 }
 
-// site answers a page with what it asks itself for.
+// site answers a page with what it requests from itself.
 type site struct {
 	lock sync.Mutex
 	self string
@@ -248,7 +248,7 @@ func (s *site) ServeHTTP(w http.ResponseWriter, r *http.Request) {
 	fmt.Fprintln(w, r.URL.Path)
 }
 
-// itself: a server asks itself while it holds the lock that its answer needs.
+// itself: a server sends itself a request while it holds the lock that the answer needs.
 func itself(bad bool) error {
 	pages := &site{}
 	server := httptest.NewServer(pages)

@@ -7,7 +7,7 @@ import (
 	"os"
 )
 
-// flight has no FlightRecorder to start.
+// flight does nothing, because this Go has no FlightRecorder.
 func flight(io.Writer) func() {
 	os.Exit(3)
 	return nil

@@ -7,7 +7,7 @@ import (
 	"runtime/trace"
 )
 
-// flight starts a FlightRecorder; what ends it.
+// flight starts a FlightRecorder, and returns the function that ends it.
 func flight(io.Writer) func() {
 	recorder := trace.NewFlightRecorder(trace.FlightRecorderConfig{})
 	must(recorder.Start())

@@ -1,7 +1,7 @@
-// What a request costs: an HTTP server and its clients over keep-alive connections, in one process:  served CONNECTIONS REQUESTS [trace | flight]
+// Measures what a request costs: an HTTP server and its clients over keep-alive connections, in one process:  served CONNECTIONS REQUESTS [trace | flight]
 //
-// It prints the nanoseconds of processor time that the process took for each request, and how many bytes a request took in the trace that ran
-// meanwhile: by trace.Start, or by a FlightRecorder, which Go has since 1.25. It is for python/netrev_go/costs.py.
+// It prints the nanoseconds of processor time that the process used for each request, and the bytes of each request in the trace that ran meanwhile: by
+// trace.Start, or by a FlightRecorder, which Go has since 1.25. python/netrev_go/costs.py runs it.
 package main
 
 import (
@@ -17,7 +17,7 @@ import (
 	"syscall"
 )
 
-const warming = 10 // of so many requests one more is made first
+const warming = 10 // for this many requests, one is made first as a warm-up
 
 func must(err error) {
 	if err != nil {
@@ -31,7 +31,7 @@ func number(at int) int64 {
 	return value
 }
 
-// spent is the processor time of the process, in nanoseconds.
+// spent returns the processor time of the process, in nanoseconds.
 func spent() int64 {
 	var usage syscall.Rusage
 	must(syscall.Getrusage(syscall.RUSAGE_SELF, &usage))
@@ -46,7 +46,7 @@ func (c *counter) Write(bytes []byte) (int, error) {
 	return len(bytes), nil
 }
 
-// ask makes requests over one connection, while there are any to be made.
+// ask makes requests over one connection, as long as any are left.
 func ask(client *http.Client, address string, left *int64, done *sync.WaitGroup) {
 	defer done.Done()
 	for atomic.AddInt64(left, -1) >= 0 {
@@ -57,7 +57,7 @@ func ask(client *http.Client, address string, left *int64, done *sync.WaitGroup)
 	}
 }
 
-// askAll makes so many requests, over the connections of these clients.
+// askAll makes this many requests, over the connections of these clients.
 func askAll(clients []*http.Client, address string, requests int64) {
 	var done sync.WaitGroup
 	done.Add(len(clients))

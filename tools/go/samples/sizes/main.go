@@ -1,6 +1,6 @@
-// Programs in which what is sent isn't what is read: a datagram is longer than the buffer for it, a length is that of something else, an answer is
-// held back in the buffer of its handler, a request goes on when the one that it is made for has ended. The line that is marked BUG brings that about,
-// and is named first. As `good` each does the same without its bug.
+// Programs in which the bytes that are sent aren't those that are read: a datagram is longer than its buffer, a length
+// belongs to something else, an answer stays in its handler's buffer, or a request outlives the one for which it was
+// made. The line marked BUG causes that, and is named first. With `good`, each does the same without its bug.
 //
 //	sizes NAME bad|good
 package main
@@ -33,7 +33,7 @@ func listen() net.Listener {
 	return listener
 }
 
-// resolve answers each question that it reads whole.
+// resolve answers each question that it could read completely.
 func resolve(end net.PacketConn, room int) {
 	for buffer := make([]byte, room); ; {
 		count, from, err := end.ReadFrom(buffer) // BUG datagram
@@ -46,7 +46,7 @@ func resolve(end net.PacketConn, room int) {
 	}
 }
 
-// datagram: a question is longer than the buffer into which it is read, and its end is lost.
+// datagram: a question is longer than the buffer into which it is read, so its end is lost.
 func datagram(isBad bool) {
 	end, err := net.ListenPacket("udp", "127.0.0.1:0")
 	must(err)
@@ -94,7 +94,7 @@ func receive(end net.Conn) ([]byte, error) {
 	return io.ReadAll(flate.NewReader(bytes.NewReader(small)))
 }
 
-// frame: the length before what is packed is the one that it had before.
+// frame: compressed data is sent with the length that it had before.
 func frame(isBad bool) {
 	listener := listen()
 	go func() {
@@ -135,7 +135,7 @@ func relayLines(w http.ResponseWriter, body io.Reader) {
 	}
 }
 
-// held: a relay writes on what it reads, and its server keeps it.
+// held: a relay passes on what it reads, but net/http buffers it.
 func held(isBad bool) {
 	quit := make(chan struct{})
 	source := serve(func(w http.ResponseWriter, r *http.Request) {
@@ -176,7 +176,7 @@ func ask(ctx context.Context, address string, isBad bool) {
 	http.DefaultClient.Do(request)
 }
 
-// alone: a request that is made for another goes on when that has ended.
+// alone: a request made on behalf of another continues when that one has ended.
 func alone(isBad bool) {
 	quit := make(chan struct{})
 	slow := serve(func(w http.ResponseWriter, r *http.Request) {

@@ -1,6 +1,6 @@
-// Programs in which one way of a function skips what should be done: a slot is kept, a body isn't closed, Done isn't called, a buffer isn't
-// flushed, a timer isn't set anew, the end of a reply isn't written, a reader is thrown away with what it has read, a request isn't answered.
-// The line that is marked BUG is on that way, and is named first. As `good` each does the same without its bug.
+// Programs in which one path through a function skips a necessary action: a slot isn't released, a body isn't closed, Done isn't called,
+// a buffer isn't flushed, a timer isn't reset, the end of a reply isn't written, a reader is dropped with what it has read ahead, a
+// request isn't answered. The line marked BUG is on that path, and is named first. With `good`, each does the same without its bug.
 //
 //	skips NAME bad|good
 package main
@@ -39,7 +39,7 @@ func dial(listener net.Listener) net.Conn {
 	return end
 }
 
-// serve accepts connections, and has a goroutine for each.
+// serve accepts connections, and starts a goroutine for each.
 func serve(listener net.Listener, session func(net.Conn)) {
 	for {
 		end, err := listener.Accept()
@@ -77,7 +77,7 @@ func (p *press) print(end net.Conn, page string) error {
 	return nil
 }
 
-// kept: of a few trays each jam takes one away.
+// kept: each jam takes away one of a few trays.
 func kept(bad bool) error {
 	listener, p := listen(), &press{make(chan bool, 2)}
 	go serve(listener, func(end net.Conn) {
@@ -116,7 +116,7 @@ func stations(client *http.Client, address string, names []string) (found int) {
 	return found
 }
 
-// opened: the body of each answer that says no stays open, and with it its connection.
+// opened: the body of each negative answer stays open, and with it the connection.
 func opened(bad bool) error {
 	listener := listen()
 	go http.Serve(listener, http.HandlerFunc(func(w http.ResponseWriter, r *http.Request) {
@@ -233,7 +233,7 @@ func save(changes <-chan *change) {
 	}
 }
 
-// timed: changes are saved a while after they are made, but for the first while in which none is.
+// timed: changes are saved by a timer, which isn't reset if it goes off before any change.
 func timed(bad bool) error {
 	listener, changes := listen(), make(chan *change)
 	go save(changes)
@@ -273,7 +273,7 @@ func menu(out io.Writer, dishes []dish) {
 	}
 }
 
-// ending: a reply's last line is marked so, but the last dish is sold out.
+// ending: the last line of a reply is marked as the end, but the last dish is sold out.
 func ending(bad bool) error {
 	listener := listen()
 	dishes := []dish{{"soup", false}, {"fish", false}, {"cake", bad}}
@@ -310,7 +310,7 @@ func picture(end net.Conn, in io.Reader) {
 	fmt.Fprintln(end, "got it")
 }
 
-// swallowed: the head of a picture is read with a reader that has read a part of the picture too.
+// swallowed: the head of a picture is read with a reader that also reads a part of the picture.
 func swallowed(bad bool) error {
 	listener := listen()
 	go serve(listener, func(end net.Conn) {
@@ -338,7 +338,7 @@ func lamps(end net.Conn) {
 	}
 }
 
-// mute: one of two requests is done and not answered.
+// mute: one of two requests is carried out, but not answered.
 func mute(bad bool) error {
 	listener := listen()
 	go serve(listener, lamps)

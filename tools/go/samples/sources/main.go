@@ -1,5 +1,5 @@
-// Programs in which a goroutine waits for what another one would do, and of which the source says where: it is in no stack. The line that is marked BUG brings
-// the hang about, and is named in the first cause. As `good` each does the same without its bug.
+// Programs in which a goroutine waits for an action of another one, and only the source says where: no stack has it.
+// The line marked BUG causes the hang, and the first cause names it. With `good`, each does the same without its bug.
 //
 //	sources NAME bad|good
 package main
@@ -40,7 +40,7 @@ func dial(listener net.Listener) net.Conn {
 	return end
 }
 
-// serve accepts connections, and has a goroutine for each.
+// serve accepts connections, and starts a goroutine for each.
 func serve(listener net.Listener, session func(net.Conn)) {
 	for {
 		end, err := listener.Accept()
@@ -87,7 +87,7 @@ func (b *board) closeFirst() {
 	b.server.Shutdown(context.Background())
 }
 
-// ordered: a Shutdown waits for handlers that wait for what would be closed after it.
+// ordered: a Shutdown waits for handlers that wait for a channel that is closed only afterwards.
 func ordered(isBad bool) {
 	b := &board{stop: make(chan struct{})}
 	server, address := serveWeb(b.watch)
@@ -136,7 +136,7 @@ func (c *club) tell(line string, isBad bool) {
 	}
 }
 
-// departed: a member has left, and a line for it is waited with for ever.
+// departed: a member has left, and the goroutine that sends it a line waits forever.
 func departed(isBad bool) {
 	listener, c := listen(), &club{quit: make(chan struct{})}
 	joined := make(chan bool)
@@ -191,7 +191,7 @@ func (t *table) joinAll() {
 	}
 }
 
-// oneOnly: what all wait for is told to one.
+// oneOnly: all wait for a condition, but only one is woken.
 func oneOnly(isBad bool) {
 	listener, t := listen(), &table{seats: 4}
 	t.changed = sync.NewCond(&t.lock)
@@ -283,7 +283,7 @@ func (b *bank) ask(question string, isBad bool) error {
 	return nil
 }
 
-// unreturned: on one way a connection isn't given back to its pool.
+// unreturned: on one path a connection isn't returned to its pool.
 func unreturned(isBad bool) {
 	listener, b := listen(), &bank{make(chan net.Conn, 3)}
 	go serve(listener, echo)
@@ -358,7 +358,7 @@ func (l *link) commit() {
 	l.answer()
 }
 
-// unpushed: of two kinds of requests one isn't flushed.
+// unpushed: of two kinds of requests, one isn't flushed.
 func unpushed(isBad bool) {
 	listener := listen()
 	go serve(listener, echo)
@@ -380,7 +380,7 @@ func (Worker) Run(count int, result *int) error {
 	return nil
 }
 
-// crowded: calls that are done while their channel is full are dropped.
+// crowded: calls that complete while their channel is full are dropped.
 func crowded(isBad bool) {
 	listener, server := listen(), rpc.NewServer()
 	must(server.Register(Worker{}))
@@ -430,7 +430,7 @@ func (a *asker) ask(end net.Conn, id byte) {
 	<-answer
 }
 
-// mistaken: two requests have the same number, and one has the other's place.
+// mistaken: two requests have the same number, and one takes the other's place.
 func mistaken(isBad bool) {
 	listener, a := listen(), &asker{waiting: map[byte]chan string{}}
 	go serve(listener, func(end net.Conn) {
@@ -483,7 +483,7 @@ func door(listener net.Listener, isBad bool) error {
 	}
 }
 
-// turnedAway: one bad greeting ends the loop that accepts.
+// turnedAway: one bad greeting ends the accept loop.
 func turnedAway(isBad bool) {
 	listener := listen()
 	go func() { door(listener, isBad) }()
@@ -497,7 +497,7 @@ func turnedAway(isBad bool) {
 	}
 }
 
-// relayRaw answers a name with what is behind it, and copies both ways after that.
+// relayRaw reads an address, connects to it, and then copies both ways.
 func relayRaw(end net.Conn, isBad bool) {
 	in := bufio.NewReader(end) // BUG mixed
 	address, err := in.ReadString('\n')
@@ -516,7 +516,7 @@ func relayRaw(end net.Conn, isBad bool) {
 	io.Copy(end, up)
 }
 
-// mixed: what a reader has read in advance is passed by.
+// mixed: the bytes that a reader has read ahead are skipped.
 func mixed(isBad bool) {
 	behind, front := listen(), listen()
 	go serve(behind, echo)
@@ -542,7 +542,7 @@ func beat(end net.Conn, isBad bool) {
 	}
 }
 
-// spins: a break leaves a select, and its loop goes on writing.
+// spins: a break leaves only a select, and the loop continues to write.
 func spins(isBad bool) {
 	listener := listen()
 	go serve(listener, func(end net.Conn) {
@@ -583,7 +583,7 @@ func (a *alarm) deliver(end net.Conn, count int) {
 	}
 }
 
-// unheard: who is busy isn't woken, and sleeps over what came meanwhile.
+// unheard: a busy goroutine isn't woken, and then sleeps although a line has come meanwhile.
 func unheard(isBad bool) {
 	listener, a := listen(), &alarm{wake: make(chan bool)}
 	if !isBad {
@@ -637,7 +637,7 @@ func (d *office) page(end net.Conn, name string) {
 	}
 }
 
-// signalled: a Signal wakes another one than the one for whom it is.
+// signalled: a Signal wakes another goroutine than the one that it is meant for.
 func signalled(isBad bool) {
 	listener, d := listen(), &office{acks: map[string]bool{}}
 	d.heard = sync.NewCond(&d.lock)
@@ -688,7 +688,7 @@ func (h *hall) enter(name string, isBad bool) error {
 
 func (h *hall) leave() { <-h.seats }
 
-// seated: a seat is kept for one that isn't let in.
+// seated: a seat is kept for a guest who isn't let in.
 func seated(isBad bool) {
 	listener, h := listen(), &hall{make(chan struct{}, 2)}
 	go serve(listener, func(end net.Conn) {
@@ -723,7 +723,7 @@ func load(end net.Conn, isBad bool) {
 	}
 }
 
-// partly: a part of a block is taken for the whole.
+// partly: a part of a block is taken for the whole block.
 func partly(isBad bool) {
 	listener := listen()
 	go serve(listener, func(end net.Conn) { load(end, isBad) })

@@ -1,10 +1,10 @@
-// A server with streams of gRPC, by Debian's golang-google-grpc-dev, and its clients:  stream CONNECTIONS SECONDS BUG PAUSE
+// A server with gRPC streams, with Debian's golang-google-grpc-dev, and its clients:  stream CONNECTIONS SECONDS BUG PAUSE
 //
-// Each client has a connection, and one stream on it for as long as the program runs: it sends a text, receives it again, and pauses so many
-// milliseconds. One more client is a subscriber, which gets each text. After so many seconds there is a bug, or none:
+// Each client has a connection, and one stream on it for as long as the program runs: it sends a text, receives it again, and pauses
+// PAUSE milliseconds. One more client is a subscriber, which gets each text. After SECONDS seconds the program has a bug, or none:
 //
 //	none   the program ends
-//	mutex  a Send to the subscriber, which receives no more, holds the mutex that each text wants
+//	mutex  a Send to the subscriber, which has stopped receiving, holds the mutex that each text needs
 package main
 
 import (
@@ -81,7 +81,7 @@ func service(h *hub) *grpc.ServiceDesc {
 	return &grpc.ServiceDesc{ServiceName: "Texts", HandlerType: (*interface{})(nil), Streams: []grpc.StreamDesc{talk, subscribe}}
 }
 
-// connected is a stream on a connection of its own.
+// connected returns a stream on a connection of its own.
 func connected(address, method string) grpc.ClientStream {
 	connection, err := grpc.Dial(address, grpc.WithInsecure(), grpc.WithBlock())
 	must(err)

@@ -1,5 +1,5 @@
-// Programs in which a goroutine doesn't do what another waits for: it gives back twice, never calls Done, doesn't flush, gives up early. The line
-// that is marked BUG brings that about, and is named first. As `good` each does the same without its bug.
+// Programs in which a goroutine doesn't do what another waits for: it returns a connection twice, never calls Done, doesn't
+// flush, or gives up early. The line marked BUG causes that, and is named first. With `good`, each does the same without its bug.
 //
 //	turns NAME bad|good
 package main
@@ -38,7 +38,7 @@ func dial(listener net.Listener) net.Conn {
 	return end
 }
 
-// serve accepts connections, and has a goroutine for each.
+// serve accepts connections, and starts a goroutine for each.
 func serve(listener net.Listener, session func(net.Conn)) {
 	for {
 		end, err := listener.Accept()
@@ -64,7 +64,7 @@ func ask(end net.Conn, line string) (string, error) {
 	return bufio.NewReader(end).ReadString('\n')
 }
 
-// doubled: a connection is put back into its pool twice after an answer that says so.
+// doubled: after an answer that asks for a retry, a connection is returned to its pool twice.
 func doubled(bad bool) error {
 	listener, free := listen(), make(chan net.Conn, 1)
 	go serve(listener, echo)
@@ -144,7 +144,7 @@ func (s *survey) visit(address string) {
 	s.pending.Done()
 }
 
-// undone: of goroutines that a WaitGroup counts one whose Dial fails never calls Done.
+// undone: a WaitGroup counts several goroutines, and one whose Dial fails never calls Done.
 func undone(bad bool) error {
 	listener, away := listen(), listen()
 	go serve(listener, echo)
@@ -159,7 +159,7 @@ func undone(bad bool) error {
 	return nil
 }
 
-// unflushed: the last of some requests stays in a buffer.
+// unflushed: the last of several requests stays in a buffer.
 func unflushed(bad bool) error {
 	listener := listen()
 	go serve(listener, echo)
@@ -200,7 +200,7 @@ func send(end net.Conn, text string, more int) error {
 	return err
 }
 
-// longer: the length of a message counts its own two bytes too.
+// longer: the length of a message includes its own two bytes.
 func longer(bad bool) error {
 	listener, more := listen(), 0
 	go serve(listener, frames)
@@ -214,7 +214,7 @@ func longer(bad bool) error {
 	return send(end, "the last one", more) // BUG longer
 }
 
-// queued: the goroutine that accepts serves a client itself, and that stays.
+// queued: the goroutine that accepts serves a client itself, and the client stays.
 func queued(bad bool) error {
 	listener := listen()
 	go func() {
@@ -235,7 +235,7 @@ func queued(bad bool) error {
 	return err
 }
 
-// dropped: a server of datagrams doesn't answer the last request, and the client waits without a deadline.
+// dropped: a datagram server doesn't answer the last request, and the client waits without a deadline.
 func dropped(bad bool) error {
 	server, err := net.ListenUDP("udp", &net.UDPAddr{IP: net.IPv4(127, 0, 0, 1)})
 	must(err)
@@ -304,7 +304,7 @@ func cancelled(bad bool) error {
 	return err
 }
 
-// expired: a client asks on a connection that the server closed since it was idle.
+// expired: a client sends on a connection that the server has closed because it was idle.
 func expired(bad bool) error {
 	listener := listen()
 	go serve(listener, func(end net.Conn) {
@@ -362,7 +362,7 @@ func (m *mailbox) close() {
 	m.lock.Unlock()
 }
 
-// unwoken: what a goroutine waits for changes, and nobody signals that.
+// unwoken: the state that a goroutine waits for changes, but nothing signals that.
 func unwoken(bad bool) error {
 	listener := listen()
 	go serve(listener, echo)
@@ -420,7 +420,7 @@ func (r *relay) stop() {
 	r.sessions.Wait() // BUG stays
 }
 
-// stays: a server that stops waits for a client that stays.
+// stays: a server that stops waits for a client that stays connected.
 func stays(bad bool) error {
 	server := &relay{listener: listen()}
 	go server.run()
@@ -446,7 +446,7 @@ func work(address, line string, results chan<- string, bad bool) {
 	results <- answer
 }
 
-// uncounted: of goroutines whose results are counted one ends without any.
+// uncounted: several goroutines should each send a result, but one ends without sending any.
 func uncounted(bad bool) error {
 	listener, results, lines := listen(), make(chan string), []string{"one", "odd", "two"}
 	go serve(listener, echo)
@@ -459,7 +459,7 @@ func uncounted(bad bool) error {
 	return nil
 }
 
-// overdue: a deadline that is meant for the request has passed when the answer is written.
+// overdue: a deadline meant for the request has passed when the answer is written.
 func overdue(bad bool) error {
 	listener, failed := listen(), make(chan error, 1)
 	go serve(listener, func(end net.Conn) {
