@@ -1,4 +1,4 @@
-"""Measures how long nrdb takes to answer, on recordings of the shape `mix`: python3 python netrev_bench.companion [STEPS ..]
+"""Measures how long nrdb takes to answer, on recordings of the shape `mix`:  python3 python netrev_bench.companion [STEPS ..]
 
 Each line is sent when a session is at three quarters of the recording and has read the changes of all steps up to there, except for the
 first `goto`, which waits for them. Each time is from sending the line to the end of its output. NETREV names the program.

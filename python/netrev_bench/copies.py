@@ -1,4 +1,4 @@
-"""Measures the memory for copies of full buffers: python3 python netrev_bench.copies
+"""Measures the memory for copies of full buffers:  python3 python netrev_bench.copies
 
 Makes four recordings of a million steps whose first steps fill buffers. Between two copies of the world, the later steps change none of
 these buffers, or other buffers, or all of them. Between two copies of the world, the later steps change none of these buffers, or buffers

@@ -1,4 +1,4 @@
-"""Counts the runs in which each race occurs, with the recorder's delays and without: python3 python netrev_bench.delays [--runs 100]
+"""Counts the runs in which each race occurs, with the recorder's delays and without:  python3 python netrev_bench.delays [--runs 100]
 [--only NAME]
 
 Each run of a race in tools/go/samples/races is a separate process on four processors, which writes a log; with delays, the seeds are 1, 2

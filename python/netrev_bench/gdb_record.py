@@ -1,4 +1,4 @@
-"""Measures GDB's `record full`, the alternative without netrev, on a small C program: python3 python netrev_bench.gdb_record [ROUNDS]
+"""Measures GDB's `record full`, the alternative without netrev, on a small C program:  python3 python netrev_bench.gdb_record [ROUNDS]
 
 The program (gdb_record.c) makes 1,000 rounds, or ROUNDS: it takes a lock, writes to a socket pair, reads from it and releases the lock.
 Prints, per second, how many rounds the program makes alone, how many instructions and rounds GDB records, how many instructions a

@@ -1,4 +1,4 @@
-"""Prints the table of healthy programs: python3 python netrev_bench.healthy [--schedules 3000] [--out FOLDER] [--only TEXT]
+"""Prints the table of healthy programs:  python3 python netrev_bench.healthy [--schedules 3000] [--out FOLDER] [--only TEXT]
 
 Tests of Go's packages and of other projects, chosen at random by a seed, are recorded on four processors and explored; each finding is
 printed with its place, for inspection. It needs Go and Debian's packages (python/netrev_go/suites.py names them), but not netrev.

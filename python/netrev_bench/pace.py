@@ -1,4 +1,4 @@
-"""Measures how fast the machine itself is, without commands: python3 python netrev_bench.pace [STEPS]
+"""Measures how fast the machine itself is, without commands:  python3 python netrev_bench.pace [STEPS]
 
 For each shape of recording, of 1,000,000 steps or STEPS, prints how many thousand steps a second each representation of a world replays,
 applies so that they can be undone, undoes, and searches in vain for a watch: the lists of `nr_plain`, the packed world of `nr_machine`, and

@@ -1,4 +1,4 @@
-"""Prints the table of races: python3 python netrev_bench.races [--schedules 10000] [--runs 1000] [--out FOLDER] [--only NAME]
+"""Prints the table of races:  python3 python netrev_bench.races [--schedules 10000] [--runs 1000] [--out FOLDER] [--only NAME]
 
 Each race of tools/go/samples/races is recorded in a good run, on one processor and on four, and explored from that recording; it also runs
 --runs times without the recorder. It needs Go, but not netrev. The output lines are rows of a Markdown table.

@@ -1,4 +1,4 @@
-"""Measures netrev beside the same machine in plain Rust without proofs: python3 python netrev_bench.run [STEPS ..]
+"""Measures netrev beside the same machine in plain Rust without proofs:  python3 python netrev_bench.run [STEPS ..]
 
 On each recording, the programs take turns to
 

@@ -1,4 +1,4 @@
-"""Measures how fast a shared session searches with several workers: python3 python netrev_bench.searching [WORKERS ..]
+"""Measures how fast a shared session searches with several workers:  python3 python netrev_bench.searching [WORKERS ..]
 
 For 1, 2 and 4 workers or WORKERS, prints the positions a second of a `continue` and of a `reverse-continue` over a recording of 1,000,000
 steps in which no mark hits. For comparison, as many separate sessions with one worker each make the same searches at the same time; their

@@ -1,4 +1,4 @@
-"""Measures how fast a session is shared: python3 python netrev_bench.serving
+"""Measures how fast a session is shared:  python3 python netrev_bench.serving
 
 Prints commands and queries a second through one front, over a pipe (`netrev run`) and over the loopback interface, with all lines sent at
 once; the total of commands a second through several fronts that place 1,000 each at the same time, each over its own connection, and how

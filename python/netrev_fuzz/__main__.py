@@ -1,4 +1,4 @@
-"""Runs the fuzzer, as `make fuzz` does: python3 python netrev_fuzz [--minutes M] [--cases N] [--seed S] [--of nrdb]
+"""Runs the fuzzer, as `make fuzz` does:  python3 python netrev_fuzz [--minutes M] [--cases N] [--seed S] [--of nrdb]
 
 Runs random cases until the time or their number is used up. Half of the time goes to cases for netrev and half to sessions of nrdb, except
 that `--cases` runs no sessions; `--of` runs only one kind. Each case has a seed: `S-1`, `S-2` and so on, or `S-nrdb-1` and so on for nrdb;

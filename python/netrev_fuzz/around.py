@@ -1,4 +1,4 @@
-"""Runs the fuzzer of the tools around netrev, as `make fuzz-around` does: python3 python netrev_fuzz.around [--of logs] [--minutes M]
+"""Runs the fuzzer of the tools around netrev, as `make fuzz-around` does:  python3 python netrev_fuzz.around [--of logs] [--minutes M]
 [--cases N] [--seed S]
 
 Runs random cases of each kind for the same time: damaged `logs` of the recorder; logs of random `programs`, which must become complete

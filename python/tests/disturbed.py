@@ -1,5 +1,5 @@
-"""A session of nrdb with an event at a point of its conversations: its output must be what it would have been, or a
-part of that. `tests.test_interrupts` uses a modelled netrev, `tests.program.nrdb.test_slow` the built one."""
+"""A session of nrdb with an event at some point of its communication with netrev: its output must be the same as without the event, or a
+part of that. `tests.test_interrupts` uses a model of netrev, `tests.program.nrdb.test_slow` the built program."""
 
 import io
 import json
@@ -38,7 +38,7 @@ Action = Callable[["Weather[Of]", Of], None]
 
 
 class Weather(Generic[Of]):
-    """The events at points: points are counted over all netrevs of a session, from where `left` is set."""
+    """The events at points, which are counted over all netrevs of a session from the time when `left` is set."""
 
     def __init__(self, interrupts: Interrupts):
         self.interrupts = interrupts
@@ -47,7 +47,7 @@ class Weather(Generic[Of]):
         self.action: Action[Of] = nothing
 
     def happens(self, netrev: Of) -> None:
-        """A point was reached."""
+        """Called when a point is reached."""
         self.count += 1
         if self.left is not None:
             self.left -= 1
@@ -68,7 +68,7 @@ class Played(NamedTuple):
     out: io.StringIO
 
     def run(self, *lines: str) -> Events:
-        """The events that these lines cause."""
+        """Types these lines, and returns the events that they cause."""
         self.out.seek(0)
         self.out.truncate()
         for line in lines:
@@ -76,11 +76,11 @@ class Played(NamedTuple):
         return self.told()
 
     def told(self) -> Events:
-        """The events since then; for a session that has ended, those before its end."""
+        """The events since the last call; if the session has ended, those before its end."""
         return [json.loads(line) for line in self.out.getvalue().splitlines()]
 
     def end(self) -> None:
-        """Ends its netrevs."""
+        """Ends the session's netrevs."""
         self.session.netrev.drop()
         self.session.looks().drop()
 
@@ -99,7 +99,7 @@ class Disturbances(unittest.TestCase, Generic[Of]):
         raise NotImplementedError
 
     def told_by(self, played: Played, command: str) -> Events:
-        """The output of a command during an event."""
+        """The output of a command during which an event happens."""
         return played.run(command)
 
     def settle(self) -> None:
@@ -122,7 +122,7 @@ class Disturbances(unittest.TestCase, Generic[Of]):
         return played
 
     def probed(self, lines: Sequence[str]) -> tuple[int, Events]:
-        """The state of a session after these lines, without an event, and its output there."""
+        """The session's state after these lines, without an event, and its output there."""
         played = self.begun()
         played.run(*lines)
         told = played.session.stood, played.run(*PROBES)
@@ -130,7 +130,7 @@ class Disturbances(unittest.TestCase, Generic[Of]):
         return told
 
     def points(self, command: str) -> tuple[int, Events]:
-        """The number of points in a command's conversations, and its output."""
+        """The number of points at which a command communicates with netrev, and the command's output."""
         played = self.begun()
         before = played.weather.count
         right = played.run(command)
@@ -138,8 +138,7 @@ class Disturbances(unittest.TestCase, Generic[Of]):
         return played.weather.count - before, right
 
     def disturbed(self, command: str, action: Action[Of], count: int) -> Iterator[tuple[int, Played, Events, bool]]:
-        """For each point at which this happens to a command: the session after it, the output, and whether it goes
-        on."""
+        """For each point of a command at which this event happens: the session after it, the output, and whether the session goes on."""
         for point in range(count):
             played = self.begun()
             played.weather.left, played.weather.action = point, action
@@ -147,7 +146,7 @@ class Disturbances(unittest.TestCase, Generic[Of]):
                 told = self.told_by(played, command)
                 played.weather.left = None
                 self.settle()
-                played.session.stands()  # (netrev may be found to be gone only here)
+                played.session.stands()  # (perhaps only this shows that netrev has ended)
                 yield point, played, told, True
             except (GivenUp, Ended):
                 played.weather.left = None
@@ -155,8 +154,8 @@ class Disturbances(unittest.TestCase, Generic[Of]):
             played.end()
 
     def check(self, commands: Sequence[str], actions: Sequence[Action[Of]]) -> int:
-        """Checks that the output is right, whatever happens at any point of these commands, and so is the output after
-        it. Returns how many sessions were given up."""
+        """Checks that the output during these commands and after them is right, whichever event happens at whichever point. Returns how
+        many sessions ended."""
         given_up = 0
         for command in commands:
             told_then = dict(self.probed(lines) for lines in ((), (command,)))

@@ -1,4 +1,4 @@
-"""The examples, from their only list, examples/README.md."""
+"""The examples, from the only list of them, examples/README.md."""
 
 import re
 from pathlib import Path
@@ -29,7 +29,7 @@ class Example(NamedTuple):
 
 
 def example_of(name: str, said: str) -> Example:
-    """The example of a row with this name and this text in its column of suspects."""
+    """The example of a row with this name and this text in the column of suspects."""
     refused = REFUSED_AT.fullmatch(said)
     if refused:
         return Example(name, None, int(refused[1]))

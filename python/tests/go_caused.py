@@ -69,7 +69,7 @@ NAMES = {
 
 
 def source_of(name: str) -> pathlib.Path:
-    """The program that has a bug."""
+    """The source of the program that has a bug."""
     return next(source for source, names in NAMES.items() if name in names)
 
 
@@ -86,7 +86,7 @@ def build(go: Go, source: pathlib.Path, program: pathlib.Path) -> None:
 
 
 def recorded(go: Go, program: pathlib.Path, words: list[str], name: pathlib.Path) -> int:
-    """Records a run as NAME.jsonl, with its lines; the program's status. It is called in the folder of its source."""
+    """Records a run as NAME.jsonl, with its lines, and returns the program's status. Must be called in the folder of the source."""
     with tempfile.TemporaryDirectory() as folder:
         settings = {"NETREV_LOG": f"{folder}/log", "NETREV_POINTS": "65536"}
         run = subprocess.run([program, *words], env=os.environ | settings, capture_output=True, check=False)
@@ -104,8 +104,7 @@ def recorded(go: Go, program: pathlib.Path, words: list[str], name: pathlib.Path
 
 
 def of_one(go: Go, program: pathlib.Path, name: str, folder: pathlib.Path) -> tuple[bool, int]:
-    """Records a program bad and good, and prints a line; whether its bug is named, and how many suspects the good run
-    has."""
+    """Records a program bad and good, and prints a line; returns whether its bug is named, and how many suspects the good run has."""
     bad, good = (folder / f"{name}-{kind}.jsonl" for kind in ("bad", "good"))
     ended = recorded(go, program, [name, "bad"], bad), recorded(go, program, [name, "good"], good)
     is_named = bug_line(name) in "\n".join(first_words(Recording.read(str(bad)), name))
@@ -117,7 +116,7 @@ def of_one(go: Go, program: pathlib.Path, name: str, folder: pathlib.Path) -> tu
 
 
 def main(folder: pathlib.Path) -> int:
-    """Records all; returns 1 if a good run has a suspect, or if more than one bug of a source isn't named."""
+    """Records all programs; returns 1 if a good run has a suspect, or if more than one bug of a source isn't named."""
     go, status = find_go(), 0
     with tempfile.TemporaryDirectory() as built:
         for source, names in NAMES.items():

@@ -1,5 +1,5 @@
-"""netrev-go with a real Go, in cases in which a run could be lost: a program that execs another one, and what its
-children inherit. It needs Go and netrev; `make real` runs it."""
+"""netrev-go with a real Go, in situations in which a run could be lost: a program that execs another one, and what its children inherit. It
+needs Go and netrev; `make real` runs it."""
 
 import os
 import pathlib
@@ -19,7 +19,8 @@ INHERITS = program(
     '\tout, err := exec.Command("ls", "-l", "/proc/self/fd").CombinedOutput()\n\tfmt.Print(string(out), err)',
     "fmt", "os/exec",
 )  # fmt: skip
-# Goroutines lock mutexes one within the other, on processors whose number changes, and others unlock some of them. In the end three are locked.
+# Goroutines lock nested mutexes while the number of processors changes, and other goroutines unlock some of them. In
+# the end three mutexes are locked.
 LOCKS = program(
     """
 	var shared [40]sync.Mutex
@@ -83,7 +84,7 @@ MANY = program("\tfor i := 0; i < 5000; i++ {\n\t\ta.SetDeadline(time.Now().Add(
 
 
 class Kept(Tool):
-    """Runs that a name, a folder or a further program could lose."""
+    """Runs that could be lost because of a name, a folder, or another program."""
 
     def test_a_program_that_becomes_another_one_is_recorded_on(self) -> None:
         self.written(BECOMES)
@@ -128,7 +129,7 @@ class Kept(Tool):
             self.assertEqual(held, {(mutex, False), (reading, True), (writing, False)})
 
     def mounted(self, size: str) -> pathlib.Path:
-        """A file system of this size."""
+        """A mounted file system of this size."""
         small = self.folder / "small"
         small.mkdir()
         if os.geteuid() or os.system(f"mount -t tmpfs -o size={size} none {small} 2>/dev/null"):

@@ -37,8 +37,8 @@ MAIN = program(
 )  # fmt: skip
 TEST = MAIN.replace("package main", "package p").replace('"net"', '"net"\n\t"testing"')
 TEST = TEST.replace("func main()", "func TestServe(t *testing.T)")
-WORDS = {"run": ["run", "main.go"], "test": ["--all", "test", "."]}  # with --all a test that passes has a recording too
-EARLIEST, LATEST = -2.0, 4.0  # seconds to the signal, after the program's beginning or, below 0, after netrev-go's
+WORDS = {"run": ["run", "main.go"], "test": ["--all", "test", "."]}  # with --all, tests that pass have recordings too
+EARLIEST, LATEST = -2.0, 4.0  # seconds to the signal, from the program's beginning, or, if negative, from netrev-go's
 
 
 @dataclass
@@ -62,14 +62,14 @@ class Trial:
         return os.environ | settings | files | {"NETREV_LOGS": str(self.folder / "logs")}
 
     def called(self, number: int, *words: str) -> str:
-        """netrev-go's output on standard error."""
+        """What netrev-go prints on standard error."""
         run = subprocess.run(
             [TOOL, *words], cwd=self.folder, env=self.environment(number), capture_output=True, text=True, check=False
         )
         return run.stderr
 
     def run(self, number: int, command: str, sent: signal.Signals, seconds: float) -> str:
-        """One run, with a signal this many seconds after the program's beginning, or netrev-go's: its status and its
+        """Makes one run, with a signal this many seconds after the program's beginning, or netrev-go's; returns its status and its
         outcome."""
         errors = self.folder / f"errors {number}"
         with errors.open("w") as file:

@@ -1,5 +1,5 @@
-"""Changes that a future release may have, planted into a copy of Go 1.27: the doctor names each, and nothing is
-recorded. It needs netrev, and Go 1.27 or Debian's packages of it; `make real` runs it."""
+"""Changes that a future release of Go may have, planted into a copy of Go 1.27: doctor names each, and nothing is recorded. It needs
+netrev, and Go 1.27 or Debian's packages of it; `make real` runs it."""
 
 import contextlib
 import os
@@ -22,7 +22,7 @@ CHECKED = """		errcode = netpollcheckerr(pd, int32(mode))
 			return errcode
 		}
 """
-# for each change: the replacements in files, each wherever its text occurs, and the doctor's message
+# for each change: the replacements in files, each made wherever its text occurs, and doctor's message
 PLANTED: dict[str, tuple[list[Change], str]] = {
     "a renamed call": (
         [(POLL, {"netpollcheckerr(": "netpollerror("})],
@@ -96,7 +96,7 @@ PLANTED: dict[str, tuple[list[Change], str]] = {
 
 
 class Planted(unittest.TestCase):
-    """A copy of Go 1.27, without the parts that no program needs."""
+    """A copy of Go 1.27 without the parts that no program needs."""
 
     root: pathlib.Path
     folder: pathlib.Path
@@ -117,7 +117,7 @@ class Planted(unittest.TestCase):
 
     @contextlib.contextmanager
     def planted(self, changes: list[Change]) -> Iterator[None]:
-        """Puts other texts into some files."""
+        """Replaces texts in some files."""
         before = {name: (self.root / "src" / name).read_text() for name, _ in changes}
         try:
             for name, words in changes:

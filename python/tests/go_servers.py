@@ -1,11 +1,12 @@
-"""Servers that run far beyond their ring, and then have a bug: netrev must accept the recording of `netrev-go watch` or `snapshot`, which must
-contain the connection of the bug, older than the oldest point, and the output must name the bug's line.
+"""Servers that run until their ring has been overwritten many times, and then have a bug: netrev must accept the recording of `netrev-go
+watch` or `snapshot`; the recording must contain the connection with the bug, which is older than the oldest point; and the output must name
+the bug's line.
 
     python3 python tests.go_servers [--seconds N] [--points N] [--connections N] [--pause N] [--stuck T] [--gopath FOLDER] [--keep FOLDER] [NAME ..]
 
-The servers are samples of tools/go: `keep` needs only Go, `stream` Debian's golang-google-grpc-dev below GOPATH, `pool` Debian's
-golang-github-lib-pq-dev there and PostgreSQL (postgresql). The bug comes after N seconds. It prints a line for each; with --keep the
-recordings and the output about them stay. The exit status is 1 if one fails.
+The servers are samples of tools/go: `keep` needs only Go, `stream` needs Debian's golang-google-grpc-dev below GOPATH, and `pool` needs
+Debian's golang-github-lib-pq-dev there and PostgreSQL (postgresql). The bug comes after N seconds. It prints a line for each server; with
+--keep the recordings and the output about them stay. The exit status is 1 if a server fails.
 """
 
 import argparse
@@ -30,20 +31,20 @@ from netrev_go.suites import DEBIAN, ROOT, SAMPLES
 
 TOOL = SAMPLES.parent / "netrev-go"
 BEHIND = 3.0  # seconds from the bug to a snapshot
-PATIENCE = 1_800.0  # seconds for a watch to end: a busy machine is slow
+PATIENCE = 1_800.0  # seconds for a watch to end, because a busy machine is slow
 POSTGRES = "/usr/lib/postgresql/*/bin"
 
 
 @dataclass(frozen=True)
 class Server:
-    """A sample with a bug: the options of the watch that waits for it, or None if a snapshot is made after it; and
-    the expected output, in which {line} is the place of the bug."""
+    """A sample with a bug: the options of the watch that waits for the bug, or None if a snapshot is made after it; and the expected
+    output, in which {line} is the place of the bug."""
 
     sample: str
     bug: str
     watch: tuple[str, ...] | None
     printed: tuple[str, ...]
-    has_old_socket: bool = True  # what is printed names a socket that is older than the oldest point
+    has_old_socket: bool = True  # the output names a socket that is older than the oldest point
 
 
 SERVERS = {
@@ -86,7 +87,7 @@ def free_port() -> int:
 
 @contextmanager
 def database(folder: pathlib.Path) -> Iterator[dict[str, str]]:
-    """The environment for a client of PostgreSQL. The server refuses to run as root, so another user runs it then."""
+    """The environment for a PostgreSQL client. The server refuses to run as root; in that case another user runs it."""
     commands = max(pathlib.Path("/").glob(POSTGRES.lstrip("/")), default=None)
     if commands is None:
         sys.exit("PostgreSQL isn't here: apt-get install postgresql")
@@ -127,13 +128,13 @@ def database(folder: pathlib.Path) -> Iterator[dict[str, str]]:
 
 
 def passed(log: pathlib.Path) -> int:
-    """How many points a log has had so far."""
+    """The number of points that a log has had so far."""
     with log.open("rb") as file:
         return Header(file.read(HEADER_BYTES)).passed
 
 
 def resident(process: int) -> int:
-    """The megabytes of a process."""
+    """The memory of a process in megabytes."""
     status = pathlib.Path(f"/proc/{process}/status").read_text()
     found = re.search(r"^VmRSS:\s+(\d+) kB", status, re.MULTILINE)
     return int(found[1]) // 1024 if found else 0
@@ -175,7 +176,7 @@ def ran(
 
 
 def late_suspects(printed: str, name: pathlib.Path) -> str:
-    """The suspects, if netrev-go didn't wait for them: a netrev that isn't proved is slow."""
+    """The suspects, in case netrev-go didn't wait for them because an unproved netrev is slow."""
     if "for the suspects" not in printed:
         return ""
     words = [str(ROOT / "nrdb"), "--suspects", str(name.with_suffix(".jsonl"))]
@@ -183,7 +184,7 @@ def late_suspects(printed: str, name: pathlib.Path) -> str:
 
 
 def old_sockets(name: pathlib.Path) -> set[int]:
-    """The sockets of a recording that were open before the oldest point of its log."""
+    """The sockets of a recording that were opened before the oldest point of its log."""
     prelude = 0
     with name.with_suffix(".where").open(encoding="utf-8") as lines:
         for line in lines:

@@ -1,4 +1,4 @@
-"""Copies of a log by SIGUSR2, which a program's owner turns on. It needs Go and netrev; `make real` runs it."""
+"""Copies of a log on SIGUSR2, which a program's owner turns on. It needs Go and netrev; `make real` runs it."""
 
 import os
 import pathlib
@@ -11,7 +11,7 @@ from typing import Callable
 from netrev_go.logfile import read_log
 from tests.go_tool import Tool, program
 
-# echoes bytes for as long as it runs; with a word it has a handler of its own
+# echoes bytes as long as it runs; with an argument it has a signal handler of its own
 RUNS = program(
     "\tif len(os.Args) > 1 {\n\t\tasked := make(chan os.Signal, 1)\n\t\tsignal.Notify(asked, syscall.SIGUSR2)\n"
     '\t\tgo func() {\n\t\t\tfor range asked {\n\t\t\t\tfmt.Println("asked")\n\t\t\t}\n\t\t}()\n\t}\n'
@@ -131,7 +131,7 @@ class Signals(Tool):
 
     def test_without_room_there_is_no_copy_and_the_program_runs_on(self) -> None:
         process, log = self.started(NETREV_SIGNAL="usr2")
-        os.mkdir(log.with_name(log.name + ".snapshot.part"))  # a name that can't be had
+        os.mkdir(log.with_name(log.name + ".snapshot.part"))  # a name that can't be used
         process.send_signal(signal.SIGUSR2)
         before = self.passed(log)
         self.waited(lambda: self.passed(log) > before + POINTS)

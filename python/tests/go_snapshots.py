@@ -1,10 +1,11 @@
-"""Makes snapshots of three programs at random moments while they run, on one processor and on four, and compares each answer and each lock word
-with the machine's.
+"""Makes snapshots of three programs at random moments while they run, on one processor and on four, and compares each answer and each lock
+word with the machine's.
 
     python3 python tests.go_snapshots [--each N] [--points N] [--seed S] [--netrev] [RELEASE ..]
 
-It prints a line for each program and number of processors: how many snapshots, steps and lock words there were, and what was left out. The model in
-Python compares, or with --netrev netrev does. The exit status is 1 if one isn't accepted or a lock word differs."""
+It prints a line for each program and number of processors: the numbers of snapshots, steps and lock words, and what was left out. The
+model in Python makes the comparison, or, with --netrev, netrev does. The exit status is 1 if a snapshot isn't accepted or a lock word
+differs."""
 
 import argparse
 import gc
@@ -39,7 +40,7 @@ PROGRAMS = {
 }
 PROCESSORS = (1, 4)
 LONGEST = 0.3  # seconds between two snapshots
-PATIENCE = 60.0  # until the ring has gone round twice
+PATIENCE = 60.0  # seconds until the ring has been filled twice
 
 
 @dataclass
@@ -94,7 +95,7 @@ def running(program: Path, words: tuple[str, ...], processors: int, points: int)
 
 
 def copies(log: Path, count: int, points: int, chance: random.Random) -> Iterator[bytes]:
-    """Copies of a log at random moments, once points were lost."""
+    """Copies of a log at random moments, after points have been overwritten."""
     end, copy, passed = time.monotonic() + PATIENCE, b"", 0
     while True:
         time.sleep(chance.random() * LONGEST)
@@ -111,7 +112,7 @@ def copies(log: Path, count: int, points: int, chance: random.Random) -> Iterato
 
 
 def compared(copy: bytes, name: Path, netrev: str) -> tuple[Recording | None, str]:
-    """The recording of a copy, and its fault, if it has one."""
+    """The recording of a copy, and its fault if it has one."""
     with (name.parent / "copy").open("w+b") as file:
         file.write(copy)
         file.seek(0)

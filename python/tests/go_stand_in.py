@@ -1,6 +1,7 @@
-"""netrev-go as a process of its own, with a shell script in the place of Go:  python3 python tests.go_stand_in FOLDER WORDS ..
+"""netrev-go as a separate process, with a shell script instead of Go:  python3 python tests.go_stand_in FOLDER WORDS ..
 
-FOLDER/go is the script, which leaves a stored log and does what a test wants, and FOLDER/netrev, when it exists, stands in for netrev."""
+FOLDER/go is the script, which leaves a stored log and does what a test requests, and FOLDER/netrev, if it exists, replaces
+netrev."""
 
 import os
 import signal
@@ -22,7 +23,7 @@ PATIENCE = 120.0  # seconds
 
 
 def until(name: str) -> str:
-    """A line of a script that waits for a file, at most as long as the test's folder exists."""
+    """A line for a script that waits for a file, at most as long as the test's folder exists."""
     return f"while [ -e go ] && [ ! -e {name} ]; do sleep 0.05; done"
 
 
@@ -30,8 +31,8 @@ WAITS = until("never")
 
 
 def reset_signals(ignored: int | None = None) -> None:
-    """Lets this process ignore one signal at most. The process that runs the tests may ignore others, as nohup does,
-    and pass that on."""
+    """Makes this process ignore at most one signal. The process that runs the tests may ignore others, as under nohup, and children inherit
+    that."""
     for number in (signal.SIGHUP, signal.SIGINT, signal.SIGQUIT, signal.SIGTERM):
         signal.signal(number, signal.SIG_IGN if number == ignored else signal.SIG_DFL)
 
@@ -57,7 +58,7 @@ class StandIn:
         return os.environ | {"NETREV_LOGS": str(self.logs)}
 
     def start(self, *words: str, ignored: int | None = None) -> "subprocess.Popen[str]":
-        """Starts netrev-go, with a signal ignored as by nohup, if given."""
+        """Starts netrev-go, with a given signal ignored as under nohup."""
         return subprocess.Popen(
             self.words(*words), cwd=self.folder, env=self.environment(), text=True, stdin=subprocess.DEVNULL,
             stdout=subprocess.PIPE, stderr=subprocess.PIPE,

@@ -67,7 +67,7 @@ func TestEnds(t *testing.T) {
 )
 
 
-# prints what netrev-go keeps of the linked programs
+# prints what netrev-go stores of the linked programs
 LOOKS = """package p
 
 import (
@@ -129,7 +129,7 @@ class Tested(Tool):
                 self.assertEqual((status, self.made(how)), (1, ["p.TestEnds.jsonl"]), said)
 
     def same(self, *words: str) -> int:
-        """The status with which both Go and netrev-go end."""
+        """The exit status of both Go and netrev-go."""
         plainly = subprocess.run(
             ["go", "test", *words], cwd=self.folder, env=self.environment(), capture_output=True, check=False
         )

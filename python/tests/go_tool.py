@@ -1,5 +1,5 @@
-"""netrev-go with a real Go: programs of all sorts, and everything that can go wrong. It needs Go (Debian's
-golang-go, or one that netrev_go.fetching fetched, on the PATH) and netrev; `make real` runs it."""
+"""netrev-go with a real Go: programs of all kinds, and everything that can go wrong. It needs Go (Debian's golang-go, or one that
+netrev_go.fetching fetched, on the PATH) and netrev; `make real` runs it."""
 
 import dataclasses
 import json
@@ -48,7 +48,7 @@ def program(body: str, *imports: str) -> str:
 
 
 def begin_of_ring(text: bytes) -> int:
-    """The place where the points of a log begin, after its tables."""
+    """The offset at which a log's points begin, after its tables."""
     return Header(text).ring
 
 
@@ -77,7 +77,7 @@ RACING = program(
 )
 
 
-# a goroutine reads and prints that, in each of these ways; then its socket is closed
+# a goroutine reads, and prints the result, in each of these ways; then its socket is closed
 TELLS = (
     ("done := make(chan int)", "done <- 1", "<-done", ()),
     ("done := make(chan int, 1)", "done <- 1", "time.Sleep(5e6); <-done", ("time",)),
@@ -320,7 +320,7 @@ class Sentences(Tool):
         self.written(program("\t_ = a"))
         self.written("package main\n\nfunc main() {}\n", "none.go")
         python = str(pathlib.Path(sys.executable).parent)
-        # (Go 1.21 looks into its own cache first, which is in the same folder unless it is named)
+        # (Go 1.21 looks into its own cache first, which is in the same folder unless its variable is set)
         nowhere = {"XDG_CACHE_HOME": "/proc/none", "GOCACHE": str(self.folder / "go-build")}
         ways: tuple[tuple[tuple[str, ...], dict[str, str], str], ...] = (
             (("run", "none.go"), {}, "no socket was opened"),
@@ -342,7 +342,7 @@ class Sentences(Tool):
                 self.assertNotIn("Traceback", told)
 
     def tools(self) -> str:
-        """A folder with the tools that the launcher needs, but without Go."""
+        """A folder with the tools that the launcher needs, without Go."""
         folder = self.folder / "tools"
         folder.mkdir(exist_ok=True)
         for name in ("dirname", "readlink", "python3", "env", "sh"):
@@ -352,7 +352,7 @@ class Sentences(Tool):
         return str(folder)
 
     def fit(self, changes: dict[str, dict[str, str]]) -> tuple[int, list[str]]:
-        """The message about the installed Go after some texts in its files were changed."""
+        """The message about the installed Go after some texts in its files have been changed."""
         go = find_go()
         points = points_program(go, self.folder)
         for name in CHANGED:

@@ -1,4 +1,5 @@
-"""Runs the small programs of go_untouched.go with and without recording, and compares what they leave: output, status and files.
+"""Runs the small programs of go_untouched.go with and without recording, and compares the results:
+output, status and files.
 
     python3 python tests.go_untouched [RELEASE ..]    prints a line for each program, with these releases of Go or those that are here"""
 
@@ -22,10 +23,10 @@ from netrev_go.toolchain import Go, overlay, quiet_go
 
 SOURCE = Path(__file__).with_suffix(".go")
 NAMES = re.findall(r'^\t"([^"]+)": +(?:func\(\)|\w+,$)', SOURCE.read_text(), re.MULTILINE)
-OF_ROOT = ("another user", "another user works", "another root folder")  # only root may run these
+OF_ROOT = ("another user", "another user works", "another root folder")  # only root can run these
 DAEMONS = ("a daemon", "a daemon of a daemon")  # the test waits for the file that they leave
 INPUT = b"first, and the rest\n"
-PATIENCE = 300.0  # seconds; a program takes a twentieth of one on an idle machine
+PATIENCE = 300.0  # seconds; on an idle machine a program takes a twentieth of a second
 
 
 @dataclass
@@ -45,7 +46,7 @@ def go_of(release: str) -> Go:
 
 
 class Programs:
-    """The programs, built without the overlay of a Go and with it."""
+    """The programs, built without a Go's overlay and with it."""
 
     def __init__(self, go: Go, folder: Path) -> None:
         self._folder, self._runs = folder, 0
@@ -56,7 +57,7 @@ class Programs:
             assert run.returncode == 0, run.stderr
 
     def runs(self, name: str) -> tuple[Run, Run, Path]:
-        """A run without recording, one with it, and the folder of the latter's logs."""
+        """A run without recording, a run with it, and the folder of the second run's logs."""
         self._runs += 1
         logs = claim(Path(tempfile.mkdtemp(dir=self._folder)))
         settings = environment(logs, Limits(points=2**16))
@@ -89,7 +90,7 @@ def wait_for(file: Path) -> None:
 
 
 def files_below(folder: Path) -> dict[str, tuple[int, bytes]]:
-    """The files below a folder, by name; a link has the name to which it leads."""
+    """The files below a folder, by name; a link has the name of its target."""
     found = {}
     for path in sorted(folder.rglob("*")):
         mode = path.lstat().st_mode

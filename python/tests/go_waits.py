@@ -1,5 +1,5 @@
-"""Each kind of wait outside of the poller, and the uses of channels, in a program's NAME.where: with each installed
-release of Go (netrev_go.fetching), else with the `go` on the PATH. `make real` runs it."""
+"""Each kind of wait outside the poller, and the uses of channels, in a program's NAME.where: with each installed release of Go
+(netrev_go.fetching), or with the `go` on the PATH if there is none. `make real` runs it."""
 
 import os
 
@@ -98,7 +98,7 @@ BODY = """
 	b.Read(make([]byte, 1))"""
 PROGRAM = program(BODY, "context", "sync", "time").replace("\nfunc main", FUNCTIONS + "\nfunc main")
 
-# What each function waits for, the sort of the object, a channel's room, and the use there.
+# What each function waits for, the kind of the object, a channel's capacity, and its use there.
 WAITS: dict[str, tuple[str, list[tuple[str, int, str]]]] = {
     "receives": (where.A_VALUE, [("channel", 0, where.FOR_VALUE)]),
     "receivesOfMade": (where.A_VALUE, [("channel", 3, where.FOR_VALUE)]),
@@ -117,7 +117,7 @@ WAITS: dict[str, tuple[str, list[tuple[str, int, str]]]] = {
     "ticks": (where.A_VALUE, [("channel", 1, where.FOR_VALUE)]),
     "waitsAfter": (where.A_VALUE, [("channel", 1, where.FOR_VALUE)]),
 }
-TWICE = ("locks", "awaits", "waits", "receives")  # at one object each
+TWICE = ("locks", "awaits", "waits", "receives")  # with one object each
 
 
 class Waits(Tool):
@@ -209,7 +209,7 @@ class Waits(Tool):
             self.assertGreater(making.time, 0)
 
     def look_at_holders(self) -> None:
-        """The locks at the end: two that main locked, and one of two readers and a writer that waits for them."""
+        """The locks at the end: two that main has locked, and an RWMutex with one of two readers and a writer that waits for them."""
         found, held = self.parks(), self.lines.held
         assert held is not None
         (at,) = {park.objects[0].object for park in found["locks"]}

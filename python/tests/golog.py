@@ -1,4 +1,4 @@
-"""Writes the text of a log of the recorder whose program lies beside it:
+"""Writes a recorder's log as text; its program has to be beside it:
 
     python3 python tests.golog LOG"""
 

@@ -1,4 +1,4 @@
-"""A model of netrev within the test's process, with events."""
+"""A model of netrev in the test's process, with events."""
 
 from collections import deque
 from pathlib import Path
@@ -17,18 +17,18 @@ Happens = Callable[["Modelled"], None]
 
 
 def recording_at(path: Path) -> Recording:
-    """The recording in the form of the model's debugger."""
+    """The recording in the form that the model's debugger uses."""
     replayed = replay(path.read_bytes(), Observer())
     return recording_of(replayed.text.steps, replayed.worlds)
 
 
 def changes_at(path: Path) -> RecordedChanges:
-    """The changes of each step of the recording, by the model."""
+    """The changes of each step of the recording, according to the model."""
     return changes_in(path.read_bytes())
 
 
 def changes_in(recording: bytes) -> RecordedChanges:
-    """The changes of each step of the recording with this text, by the model."""
+    """The changes of each step of the recording with this text, according to the model."""
     lines, _ = changes(recording, Observer())
     return RecordedChanges.read(f"{line}\n".encode() for line in lines)
 

@@ -1,4 +1,4 @@
-"""A small tree with a page of each sort, over which the scripts that read pages are run."""
+"""A small tree with a page of each kind, on which the scripts that read pages are run."""
 
 import contextlib
 import importlib.util
@@ -201,7 +201,7 @@ TREE = {
 
 
 class SmallTree(unittest.TestCase):
-    """A test over the small tree, in a folder of its own, with one law and a program of another name."""
+    """A test on the small tree, in its own folder, with one law and a program of another name."""
 
     def setUp(self) -> None:
         self.top = Path(tempfile.mkdtemp())
@@ -224,7 +224,7 @@ class SmallTree(unittest.TestCase):
         file.write_text(text, encoding="utf-8")
 
     def run_over(self, *words: str) -> tuple[int, str]:
-        """Runs the script over the small tree: its status and output."""
+        """Runs the script on the small tree; returns its status and output."""
         with contextlib.redirect_stdout(io.StringIO()) as printed, contextlib.redirect_stderr(printed):
             try:
                 status = PAGES.main(["--root", str(self.top), *words])

@@ -1,4 +1,4 @@
-"""What is installed beside the programs: man pages, completions, and pip's command that looks for netrev."""
+"""What is installed together with the programs: man pages, completions, and pip's command that looks for netrev."""
 
 import os
 import shutil
@@ -87,7 +87,7 @@ class Launching(unittest.TestCase):
             path.chmod(0o755)
 
     def found(self, *folders: Path) -> object:
-        """The netrev that nrdb of pip finds on such a PATH."""
+        """The netrev that pip's nrdb finds with such a PATH."""
         with (
             mock.patch.object(built, "BUILT", self.folder / "none"),
             mock.patch.object(built, "INSTALLED", self.folder / "none"),

@@ -1,5 +1,5 @@
-"""Answers about a recording that begins in the middle of a run: they claim nothing about the time before, and name
-no goroutine for the steps that lead to its first state."""
+"""Answers about a recording that begins in the middle of a run: they claim nothing about the time before, and name no goroutine for the
+steps that lead to the first state."""
 
 import unittest
 from typing import Any
@@ -28,7 +28,7 @@ def begun(begins: int, steps: list[Any]) -> Recording:
 
 class Before(unittest.TestCase):
     def said(self, begins: int) -> str:
-        """The answer about a Read that waits at the end, if nobody has written."""
+        """The answer about a Read that waits at the end, if no goroutine has written."""
         recording = begun(begins, [*TWO_ENDS, *READS_ON])
         index = index_of(recording)
         (call,) = [one.call for one in waiters_at(index, recording.length).values() if one.call]

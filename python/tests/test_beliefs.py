@@ -1,5 +1,4 @@
-"""scripts/beliefs.py: the definitions that a law of the small tree rests on, their order, and those that aren't
-opened."""
+"""scripts/beliefs.py: the definitions that a law of the small tree rests on, their order, and the definitions that aren't followed."""
 
 import unittest
 from unittest import mock

@@ -1,4 +1,4 @@
-"""The tables of the benchmark: the contents of each row, and that a mean is the geometric one."""
+"""The tables of the benchmark: the contents of each row, and that means are geometric."""
 
 import unittest
 from collections.abc import Iterator
@@ -19,7 +19,7 @@ from netrev_bench.tables import (
 )
 
 TITLES = {"walk": "a walk, ms", "memory": "memory, MiB"}
-# what each program takes for a step
+# the time of each program for a step
 OF = {BEFORE: 0.008, NOW: 0.004, BASELINE: 0.001}
 
 
@@ -41,7 +41,7 @@ def measured(*programs: str, sizes: tuple[int, ...] = (1_000, 10_000)) -> Measur
 
 
 def rows(table: str) -> Iterator[list[str]]:
-    """The cells of a table without its rule."""
+    """The cells of a table, without the line below its head."""
     lines = table.splitlines()
     for line in [lines[0], *lines[2:]]:
         yield line.strip("| ").split(" | ")
@@ -86,7 +86,7 @@ def cases(*programs: str) -> Cases:
 
 
 def named(name: str, of: Cases) -> Cases:
-    """The cases with the figures of a walk alone, by another name of that."""
+    """The cases with only the figures of a walk, under another name."""
     return {case: {one: {name: figures["walk"]} for one, figures in all_of.items()} for case, all_of in of.items()}
 
 

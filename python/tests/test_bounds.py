@@ -1,4 +1,4 @@
-"""`scripts/bounds.py`: which numbers of a crate it changes, and into what."""
+"""`scripts/bounds.py`: which numbers of a crate it changes, and how."""
 
 from pathlib import Path
 

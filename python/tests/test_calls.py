@@ -1,5 +1,5 @@
-"""Calls instead of steps: the calls that nrdb finds in a recording are those that the goroutines of random traffic
-made, with the same steps and results; and the destinations of `next`, `finish` and their reverses."""
+"""Calls instead of steps: nrdb finds in a recording exactly the calls that the goroutines of random traffic made, with the same steps and
+results; and the destinations of `next`, `finish` and their reverses."""
 
 import random
 import unittest
@@ -21,7 +21,7 @@ MODES = {"r": "SetReadDeadline", "w": "SetWriteDeadline", "rw": "SetDeadline"}
 
 
 class Made(NamedTuple):
-    """A call as the traffic makes it; its last step is 0 if it hasn't ended."""
+    """A call that the traffic makes; its last step is 0 if it hasn't ended."""
 
     goroutine: int
     name: str
@@ -82,8 +82,8 @@ class Calls(unittest.TestCase):
         assert one is not None, made
         found = seen(one)
         if found.name == "Control" and (found.outcome is Outcome.CLOSED or not found.last):
-            found = found._replace(name=made.name)  # (a call shows that it is about a deadline only when it sets one)
-        if not made.last:  # (it hasn't ended, or its last step is made, and its goroutine had no turn since)
+            found = found._replace(name=made.name)  # (only a call that sets a deadline shows that it is about one)
+        if not made.last:  # (it hasn't ended, or its last step was made but its goroutine has had no turn since)
             made = made._replace(last=found.last, outcome=found.outcome)
         self.assertEqual(found, made)
 
@@ -182,7 +182,7 @@ class Going(unittest.TestCase):
         for made in own:
             self.assertEqual(GOALS["next"](recording, made.goroutine, made.first - 1).position, made.last)
             self.assertEqual(GOALS["reverse-next"](recording, made.goroutine, made.last).position, made.first - 1)
-            if made.last > made.first:  # within the call it goes by the goroutine's own steps
+            if made.last > made.first:  # within the call, the goroutine's own steps count
                 goal = GOALS["next"](recording, made.goroutine, made.first)
                 self.assertEqual(goal.call, None)
                 own_steps = [

@@ -1,4 +1,4 @@
-"""The rules of causes at their boundaries: a row for each side of one, over a few lines of source and made-up calls and waits."""
+"""The rules of causes at their boundaries: a row for each side of a boundary, with a few lines of source and made-up calls and waits."""
 
 from types import SimpleNamespace as Made
 from typing import Any, cast
@@ -22,7 +22,7 @@ def line_of(number: int, function: str = "main.serve", file: str = "a.go", of: s
 
 
 def stacks(*calls: Call) -> Any:
-    """A recording each of whose steps has these calls of the program."""
+    """A recording in which each step has these calls of the program."""
     return Made(lines=Made(of=lambda step: Made(own=lambda: list(calls), calls=list(calls))))
 
 

@@ -1,6 +1,5 @@
-"""The first output for programs that failed, in recordings of tools/go/samples/causes and oversights
-(tests.go_caused made them): it has the line of the bug. And the rules about calls: each finds its bug, and not a
-similar correct program."""
+"""The first output for programs that failed, in recordings of tools/go/samples/causes and oversights (made by tests.go_caused): it has the
+line of the bug. And the rules about calls: each finds its bug, and not a similar correct program."""
 
 import contextlib
 import json
@@ -43,7 +42,7 @@ READS_ON: Steps = [*WAITS, ["blockarm", 1], ["blockcheck", 1], ["parkcommit", 1]
 
 
 def writes(g: int) -> Steps:
-    """A goroutine fills the output of the socket of its number, and parks for more room."""
+    """A goroutine fills the output of the socket with its own number, and parks for room."""
     put = [["rwlock", g, g, "w"], ["pollreset", g, g, "w"], ["syswrite", g, g, FILLS], ["syswrite", g, g, "00"]]
     return [*put, ["waitbegin", g, g, "w"], ["blockarm", g], ["blockcheck", g], ["parkcommit", g]]
 
@@ -119,8 +118,7 @@ PAIRS = {
 
 
 def with_lines(steps: Steps, of: str = "program") -> Recording:
-    """A recording of these steps, whose lines are all of one call, and whose sockets 0 and 1 are the ends of one
-    connection."""
+    """A recording of these steps, with the lines of a single call, and with sockets 0 and 1 as the ends of one connection."""
     recording = recording_of(steps)
     told: list[Any] = [
         {"where": 1, "steps": len(steps)},
@@ -272,8 +270,8 @@ class Rules(unittest.TestCase):
                 ["peerclose", 2],
                 *TAKES,
                 *TICKS,
-            ],  # (what it read last isn't written)
-            [*RELAYS, *TICKS[:-1]],  # (it may close yet)
+            ],  # (its last line isn't passed on)
+            [*RELAYS, *TICKS[:-1]],  # (it may still close)
             [*RELAYS, *PUTS, *TICKS],
         ):
             self.assertNotIn("end not passed on", rules_of(with_lines(steps)))

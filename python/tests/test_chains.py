@@ -1,6 +1,6 @@
-"""Resources that were left open, locked or unflushed, in recordings of tools/go/samples/chains (tests.go_caused
-made them): the first cause names the line with the reason, and no cause of the good run does. And the rules'
-exceptions, by pieces of source."""
+"""Resources that were left open, locked or unflushed, in recordings of tools/go/samples/chains (made by tests.go_caused): the
+first cause names the line with the reason, and no cause of the good run does. And exceptions from the rules, with pieces of
+source."""
 
 import re
 from pathlib import Path
@@ -24,7 +24,8 @@ from tests.go_caused import CHAINS, NAMES, bug_line
 from tests.test_causes import TWO_ENDS, in_the_folder_of_the_source, with_lines
 from tests.test_needs import stored, use
 
-# Of each program what the first cause says, with {bug} for the line of the bug, and the reason, which no good run has.
+# For each program, the text of the first cause, with {bug} for the line of the bug, and the reason, which no good run
+# has.
 SAYS = {
     "probed": ("Perhaps it was left open on this way: {bug} returns without a Close.", "is still open"),
     "looped": ("It is closed only as pollAll returns: the defer at {bug} is in a loop.", "is still open"),
@@ -50,7 +51,7 @@ SAYS = {
 
 
 def causes_of(recording: Recording) -> list[str]:
-    """The causes of a recording of one of the programs, each with its tree."""
+    """The causes in a recording of one of the programs, each with its tree."""
     recording.lines.written = float("inf")
     with in_the_folder_of_the_source(CHAINS):
         return "\n".join(first_words(recording, "chains")).split("\ncause:")

@@ -1,4 +1,4 @@
-"""Completions at the prompt, and the commands that other debuggers' words stand for."""
+"""Completions at the prompt, and the commands for which other debuggers' words stand."""
 
 import unittest
 
@@ -8,7 +8,7 @@ from nrdb.prompt.completion import candidates
 
 
 def numbers(of: Of) -> list[str]:
-    """The numbers in use, different for each sort."""
+    """The numbers in use, different for each kind."""
     return [{Of.GOROUTINE: "87", Of.SOCKET: "4", Of.DESCRIPTOR: "11"}[of]]
 
 

@@ -1,5 +1,5 @@
-"""`condition`: a mark stops only if a cell has a value, in either direction, for netrev's marks and for breaks at
-places of the program, with a modelled netrev."""
+"""`condition`: a mark stops only if a cell has a certain value, in either direction, for netrev's marks and for breaks at places of the
+program, with a model of netrev."""
 
 from pathlib import Path
 
@@ -28,7 +28,7 @@ def value_at(prompt: Prompt, position: int) -> str:
 
 
 def stops(prompt: Prompt, line: str) -> list[int]:
-    """The positions at which the session stops by one move after the other, up to an end of the recording."""
+    """The positions at which the session stops with one move after another, until an end of the recording."""
     found = []
     while not prompt(line).splitlines()[0].endswith((" end", " start")):
         found.append(prompt.session.stood)

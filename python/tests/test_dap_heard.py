@@ -1,5 +1,4 @@
-"""An editor's messages while a request is worked on: a pause, a cancel and a disconnect stop any work within half a
-second."""
+"""An editor's messages during work on a request: a pause, a cancel and a disconnect stop any work within half a second."""
 
 import io
 import json
@@ -38,7 +37,7 @@ def framed(number: int, command: str, **arguments: Any) -> bytes:
 
 
 def busy(_: Interrupts) -> None:
-    """Work that never checks whether it is stopped."""
+    """Work that never checks whether it should stop."""
     while True:
         sum(range(100))
 
@@ -51,7 +50,7 @@ def polled(interrupts: Interrupts) -> None:
 
 
 def rules(interrupts: Interrupts) -> None:
-    """Work that asks netrev nothing, as the rules of the filters do."""
+    """Work without queries to netrev, like that of the filters' rules."""
     with interrupts.at_once():
         busy(interrupts)
 
@@ -76,21 +75,20 @@ class Heard(unittest.TestCase):
         self.interrupts = Interrupts()
 
     def go(self) -> None:
-        """The editor goes."""
+        """Ends the editor's connection."""
         if self.says >= 0:
             os.close(self.says)
         self.says = -1
 
     def asked(self, *messages: bytes) -> Request:
-        """Sends these requests; the first one."""
+        """Sends these requests, and returns the first one."""
         os.write(self.says, b"".join(messages))
         request = self.hearing.request()
         assert request is not None
         return request
 
     def stopped(self, request: Request, work: Callable[[Interrupts], None], heard: bytes, by: type[Exception]) -> None:
-        """The work on a request is soon stopped by a message: within so much processor time, whatever else the
-        machine does."""
+        """Checks that a message soon stops the work on a request: within this much processor time, whatever else the machine does."""
         said: list[float] = []
 
         def says() -> None:
@@ -125,7 +123,7 @@ class Heard(unittest.TestCase):
             paused = self.hearing.request()
             assert paused is not None
             with self.hearing.work(paused, self.interrupts):
-                self.interrupts.check()  # it has been done, and stops nothing more
+                self.interrupts.check()  # it was handled already, and stops nothing more
         names: tuple[tuple[int, dict[str, Any]], ...] = ((20, {"requestId": 20}), (21, {"progressId": "netrev-21"}))
         for number, named in names:
             request = self.asked(framed(number, "variables"))
@@ -171,7 +169,7 @@ class Heard(unittest.TestCase):
 
     def test_what_was_heard_is_gone_when_its_turn_has_come(self) -> None:
         for number, command in enumerate(("terminate", "pause", "cancel"), 1):
-            self.asked(framed(number, command, requestId=10 + number))  # (it may be refused, and never worked on)
+            self.asked(framed(number, command, requestId=10 + number))  # (it may be refused, and then isn't worked on)
             request = self.asked(framed(10 + number, "continue"))
             self.assertFalse(self.hearing.ends(request), command)
             with self.hearing.work(request, self.interrupts):
@@ -186,7 +184,7 @@ class Heard(unittest.TestCase):
         self.assertRaises(Malformed, self.hearing.request)
 
     def test_of_what_waits_so_much_is_held(self) -> None:
-        """A sender that sends on and on is read again when there is room."""
+        """A sender that doesn't stop is read again when there is room."""
         message = framed(1, "evaluate", expression="x" * 1_000)
         with patch.object(hearing, "MOST_HELD", 3_000):
             sending = Thread(target=self.sends, args=[message * 1_000], daemon=True)
@@ -216,8 +214,8 @@ def messages_in(data: bytes) -> list[dict[str, Any]]:
 
 
 def told_of_work(command: str, shows: bool, told: int, refuses: bool = False) -> list[dict[str, Any]]:
-    """The messages to an editor about work on a request, which is done after this many messages; `shows` is whether it
-    shows progress."""
+    """The messages to an editor about work on a request, which is done after this many messages; `shows` is whether the editor shows
+    progress."""
     written = io.BytesIO()
     with patch.object(working, "LATE", 0.05 if told else 60), patch.object(working, "AGAIN", 0.05):
         work = Work(Wire(io.BytesIO(), written), Request(7, command), shows)
@@ -271,7 +269,7 @@ class Pieces(unittest.TestCase):
         return Moves(debuggee, marks, Filters(debuggee.recording), lines, logpoints, self.interrupts), marks, debuggee
 
     def stops(self, piece: int) -> list[tuple[Stop, int]]:
-        """The positions to which moves both ways lead, with netrev going through this many steps at once."""
+        """The positions to which moves in both directions lead if netrev makes this many steps at once."""
         with patch.object(moving, "PIECE", piece):
             moves, marks, debuggee = self.moves()
             wishes = [wish_of("pollreset", {"condition": "gor 2 idle"}), wish_of("rwlock", {"hitCondition": "% 3"})]

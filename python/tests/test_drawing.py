@@ -1,5 +1,5 @@
-"""The picture as SVG and the diagram of `report`: each call and each step occurs once, the story's steps are
-numbered, and text from outside stays text."""
+"""The picture as SVG and the diagram of `report`: each call and each step occurs once, the steps of the story are numbered, and text from
+outside is escaped."""
 
 import re
 import unittest

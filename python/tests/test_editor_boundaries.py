@@ -1,4 +1,4 @@
-"""What the adapter for editors answers at the boundaries of its requests: a row for each side of one."""
+"""The answers of the adapter for editors at the boundaries of its requests: a row for each side of a boundary."""
 
 import base64
 from types import SimpleNamespace as Made
@@ -15,7 +15,7 @@ from nrdb.shapes import Move
 
 
 class Asked:
-    """A netrev whose buffer `in 2` has four bytes, `out 2` none, and that has no other."""
+    """A netrev whose buffer `in 2` has four bytes, whose `out 2` is empty, and which has no other buffers."""
 
     def looks(self, lines: list[str]) -> list[str]:
         return [{"dump in 2": "00112233", "dump out 2": "-"}.get(line, "absent") for line in lines]

@@ -9,7 +9,7 @@ from pathlib import Path
 
 from tests.examples import ALL, EXAMPLES, KNOWN, REFUSED
 
-SHARED = "shared"  # commands of two people, which examples/shared.sh plays
+SHARED = "shared"  # the commands of two people, which examples/shared.sh runs
 
 
 def there(*patterns: str) -> list[str]:
@@ -20,7 +20,7 @@ def there(*patterns: str) -> list[str]:
 
 class Examples(unittest.TestCase):
     def test_the_list_has_each_recording_once(self) -> None:
-        races = there("races/*.jsonl")  # (which have a list of their own)
+        races = there("races/*.jsonl")  # (they have their own list)
         self.assertEqual(sorted([*(example.name for example in ALL), *races]), there("**/*.jsonl"))
         self.assertEqual(set(KNOWN) & set(REFUSED), set())
 

@@ -1,5 +1,5 @@
-"""Exploring without netrev: a script without delays gives the recording again, step by step; a race that a good run
-doesn't show is found, and nothing in a correct program; and the text about findings."""
+"""Exploring without netrev: a schedule without delays repeats the recording step by step; a race that doesn't occur in a good run is found,
+and nothing in a correct program; and the text about findings."""
 
 import json
 import unittest
@@ -35,13 +35,13 @@ from tests.test_suspects import COMES, LOOKS, OPEN, PARK, READ, recording_of
 EXAMPLES = Path(__file__).resolve().parents[2] / "examples"
 REFUSED = ("other-answer", "early-arrival")  # netrev rejects these, so they aren't runs of the machine
 ENDS = [["rwunlock", 1, 0, "r"]]
-# a read is ended by a deadline in the past, which is taken back when the read has ended
+# a deadline in the past ends a read, and is removed when the read has ended
 SETS = [["incref", 0, 0], ["setdeadline", 0, 0, "r", -1], ["decref", 0, 0]]
 TAKES_BACK = [["incref", 0, 0], ["setdeadline", 0, 0, "r", 0], ["decref", 0, 0]]
 GOOD = OPEN + READ + PARK + SETS + LOOKS + ENDS + TAKES_BACK
 SEEDS = [19, 20, 24, 26, 33]  # the seeds among the first forty that find it
 NOBODYS = ("spawn", "sockopen", "arrive", "drain", "peerclose", "pollevent", "tick", "pop", "fire")
-TRAFFIC, LENGTH = range(720, 724), 800  # seeds of good runs, and how long they are
+TRAFFIC, LENGTH = range(720, 724), 800  # seeds of good runs, and their length
 HEALTHY = ("answers", "first", "temporary-break", "shut-write-side", "real/half", "real/leak")
 
 
@@ -52,7 +52,7 @@ def examples() -> list[Path]:
 
 
 def answered(path: Path) -> Recording:
-    """A recording of a file with the model's answers."""
+    """The recording of a file, with the model's answers."""
     return with_answers(Recording.read(str(path)))
 
 

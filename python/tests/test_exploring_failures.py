@@ -1,5 +1,5 @@
-"""Calls that succeeded in the recording and fail in another schedule: each sort is found, and none in a similar
-correct program; and the good runs of programs of tools/go/samples/causes that show their bugs."""
+"""Calls that succeed in the recording and fail in another schedule: each kind is found, and none in a similar correct program; and the good
+runs of programs in tools/go/samples/causes that show their bugs."""
 
 import unittest
 from pathlib import Path
@@ -21,7 +21,7 @@ from tests.test_suspects import OPEN, Steps, recording_of
 
 CAUSED = Path(__file__).parent / "caused"
 SCHEDULES = 300
-# the good runs in which a failure is found, and the place
+# the good runs in which a failure is found, and its place
 FOUND = {
     "once": {"main.go:46 bufio.(*Scanner).Scan", "main.go:48 fmt.Fprintln"},
     "pool": {"main.go:55 bufio.(*Reader).ReadString"},
@@ -38,7 +38,7 @@ CLOSES: Steps = [["increfclose", 0, 0], ["evict", 0, 0], ["decref", 0, 0], ["pol
 
 
 class Sort(NamedTuple):
-    """A good run in which a call may fail, and why; and a similar one in which none can."""
+    """A good run in which a call may fail, and why; and a similar run in which none can."""
 
     why: Why
     good: Steps
@@ -110,7 +110,7 @@ class Failures(unittest.TestCase):
                     self.ends_with_its_call(finding)
 
     def ends_with_its_call(self, finding: Finding) -> None:
-        """After the failure its goroutine gives up the lock, and no step follows."""
+        """After the failure, the goroutine releases the lock, and no step follows."""
         failed = finding.played.failed
         assert failed
         behind = [made.step for made in finding.played.steps[failed.step :] if made.step[0] not in NOBODYS]

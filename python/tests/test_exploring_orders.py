@@ -1,5 +1,5 @@
-"""Each schedule keeps the program's orders, and what the network may answer; calls that hang are those whose
-deadline was set; and a deadline that nobody sees pass in the recording can pass."""
+"""Each schedule respects the program's orders, and what the network may answer; the calls that hang are those whose deadline was set; and a
+deadline that no goroutine sees pass in the recording may pass."""
 
 import unittest
 from itertools import islice
@@ -20,7 +20,7 @@ from tests.test_exploring import EXAMPLES, GOOD, answered, explored
 from tests.test_suspects import OPEN, recording_of
 
 Pairs = list[tuple[int, int]]
-BEGUN, ENDED, SET, TAKES_BACK = 4, 16, 11, 17  # steps of GOOD: the read's first and last, and both calls' first
+BEGUN, ENDED, SET, TAKES_BACK = 4, 16, 11, 17  # steps of GOOD: the read's first and last, the other calls' first
 RACES = sorted((EXAMPLES / "races").glob("*.jsonl"))
 TAKEN = {"deadline taken back too soon", HANG}
 SORTS: dict[str, set[str]] = {
@@ -43,7 +43,7 @@ LATE += [["rwlock", 1, 0, "w"], ["pollreset", 1, 0, "w"], ["syswrite", 1, 0, "00
 
 
 def script_with(orders: Optional[Pairs]) -> Script:
-    """The script of a read that a deadline ends, in a program that puts steps in these orders."""
+    """The script of a read that a deadline ends, in a program that enforces these orders."""
     recording = recording_of(GOOD)
     recording.lines.orders = orders
     return script_of(recording)
@@ -103,7 +103,7 @@ class Planted(unittest.TestCase):
 
 
 def broken(script: Script, delay: Delay, orders: Pairs) -> Pairs:
-    """The orders that a schedule violates: the second step is before the first, or without it."""
+    """The orders that a schedule violates: the second step comes before the first, or without it."""
     player = Player(script, (delay,))
     player.end(2_000)
     at = {made.number: at for at, made in enumerate(player.steps) if made.number}

@@ -1,5 +1,5 @@
-"""The optimizations of exploring change nothing: the findings are those of running each schedule from its first
-step to its last, each step by the model, with all waiting actors checking at each turn."""
+"""The optimizations of exploring change nothing: the findings are the same as when each schedule runs from its first step to its last, the
+model makes each step, and all waiting actors check at each turn."""
 
 import unittest
 from pathlib import Path
@@ -24,8 +24,8 @@ from tests.test_exploring import EXAMPLES, answered, with_answers
 pytestmark = pytest.mark.long
 REAL = sorted((EXAMPLES / "real").glob("*.jsonl"))
 RACES = sorted((EXAMPLES / "races").glob("*.jsonl"))
-MOST, AT_ONCE = 200, 9  # schedules, of which every nth is played
-TRAFFIC, LENGTH = (720, 726), 400  # seeds, and how long those are
+MOST, AT_ONCE = 200, 9  # schedules, every nth of which is run
+TRAFFIC, LENGTH = (720, 726), 400  # seeds, and the length of their recordings
 
 
 class PlainBoard(Board):
@@ -64,7 +64,7 @@ class PlainExploring(Exploring):
 
 
 def outcome(exploring: Exploring, schedule: Schedule) -> Any:
-    """The result of a schedule: its findings, and its run, None if the run is left."""
+    """The result of a schedule: its findings and its run, or None if the run is given up."""
     keys = exploring.play(schedule)
     try:
         return keys, exploring.ends_of(schedule.delays)

@@ -1,4 +1,4 @@
-"""Several processes find what one finds, and after Ctrl-C their findings are kept."""
+"""Several processes have the same findings as one, and after Ctrl-C their findings are kept."""
 
 import pickle
 import sys
@@ -26,7 +26,7 @@ class Workers(unittest.TestCase):
         self.script = script_of(self.recording)
 
     def played(self, count: int, tell: Any = lambda: None) -> Exploring:
-        """This many schedules, by this many processes."""
+        """This many schedules, run by this many processes."""
         exploring = Exploring(self.script, self.recording.lines.words)
         with patch.object(workers, "WORTH_IT", 0):
             play_all(exploring, Share(self.script, self.recording.lines, MOST, 0, count), tell)

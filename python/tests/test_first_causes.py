@@ -31,7 +31,7 @@ class ByNetrev(unittest.TestCase):
         self.says(f'test "$1" = changes && cat {self.changes}')
 
     def says(self, script: str) -> None:
-        """The behaviour of the stand-in for netrev."""
+        """Sets the behaviour of the stand-in for netrev."""
         self.netrev.write_text(f"#!/bin/sh\n{script}\n")
         self.netrev.chmod(0o700)
 

@@ -1,5 +1,4 @@
-"""The table of Go's control flow, compared with the machine: in random recordings each step has the consequence in
-its row."""
+"""The table of Go's control flow, compared with the machine: in random recordings, each step has the consequence that its row names."""
 
 import random
 from typing import Iterator
@@ -12,7 +11,7 @@ from netrev_machine.steps import apply
 from netrev_words.recording import Answer, Step
 from netrev_words.vocabulary import KINDS, OF_A_GOROUTINE
 
-NOT_THERE = 2  # the reason: the goroutine isn't at that place
+NOT_THERE = 2  # the number of the reason: the goroutine isn't at that place
 BEHIND = {  # the statuses that a goroutine may have after a step, by its answer
     Came.OVER: ("idle", "owing", "gone"),
     Came.FAILS: ("idle",),

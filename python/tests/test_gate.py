@@ -1,4 +1,4 @@
-"""The gate after `rt ci`: each failed test is counted, and each skipped one is named and hasn't passed."""
+"""The gate after `rt ci`: each failed test is counted, and each skipped one is named and doesn't count as passed."""
 
 import os
 import shutil
@@ -75,7 +75,7 @@ class Tests(unittest.TestCase):
         (self.top / "python/tests/test_few.py").write_text(TESTS)
 
     def played(self, **settings: str) -> tuple[int, str, str]:
-        """The status, the output, and the skipped tests."""
+        """Runs the script; returns the status, the output, and the skipped tests."""
         built = {"NETREV": "/bin/true", "NETREV_PLAIN": "/bin/true", "NR_REFUSED": "/bin/true", "JOBS": "2"}
         ran = subprocess.run(
             ["sh", "-c", 'trap "" INT; exec sh scripts/tests.sh'],

@@ -1,4 +1,4 @@
-"""A killed netrev: no recording is reported as rejected without having been checked."""
+"""If netrev is killed, no recording is reported as rejected, because none was checked."""
 
 import pathlib
 import unittest

@@ -1,4 +1,4 @@
-"""Go's points become the steps that they stand for, in made-up logs of a few points each. No program is needed."""
+"""Go's points become the steps that they represent, in made-up logs of a few points each. No program is needed."""
 
 import json
 import unittest
@@ -37,7 +37,7 @@ class Points:
         return [json.loads(str(line)) for line in self.made().lines]
 
 
-# a point after the opening of a socket, and the steps that it becomes
+# a point after the opening of a socket, and the steps for it
 LOGGED: tuple[tuple[Kind, tuple[int, ...], list[list[object]]], ...] = (
     (Kind.READ, (8, 2, 0), [["arrive", 0, "0000", "done"], ["sysread", 0, 0, 8, ["got", 2]]]),
     (Kind.READ, (8, 0, 1), [["sysread", 0, 0, 8, "again"]]),
@@ -67,7 +67,8 @@ AT_THE_DESCRIPTOR: tuple[tuple[Kind, tuple[int, ...], list[object]], ...] = (
     (Kind.WAIT_CHECK, (114, 1), ["waitcheck", 0, ["code", 1]]),
     (Kind.EVENT, (114 + 119, 1), ["pollevent", 0, 1, "rw", 1, "done"]),
 )
-# the kind, the lock word before and after, two bits (1: for reading, 2: Go's function returned true), and the recorded answer
+# the kind, the lock word before and after, two bits (1: for reading, 2: Go's function returned true), and the recorded
+# answer
 RETURNED = (
     (Kind.INCREF, 0, 8, 2, "yes"),
     (Kind.INCREF, 1, 1, 0, "no"),
@@ -143,7 +144,7 @@ class Answering(unittest.TestCase):
 
 
 class Ordinary(unittest.TestCase):
-    """What ordinary programs do."""
+    """The actions of ordinary programs."""
 
     def test_a_write_of_more_than_a_page_goes_through(self) -> None:
         log = Points().opened().add(Kind.WRITE, 1, WORD, 5000, 5000, 0).add(Kind.WRITE, 1, WORD, 200_000, 200_000, 0)

@@ -12,7 +12,8 @@ from netrev_go.costs import CONNECTIONS, SERVED, Served, tell_served
 
 from .folders import folder_of
 
-# Without a log, with the trace, with the other one, and with a log: nanoseconds and bytes of a request. The log is beside the program's name.
+# Without a log, with runtime/trace, with the FlightRecorder, and with a log: nanoseconds and bytes of a request. The
+# log is beside the program.
 SERVER = """#!/bin/sh
 [ -z "${NETREV_LOG-}" ] || cp "$0.log" "$NETREV_LOG.7"
 [ -z "${NETREV_LOG-}" ] || : > "$NETREV_LOG.program.1.2"

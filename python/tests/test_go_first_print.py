@@ -1,5 +1,5 @@
-"""netrev-go's first output for a program that failed: why calls failed and hang, before netrev has checked the
-recording and long before the suspects are known."""
+"""netrev-go's first output for a program that failed: why calls failed or hang, before netrev has checked the recording and long before the
+suspects are known."""
 
 import pathlib
 from unittest import mock
@@ -35,7 +35,7 @@ class FirstPrint(Run):
         (self.folder / "heard").touch()
 
     def first(self, ends: type[BaseException]) -> int:
-        """netrev-go's status, with suspects that end so."""
+        """netrev-go's status if the suspects end in this way."""
         seen = list[int]()
 
         def suspects(netrev: str, recording: pathlib.Path) -> list[str]:

@@ -1,5 +1,5 @@
-"""All goroutines of a log, as NAME.where has them and nrdb reads them: made-up logs of a few points, and of a
-hundred thousand goroutines. No program is needed."""
+"""All goroutines of a log, as written to NAME.where and read by nrdb: made-up logs of a few points, and of a hundred thousand goroutines.
+No program is needed."""
 
 import json
 import pathlib
@@ -54,7 +54,7 @@ class Points:
 
 
 def cases(*uses: int) -> int:
-    """The value in a select's point for the uses of its channels."""
+    """The value in a select's point that encodes the uses of its channels."""
     return SELECT | sum(use << 8 + 2 * place for place, use in enumerate(uses))
 
 
@@ -64,7 +64,7 @@ class Found(unittest.TestCase):
         self.assertEqual(points.found().parks, [Park(7, 1, 2, 3_000, 15_000, SLEEP, 4, 0, ())])
 
     def test_until_when_it_sleeps(self) -> None:
-        for due, known in ((90_000, 90_000), (2_000, 0)):  # (in a bubble of synctest the clock is another)
+        for due, known in ((90_000, 90_000), (2_000, 0)):  # (a synctest bubble has another clock)
             points = Points().at(3).add(Kind.PARKS, 7, 0, SLEEP, due)
             self.assertEqual(points.found().parks[0].due, known)
 
@@ -97,7 +97,7 @@ class Found(unittest.TestCase):
         self.assertEqual((found.born, found.ended), ({7: Born(1, 1, 3_000)}, {7: (2, 15_000)}))
 
     def uses(self, points: Points, address: int = CHANNEL) -> dict[tuple[int, str, int], int]:
-        """How often goroutines did something at the channel, by goroutine, what, and stack."""
+        """How often goroutines acted at the channel, by goroutine, action, and stack."""
         found = points.found().uses
         self.assertLessEqual({use.address for use in found}, {address})
         return {(use.goroutine, use.what, use.stack): span.often for use, span in found.items()}
@@ -163,14 +163,14 @@ OF_GO = Call("net/http.(*persistConn).readLoop", "net/http/transport.go", 9, "go
 
 
 def of_sync(*names: str) -> Calls:
-    """A stack with these functions of package sync, from the innermost, that the program calls."""
+    """A stack with these functions of package sync, from the innermost, called by the program."""
     return Calls((*(Call(name, "sync/x.go", 3, "go") for name in names), PROGRAM), None)
 
 
 def written(
     found: Goroutines, calls: dict[int, Calls], numbers: Optional[dict[int, int]] = None, most: int = MOST
 ) -> Lines:
-    """nrdb's reading of the file for a recording of three steps."""
+    """The file for a recording of three steps, as nrdb reads it."""
     with tempfile.TemporaryDirectory() as folder:
         path = pathlib.Path(folder, "x.where")
         numbers = numbers or {}
@@ -233,7 +233,7 @@ class Written(unittest.TestCase):
         self.assertEqual(list(written(points.found(), {}).parks), [11, 12, 13, 14, 15])
 
     def test_a_lock_is_known_by_the_reason_or_by_the_stack(self) -> None:
-        lock = 800  # of an RWMutex, and so of its mutex
+        lock = 800  # of an RWMutex, and thus of its mutex
         stacks = {
             1: of_sync("sync.(*Mutex).lockSlow", "sync.(*Mutex).Lock"), 2: of_sync("sync.(*RWMutex).RLock"),
             3: of_sync("internal/sync.(*Mutex).lockSlow", "sync.(*RWMutex).Lock"), 4: of_sync("sync.(*RWMutex).Lock"),
@@ -244,7 +244,7 @@ class Written(unittest.TestCase):
             3: (MUTEX, lock + 4, where.A_WRITE_LOCK), 4: (WRITE_LOCK, lock + 8, where.A_WRITE_LOCK),
             5: (WAIT_GROUP, 908, where.A_WAIT_GROUP), 6: (SEMAPHORE, 1_000, where.A_SEMAPHORE),
         }  # fmt: skip
-        for is_known in (True, False):  # by the reason, as since Go 1.20; and by the stack alone
+        for is_known in (True, False):  # by the reason, as since Go 1.20; and only by the stack
             points = Points()
             for stack, (what, address, _) in wanted.items():
                 points.add(Kind.PARKS, 10 + stack, address, what if is_known else SEMAPHORE, stack=stack)
@@ -302,7 +302,7 @@ class Limits(unittest.TestCase):
         self.assertEqual(read.left_out, [LeftOut(where.A_VALUE, 0, 0, 48)])
 
     def test_a_program_of_a_hundred_thousand_goroutines_has_room(self) -> None:
-        """All wait at a channel of their own to the end, some have slept before, and one more has steps."""
+        """Each waits at its own channel to the end, some have slept before, and one more has steps."""
         count, sleepers = 100_000, 1_000
         points = list(opened(1))
         for goid in range(10, count + 10):

@@ -1,4 +1,4 @@
-"""netrev-go's help, that of each command, and its usage errors."""
+"""netrev-go's help, the help of each command, and usage errors."""
 
 import pytest
 from netrev_go import cli

@@ -1,5 +1,5 @@
-"""The mutexes that are locked at a log's end: the table of a made-up log, its steps and lines, and nrdb's reading
-of these. No program is needed."""
+"""The mutexes that are locked when a log ends: the table of a made-up log, its steps and lines, and these as nrdb reads them. No program is
+needed."""
 
 import json
 import struct
@@ -24,7 +24,7 @@ PLACE_OF_ROWS, PLACE_OF_KNOWN = 12 * 8, 14 * 8  # in a log's header
 
 
 def log_of(rows: Optional[Sequence[HolderRow]], lost: int = 0) -> Log:
-    """A log of a socket, with such a table of locked mutexes."""
+    """A log of a socket, with this table of locked mutexes."""
     return read(binary(opened(1), {3: Stack(0, 0, (700,))}, holders=rows, holders_lost=lost))
 
 
@@ -43,7 +43,7 @@ class Table(unittest.TestCase):
         self.assertEqual([stack.calls for number, stack in log.stacks.items() if number != 3], [calls])
 
     def test_of_two_rows_of_a_mutex_the_later_counts(self) -> None:
-        """The memory of a mutex that was left locked may be another's since."""
+        """The memory of a mutex that was left locked may have been reused."""
         for passed, holder in (((5, 9), 8), ((9, 5), 7)):
             rows = [HolderRow(LOCK, goid, False, at) for goid, at in zip((7, 8), passed)]
             self.assertEqual([one.goroutine for one in log_of(rows).holders or ()], [holder])
@@ -125,7 +125,7 @@ class Steps(unittest.TestCase):
 
 class Written(unittest.TestCase):
     def waits(self, what: int, address: int, stack: int = 4) -> Goroutines:
-        """A goroutine that waits for a mutex, by the address of its semaphore."""
+        """A goroutine that waits for a mutex, given the address of the mutex's semaphore."""
         return Points().at(3).add(Kind.PARKS, 9, address, what, stack=stack).found()
 
     def test_nrdb_reads_which_mutexes_are_held(self) -> None:

@@ -1,5 +1,5 @@
-"""A run is never lost. A stand-in for Go leaves a stored log, does what a test wants, and ends with a status.
-Neither Go nor netrev is needed."""
+"""A run is never lost. A stand-in for Go leaves a stored log, does what a test requests, and ends with a status. Neither Go nor netrev is
+needed."""
 
 import contextlib
 import io
@@ -78,7 +78,7 @@ class Run(unittest.TestCase):
         return returned, said.getvalue()
 
     def again(self, said: str) -> str:
-        """The result of the logs that are kept, by the command that is printed for it."""
+        """The result of converting the logs that were kept, with the command that was printed for that."""
         kept, logs = KEPT.search(said), AGAIN.search(said)
         assert kept and logs, said
         self.addCleanup(shutil.rmtree, kept[1])
@@ -225,7 +225,7 @@ class Lost(Run):
 
 
 def failing(write: Callable[[Any, str], int]) -> Any:
-    """A file whose writes fail after the first."""
+    """A file in which every write after the first fails."""
 
     @contextlib.contextmanager
     def opened(path: pathlib.Path, mode: str = "w") -> Any:
@@ -250,7 +250,7 @@ class Statuses(Run):
     def test_a_test_that_passes_without_a_socket_passes(self) -> None:
         log = self.folder / "empty"
         data = bytearray(self.log.read_bytes())
-        data[8:16] = bytes(8)  # no point was passed
+        data[8:16] = bytes(8)  # no point was logged
         log.write_bytes(data)
         returned, said = self.called("--strict", "run", ".", leaves=f'cp {log} "$NETREV_LOG.$$"')
         self.assertEqual((returned, "no socket was opened: there is nothing to record" in said), (0, True), said)
@@ -280,7 +280,7 @@ class Statuses(Run):
 
 
 class Sizes(unittest.TestCase):
-    """The sizes that a log of a few points may request."""
+    """The sizes that a log of a few points may claim."""
 
     def test_bytes_are_written_out_last(self) -> None:
         recording = make(Log(Points().opened().add(Kind.READ, 1, WORD, 65_536, 2**28).points))

@@ -1,5 +1,4 @@
-"""The program that reads source lines: it comes with Go, or is built once for each release, with a shell script
-instead of Go."""
+"""The program that reads source lines: it comes with Go, or is built once for each release; a shell script stands in for Go."""
 
 import os
 import struct

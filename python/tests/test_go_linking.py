@@ -36,7 +36,7 @@ class Keeping(unittest.TestCase):
             tool.chmod(0o700)
 
     def ran(self, tool: str, *words: str, room: int = 10**6, broken: str = "") -> int:
-        """The status of a tool that is run as Go runs it."""
+        """The status of a tool that is run in the way that Go runs it."""
         command = ["sh", str(self.script), str(self.folder / "kept"), str(room), str(self.folder / tool), *words]
         return subprocess.run(
             command, cwd=self.folder, env={"BROKEN": broken, "PATH": "/usr/bin:/bin"}, check=False
@@ -79,7 +79,7 @@ class Keeping(unittest.TestCase):
 
 class Flags(test_go_tests.Tested):
     def words(self, *options: str) -> list[str]:
-        """The words with which Go is called in the first run."""
+        """The arguments with which Go is called in the first run."""
         seen = self.folder / "seen"
         self.told(*options, status=1, does=f'[ -e {seen} ] || printf "%s\\n" "$@" > {seen}')
         words = seen.read_text().splitlines()

@@ -1,4 +1,4 @@
-"""The recorder's logs can be read whatever their damage, and the stored ones give the stored recordings and lines."""
+"""The recorder's logs can be read whatever their damage, and the stored logs give the stored recordings and lines."""
 
 import pathlib
 import random
@@ -22,7 +22,7 @@ from .test_strange import OBEYED, unseen
 
 REAL = pathlib.Path(__file__).resolve().parents[2] / "examples/real"
 NAMES = ("half", "hijacked", "hung", "leak", "lost", "older", "past")
-RELEASES = {"older": "1.19"}  # of the others 1.27
+RELEASES = {"older": "1.19"}  # the other logs are from 1.27
 DAMAGED = 2_000
 SEED = 20_261_127
 
@@ -35,7 +35,7 @@ def read(data: bytes) -> Log:
 
 
 def opened(count: int) -> list[Point]:
-    """Points of sockets that are opened one after the other."""
+    """Points of sockets that are opened one after another."""
     points = []
     for i in range(count):
         points.append(Point(2 * i, Kind.INIT, 1, 1000 + 16 * i, 4, 0, 0, 0, 0))
@@ -138,11 +138,10 @@ class Times(unittest.TestCase):
 
 
 class StacksOfCalls(unittest.TestCase):
-    """A point within a call needs no stack: its step has that with which the call came to the socket."""
+    """A point within a call needs no stack: its step has the stack with which the call came to the socket."""
 
     def stacks(self, *points: tuple[Kind, int, int, int]) -> list[int]:
-        """The stacks of the steps of points after the opening of two sockets: each is a kind, a goroutine, a
-        socket, and a stack."""
+        """The stacks of the steps for points after the opening of two sockets: each point is a kind, a goroutine, a socket, and a stack."""
         made = opened(2)
         for kind, g, socket, stack in points:
             at = made[2 * socket].at if kind != Kind.RESET else made[2 * socket + 1].at
@@ -246,7 +245,7 @@ class Reading(unittest.TestCase):
 
 
 def damaged(whole: bytes, chance: random.Random) -> bytes:
-    """A log that is cut, or has changed bytes, or whose points were removed, moved or mixed with each other."""
+    """A log that was cut off, or has changed bytes, or whose points were removed, moved or mixed with each other."""
     data = bytearray(whole)
     ring = HEADER_BYTES + STACKS * 256
     sort = chance.randrange(5)
@@ -264,7 +263,7 @@ def damaged(whole: bytes, chance: random.Random) -> bytes:
 
 
 def changed(data: bytearray, at: int, chance: random.Random, is_kind: bool) -> None:
-    """A point that says something else, and whose sum is right."""
+    """Changes the contents of a point, with a correct checksum."""
     word, goroutine, place, a, b, c, time, last = struct.unpack_from("<Q6qQ", data, at)
     point = Point((word >> 8) - 1, word & 255, goroutine, place, a, b, c, time, last & 2**32 - 1)
     name = "kind" if is_kind else chance.choice(["goroutine", "at", "a", "b", "c", "time"])

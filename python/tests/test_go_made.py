@@ -1,6 +1,5 @@
-"""The places where channels are made, also at a reused address, and dials that fail: by points of made-up logs, in
-the lines that are written and as nrdb reads them; and the functions that are the recorder's own. No program is
-needed."""
+"""The places where channels are made, also at a reused address, and dials that fail: from points of made-up logs, in the lines that are
+written and as nrdb reads them; and the functions that belong to the recorder itself. No program is needed."""
 
 import errno
 import json
@@ -29,7 +28,7 @@ SERVER = OF_IPV4 << 56 | (127 << 24 | 1) << 16 | 4_000  # 127.0.0.1:4000, as the
 
 
 def used(found: Goroutines) -> list[tuple[int, int, str]]:
-    """The uses of each channel by goroutine."""
+    """The uses of each channel, by goroutine."""
     return [(use.address, use.goroutine, use.what) for use in found.uses]
 
 
@@ -90,7 +89,7 @@ class Channels(unittest.TestCase):
     def test_nrdb_reads_where_they_were_made(self) -> None:
         points = Points().at(3).add(Kind.MAKES, 7, CHANNEL, b=2, stack=4).add(Kind.SENT, 7, CHANNEL, 0, 2, stack=4)
         points.at(12).add(Kind.MAKES, 8, CHANNEL, b=1, stack=5).add(Kind.PARKS, 9, CHANNEL, VALUE, 1, stack=4)
-        points.add(Kind.MAKES, 8, OTHER_CHANNEL, stack=5)  # at which nobody does anything
+        points.add(Kind.MAKES, 8, OTHER_CHANNEL, stack=5)  # a channel that isn't used
         lines = written(points.found(), CALLS)
         (at,) = lines.parks[9][0].objects
         first = at.object % 2 + 1
@@ -109,7 +108,7 @@ class Channels(unittest.TestCase):
 
 class Dials(unittest.TestCase):
     def dials(self) -> Points:
-        """A dial of a cancelled context, one that the system refused, and one that was given up, of Go's own code alone."""
+        """A dial with a cancelled context, one that the system refused, and one that was given up, made only by Go's own code."""
         points = Points().add(Kind.MAKES, 7, CHANNEL).add(Kind.MAKES, 7, CHANNEL).at(3)
         points.add(Kind.CHANNEL_CLOSED, 7, CHANNEL, stack=4)
         points.add(Kind.DIAL_FAILED, 7, CHANNEL, CANCELLED, 0, stack=4).at(12)
@@ -139,7 +138,7 @@ class Dials(unittest.TestCase):
         self.assertEqual([dial.goroutine for dial in self.dials().found().without({7, 9}).dials], [8])
 
     def test_a_dial_of_another_test_is_none_of_a_tests(self) -> None:
-        """Also if its goroutine did nothing else."""
+        """Even if its goroutine did nothing else."""
         tests = [Ran("p", "TestFirst", 8, 0, 0), Ran("p", "TestSecond", 9, 0, 0)]
         for test, goroutines in zip(tests, ([7, 8], [7, 9])):
             found = goroutines_of(test, self.dials().found(), tests, {})

@@ -1,5 +1,5 @@
-"""The developers' tools of the recorder with stand-ins for Go, netrev and the measured programs: `make real` from its options to its tables, what
-recording costs, and fetching a release. Nothing is built or fetched."""
+"""The developers' tools of the recorder, with stand-ins for Go, netrev and the measured programs: `make real` from its options to its
+tables, the cost of recording, and fetching a release. Nothing is built or fetched."""
 
 import contextlib
 import io
@@ -27,7 +27,7 @@ cp {folder}/stored "$NETREV_LOG.2"
 : > "$NETREV_LOG.program.1.2"
 case "$2" in ^TestRed*) exit 1 ;; ^TestSkip*) echo "--- SKIP: it" ;; esac
 """
-# the nanoseconds of each call and round, which are smaller the more the program was run; with a log there are more
+# the nanoseconds of each call and round, which get smaller with each run of the program; with a log they are greater
 COST = """#!/bin/sh
 n=$(cat {folder}/n 2> /dev/null || echo 9); n=$((n - 1)); echo $n > {folder}/n
 [ -z "${{NETREV_LOG-}}" ] || n=$((n + 800 * (1 + NETREV_LINES) + 80 * NETREV_ORDERS))
@@ -166,7 +166,7 @@ class Real(Tools):
 
 
 class Costs(Tools):
-    """What recording costs, measured three times."""
+    """The cost of recording, measured three times."""
 
     def setUp(self) -> None:
         super().setUp()

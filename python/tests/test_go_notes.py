@@ -1,5 +1,5 @@
-"""Recordings that begin in the middle of a run, at notes of the sockets that were open: made-up logs of a few
-points each, which the model in Python replays. No program is needed."""
+"""Recordings that begin in the middle of a run, with notes of the sockets that were open: made-up logs of a few points each, which the
+model in Python replays. No program is needed."""
 
 import json
 import random
@@ -31,7 +31,7 @@ Inside = tuple[int, int, int]  # side, goroutine and place
 
 
 class Noted:
-    """A log whose first points are lost, and then has notes."""
+    """A log whose first points are lost and which then has notes."""
 
     def __init__(self) -> None:
         self.points: list[Point] = []
@@ -62,7 +62,7 @@ class Noted:
         return make(Log(self.points, begin=BEGIN, from_the_start=False))
 
     def replayed(self) -> tuple[Recording, Machine]:
-        """The recording, and the machine after it: each answer is the recorded one."""
+        """The recording, and the machine after it, with each answer as recorded."""
         made = self.made()
         return made, replayed(made)
 
@@ -77,14 +77,14 @@ def replayed(made: Recording) -> Machine:
 
 
 def left_out(log: Noted) -> str:
-    """The reason why the only socket of notes is left out; another one exists, so that there is a recording."""
+    """The reason why the only socket in the notes is left out; there is another socket, so that there is a recording."""
     log.note(word=OTHER_WORD, descriptor=OTHER_DESCRIPTOR)
     made = log.end().made()
     assert made.sockets == 1, made.lines
     return next(note.partition("left out: ")[2] for note in made.notes if "left out" in note)
 
 
-# a noted socket: lock word, flags, the descriptor's words, deadlines, and the goroutines inside
+# a noted socket: its lock word, its flags, the descriptor's words, its deadlines, and the goroutines inside waits
 WAITS: dict[str, dict[str, Any]] = {
     "idle": {},
     "a read that is parked": {"lock": READ_LOCKED, "words": (GOROUTINE, NIL), "inside": ((READ, READER, PARKED),)},

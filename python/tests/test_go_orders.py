@@ -1,4 +1,4 @@
-"""The orders of a program: made-up logs of a few points, and the steps that follow others. No program is needed."""
+"""The orders of a program: made-up logs of a few points, and which steps follow others. No program is needed."""
 
 import json
 import pathlib
@@ -21,7 +21,7 @@ MADE = 1  # of a point READY: by a `go` statement
 
 
 class Ordered(Points):
-    """A log of an open socket, on which goroutines make a step now and then. The first two steps open it."""
+    """A log of an open socket, on which goroutines make some steps. The first two steps open it."""
 
     def __init__(self) -> None:
         super().__init__()

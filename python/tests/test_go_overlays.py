@@ -1,5 +1,6 @@
-"""The rules of the recorder fit Go 1.19 and 1.27 as they did when these were tried: each changed file has the stored sum (this repository has no
-source of Go). With a change of Go that is planted, the stored lines tell what isn't recorded. It needs Go as netrev_go.fetching fetches it.
+"""The recorder's rules fit Go 1.19 and 1.27 as they did when they were tried: each changed file has the stored checksum (this repository
+contains no source of Go). For changes planted into Go, the stored lines say what isn't recorded. It needs Go as netrev_go.fetching fetches
+it.
 
     /usr/bin/python3 python tests.test_go_overlays    stores both anew"""
 
@@ -21,7 +22,8 @@ from .go_untouched import go_of
 RELEASES = ("1.19", "1.27")
 STORED = Path(__file__).with_name("go_overlays.json")
 USES = {"internal/runtime/sys": "func netrevFrame() uintptr { return sys.GetCallerSP() }\n"}
-# Changes of Go 1.27: for each its file, and a text that is replaced wherever it occurs; the file is removed where there is no text.
+# Changes of Go 1.27: for each, a file, and a text that is replaced wherever it occurs; without a text, the file is
+# removed.
 PLANTED: dict[str, list[tuple[str, str, str]]] = {
     "nothing can be recorded": [
         ("internal/poll/fd_mutex.go", "incref() bool", "incref2() bool"),
@@ -55,7 +57,7 @@ needs_go = pytest.mark.skipif(
 
 
 def stub(text: str) -> str:
-    """One of our files without its functions, but with what its imports are for."""
+    """One of our files without its functions, but with a use of its imports."""
     imports = re.match(r".*?^package \w+\n(?:\nimport (?:\(.*?^\)|[^\n(]+)\n)?", text, re.M | re.S)
     assert imports
     return imports[0] + "".join(use for path, use in USES.items() if f'"{path}"' in imports[0])
@@ -63,7 +65,7 @@ def stub(text: str) -> str:
 
 @contextmanager
 def points(release: str) -> Iterator[tuple[Path, Path, Path]]:
-    """The program that fits the rules, a folder of our files, and one for what it writes."""
+    """The program that fits the rules, a folder with our files, and a folder for its output."""
     with tempfile.TemporaryDirectory(prefix="overlays-") as name:
         folder = Path(name)
         ours, out = folder / "ours", folder / "out"
@@ -80,7 +82,7 @@ def ran(*words: str | Path) -> tuple[int, list[str]]:
 
 
 def sums_of(release: str) -> dict[str, str]:
-    """The sum of each file of the overlay, of the lines for the rules, and of Go's calls."""
+    """The checksums of each file in the overlay, of the lines about the rules, and of the list of Go's calls."""
     sources = go_of(release).sources()
     with points(release) as (program, ours, out):
         status, lines = ran(program, "overlay", sources, ours, out)
@@ -92,7 +94,7 @@ def sums_of(release: str) -> dict[str, str]:
 
 
 def plant(theirs: Path, mine: Path, changes: list[tuple[str, str, str]]) -> None:
-    """A folder of links to Go's sources, with these changes."""
+    """Makes a folder of links to Go's sources, with these changes."""
     mine.mkdir()
     for path in theirs.iterdir():
         (mine / path.name).symlink_to(path)
@@ -114,7 +116,7 @@ def plant(theirs: Path, mine: Path, changes: list[tuple[str, str, str]]) -> None
 
 
 def differences() -> dict[str, list[str]]:
-    """For each planted change the status, the lines that are added, and how many are missing."""
+    """For each planted change, the status, the added lines, and how many lines are missing."""
     sources = go_of(RELEASES[-1]).sources()
     found = {}
     with points(RELEASES[-1]) as (program, _, out):

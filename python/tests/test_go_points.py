@@ -1,4 +1,4 @@
-"""The recorder's Go numbers and names its points as the table of kinds does."""
+"""The recorder's Go code numbers and names its points as the table of kinds does."""
 
 import re
 import unittest
@@ -10,11 +10,11 @@ from netrev_words.vocabulary import NUMBERS
 
 GO = Path(netrev_go.__file__).parent / "go"
 PROGRAM = Path(__file__).resolve().parents[2] / "crates/nr_rev/src/kind.rt"
-# the block of constants below a comment that says so
+# the block of constants below the comment that announces it
 OF_KINDS = re.compile(r"^// Kinds of points[^\n]*\nconst \((.*?)^\)", re.MULTILINE | re.DOTALL)
 CONSTANT = re.compile(r"^\tnetrev(\w+?)(?:Kind)? += (\d+)\b", re.MULTILINE)
 A_NUMBER = re.compile(r"netrev(?:Swap|Closed|Point|Poll|PollAlone|Order|Channel)\(\d")
-# points that Go calls by another name than Python
+# points with another name in Go than in Python
 OTHERWISE = {
     "CheckAgain": Kind.CHECK,
     "EventCame": Kind.EVENT,
@@ -24,7 +24,7 @@ OTHERWISE = {
 
 
 def in_go() -> dict[str, int]:
-    """The kinds of points, of all files of Go."""
+    """The kinds of points in all Go files."""
     blocks = [block for file in (GO / "log").glob("*.go") for block in OF_KINDS.findall(file.read_text())]
     return {name: int(number) for block in blocks for name, number in CONSTANT.findall(block)}
 

@@ -1,6 +1,6 @@
-"""What the recorder logs of go_recorded.go, a program of scenes on one processor: each point of the program's goroutines, the mutexes that are
-locked in the end, and notes of what is open, compared with go_recorded.txt. The recording of the log is checked too, also without the
-log's first half. It needs Go 1.27 as netrev_go.fetching fetches it.
+"""What the recorder logs of go_recorded.go, a program of scenes on one processor, compared with go_recorded.txt: each point of the
+program's goroutines, the mutexes that are locked at the end, and the notes of open descriptors. The recording of the log is checked too,
+and also that of the log without its first half. It needs Go 1.27 as netrev_go.fetching fetches it.
 
     /usr/bin/python3 python tests.test_go_recorded    stores the text anew"""
 
@@ -31,8 +31,8 @@ SOURCE = Path(__file__).with_name("go_recorded.go")
 STORED = SOURCE.with_suffix(".txt")
 BETWEEN, SECOND = 10, 10**9  # seconds to which times are rounded
 LOW = 2**32 - 1
-GREAT = 2**40  # numbers above are addresses, times and sums
-MANY_TIMES = 100  # counts above differ: the log also has events, whose number isn't the same in each run
+GREAT = 2**40  # greater numbers are addresses, times and hashes
+MANY_TIMES = 100  # greater counts differ: the log also has events, whose number differs from run to run
 SELECT = 3  # in the lowest byte of what a goroutine waits for
 OTHER_GOROUTINE = (Kind.READY, Kind.MET, Kind.HANDED)
 TIMES = {Kind.SET_DEADLINE: "b", Kind.DEADLINE_CALL: "b", Kind.NOTED_DEADLINES: "ab", Kind.TIMER: "a", Kind.PARKS: "b"}
@@ -42,7 +42,7 @@ needs_go = pytest.mark.skipif(
 
 
 class Names:
-    """Short names for what differs in each run, in the order of their first occurrence."""
+    """Short names for values that differ in each run, in the order of their first occurrence."""
 
     def __init__(self) -> None:
         self._names: dict[tuple[str, int], str] = {}
@@ -93,7 +93,7 @@ def lines_of(points: list[Point], log: Log, names: Names) -> Iterator[str]:
 
 
 def text_of(log: Log, points: list[Point]) -> str:
-    """The log from the first socket on, as text; lines that are repeated are counted."""
+    """The log from the first socket on, as text; repeated lines are counted."""
     names = Names()
     first = next(place for place, point in enumerate(points) if point.kind == Kind.INIT)
     lines = []
@@ -111,7 +111,7 @@ def text_of(log: Log, points: list[Point]) -> str:
 
 
 def raw_points(path: Path) -> list[Point]:
-    """A log's points with the times that are in it."""
+    """A log's points with the times as they were logged."""
     text = path.read_bytes()
     header = Header(text)
     assert header.passed <= header.points
@@ -132,7 +132,7 @@ def recorded(go: Go) -> Iterator[tuple[Path, Path]]:
 
 
 def said_of(log: Log, name: Path) -> str:
-    """The model's fault of the recording of a log."""
+    """The fault that the model finds in the recording of a log."""
     recording = make(log)
     write(recording, name)
     write_words(recording, name.with_suffix(".words"))

@@ -1,5 +1,4 @@
-"""The data of netrev-go about Go's releases, the evaluation of a trial, and the counts of `make real`. Neither Go
-nor netrev is needed."""
+"""netrev-go's data about Go's releases, the evaluation of a trial, and the counts of `make real`. Neither Go nor netrev is needed."""
 
 import contextlib
 import io
@@ -101,7 +100,7 @@ class Calls(unittest.TestCase):
 
 
 class Page(unittest.TestCase):
-    """The table of releases on docs/measurements/MEASUREMENTS.md."""
+    """The table of releases in docs/measurements/MEASUREMENTS.md."""
 
     HEADING = f"| Go | {' | '.join(results.OF_RELEASES)} |"
 
@@ -211,7 +210,7 @@ class Trials(unittest.TestCase):
         self.assertEqual(incomplete(log.made(), ""), "")
 
     def ready(self, version: str, came: Trial, without: list[str]) -> tuple[str, int]:
-        """The message about a Go with this result of its trial, and the number of trials if it is prepared twice."""
+        """The message about a Go whose trial has this result, and the number of trials if it is prepared twice."""
         go, said = Go("go", pathlib.Path("/nowhere"), version, "linux/amd64", ""), io.StringIO()
         keeps: list[Trial] = []
 
@@ -248,7 +247,7 @@ class Trials(unittest.TestCase):
 
 
 class Standings(unittest.TestCase):
-    """The state of a release, and what is kept of it."""
+    """The state of a release, and how it is stored."""
 
     GO = Go("go", pathlib.Path("/nowhere"), "go1.28.0", "linux/amd64", "")
     RULES = (True, ["fits runtime/proc.go newproc (as in 1.19)", "without the program's orders: none"])
@@ -280,7 +279,7 @@ class Standings(unittest.TestCase):
 
 
 class OfOthers(unittest.TestCase):
-    """The tests of other projects, with a release that is named."""
+    """The tests of other projects, with a named release."""
 
     WANTED = [suite for suite in OF_OTHERS if "golang.org/x/net" in suite.package]
 

@@ -14,13 +14,13 @@ from .folders import folder_of
 
 
 class Usage(NamedTuple):
-    """What a file system has room for."""
+    """The free space of a file system."""
 
     free: int
 
 
 def with_room(**free: int) -> ContextManager[object]:
-    """Pretends that a file system has this many bytes free: `shm` or `other`."""
+    """Pretends that file systems, `shm` or `other`, have this many bytes free."""
     return mock.patch.object(shutil, "disk_usage", lambda place: Usage(free["shm" if place == "/dev/shm" else "other"]))
 
 
@@ -33,7 +33,7 @@ class Room(unittest.TestCase):
         os.environ.pop("NETREV_LOGS", None)
 
     def made_with(self, **free: int) -> pathlib.Path:
-        """The folder that is made with this much room. Its path has another name."""
+        """The folder that is chosen with this much room; the temporary folder is the test's own."""
         with with_room(**free), mock.patch.object(tempfile, "gettempdir", lambda: str(self.folder)):
             made = logs_folder(MOST_POINTS)
         self.addCleanup(shutil.rmtree, made, ignore_errors=True)

@@ -1,5 +1,5 @@
-"""The orders and the waits of random programs equal those of a reading along all edges between their points, and of
-one that searches for each wait's end."""
+"""The orders and the waits of random programs equal those that are found by following all edges between their points, and by searching for
+the end of each wait."""
 
 import random
 from typing import Optional
@@ -13,7 +13,7 @@ from netrev_go.orders import orders_of
 from netrev_go.points import Kind, Point
 from netrev_go.waits import WAITED_FOR, Wait, waits_of
 
-Edges = dict[int, set[int]]  # for a point, those that directly precede it
+Edges = dict[int, set[int]]  # for each point, those that directly precede it
 Pairs = list[tuple[int, int]]
 
 
@@ -25,7 +25,7 @@ class Synchronized:
         self.points: list[Point] = []
         self.steps: dict[int, int] = {}  # the goroutine of each point that is a step
         self.edges: Edges = {}
-        self.last: dict[int, set[int]] = {}  # for a goroutine, the points that its next one follows
+        self.last: dict[int, set[int]] = {}  # for each goroutine, the points that its next one follows
         self.rooms = {900 + at: self.dice.randint(1, 3) for at in range(2)}
         self.sent: dict[int, list[int]] = {channel: [] for channel in self.rooms}
         self.received: dict[int, list[int]] = {channel: [] for channel in self.rooms}
@@ -64,7 +64,7 @@ class Synchronized:
             self.point(Kind.FOUND_CLOSED, g, channel, held, room, (self.closed[channel],))
 
     def before(self) -> dict[int, set[int]]:
-        """Of each step, all steps that come before it along the edges."""
+        """For each step, all steps that come before it along the edges."""
         reached: dict[int, set[int]] = {}
         for number in range(len(self.points)):
             near = self.edges[number]
@@ -72,12 +72,12 @@ class Synchronized:
         return {number: reached[number] for number in self.steps}
 
     def found(self) -> Pairs:
-        """The pairs that are found, of steps that have the numbers of their points, and one more."""
+        """The pairs that are found: steps have the numbers of their points, plus one."""
         ordering = [point for point in self.points if point.number not in self.steps]
         return orders_of(ordering, [(number, g, number + 1) for number, g in self.steps.items()])
 
     def along(self, pairs: Pairs) -> dict[int, set[int]]:
-        """For each step, those that precede it by these pairs and the goroutines' own order."""
+        """For each step, the steps that precede it according to these pairs and the goroutines' own order."""
         reached: dict[int, set[int]] = {}
         newest: dict[int, int] = {}
         for number, g in self.steps.items():
@@ -150,7 +150,7 @@ def steps_before(number: int, steps: list[Made]) -> int:
 
 
 def end_of(park: Point, points: list[Point]) -> Optional[Point]:
-    """The point at which a goroutine goes on; none if it parks anew before, or never goes on."""
+    """The point at which a goroutine goes on; None if it parks again before that, or never goes on."""
     own = (one for one in points if one.number > park.number and one.goroutine == park.goroutine)
     following = next((one for one in own if one.kind in (Kind.PARKS, Kind.GOES_ON)), None)
     return following if following and following.kind == Kind.GOES_ON else None
@@ -216,7 +216,7 @@ def test_waits_of_a_recording_are_those_with_a_step_in_them(seed: int) -> None:
 
 
 def overlap(begin: int, end: Optional[int], first: int, last: int) -> bool:
-    """Whether two spans of time overlap; a wait without an end lasts to the end of the log."""
+    """Whether two periods overlap; a wait without an end lasts to the end of the log."""
     moments = range(begin, (2_000 if end is None else end) + 1)
     return any(first <= moment and (last == UNENDED or moment <= last) for moment in moments)
 

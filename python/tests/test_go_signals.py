@@ -1,5 +1,5 @@
-"""No signal loses a run: it reaches the program, netrev-go ends with the program's status, and the recording is
-made. A shell script stands in for Go."""
+"""No signal loses a run: the program gets it, netrev-go ends with the program's status, and the recording is made. A shell script stands in
+for Go."""
 
 import os
 import pty
@@ -18,7 +18,7 @@ CANCELLING = (signal.SIGQUIT, signal.SIGHUP, signal.SIGTERM, signal.SIGINT)
 
 
 def catching(number: signal.Signals) -> str:
-    """A script that ends with 7 when a signal comes, and notes each that comes."""
+    """A script that handles a signal and ends with 7, and records each signal that comes."""
     return f"trap 'echo {number.name} >> caught; exit 7' {number.name.removeprefix('SIG')}; touch here; {WAITS}"
 
 
@@ -75,7 +75,7 @@ def test_ctrl_c_stops_the_making_of_recordings_and_says_where_the_logs_are(folde
 
 
 def at_a_terminal(stand_in: StandIn, *words: str) -> tuple[int, int]:
-    """Starts netrev-go at a terminal of its own: its process, and the terminal's other end."""
+    """Starts netrev-go on its own terminal; returns its process, and the terminal's other end."""
     process, terminal = pty.fork()
     if process == 0:
         reset_signals()
@@ -133,7 +133,7 @@ def test_under_nohup_sighup_stays_ignored(folder: Path) -> None:
 
 
 def killed(stand_in: StandIn) -> None:
-    """A run whose netrev-go is killed, and whose program has ended."""
+    """Makes a run whose netrev-go is killed, and whose program has ended."""
     running = stand_in.start("-o", "x", "run", "serve me")
     stand_in.wait_for("here")
     running.kill()

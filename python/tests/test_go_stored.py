@@ -1,5 +1,5 @@
-"""A stored log with each kind of point (of go_recorded.go) becomes the stored recording, NAME.where and report: whole, and in parts that are drawn, of
-which the sums are stored. So do logs of random programs. Neither Go nor netrev is needed.
+"""A stored log with each kind of point (of go_recorded.go) becomes the stored recording, NAME.where and report: whole, and in randomly
+chosen parts, of which only checksums are stored. So do logs of random programs. Neither Go nor netrev is needed.
 
     /usr/bin/python3 python tests.test_go_stored             stores all anew
     /usr/bin/python3 python tests.test_go_stored PART ..     prints what is made of parts, such as log-7 or program-7"""
@@ -28,7 +28,7 @@ from netrev_go.toolchain import Go
 HERE = Path(__file__).parent
 LOG = HERE / "go_recorded.log"
 STORED, SUMS = HERE / "go_stored.txt", HERE / "go_stored.json"
-LOGS, PROGRAMS = 120, 100  # how many of each are drawn
+LOGS, PROGRAMS = 120, 100  # the number of random parts of each kind
 SOURCES = Path("/usr/lib/go-1.27/src")
 Symbols = dict[int, tuple[str, str, int]]
 
@@ -53,7 +53,7 @@ def stored_log() -> tuple[Log, Symbols]:
 
 @dataclass
 class Drawn:
-    """A part of the log, and what is wished of it."""
+    """A part of the log, and what is requested of it."""
 
     log: Log
     wish: Wish
@@ -109,7 +109,7 @@ def drawn(log: Log, number: int) -> Drawn:
 
 @contextmanager
 def looked_up(symbols: Symbols) -> Iterator[None]:
-    """Lines come from the symbols, and netrev isn't here."""
+    """In this context, lines come from the symbols, and netrev is missing."""
 
     def found(log: Log, used: set[int], *_: object) -> dict[int, converting.Calls]:
         with mock.patch("netrev_go.lines.shift", return_value=0), mock.patch(
@@ -127,7 +127,7 @@ def looked_up(symbols: Symbols) -> Iterator[None]:
 
 
 def made_of(drawn_part: Drawn, symbols: Symbols) -> str:
-    """All that becomes of a part: the files, and the report."""
+    """Everything that is made of a part: the files and the report."""
     one = drawn_part
     with tempfile.TemporaryDirectory() as name, looked_up(symbols):
         folder = Path(name)
@@ -139,7 +139,7 @@ def made_of(drawn_part: Drawn, symbols: Symbols) -> str:
 
 
 def of_program(number: int) -> str:
-    """What becomes of a random program's log, besides its answers, which other tests compare."""
+    """What is made of a random program's log, without the answers, which other tests compare."""
     try:
         made = make(log_of(program_of(str(number))), most=2 + number % 3, all_bytes=number % 2 == 0)
     except Nothing as fault:
@@ -162,7 +162,7 @@ def of_program(number: int) -> str:
 
 
 def text_of(part: str) -> str:
-    """What is made of a part by its name."""
+    """What is made of the part with this name."""
     sort, _, number = part.partition("-")
     if sort == "program":
         return of_program(int(number))

@@ -1,5 +1,5 @@
-"""`netrev-go test`: the tests that ran, their sockets, the recordings that are kept and the output. A stand-in for
-Go leaves a made-up log and its tests. Neither Go nor netrev is needed."""
+"""`netrev-go test`: the tests that ran, their sockets, the recordings that are kept, and the output. A stand-in for Go leaves a made-up log
+and its tests. Neither Go nor netrev is needed."""
 
 import contextlib
 import io
@@ -37,7 +37,8 @@ from .folders import folder_of
 
 MAIN, RED, PART, GREEN, CHILD = 1, 10, 11, 20, 12  # goroutines
 PACKAGE = "example.org/toy/v2"
-# The main goroutine opens a socket; TestRed one, its subtest one by a goroutine of its own, and TestGreen, which runs beside, one.
+# The main goroutine opens a socket, and so do TestRed, its subtest in a goroutine of its own, and TestGreen, which runs
+# in parallel.
 POINTS = (
     Points()
     .opened(701, 901, g=MAIN)
@@ -135,7 +136,7 @@ class Ranning(unittest.TestCase):
 
 class Cutting(unittest.TestCase):
     def kept(self, name: str) -> list[int]:
-        """The openings of the sockets of a test."""
+        """The openings of a test's sockets."""
         tests, log = tests_of(LINES), Log(POINTS.points)
         found = owned([point for point in log.points if point.kind != Kind.READY])
         return [socket.opening for socket in sockets_of(tests.by_name[name], log, found, tests.ran)]
@@ -150,8 +151,8 @@ class Cutting(unittest.TestCase):
         self.assertEqual(self.kept("TestGreen"), [0, 2])
 
     def test_a_test_has_no_goroutines_of_another_one(self) -> None:
-        """A goroutine that another test has left keeps waiting; the main goroutine and those of its parts are kept, and
-        so is what it shares by a socket."""
+        """A goroutine that another test has left keeps waiting. The main goroutine and the goroutines of the test's parts are kept, and
+        also what it shares through a socket."""
         points = Points()
         points.points += POINTS.points
         left, channel = 40, 5_000
@@ -206,7 +207,7 @@ class Tested(Run):
 
 
 class Kept(Tested):
-    """The files that it leaves and its output."""
+    """The files that it leaves, and its output."""
 
     def test_the_recording_of_the_test_that_failed_is_kept(self) -> None:
         returned, out, error = self.told("test", "./...")
@@ -309,7 +310,8 @@ class Kept(Tested):
 
 
 def as_github_reads(line: str) -> tuple[dict[str, str], str]:
-    """The properties and the message of an annotation, as GitHub's runner takes them apart: it undoes less in the message."""
+    """The properties and the message of an annotation, parsed as GitHub's runner parses them: it unescapes fewer characters in the
+    message."""
     head, _, message = line.removeprefix("::").partition("::")
     command, _, rest = head.partition(" ")
     assert command == "error", line
@@ -326,7 +328,7 @@ def as_github_reads(line: str) -> tuple[dict[str, str], str]:
 
 
 def keys_of_the_page() -> list[str]:
-    """The keys of a line of JSON, as docs/reference/OPTIONS.md has them."""
+    """The keys of a line of JSON, as listed in docs/reference/OPTIONS.md."""
     page = (PYTHON.parent / "docs/reference/OPTIONS.md").read_text()
     table = page[page.index("| Key | Says |") : page.index("`--github` prints")]
     return [word for row in table.splitlines()[2:] for word in re.findall(r"`(\w+)`", row.split("|")[1] if row else "")]
@@ -391,7 +393,7 @@ class Forms(unittest.TestCase):
 
 @pytest.mark.alone
 class Signals(unittest.TestCase):
-    """Signals go to netrev-go's only thread; a process of pytest-xdist has two."""
+    """netrev-go's only thread gets the signals; a process of pytest-xdist has two threads."""
 
     def setUp(self) -> None:
         for number in SIGNALS:

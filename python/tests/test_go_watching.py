@@ -1,5 +1,4 @@
-"""Calls that have waited long, by the tables of a log; and a log that is copied while it is written. No program is
-needed."""
+"""Calls that have waited long, found in the tables of a log; and a log that is copied while it is written. No program is needed."""
 
 import argparse
 import io
@@ -141,7 +140,7 @@ class Words(unittest.TestCase):
                 of_a_process(parser().parse_args(words))
 
 
-# A program that makes its log a moment after it was started, and writes the header a moment later.
+# A program that makes its log a moment after its start, and writes the header a moment later.
 LATE = """
 import mmap, os, sys, time
 time.sleep(0.1)
@@ -196,7 +195,7 @@ class Copies(unittest.TestCase):
     def test_points_that_were_replaced_while_it_was_copied_are_no_damage(self) -> None:
         points = [Point(number, Kind.INIT, 1, WORD, 0, 0, 0, 5, 0) for number in range(200)]
         text = bytearray(binary(points, room=100))
-        struct.pack_into("<Q", text, 8, 195)  # how many there were as the copy began
+        struct.pack_into("<Q", text, 8, 195)  # the number of points when the copy began
         for is_written, is_copy, damaged in ((True, 0, False), (False, 0, True), (False, 1, False)):
             struct.pack_into("<Q", text, COPIED * 8, is_copy)
             log = log_of(io.BytesIO(bytes(text)), is_written)

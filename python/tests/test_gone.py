@@ -1,5 +1,5 @@
-"""Messages that went nowhere, in recordings of tools/go/samples/gone that are changed in part: each rule names its
-line in the first cause, and says nothing if it doesn't apply."""
+"""Messages that were lost, in recordings of tools/go/samples/gone that are changed in part: each rule names its line in the first cause,
+and says nothing if it doesn't apply."""
 
 import contextlib
 from pathlib import Path
@@ -52,7 +52,7 @@ SAYS = {
 
 @contextlib.contextmanager
 def in_source(recording: Recording) -> Iterator[Recording]:
-    """A recording whose source exists and isn't newer."""
+    """A recording whose source exists and isn't newer than it."""
     recording.lines.written = float("inf")
     with in_the_folder_of_the_source(GONE):
         yield recording
@@ -156,7 +156,8 @@ def test_the_lines_that_leave_a_loop(name: str, tmp_path: Path) -> None:
 
 
 def of_group(*uses: Use, ended: tuple[int, ...] = (4, 5, 6)) -> Recording:
-    """Goroutines 4 to 6, which goroutine 1 started in `all` at line 8, and those of them that have ended. Stack 1 adds, 2 calls Done."""
+    """Goroutines 4 to 6, which goroutine 1 started in `all` at line 8; some of them have ended. Stack 1 calls Add, and stack 2 calls
+    Done."""
     recording = with_lines(TWO_ENDS)
     lines = recording.lines
     lines.stacks[1], lines.stacks[2] = Stack((line(7, "all"),), None), Stack((line(20, "one"),), None)
@@ -370,7 +371,7 @@ def test_a_hang_without_a_reason_comes_last() -> None:
 
 
 def once(*numbers: int) -> Stack:
-    """A stack with calls of a sync.Once's Do from these lines."""
+    """A stack with calls of a sync.Once's Do at these lines."""
     calls = []
     for number in numbers:
         calls += [

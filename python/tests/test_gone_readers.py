@@ -1,5 +1,5 @@
-"""A goroutine that was a connection's only reader and has ended while bytes still come; and a Read in an
-io.ReadFull whose bytes are counted only in part."""
+"""A goroutine that was a connection's only reader and has ended while bytes still arrive; and a Read in an io.ReadFull whose bytes are
+counted only in part."""
 
 import unittest
 from typing import Any
@@ -24,7 +24,7 @@ ENDED = len(READS)
 
 
 def recording_of(steps: list[Any], ended: int = ENDED) -> Recording:
-    """These steps, of which goroutine 1 ended after one (-1: it hasn't)."""
+    """A recording of these steps; goroutine 1 ended after step `ended` (-1: it hasn't ended)."""
     recording = with_lines(steps)
     recording.lines.goroutines[READER] = GoGoroutine(READER, 1, None, 0, 0, ended, 0, 0)
     recording.lines._goids[1] = READER

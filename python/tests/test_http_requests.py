@@ -1,5 +1,5 @@
-"""Requests of net/http's client: the connection on which each was written, and those that ended because a deadline
-passed or somebody cancelled them. The recording is of tools/go/samples/requests."""
+"""Requests of net/http's client: the connection on which each was written, and the requests that ended because a deadline passed or they
+were cancelled. The recording is of tools/go/samples/requests."""
 
 import pathlib
 import re
@@ -18,13 +18,13 @@ SOURCE = SAMPLES / "requests" / "main.go"
 
 
 def line_of(bug: str) -> str:
-    """The place of a line of the program that is marked."""
+    """The place of a marked line of the program."""
     lines = SOURCE.read_text(encoding="utf-8").split("\n")
     return f"main.go:{next(number for number, line in enumerate(lines, 1) if f'// BUG {bug}' in line)}"
 
 
 def recording(name: str = "requests") -> Recording:
-    """A recording for this test alone, so that its lines may be changed."""
+    """A recording only for this test, so that its lines may be changed."""
     return Recording.read(str(CAUSED / f"{name}.jsonl"))
 
 

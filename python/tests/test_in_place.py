@@ -1,5 +1,5 @@
-"""The machine in place equals the model, in random recordings: its states, answers and refusals, back over each
-step, and the cells that each step changed."""
+"""The in-place machine equals the model in random recordings: its states, answers and refusals, also when it undoes each step, and the
+cells that each step changed."""
 
 import random
 import unittest
@@ -15,7 +15,7 @@ from netrev_words.recording import Limits
 from netrev_words.vocabulary import CELLS, KINDS
 
 SEEDS, STEPS = range(60), 150
-MOST_WILD = 0.3  # random steps that an author proposes, most of which are refused
+MOST_WILD = 0.3  # the fraction of random steps that an author proposes, most of which are refused
 
 
 def shown(world: World) -> dict[str, object]:
@@ -38,8 +38,7 @@ def in_order(cells: set[str]) -> list[str]:
 
 class InPlace(unittest.TestCase):
     def made(self, machine: Machine, world: World, step: tuple[Any, ...]) -> World:
-        """Checks that both make a step, or refuse it for the same reason, and are equal afterwards; the state after
-        it."""
+        """Checks that both machines make a step, or refuse it for the same reason, and are equal afterwards; returns the state after it."""
         try:
             after, answer = apply(world, step)
         except Refused as refused:

@@ -1,5 +1,5 @@
-"""Ctrl-C, once and twice, and a killed netrev, at every point of every conversation: nrdb then continues with its
-normal output, or it ends. It never prints anything else."""
+"""Ctrl-C, once and twice, and a killed netrev, at every point of all communication: nrdb then continues with its normal output, or it ends.
+It never prints anything else."""
 
 import unittest
 from typing import Optional
@@ -30,29 +30,29 @@ COMMANDS = (
 
 
 def once(weather: Weather[Modelled], netrev: Modelled) -> None:
-    """Ctrl-C."""
+    """Presses Ctrl-C."""
     weather.interrupts.came()
 
 
 def twice(weather: Weather[Modelled], netrev: Modelled) -> None:
-    """Ctrl-C, and again before anything else."""
+    """Presses Ctrl-C twice, with nothing in between."""
     weather.interrupts.came()
     weather.interrupts.came()
 
 
 def twice_apart(weather: Weather[Modelled], netrev: Modelled) -> None:
-    """Ctrl-C, and again a line later."""
+    """Presses Ctrl-C, and again a line later."""
     weather.interrupts.came()
     weather.left, weather.action = 0, once
 
 
 def killed(weather: Weather[Modelled], netrev: Modelled) -> None:
-    """The netrev that is asked has ended."""
+    """Kills the netrev that was asked."""
     netrev.has_ended = True
 
 
 def killed_twice(weather: Weather[Modelled], netrev: Modelled) -> None:
-    """It has ended, and so has the next one, soon after it was asked."""
+    """Kills it, and the next netrev too, soon after that was asked."""
     netrev.has_ended = True
     weather.left, weather.action = 1, killed
 

@@ -1,4 +1,4 @@
-"""Functions that return with a mutex locked, in a file of a few lines: those with a path without an Unlock."""
+"""Functions that return with a mutex locked, in a file of a few lines: those that have a path without an Unlock."""
 
 import tempfile
 import unittest

@@ -1,4 +1,4 @@
-"""A file isn't written through another user's link, which could lead to one of this user's files."""
+"""No file is written through another user's link, which could lead to one of this user's files."""
 
 import errno
 import os

@@ -14,7 +14,7 @@ TABLES = {
     "netrev_go": ["netrev_go/messages.py"],
     "nrdb": [f"nrdb/messages/{name}.py" for name in ("browsers", "editors", "lines", "searches", "session", "texts")],
 }
-# What takes the text of an error, and which argument that is.
+# The calls that take the text of an error, and which argument that is.
 ERRORS = {
     "netrev_go": dict.fromkeys(("Trouble", "NoLog", "Nothing", "NoSocket", "Unconvertible", "Late", "complain"), 0),
     "nrdb": {
@@ -26,7 +26,7 @@ ERRORS = {
 
 
 class Use(NamedTuple):
-    """A message that a module names, and the words that it fills in there; None if that isn't written there."""
+    """A message that a module names, and the words that it fills in there; None if the module doesn't show that."""
 
     table: str
     name: str
@@ -53,7 +53,7 @@ def modules(package: str) -> list[tuple[str, ast.Module]]:
 
 
 def tables_in(package: str, tree: ast.Module) -> dict[str, str]:
-    """The tables that a module imports, by the names that it has for them."""
+    """The tables that a module imports, by the module's names for them."""
     tables = {Path(path).stem: path for path in TABLES[package]}
     return {
         name.asname or name.name: tables[name.name]
@@ -84,7 +84,7 @@ def uses(package: str) -> Iterator[Use]:
 
 
 def literal(node: ast.expr) -> str:
-    """The text that is written in an expression, without what an f-string fills in."""
+    """The literal text of an expression, without the parts that an f-string fills in."""
     parts = node.values if isinstance(node, ast.JoinedStr) else [node]
     return "".join(part.value for part in parts if isinstance(part, ast.Constant) and isinstance(part.value, str))
 

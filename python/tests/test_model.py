@@ -1,4 +1,4 @@
-"""The model gives the stored answers for the examples, and reads JSON as strictly as RECORDING.md says."""
+"""The model gives the stored answers for the examples, and reads JSON as strictly as RECORDING.md requires."""
 
 import unittest
 from pathlib import Path

@@ -1,5 +1,4 @@
-"""`make mutants`: the mutants of a module, the tests that are tried against them, and the name of a test that
-notices one."""
+"""`make mutants`: the mutants of a module, the tests to try against them, and the name of a test that notices one."""
 
 import ast
 from dataclasses import replace

@@ -1,5 +1,5 @@
-"""The needs of goroutines that wait for a mutex, by the recorder's table of locked mutexes: made-up holders and
-waits, and a file of a few lines."""
+"""What goroutines that wait for a mutex need, according to the recorder's table of locked mutexes: made-up holders and waits, and a file of
+a few lines."""
 
 from pathlib import Path
 from typing import Optional
@@ -95,7 +95,7 @@ class Book:
         return MutexHolders(self.recording, self.waiters, position, lambda name: self.does.get(name, ""))
 
     def need(self, wait: Waiting) -> Need:
-        """What a goroutine needs, with the file's name alone."""
+        """What a goroutine needs; a file is only its name."""
         need = self.holders().need(wait)
         plain = [says.replace(self.file, "book.go") for says in need.says]
         return need._replace(says=plain, how=need.how.replace(self.file, "book.go"))
@@ -209,7 +209,7 @@ def test_a_second_writer_waits_for_the_first_one(tmp_path: Path) -> None:
 
 
 def times(recording: Recording, last: int) -> None:
-    """The recording's last step has this time."""
+    """Sets the time of the recording's last step."""
     recording.lines.times.extend([0] * (recording.length - 1) + [last])
 
 

@@ -1,5 +1,4 @@
-"""The needs of goroutines, in recordings of tools/go/samples/turns that are changed in part: each rule says nothing
-if it doesn't apply."""
+"""What goroutines need, in recordings of tools/go/samples/turns that are changed in part: each rule says nothing if it doesn't apply."""
 
 import unittest
 from typing import Any
@@ -40,7 +39,7 @@ def stored(name: str) -> Recording:
 
 class Balances(unittest.TestCase):
     def recording(self, *uses: Use, room: int = 2) -> Recording:
-        """Stack 1 takes in `borrow`, 2 gives back there, 3 fills the channel."""
+        """A recording in which stack 1 takes in `borrow`, stack 2 gives back there, and stack 3 fills the channel."""
         recording = with_lines(TWO_ENDS)
         lines = recording.lines
         outer = line(9, "main")
@@ -141,7 +140,7 @@ class Exchanges(unittest.TestCase):
 
 
 def put(goroutine: int, text: str) -> list[Any]:
-    """A goroutine writes to the socket of its number."""
+    """A goroutine writes to the socket with its own number."""
     g = goroutine
     return [["rwlock", g, g, "w"], ["pollreset", g, g, "w"], ["syswrite", g, g, text], ["rwunlock", g, g, "w"]]
 
@@ -191,7 +190,7 @@ class Connections(unittest.TestCase):
 
 class Timed(unittest.TestCase):
     def test_a_ticker_goes_on_and_a_timer_that_is_to_go_off_later(self) -> None:
-        """A timer that has gone off doesn't."""
+        """A timer that has gone off doesn't count."""
         for function, due, waits in (("time.NewTicker", 5, 0), ("time.NewTimer", 500, 0), ("time.NewTimer", 5, 1)):
             recording = with_lines(TWO_ENDS)
             lines = recording.lines

@@ -1,4 +1,4 @@
-"""The needs of goroutines, by the program's source: a file of a few lines."""
+"""What goroutines need, according to the program's source: a file of a few lines."""
 
 import tempfile
 import unittest
@@ -79,7 +79,7 @@ NOTE, SECOND, LITERAL, WAIT, LOOP, LAST_PUT, DONE = 11, 17, 14, 23, 48, 55, 56
 
 
 class WithSource(unittest.TestCase):
-    """Rules that read the source, which is here as bank.go."""
+    """Rules that read the source, here bank.go."""
 
     def setUp(self) -> None:
         self.folder = tempfile.TemporaryDirectory()
@@ -100,7 +100,7 @@ class WithSource(unittest.TestCase):
         return [(held.name, held.line) for held in held_at(self.recording, self.at(number, function))]
 
     def test_the_mutexes_that_a_function_holds_at_a_line(self) -> None:
-        """One that is unlocked only on a way that returns is held; one that another function literal locks isn't."""
+        """A mutex that is unlocked only on a path that returns is held; a mutex that another function literal locks isn't."""
         self.assertEqual(self.held(NOTE, "(*bank).move"), [("from.mu", 4), ("b.log", 6)])
         self.assertEqual(self.held(SECOND, "(*bank).move"), [("from.mu", 4)])
         self.assertEqual(self.held(LITERAL + 1, "(*bank).move.func1"), [("to.mu", 14)])
@@ -118,7 +118,7 @@ class WithSource(unittest.TestCase):
             self.assertEqual(is_same_variable(one, other, is_near), is_same, (one, other))
 
     def test_who_should_have_woken_a_goroutine(self) -> None:
-        """Only functions of the same type that change what is looked at, and don't wait themselves."""
+        """Only functions of the same type that change what the goroutine checks, and don't wait themselves."""
         wait = self.waiting(WAIT, "(*queue).pop")
         (said,) = unsignalled(self.recording, wait)
         self.assertIn(f"{self.file}:39 in (*queue).clear should have woken it: it changes items", said)

@@ -1,5 +1,4 @@
-"""The goroutine that could end a wait outside of the poller: the one at the same channel, and the one that serves
-the awaited request."""
+"""The goroutine that could end a wait outside the poller: the one at the same channel, and the one that serves the awaited request."""
 
 import unittest
 
@@ -21,8 +20,8 @@ A_VALUE = "a value from a channel"
 
 
 def waiting(before: int, now: int, steps: Steps = TWO_ENDS) -> Recording:
-    """Two goroutines that wait for values. The first waits at channel `now`; at the same line it waited at channel
-    `before`, until the second one ended that wait."""
+    """Two goroutines that wait for values. The first waits at channel `now`; at the same line it had waited at channel `before`, until the
+    second goroutine ended that wait."""
     recording = with_lines(steps)
     lines = recording.lines
     lines.stacks[2], lines.stacks[3] = (
@@ -73,8 +72,8 @@ class EndedBefore(unittest.TestCase):
 
 class EndedWithAFailure(unittest.TestCase):
     def said(self, ended: int) -> list[str]:
-        """The text about goroutine 1's only call, which is Go's goroutine 7, and the last to put a value where
-        another goroutine waits."""
+        """The text about the only call of goroutine 1, which is Go's goroutine 7 and was the last to send a value at which another
+        goroutine waits."""
         recording = waiting(3, 4, [*TWO_ENDS, *GETS, *UNLOCKS])
         lines = recording.lines
         lines.uses[4] = [use(GONE, PUT, 3, number=4)]

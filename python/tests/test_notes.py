@@ -1,5 +1,5 @@
-"""The notes about cells equal the changes: a reader that takes only the cells that a step may have changed misses
-none. And the pauses equal those that are found by looking at each step alone."""
+"""The notes about cells equal the changes: a reader that examines only the cells that a step may have changed misses none. And the pauses
+equal those that are found by examining each step alone."""
 
 import random
 import unittest
@@ -56,7 +56,7 @@ class Paused(unittest.TestCase):
 
 
 class Behind:
-    """The place of each goroutine after each step, since when, and whether it holds a reference."""
+    """For each goroutine, after each step, its place, since when it is there, and whether it has a reference."""
 
     def __init__(self) -> None:
         self.steps: list[dict[int, tuple[str, int, bool]]] = [{}]
@@ -68,7 +68,7 @@ class Behind:
         return look
 
     def pauses(self, steps: Sequence[tuple[Any, ...]]) -> dict[str, list[int]]:
-        """The pauses that ended at each place, in which a goroutine could have gone on."""
+        """The pauses that ended at each place and in which a goroutine could have gone on."""
         found: dict[str, list[int]] = defaultdict(list)
         lasts: dict[int, int] = defaultdict(int)
         for number, (kind, *arguments) in enumerate(steps, 1):
@@ -83,7 +83,7 @@ class Behind:
 
 
 def kept_of(notes: Notes, goroutines: int) -> Iterator[tuple[str, str]]:
-    """Each cell that the notes keep, and its value by them."""
+    """Each cell that the notes store, and its value according to them."""
     for g in range(goroutines):
         yield f"gor {g}", notes.goroutines[g].status
     for name, kept in NUMBERS:

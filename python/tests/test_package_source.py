@@ -1,5 +1,5 @@
-"""Facts from the source of a package: types of variables and fields, functions that write into buffers and flush
-them, and channels of one name."""
+"""Facts from the source of a package: types of variables and fields, functions that write into buffers and flush them, and channels with
+the same name."""
 
 from pathlib import Path
 
@@ -155,7 +155,7 @@ def recording(tmp_path: Path) -> Recording:
 
 
 def call(folder: Path, file: str, function: str, text: str, nth: int = 1) -> Call:
-    """The nth call in the line of a file that has this text."""
+    """The nth call in the line of a file that contains this text."""
     lines = (folder / f"{file}.go").read_text(encoding="utf-8").splitlines()
     number = [at for at, line in enumerate(lines, 1) if text in line][nth - 1]
     return Call(f"main.{function}", str(folder / f"{file}.go"), number, OF_THE_PROGRAM)

@@ -1,10 +1,10 @@
-"""scripts/pages.py: each rule finds its planted mistake in a small tree, and nothing without one."""
+"""scripts/pages.py: each rule finds the mistake planted for it in a small tree, and nothing without one."""
 
 import unittest
 
 from tests.small_tree import LOG, PAGES, TREE, SmallTree
 
-# a mistake: the rule that finds it, the file, the text there, its replacement, and the message
+# a mistake: the rule that finds it, the file, the old text, the new text, and the message
 PLANTED: list[tuple[str, str, str, str, str]] = [
     ("markers", "docs/proof/THEOREM.md", "result ≡ total", "\n<<<<<<< HEAD\n", "<<<<<<< HEAD marks a conflict"),
     (

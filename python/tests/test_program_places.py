@@ -1,5 +1,5 @@
-"""Lines and functions of the program as places: breaks in both directions, moves, frames and source, at the prompt
-and in the adapter's breakpoints, with a modelled netrev."""
+"""Lines and functions of the program as places: breaks in both directions, moves, frames and source, at the prompt and in the adapter's
+breakpoints, with a model of netrev."""
 
 import io
 import unittest
@@ -26,7 +26,7 @@ from tests.test_causes import CAUSED, in_the_folder_of_the_source
 
 FILE = CAUSED / "once-bad.jsonl"
 MODEL = recording_at(FILE)
-READS = "main.go:46"  # the place where the lines are read, in each round
+READS = "main.go:46"  # the line at which the text lines are read, in each round
 
 
 def session_of(said: io.StringIO) -> Session:

@@ -1,5 +1,5 @@
-"""Forms of other debuggers at the prompt: apropos, delete for all, functions for list and break, Tab for places,
-with a modelled netrev."""
+"""Forms of other debuggers at the prompt: apropos, delete for everything, functions for list and break, Tab for places, with a model of
+netrev."""
 
 import io
 

@@ -1,5 +1,5 @@
-"""The prompt's output if a line is too long for the terminal, or an answer for its screen; saved settings; and help
-and hints for words of other debuggers."""
+"""The prompt's output if a line is too long for the terminal, or an answer for the screen; saved settings; and help and hints for other
+debuggers' words."""
 
 import io
 import os
@@ -79,7 +79,7 @@ class Paging(unittest.TestCase):
         self.addCleanup(size.stop)
 
     def shown(self, text: str, *words: str) -> str:
-        """The screen with an answer, and these keys at its pauses."""
+        """The screen after an answer, with these keys typed at its pauses."""
         answers: Iterator[str] = iter(words)
         pager = Paged(self.screen, lambda: next(answers), lambda: self.is_on)
         pager.begins()

@@ -20,7 +20,7 @@ LOGIC = "rattle-kit-1 logic d0e1"
 
 @pytest.fixture
 def package(tmp_path: Path, monkeypatch: pytest.MonkeyPatch) -> Path:
-    """An installation with a package's program and its claim of a proof; the program."""
+    """An installation with a package's program and the package's claim about its proof; returns the program."""
     packages, program = tmp_path / "lib/netrev", tmp_path / "bin/netrev"
     packages.mkdir(parents=True)
     program.parent.mkdir()
@@ -58,7 +58,7 @@ def test_another_program_is_not_said_to_be_proved(package: Path, monkeypatch: py
     assert first == f"program: {other} (named by NETREV, not installed with this nrdb)"
     assert second.endswith(hashlib.sha256(TEXT + b"\n").hexdigest())
     assert third == "proofs:  not recorded for this program"
-    package.write_bytes(TEXT + b"\n")  # replaced behind the package's back
+    package.write_bytes(TEXT + b"\n")  # replaced without the package's knowledge
     assert provenance.program_lines(str(package))[2] == "proofs:  not recorded for this program"
 
 
@@ -75,7 +75,7 @@ def test_a_damaged_file_of_proofs_says_nothing(package: Path) -> None:
 
 
 def test_what_a_package_carries_is_the_sum_and_the_logic(package: Path) -> None:
-    environment = {**os.environ, "PATH": "/usr/bin:/bin"}  # without the toolchain: then README names the logic
+    environment = {**os.environ, "PATH": "/usr/bin:/bin"}  # without the toolchain, README names the logic
     run = subprocess.run(
         ["sh", str(ROOT / "scripts/proved.sh"), str(package)],
         env=environment,

@@ -18,7 +18,8 @@ from nrdb.shapes import Strange
 
 
 class Scripted(Netrev):
-    """Answers each `print N` by `clock = N`, and ends at `print end`; an endless line comes to `print strange`. Keeps what was sent together."""
+    """Answers each `print N` with `clock = N`, ends at `print end`, and sends an endless line for `print strange`. Stores what was sent
+    together."""
 
     def __init__(self) -> None:
         super().__init__(Interrupts())
@@ -46,7 +47,7 @@ class Joined(Scripted):
 
 
 class Counting(io.StringIO):
-    """Keeps the output at each flush."""
+    """Stores the output at each flush."""
 
     def __init__(self) -> None:
         super().__init__()
@@ -172,7 +173,7 @@ class Answered(unittest.TestCase):
 
 class LinesTogether(unittest.TestCase):
     def pieces(self, texts: Sequence[bytes]) -> Iterator[list[str]]:
-        """The results of these texts, each written when the lines of the one before were read."""
+        """The results of these texts, each of which is written when the lines of the previous one have been read."""
         reader, writer = os.pipe()
         taken = threading.Semaphore(1)
 

@@ -1,5 +1,5 @@
-"""Logs of random programs become recordings that the model accepts, in which each socket and descriptor ends as in
-Go, with the log's bytes and each goroutine's steps. `make fuzz-around` tries others, also with netrev."""
+"""Logs of random programs become recordings that the model accepts, in which each socket and descriptor ends as in Go, with the log's bytes
+and each goroutine's steps. `make fuzz-around` tries other programs, also with netrev."""
 
 import pytest
 
@@ -16,7 +16,7 @@ KEPT = (
     "87-programs-59842",
     "87-programs-62078",
     "87-programs-63649",
-)  # seeds whose recordings were refused, or had another end
+)  # seeds whose recordings were once refused, or ended differently
 
 
 @pytest.mark.parametrize("seed", [*map(str, range(60)), *KEPT])
@@ -34,17 +34,17 @@ def test_random_programs_do_all_that_is_recorded() -> None:
 
 
 def uses_again(program: Program) -> bool:
-    """Whether a descriptor is another socket's later."""
+    """Whether a descriptor later belongs to another socket."""
     return len(program.runtime.descriptors) < sum(fd.pd is not None for fd in program.all)
 
 
 def fires_late(program: Program) -> bool:
-    """Whether a timer's function ran that was stopped or moved before."""
+    """Whether the function of a timer ran after the timer was stopped or reset."""
     return any(point.kind == Kind.FIRE and point.b & 4 for point in program.runtime.points)
 
 
 def said_of(log: Points) -> str:
-    """The fault of the recording of a log."""
+    """The fault in the recording of a log."""
     return replayed(make(Log(log.points)))[2]
 
 
@@ -60,7 +60,7 @@ OTHER_WORD, OTHER = WORD + 20, DESCRIPTOR + 300
 
 
 def two_timers(*fired: tuple[int, int], now: int = 105) -> Points:
-    """Two descriptors' deadlines pass at once, at 105; then these of their timers go off."""
+    """Deadlines of two descriptors pass at once, at 105; then these timers of theirs go off."""
     log = Points().opened().opened(OTHER_WORD, OTHER)
     for descriptor in (DESCRIPTOR, OTHER):
         log.add(Kind.SET_DEADLINE, 1, descriptor, 114, 5, time=100)

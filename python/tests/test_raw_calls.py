@@ -1,4 +1,4 @@
-"""The rule raw-calls of scripts/pages.py, over this repository with one file changed."""
+"""The rule raw-calls of scripts/pages.py, applied to this repository with one file changed."""
 
 from pathlib import Path
 
@@ -14,7 +14,7 @@ LOOPBACK = "crates/netrev/src/loopback.rt"
 
 
 def findings(path: str = "", old: str = "", new: str = "") -> list[str]:
-    """The findings of the rule for the tree after a text, which occurs once in a file, was changed."""
+    """The rule's findings in the tree after a text that occurs once in a file was changed."""
     tree = PAGES.Tree(ROOT)
     if path:
         assert tree.text(path).count(old) == 1, "the text is there once"

@@ -1,5 +1,5 @@
-"""README.md leads to each page and names what exists; `make help` lists each target; modules of nrdb are as short as CONTRIBUTING.md
-says; and each crate's README says what a stranger may touch."""
+"""README.md leads to each page and names only what exists; `make help` lists each target; modules of nrdb are as short as CONTRIBUTING.md
+says; and each crate's README says what a newcomer may change."""
 
 import re
 import subprocess
@@ -19,14 +19,14 @@ CODE = re.compile(r"`((?:make|nrdb|netrev-go) [^`]+)`")
 
 
 def targets() -> set[str]:
-    """The Makefile's targets that are for people."""
+    """The Makefile's targets for users."""
     phony = re.search(r"^\.PHONY: ((?:.*\\\n)*.*)$", (ROOT / "Makefile").read_text(encoding="utf-8"), re.MULTILINE)
     assert phony
     return set(phony[1].replace("\\\n", " ").split()) - OF_OTHERS
 
 
 def printed(*command: str) -> str:
-    """The output of a command at the top of the repository."""
+    """The output of a command that is run at the top of the repository."""
     return subprocess.run(command, cwd=ROOT, capture_output=True, text=True, check=True).stdout
 
 
@@ -43,8 +43,8 @@ def test_readme_has_the_limits() -> None:
 
 
 def test_readme_names_targets_and_options_that_exist() -> None:
-    """Checks the text in code font; tests/program/test_readme_commands.py runs the code blocks. Options of netrev-go
-    come before its command, since everything after the command belongs to Go."""
+    """Checks the text in code font; tests/program/test_readme_commands.py runs the code blocks. Options of netrev-go come before its
+    command, because everything after the command belongs to Go."""
     named = [code.split() for code in CODE.findall(README)]
     assert {words[0] for words in named} == {"make", "nrdb", "netrev-go"} and len(named) >= 12
     for program, *words in named:
@@ -83,7 +83,7 @@ def test_a_term_of_the_glossary_has_one_row() -> None:
 
 
 def kept_calls() -> dict[str, set[str]]:
-    """The types and functions of each crate whose calls stay, as scripts/surface.txt has them."""
+    """The stable types and functions of each crate, as listed in scripts/surface.txt."""
     found: dict[str, set[str]] = {}
     crate = ""
     for line in (ROOT / "scripts/surface.txt").read_text(encoding="utf-8").splitlines():
@@ -95,7 +95,7 @@ def kept_calls() -> dict[str, set[str]]:
 
 
 class Crates(unittest.TestCase):
-    """The first line of each crate's README says what a stranger may touch."""
+    """The first line of each crate's README says what a newcomer may change."""
 
     def test_each_has_such_a_line(self) -> None:
         pages = sorted((ROOT / "crates").glob("*/README.md"))

@@ -31,7 +31,7 @@ FEW = b"1 gor 1 = idle\n3 lock 0 = 0\n3 in 0 = 0\n4 lock 0 = 8\nok 5 steps\n"
 
 
 def said(path: Path) -> bytes:
-    """netrev's output for a recording, by the model."""
+    """netrev's output for a recording, according to the model."""
     lines, _ = said_by_model(path.read_bytes(), Observer())
     return "".join(f"{line}\n" for line in lines).encode()
 
@@ -136,7 +136,7 @@ def netrev(tmp_path: Path) -> Path:
 
 
 def arriving(netrev: Path, script: str, interrupts: "Interrupts | None" = None) -> tuple[ArrivingChanges, list[str]]:
-    """The changes that this shell script prints, and the output meanwhile."""
+    """The changes that this shell script prints, and the output in the meantime."""
     netrev.write_text(f"#!/bin/sh\n{script}\n")
     netrev.chmod(0o755)
     told: list[str] = []

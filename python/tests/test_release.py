@@ -1,4 +1,4 @@
-"""`make release` leaves all published files in one folder, and packs nothing without a passed gate."""
+"""`make release` puts all published files into one folder, and packs nothing without a passed gate."""
 
 import hashlib
 import os
@@ -41,7 +41,7 @@ ARCHIVE, DEB = f"netrev-{VERSION}-linux-x86_64.tar.gz", f"netrev_{VERSION}_amd64
 
 @pytest.fixture
 def tree(tmp_path: Path) -> Path:
-    """A tree whose packages are made, with every file and folder of a release."""
+    """A tree whose packages have been made, with every file and folder of a release."""
     for name in PARTS:
         (tmp_path / name).mkdir() if (ROOT / name).is_dir() else (tmp_path / name).touch()
     for name in SCRIPTS:
@@ -61,7 +61,7 @@ def run(tree: Path, *command: str) -> "subprocess.CompletedProcess[str]":
 
 
 def pass_gate(tree: Path, program: bytes) -> Path:
-    """A program, and the files of a gate that it passed."""
+    """Makes a program, and the files of a gate that it passed."""
     built = tree / "crates/netrev/out/netrev"
     built.write_bytes(program)
     built.chmod(0o755)

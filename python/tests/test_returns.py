@@ -8,8 +8,8 @@ from nrdb.returns import function_at
 from .examples import EXAMPLES
 from .test_causes import CAUSED
 
-# Goroutine 0: step 67 ends a Write and 96 a Read in main.ask, which main.pool.func1 calls; 98 begins a Write in main.ask, which
-# main.pool calls from another line.
+# Goroutine 0: step 67 ends a Write and step 96 a Read in main.ask, which main.pool.func1 calls; step 98 begins a Write
+# in main.ask, which main.pool calls from another line.
 POOL = Recording.read(str(CAUSED / "pool-bad.jsonl"))
 STEP_OUTSIDE = 98
 

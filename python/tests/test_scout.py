@@ -1,4 +1,4 @@
-"""The scout, which queries positions with a netrev of its own, or with a lent one."""
+"""The scout, which queries positions with its own netrev, or with a borrowed one."""
 
 import gc
 from pathlib import Path
@@ -22,7 +22,7 @@ def test_a_netrev_that_was_lent_looks_first_and_is_given_back() -> None:
     lent = opens()
     scout, own = Scout(opens, lent), Scout(opens)
     assert scout.values(7, ["lock 0"]) == own.values(7, ["lock 0"])
-    assert len(opened) == 2  # (the second one belongs to the scout without a lent one)
+    assert len(opened) == 2  # (the second one belongs to the scout without a borrowed one)
     scout.drop()
     own.drop()
     assert [one.has_ended for one in opened] == [False, True]

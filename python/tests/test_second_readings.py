@@ -1,5 +1,5 @@
-"""nrdb's facts about references, timers and calls, in random recordings: they equal a reading of the definition
-over all states of the model, or the calls that were made."""
+"""nrdb's facts about references, timers and calls in random recordings: they equal what the definitions give over all states of the model,
+or the calls that were made."""
 
 import random
 from typing import Any, Iterator
@@ -57,8 +57,8 @@ def steps_of(text: Text, worlds: list[World]) -> Steps:
 
 
 def holders(steps: Steps, s: int) -> list[tuple[int, int, str]]:
-    """A step that raises the count of a lock word takes a reference. One that lowers it gives back the newest of that side that is the
-    goroutine's own, else the newest of that side, else the newest."""
+    """A step that raises the count of a lock word takes a reference. A step that lowers it gives back the newest reference of that side
+    that belongs to the goroutine, or else the newest of that side, or else the newest of all."""
     held: list[tuple[int, int, str]] = []
     for number, (kind, *arguments), before, after in steps:
         if s >= len(after.sockets):
@@ -118,7 +118,7 @@ def test_a_timer_is_of_the_step_that_set_its_deadline(seed: int) -> None:
 
 @pytest.mark.parametrize("seed", range(60))
 def test_calls_are_those_that_goroutines_made(seed: int) -> None:
-    """The program behind a random log knows them."""
+    """The program behind a random log knows its calls."""
     program = program_of(f"calls {seed}")
     log = log_of(program)
     try:
@@ -126,7 +126,7 @@ def test_calls_are_those_that_goroutines_made(seed: int) -> None:
     except Nothing:
         return
     if not log.from_the_start:
-        return  # (of calls that began before the log, a part is known)
+        return  # (calls that began before the log are known only in part)
     step_of = {point.number: step for (point, _), step in zip(made.points, made.ended)}
     socket_of = {point.number: socket.number for point, socket in made.points}
     known = [one for one in sorted(program.calls, key=lambda one: one.first) if one.first in step_of]
@@ -146,8 +146,7 @@ def test_calls_are_those_that_goroutines_made(seed: int) -> None:
 
 
 def sleeps_of(made: Made) -> list[tuple[int, int, int, int]]:
-    """The steps by which sleeping goroutines continued: the step, the goroutine, for how many steps it slept, and
-    for how long."""
+    """The steps with which sleeping goroutines continued: the step, the goroutine, and how long it slept, in steps and in time."""
     text = read_text(text_of(made))
     machine, asleep, found = Machine(Limits(*text.limits)), dict[int, tuple[int, int]](), []
     for number, (kind, *arguments) in enumerate(text.steps, 1):
@@ -186,11 +185,11 @@ def test_the_newest_of_a_goroutine_s_references_is_given_back() -> None:
     assert [(one.step.number, one.goroutine) for one in held] == [(4, 1), (6, 0)]
 
 
-# ---- what rules look at
+# ---- what rules examine
 
 
 class UseOf:
-    """The events in a use of a descriptor."""
+    """The events in one use of a descriptor."""
 
     def __init__(self, d: int, s: int, opened: int, tag: int) -> None:
         self.place = d, s, opened, tag
@@ -210,7 +209,7 @@ class UseOf:
 
 
 def all_of(use: Use) -> list[object]:
-    """What was noted of a use, in the form of `UseOf.all`."""
+    """What is known about a use, in the form of `UseOf.all`."""
     passings = [[(one.step, one.kind) for one in side] for side in use.passings]
     place = use.descriptor, use.socket, use.opened, use.tag
     return [place, use.closed, use.settings, use.errors, use.thrown, use.last_events, [*use.waits], passings, use.taken]
@@ -225,7 +224,7 @@ def side_of(before: World, kind: str, g: int, arguments: list[Any]) -> tuple[int
 
 
 class Naive:
-    """The effects of a recording's steps, from the states before and after each."""
+    """The effects of a recording's steps, found from the states before and after each."""
 
     def __init__(self, steps: Steps) -> None:
         self.uses: list[UseOf] = []
@@ -318,8 +317,8 @@ def test_notes_are_what_the_states_say(seed: int) -> None:
 
 @pytest.mark.parametrize("seed", range(30))
 def test_each_step_is_of_the_socket_that_it_names(seed: int) -> None:
-    """A step belongs to the socket that it names, or to that of its descriptor, its timer or its event's tag, or to
-    the one that its goroutine named last."""
+    """A step belongs to the socket that it names, or to the socket of its descriptor, its timer or its event's tag, or to the one that its
+    goroutine named last."""
     text, worlds = random_text(f"whose {seed}", {**LOCKING, **TIMING, **WAITING}, ALONE)
     recording, named, tags = Recording(write_plain(text)), dict[int, tuple[int, int]](), dict[tuple[int, int], int]()
     of_timers, expected = timers(steps_of(text, worlds)), []

@@ -12,7 +12,7 @@ SETUP = ROOT / "scripts/setup.sh"
 PACKAGES = ("black", "mypy", "python3-pytest", "chromium", "emacs-nox", "elpa-dap-mode")
 TOOLS = ("sh", "cd", "date", "dirname", "grep", "mkdir", "sed", "tr", "cat", "timeout")
 
-# Stand-ins: a package is installed if a file in installed/ has its name.
+# Stand-ins: a package counts as installed if a file in installed/ has its name.
 STAND_INS = {
     "id": 'echo "$USER_NUMBER"',
     "dpkg-query": 'for name; do :; done; [ -e "$WORLD/installed/$name" ] && echo "install ok installed"',
@@ -40,7 +40,7 @@ class World:
                 (self.commands / name).symlink_to(found)
 
     def add(self, name: str, text: str) -> None:
-        """A command of this machine."""
+        """Adds a command to this machine."""
         (self.commands / name).write_text(f"#!/bin/sh\n{text}\n")
         (self.commands / name).chmod(0o755)
 
@@ -61,7 +61,7 @@ class World:
         return ran.stdout
 
     def calls(self) -> str:
-        """The calls of apt-get and python3, a line each."""
+        """The calls of apt-get and python3, one line each."""
         path = self.top / "calls"
         return path.read_text() if path.exists() else ""
 

@@ -1,5 +1,5 @@
-"""The shells' completions of netrev, nrdb and netrev-go, at the prompt of a real bash and a real zsh. A missing
-shell is skipped, and named."""
+"""The shells' completions of netrev, nrdb and netrev-go, at the prompt of a real bash and a real zsh. If a shell is missing, its tests are
+skipped, and it is named."""
 
 import contextlib
 import os
@@ -21,7 +21,7 @@ SHELLS = {
     "bash": (["bash", "--norc", "--noprofile", "-i"], "for file in of_bash/*; do . $file; done"),
     "zsh": (["zsh", "-f", "-i"], "fpath=($PWD/of_zsh $fpath); autoload -Uz compinit; compinit -u -D"),
 }
-# the text before the key, and the text after it
+# the text before the key is pressed, and after it
 COMPLETED = (
     ("netrev che", "check"),
     ("netrev cha", "changes"),
@@ -56,7 +56,7 @@ class Typed:
         os.write(self.terminal, text.encode())
 
     def until(self, text: str) -> bool:
-        """Reads until this is on the screen; whether that happens in time."""
+        """Reads until this is on the screen; returns whether that happens in time."""
         limit = time.monotonic() + PATIENCE
         while text not in self.screen:
             left = limit - time.monotonic()
@@ -82,8 +82,8 @@ class Shells(unittest.TestCase):
                 (self.folder / f"of_{shell}" / f"_{name}").write_bytes(made)
 
     def completes(self, shell: str) -> None:
-        """Checks that the shell completes the typed text as expected. Shell functions that print their arguments
-        replace the programs."""
+        """Checks that the shell completes the typed text as expected. Shell functions that print their arguments stand in for the
+        programs."""
         command, loads = SHELLS[shell]
         if not shutil.which(shell):
             self.skipTest(f"no {shell} is here (Debian: apt-get install {shell})")

@@ -1,5 +1,4 @@
-"""The bytes of calls if a recording counts fewer, datagrams that were cut, and unix sockets that are two ends of
-one connection."""
+"""The bytes of calls if a recording counts fewer, datagrams that were cut off, and Unix sockets that are two ends of one connection."""
 
 import pytest
 
@@ -30,7 +29,7 @@ def test_unix_sockets_of_one_connection(order: str, peers: list[tuple[int, int]]
 
 
 def calls_of(recording: Recording, name: str) -> list[int]:
-    """The sizes of the calls with a name on the sockets of a recording, in order."""
+    """The sizes of the calls with this name on the sockets of a recording, in order."""
     index = index_of(recording)
     return [size_of(index, call) for call in index.book.calls if call.name == name and call.moved]
 
@@ -67,6 +66,6 @@ def test_datagrams_of_which_one_was_lost_are_no_pairs() -> None:
     recording = stored("datagram-bad")
     index = index_of(recording)
     first = next(call for call in index.book.calls if call.name == "Write" and call.moved)
-    index.by_socket[first.socket].remove(first)  # as if it were another's
+    index.by_socket[first.socket].remove(first)  # as if it belonged to another socket
     cut_datagrams.cache_clear()
     assert not cut_datagrams(index)

@@ -1,6 +1,5 @@
-"""Paths that skip what should be done: in functions of a few lines, and in the recordings of
-tools/go/samples/skips, each of which names its line in the first cause, and says nothing of the kind if the
-recording doesn't agree."""
+"""Paths that skip what should be done: in functions of a few lines, and in the recordings of tools/go/samples/skips, where each rule names
+its line in the first cause, and says nothing if the recording doesn't agree."""
 
 import re
 from pathlib import Path
@@ -84,7 +83,7 @@ TRIES = [
 
 
 def ways(source: str, begin: str = "take(") -> list[tuple[int, str]]:
-    """The paths of a function from a line with a text to one that gives it back."""
+    """The paths of a function from a line with a text to a line that gives it back."""
     lines = tuple(source.split("\n"))
     found = skipped_ways(
         lines, range(1, len(lines)), lambda text: begin in text, lambda text: "give(" in text, lambda text: "keep(" in text
@@ -129,7 +128,7 @@ def test_what_gives_something_back(text: str, pattern: str) -> None:
 
 
 def first_cause(recording: Recording) -> str:
-    """The first cause of a recording, whose source is here and not newer."""
+    """The first cause in a recording whose source exists and isn't newer than it."""
     recording.lines.written = float("inf")
     with in_the_folder_of_the_source(SKIPS):
         return "\n".join(first_words(recording, "skips")).split("\ncause:")[0]
@@ -153,7 +152,7 @@ def test_no_way_is_named_without_the_source(name: str) -> None:
 
 
 def with_often(name: str, what: str, often: int) -> Recording:
-    """A recording in which each goroutine did something that many more times."""
+    """A recording in which each goroutine did something more often, by this number."""
     recording = stored(f"{name}-bad")
     for uses in recording.lines.uses.values():
         uses[:] = [one._replace(often=one.often + often) if one.what == what else one for one in uses]

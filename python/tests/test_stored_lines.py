@@ -1,5 +1,5 @@
-"""What nrdb answers to random lines of all commands over some recordings, and the files that it writes: the sums of every few answers are stored, as
-the texts are long.
+"""nrdb's answers to random lines with all commands over some recordings, and the files that it
+writes: because the texts are long, checksums of every few answers are stored.
 
     /usr/bin/python3 python tests.test_stored_lines           stores the sums anew
     /usr/bin/python3 python tests.test_stored_lines NAME      prints a recording's answers, to compare them with earlier ones"""
@@ -30,7 +30,7 @@ NAMES = (
     "examples/first", "examples/stale-deadline", "examples/reused-descriptor", "examples/leaked-reference", "examples/real/hijacked", "examples/past-deadline",
     *(f"{CAUSED}/{name}-bad" for name in ("hub", "gaveup", "kept", "probed", "rounds", "datagram", "outlived", "pooled", "uncased")),
 )  # fmt: skip
-COUNT, TOGETHER = 400, 20  # lines of a recording, of which so many have one sum
+COUNT, TOGETHER = 400, 20  # the lines for a recording, and how many of them share a checksum
 LEFT_OUT = {"quit", "explore", "reduce", "report", "source", "save"}
 VALUES = ("*", "idle", "parked *", "nil", "wait", "g*", "ready", "0", "8", "*read lock*", "no deadline", "1")
 FILES = (
@@ -91,7 +91,7 @@ class Author:
 
 
 def answers(name: str) -> Iterator[str]:
-    """Each line for a recording with what it is answered."""
+    """Each line for a recording, with its answer."""
     session, printer = session_of(name)
     session.text().lines.written = float("inf")  # (a clone's files are newer than the recording)
     author = Author(random.Random(name), session.text().length)
@@ -108,7 +108,7 @@ def answers(name: str) -> Iterator[str]:
 
 
 def texts_of(name: str) -> list[str]:
-    """All answers, so many in one text."""
+    """All answers, several in each text."""
     program = name.removeprefix(f"{CAUSED}/").rpartition("-")[0]
     source = (source_of(program) if program in PROGRAMS else SOURCE).parent
     with tempfile.TemporaryDirectory() as folder, in_the_folder_of_the_source(source):

@@ -1,5 +1,5 @@
-"""What `explore`, `reduce` and `report` find in some recordings, with all that they write: the sums are stored, as the texts are long. The model answers
-for netrev.
+"""What `explore`, `reduce` and `report` find in some recordings, and all that they write: checksums
+are stored, because the texts are long. The model answers instead of netrev.
 
     /usr/bin/python3 python tests.test_stored_searches              stores the sums anew
     /usr/bin/python3 python tests.test_stored_searches NAME ..      prints all for a recording, to compare it with an earlier text"""
@@ -50,7 +50,7 @@ def own(_: str, path: str, interrupts: Interrupts) -> Modelled:
 
 @contextmanager
 def modelled() -> Iterator[None]:
-    """The model answers for netrev, and one process runs the schedules."""
+    """In this context, the model answers instead of netrev, and one process runs the schedules."""
     with ExitStack() as patched:
         for module in ANSWERED:
             patched.enter_context(mock.patch(f"nrdb.{module}.answered_by", answered_by))
@@ -60,7 +60,7 @@ def modelled() -> Iterator[None]:
 
 
 def texts_of(name: str) -> dict[str, str]:
-    """What each line is answered, and what it writes."""
+    """The answer to each line, and what it writes."""
     session, printer = session_of(name)
     session.text().lines.written = float("inf")  # (a clone's files are newer than the recording)
     printer.take()

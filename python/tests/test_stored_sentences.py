@@ -1,6 +1,7 @@
-"""All that nrdb says of the recordings in `caused`, and not just a part of it: causes, hangs, errors and suspects.
+"""All that nrdb says about the recordings in `caused`, and not just a part of it: causes, hangs, errors and suspects.
 
-`/usr/bin/python3 python tests.test_stored_sentences` stores what it says now, with a Python that has pytest; read the difference before committing it."""
+`/usr/bin/python3 python tests.test_stored_sentences` stores the current output, with a Python that has pytest; read the difference before
+you commit it."""
 
 import json
 import sys
@@ -27,7 +28,7 @@ def lines_of(table: Table) -> list[str]:
 
 
 def said_of(name: str) -> dict[str, list[str]]:
-    """What nrdb says of a recording, beside its program's source."""
+    """What nrdb says about a recording beside its program's source."""
     recording = Recording.read(str(CAUSED / f"{name}.jsonl"))
     recording.lines.written = float("inf")  # (a clone's files are newer than the recording)
     program = name.rpartition("-")[0]
@@ -35,7 +36,7 @@ def said_of(name: str) -> dict[str, list[str]]:
         suspects = [one for one in suspects_of(recording).suspects if one.is_shown]
         first = [line for line in first_words(recording, f"{name}.jsonl") if not line.startswith("next:")]
         said = {
-            "first": first,  # (without how nrdb is started here)
+            "first": first,  # (without the command that starts nrdb here)
             "hangs in the middle": lines_of(hangs_table(recording, recording.length // 2)),
             "errors": lines_of(errors_table(recording, recording.length, None)),
             "requests": lines_of(requests_table(recording)),

@@ -1,4 +1,5 @@
-"""What nrdb says of the recordings in `caused` at many positions, and without parts of NAME.where: the sums are stored, as the texts are long.
+"""What nrdb says about the recordings in `caused` at many positions, and without parts of
+NAME.where: checksums are stored, because the texts are long.
 
     /usr/bin/python3 python tests.test_stored_sums                     stores the sums anew
     /usr/bin/python3 python tests.test_stored_sums NAME VIEW ..        prints the text of a view, to compare it with an earlier one's"""
@@ -22,8 +23,8 @@ from tests.test_causes import CAUSED, in_the_folder_of_the_source
 from tests.test_stored_sentences import PROGRAMS, RECORDINGS, lines_of
 
 STORED = CAUSED / "sums.json"
-PARTS = 12  # of a recording, between which it is looked at
-# lines of NAME.where that are left out
+PARTS = 12  # the parts of a recording between which the hangs are listed
+# the lines of NAME.where that are left out
 WITHOUT = {"orders": "orders|waits", "objects": "objects|channels|held|timers"}
 
 
@@ -49,7 +50,7 @@ def errors(recording: Recording) -> list[str]:
 
 
 def in_short(recording: Recording) -> list[str]:
-    """The first words, and some hangs."""
+    """The first output, and some hangs."""
     first = [line for line in first_words(recording, "made.jsonl") if not line.startswith("next:")]
     more = [line for part in (2, 3) for line in lines_of(hangs_table(recording, recording.length * part // 4))]
     return first + more + lines_of(errors_table(recording, recording.length, None))
@@ -84,7 +85,7 @@ def text_of(name: str, view: str) -> str:
 
 
 def views_of(name: str) -> list[str]:
-    """The views whose sums are stored: of good runs, in which hardly anything hangs, only the whole NAME.where's."""
+    """The views whose checksums are stored: for good runs, in which hardly anything hangs, only those with the whole NAME.where."""
     return [view for view in VIEWS if name.endswith("-bad") or not view.startswith("without")]
 
 

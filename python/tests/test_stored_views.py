@@ -1,7 +1,7 @@
 """All that nrdb prints at some positions of a few recordings, the data of their timelines, and their traces.
 
-`/usr/bin/python3 python tests.test_stored_views` stores what it prints now, with a Python that has pytest; read the difference before
-committing it."""
+`/usr/bin/python3 python tests.test_stored_views` stores the current output, with a Python that has pytest; read the difference before you
+commit it."""
 
 import json
 import sys
@@ -27,7 +27,7 @@ NAMES = (
     "examples/first", "examples/lost-wakeup", "examples/real/half", "examples/real/leak", "python/tests/caused/pool-bad",
     "python/tests/caused/partly-bad",
 )  # fmt: skip
-# the lines that are typed at four positions, and those that are typed once after these
+# the lines that are typed at four positions, and the lines that are typed once after these
 LINES = STORED / "lines.txt"
 
 
@@ -48,7 +48,7 @@ def session_of(name: str) -> tuple[Session, Collecting]:
 
 
 def printed(name: str) -> list[str]:
-    """What lines are answered, each with its line before it."""
+    """The answers to lines, each after its line."""
     session, printer = session_of(name)
     length = session.text().length
     everywhere, once = (part.splitlines() for part in LINES.read_text(encoding="utf-8").split("\n\n"))

@@ -22,7 +22,8 @@ from nrdb.messages.session import NO_REPLY_YET
 ROOT = Path(__file__).resolve().parents[2]
 FIRST = ROOT / "examples/first.jsonl"
 POSITION = b"at 5 of 10 forward\n"
-# what a terminal obeys: controls, those of the upper half, marks that turn the direction, and what can't be seen
+# characters that control a terminal or can't be seen: control characters, including those of the upper half, marks that
+# change the writing direction, and invisible ones
 OBEYED = ("\x1b[2J", "\x07", "\r", "\x7f", "\x9b2J", "\u202e", "\u2066", "\u2028", "\u200b", "\ufeff")
 UNSEEN = ("Cc", "Cf", "Cs", "Cn", "Co", "Zl", "Zp")  # categories of characters
 ASKED: tuple[str, ...] = (
@@ -49,7 +50,7 @@ Answers = Callable[[bytes], bytes]
 
 
 def unseen(text: str) -> list[str]:
-    """The characters of a text, except line feeds, that a terminal obeys or that can't be seen."""
+    """The characters of a text, except newlines, that control a terminal or can't be seen."""
     return [character for character in text if unicodedata.category(character) in UNSEEN and character != "\n"]
 
 
@@ -66,7 +67,7 @@ def nrdb(*words: object) -> tuple[int, str]:
 
 @contextlib.contextmanager
 def server(answers: Answers) -> Iterator[str]:
-    """The address of a server that answers each line with this text, and not at all if it is empty."""
+    """The address of a server that answers each line with this text, and doesn't answer if it is empty."""
 
     def serve() -> None:
         with contextlib.suppress(OSError):
@@ -87,13 +88,13 @@ def server(answers: Answers) -> Iterator[str]:
 
 
 def joined(answers: Answers, *more: object, asked: tuple[str, ...] = ASKED) -> tuple[int, str]:
-    """nrdb's output about a server that answers so."""
+    """nrdb's output about a server that answers in this way."""
     with server(answers) as address:
         return nrdb("--join", address, FIRST, "--batch", *(word for line in asked for word in ("-ex", line)), *more)
 
 
 def behind_position(answer: bytes) -> Answers:
-    """Answers its position, as netrev does, and everything else with this text."""
+    """Answers that give the position as netrev does, and this text to everything else."""
     return lambda line: POSITION if line == b"info position" else answer
 
 
@@ -163,7 +164,7 @@ class Strangers(unittest.TestCase):
 
 
 class WhoSays(unittest.TestCase):
-    """The program that checks whether a file is a recording gets no input: it may be one that waits for some."""
+    """The program that checks whether a file is a recording gets no input, because it may be one that waits for some."""
 
     def test_it_isnt_waited_for(self) -> None:
         with tempfile.TemporaryDirectory() as folder:
@@ -182,7 +183,7 @@ class WhoSays(unittest.TestCase):
 
 
 class NoRecordings(unittest.TestCase):
-    """Files that netrev has never read, and that aren't recordings, in a joined session."""
+    """Files that netrev has never read, and that aren't recordings, in a session that nrdb joined."""
 
     LINES = (b"garbage", b"5", b"[]", b'{"a":1}', b'[["rwlock",0,0,"r"]]', b"\xff\xfe", b"[1,2]", b"null", b"[" * 9000)
 
@@ -227,7 +228,7 @@ class Plain(unittest.TestCase):
                         self.assertEqual(unseen(said), [])
 
     def test_the_text_of_a_recording_that_a_server_has_another_of(self) -> None:
-        """If a session is joined, netrev has never read the file."""
+        """In a joined session, netrev has never read the file."""
         for text in OBEYED:
             spelled = json.dumps(text)[1:-1]
             steps = [f'["{spelled}",0]', f'["rwlock",0,0,"{spelled}"]', f'["tick",0,"{spelled}"]'] * 4

@@ -1,4 +1,4 @@
-"""scripts/surface.py: it reads a source as `rt fmt` lays it out, and reports a call that isn't as the table has it."""
+"""scripts/surface.py: it reads a source as laid out by `rt fmt`, and reports calls that aren't as listed in the table."""
 
 import shutil
 import subprocess

@@ -1,5 +1,5 @@
-"""The rules of `info suspects` at their boundaries: for each limit exactly what it allows and one more; and the
-same steps by another goroutine, at another descriptor, with a deadline, or in another use of a descriptor."""
+"""The rules of `info suspects` at their boundaries: for each limit, exactly what it allows, and one more; and the same steps by another
+goroutine, at another descriptor, with a deadline, or in another use of a descriptor."""
 
 from typing import Any, NamedTuple
 
@@ -39,7 +39,7 @@ def owes(ended: int, length: int) -> Steps:
 
 
 def by(g: int, steps: Steps) -> Steps:
-    """Steps of another goroutine."""
+    """These steps, made by another goroutine."""
     return [[kind, g, *rest] for kind, _, *rest in steps]
 
 
@@ -52,7 +52,7 @@ NO_EVENT, STALE, LOST = "no event", "stale event", "lost wake-up"
 BEHIND, TAKEN_BACK, WRITE = "deadline left behind", "deadline taken back too soon", "write after CloseWrite"
 ERROR = "error event on a reused descriptor"
 
-# Longest pauses and holds: of each pair of rows the first is exactly what is allowed, and the second one step more.
+# Longest pauses and holds: the first row of each pair is exactly what is allowed, and the second is one step longer.
 LIMITS: dict[str, tuple[Steps, str]] = {
     "a pause of 10": (HOLDS + ticks(10), ""),
     "a pause of 11": (HOLDS + ticks(11), LEAKED),
@@ -117,7 +117,8 @@ def test_a_limit_is_what_it_allows(steps: Steps, rule: str) -> None:
     assert [one.rule for one in shown(recording_of(OPEN + steps))] == ([rule] if rule else [])
 
 
-# What else is nearly a bug: by another goroutine, at another descriptor or side, in another order, or in an earlier use of the descriptor.
+# Steps that are nearly a bug: by another goroutine, at another descriptor or side, in another order, or in an earlier
+# use of the descriptor.
 PAST_OF_BOTH: Steps = [["incref", 0, 0], sets(0, "rw", -1)]
 NEAR: dict[str, tuple[Steps, str]] = {
     "an event of the other side": (READ + PARK + COMES[:1] + [["pollevent", 0, 1, "w", 0]], NO_EVENT),
@@ -182,7 +183,7 @@ def test_what_is_nearly_a_bug_is_none(steps: Steps, rule: str) -> None:
 
 
 class Row(NamedTuple):
-    """Steps with only one suspect, of this weight and with this sentence."""
+    """Steps with only one suspect, which has this weight and this text."""
 
     steps: Steps
     weight: int
@@ -258,7 +259,7 @@ def test_a_weight_says_what_came_of_it(steps: Steps, weight: int, says: str) -> 
 
 
 class Whole(NamedTuple):
-    """All of a suspect but its sentence. Evidence is written `position cell = value`."""
+    """All parts of a suspect except its sentence. Evidence is written `position cell = value`."""
 
     step: int
     weight: int
@@ -340,7 +341,7 @@ def test_a_rule_of_calls_at_its_boundary(steps: Steps, rules: list[str]) -> None
 
 @pytest.mark.parametrize("count", range(SINCE - 4, SINCE + 4))
 def test_an_end_is_left_open_for_50_steps(count: int) -> None:
-    """From the step on that began to close the other end."""
+    """Counted from the step that began to close the other end."""
     steps = TWO_ENDS + GETS + UNLOCKS + CLOSES + ticks(count)
     closed = steps.index(CLOSES[0]) + 1
     assert rules_of(with_lines(steps)) == ([OPEN_END] if len(steps) - closed >= SINCE else [])

@@ -1,5 +1,5 @@
-"""The naive reading of `netrev suspects` (netrev_machine/suspects.py), by a table of small recordings: each row is at the boundary of a
-definition."""
+"""The naive implementation of `netrev suspects` (netrev_machine/suspects.py), tested by a table of small recordings: each row is at the
+boundary of a definition."""
 
 import random
 
@@ -35,14 +35,14 @@ THEMES = (
 )
 LIMITS = Limits(gor=4, sock=2, desc=2, buf=16)
 Steps = list[Step]
-Rows = dict[str, tuple[Steps, list[str]]]  # by their names: steps, and the lines of one hunt
+Rows = dict[str, tuple[Steps, list[str]]]  # by name: steps, and the lines of one hunt
 
 OPEN: Steps = [("sockopen", 4, 4), ("pollopen", 0, 0)]  # steps 1 and 2
 EVENT: Steps = [("pollevent", 0, 1, "r", 0)]
 RESET: Steps = [("pollreset", 0, 0, "r")]
 TRY: Steps = [("sysread", 0, 0, 4)]
 CLOSE: Steps = [("evict", 0, 0), ("pollclose", 0, 0)]
-EVENT_ANEW: Steps = [("pollevent", 0, 2, "r", 0)]  # of the descriptor's second use
+EVENT_ANEW: Steps = [("pollevent", 0, 2, "r", 0)]  # in the descriptor's second use
 
 
 def park(g: int = 0, side: str = "r", d: int = 0) -> Steps:
@@ -174,7 +174,7 @@ LOST: Rows = {
 
 FILL: Steps = [("syswrite", 0, 0, b"abcd")]
 BYTE: Steps = [("arrive", 0, b"a")]
-REUSED: Steps = [*CLOSE, ("sockopen", 4, 4), ("pollopen", 0, 1)]  # the descriptor for the next socket
+REUSED: Steps = [*CLOSE, ("sockopen", 4, 4), ("pollopen", 0, 1)]  # the descriptor is reused for the next socket
 SLEEPS: Rows = {
     "no byte came": (OPEN + park(), []),
     "a byte came before it parked": (OPEN + BYTE + park(), ["at 7 asleep gor 0 desc 0 r because bytes"]),
@@ -484,7 +484,8 @@ ALL: dict[str, Rows] = {
     TIMEOUT: ENDED,
     TAKEN_BACK: BACK,
 }
-# hunts whose rows have lines of other hunts: a deadline passes before it is taken back, and what is lost may still be there
+# hunts whose rows also have lines of other hunts: a deadline passes before it is removed, and a lost wake-up may leave
+# bytes there
 TOGETHER = {(TAKEN_BACK, PASSED_DEADLINE), (LOST_WAKE_UP, ASLEEP), (ASLEEP, LOST_WAKE_UP)}
 ROWS = [pytest.param(hunt, *row, id=f"{hunt}: {name}") for hunt, rows in ALL.items() for name, row in rows.items()]
 
@@ -509,7 +510,7 @@ def random_recording(dice: random.Random) -> Recording:
 
 
 def random_waits(dice: random.Random) -> Recording:
-    """A random recording of few goroutines, which wait at one descriptor while its deadlines are set and pass."""
+    """A random recording with few goroutines, which wait at one descriptor while its deadlines are set and pass."""
     world, steps, answers = World(LIMITS), [*OPEN, ("spawn",), ("spawn",)], []
     for step in steps:
         world, answer = apply(world, step)
@@ -535,7 +536,7 @@ NEXT = {
 
 
 def random_step(dice: random.Random, world: World) -> Step:
-    """The next step of a goroutine's wait, or a step of a deadline, which needn't apply."""
+    """The next step of a goroutine's wait, or a step of a deadline, which may not apply."""
     g, side = dice.randrange(3), dice.choice("rw")
     kind = NEXT.get(world.goroutines[g][0])
     if dice.random() < 0.4:
@@ -553,7 +554,7 @@ def random_step(dice: random.Random, world: World) -> Step:
 
 @pytest.mark.parametrize("hunt, steps, lines", ROWS)
 def test_row(hunt: str, steps: Steps, lines: list[str]) -> None:
-    """The lines of a row's hunt; and no others but those that come together."""
+    """The lines of a row's hunt, and no other lines except those that come with them."""
     end = f"ok {len(steps)} steps"
     assert suspects(text_of(steps), Observer(), [hunt]) == ([*lines, end], True)
     others = [other for other in HUNTS if other != hunt and (hunt, other) not in TOGETHER]

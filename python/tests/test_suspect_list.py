@@ -1,5 +1,5 @@
-"""The list of `netrev suspects` in `info suspects`: how it is read, how the rules use it, and that they find the
-same without it. The list is that of the naive reading (netrev_machine/suspects.py)."""
+"""The list of `netrev suspects` in `info suspects`: how nrdb reads it, how the rules use it, and that they find the same without it. The
+list comes from the naive implementation (netrev_machine/suspects.py)."""
 
 import random
 from pathlib import Path
@@ -34,7 +34,7 @@ ENDED = "at 11 timeout gor 2 desc 0 w set 3 by 0 rw moved 6 by 0"
 TAKEN = "at 12 taken-back gor 2 desc 1 r set 4 by 1 r"
 
 
-# ---- how it is read
+# ---- reading the list
 
 
 @pytest.fixture
@@ -127,11 +127,11 @@ def test_a_netrev_that_still_runs_is_ended(netrev: Path) -> None:
     assert listed.of(22) is None
 
 
-# ---- what the rules make of it
+# ---- using the list in the rules
 
 
 class Reading(SuspectList):
-    """The list of a recording by the naive reading."""
+    """The list of a recording according to the naive implementation."""
 
     def __init__(self, recording: Recording) -> None:
         super().__init__("", "", Interrupts())
@@ -145,13 +145,13 @@ class Reading(SuspectList):
 
 
 def found(recording: Recording, is_listed: bool = True) -> list[Suspect]:
-    """The suspects that are shown, by the list or without it."""
+    """The suspects that are shown, with the list or without it."""
     recording.suspects = Reading(recording) if is_listed else None
     return [suspect for suspect in suspects_of(recording).suspects if suspect.is_shown]
 
 
 def told(suspects: list[Suspect]) -> list[tuple[object, ...]]:
-    """The text of suspects without netrev's lines."""
+    """The text of suspects, without netrev's lines."""
     return [(one.weight, one.sentence(), one.looks, one.steps, one.evidence, *one.subject) for one in suspects]
 
 
@@ -193,7 +193,7 @@ def test_a_suspect_has_netrev_s_lines(rule: str) -> None:
 
 
 def test_the_list_says_what_set_a_deadline_and_what_moved_since() -> None:
-    """Not the notes: by another list the rule says otherwise."""
+    """They don't come from the notes: with another list the rule says something else."""
     recording = recording_of(OPEN + BOTH + PASSES + ENDS)
     recording.suspects = reading = Reading(recording)
     reading.lines = [line.replace("set 5 by 0 rw moved 6 by 0", "set 5 by 3 rw moved 6 by 2") for line in reading.lines]
@@ -251,7 +251,7 @@ def test_it_is_shown_where_bytes_are_unread_but_not_in_accept(name: str, is_show
 
 
 def test_a_goroutine_that_has_read_since_is_doubtful() -> None:
-    """A read that gets less than it asks for is no EAGAIN, so netrev lists the wait after it; but nothing is unread."""
+    """A read that gets fewer bytes than it asks for isn't an EAGAIN, so netrev lists the wait after it; but nothing is unread."""
     steps = PAIRS["lost wake-up"].good
     assert len(Reading(recording_of(steps)).lines) == 1 and found(recording_of(steps)) == []
     assert [one.rule for one in found(recording_of([*steps[:3], ["arrive", 0, "00" * 16], *steps[4:]]))] == []
@@ -266,7 +266,7 @@ def test_none_is_lost_behind_a_try_of_another_goroutine() -> None:
 
 
 def test_bytes_that_came_after_the_event_have_none_of_their_own() -> None:
-    """The wake-up that was lost is not the one that the goroutine hangs for: no event came for these bytes."""
+    """The lost wake-up isn't the one that the goroutine is missing: no event came for these bytes."""
     steps = OPEN + COMES[1:] + PARK[:2] + PARK + COMES[:1] + WHILE
     assert [one.rule for one in found(recording_of(steps))] == ["no event", "lost wake-up"]
 
@@ -285,8 +285,7 @@ def test_planted_bugs_have_the_same_suspects(bug: Optional[Bug]) -> None:
 
 
 def test_random_recordings_have_the_same_facts_by_the_notes() -> None:
-    """From the notes the rules find the same facts as from the list, for candidates of searches and with an older
-    netrev."""
+    """The rules find the same facts from the notes as from the list, for candidates of searches and with an older netrev."""
     lost = passed = ended = back = 0
     for seed in range(200):
         dice = random.Random(f"suspects {seed}")
@@ -307,6 +306,6 @@ def without_lines(facts: Iterable[Union[LostWakeUp, OfDeadline]]) -> list[str]:
 
 
 def test_a_close_that_goes_on_has_a_line_and_is_no_suspect() -> None:
-    """The list isn't one of bugs: it also has the state in which a recording ends."""
+    """The list isn't a list of bugs: it also has the state in which a recording ends."""
     recording = recording_of(OPEN + SHUT[:2])
     assert len(Reading(recording).lines) == 2 and found(recording) == []

@@ -1,5 +1,5 @@
-"""The rules of `info suspects`: each finds its bug in a small recording and not in a similar correct one; the bugs
-of the examples are named first, and so are bugs planted at random; traffic without one has no suspect."""
+"""The rules of `info suspects`: each finds its bug in a small recording, and not in a similar correct one; the bugs of the examples and
+bugs planted at random are listed first; traffic without a bug has no suspect."""
 
 import json
 import unittest
@@ -153,7 +153,7 @@ class Rules(unittest.TestCase):
 
     def test_the_bug_of_each_example_is_named_first(self) -> None:
         for example in ALL:
-            if example.name not in REFUSED:  # (there is nothing to look at)
+            if example.name not in REFUSED:  # (there is nothing to examine)
                 with self.subTest(example.name):
                     found = [suspect.rule for suspect in shown(Recording.read(str(example.path)))]
                     self.assertEqual(found[:1], [example.suspect] if example.suspect else [])

@@ -1,5 +1,5 @@
-"""A recording that ends while a goroutine is in a system call: a lock that Go gives up afterwards isn't suspected;
-one that nobody gives up is. And a listener's wait in Go's own Accept isn't a lost wake-up."""
+"""A recording that ends while a goroutine is in a system call: a lock that Go gives up afterwards isn't a suspect, but one that no
+goroutine gives up is. And a listener's wait in Go's own Accept isn't a lost wake-up."""
 
 import json
 import unittest
@@ -18,8 +18,8 @@ POLL = "internal/poll."
 
 
 def found(steps: Steps, functions: Optional[list[str]], others: str = "main.main") -> list[object]:
-    """The rules of the suspects, if the steps of goroutine 1 come from these functions of internal/poll, one after
-    the other; without them no lines are known."""
+    """The rules that find suspects if the steps of goroutine 1 come from these functions of internal/poll, one after another; without
+    functions, no lines are known."""
     recording = recording_of(OPEN + steps + WHILE)
     if functions is not None:
         recording.lines = lines_of(OPEN + steps + WHILE, functions, others)

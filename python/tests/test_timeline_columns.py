@@ -1,4 +1,4 @@
-"""A timeline's packed columns: unpacking gives the original numbers, up to the greatest of each width."""
+"""A timeline's packed columns: unpacking gives the original numbers, up to the greatest number of each width."""
 
 import struct
 from base64 import b64decode

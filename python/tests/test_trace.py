@@ -1,5 +1,5 @@
-"""The trace for Perfetto: its events have the right form, slices of a thread are nested or consecutive, and each
-flow leads from a slice to one; statuses equal the model's."""
+"""The trace for Perfetto: its events have the right form, slices of a thread are nested or consecutive, and each flow leads from one slice
+to another; statuses equal the model's."""
 
 import json
 import random
@@ -39,7 +39,7 @@ Event = dict[str, Any]
 
 @lru_cache
 def traffic() -> Traffic:
-    """Some traffic of connections."""
+    """Some traffic over connections."""
     return Traffic(31, None, 1_500).run()
 
 
@@ -55,7 +55,7 @@ def slices_of(events: list[Event]) -> dict[tuple[int, int], list[Event]]:
 
 
 def faults_of(events: list[Event]) -> list[str]:
-    """Violations of the form."""
+    """Violations of the trace's form."""
     faults = [f"lacks a field: {event}" for event in events if not REQUIRED[event["ph"]] <= set(event)]
     threads = slices_of(events)
     for slices in threads.values():
@@ -89,7 +89,7 @@ def traced(recording: Recording) -> list[Event]:
 
 
 class Looking(Scout):
-    """Compares with the changes."""
+    """Compares the trace with the changes."""
 
     def __init__(self, changes: RecordedChanges) -> None:
         self._changes = changes
@@ -99,7 +99,7 @@ class Looking(Scout):
 
 
 def statuses_of(events: list[Event], length: int) -> list[dict[int, str]]:
-    """For each position the statuses of the goroutines that do something."""
+    """For each position, the statuses of the goroutines that do something."""
     found: list[dict[int, str]] = [{} for _ in range(length + 1)]
     for event in events:
         if event.get("cat") == "status":

@@ -1,6 +1,5 @@
-"""Programs in which a goroutine doesn't do what another waits for, in recordings of tools/go/samples/turns
-(tests.go_caused made them): the output has the line of the bug with its reason, and nothing for the runs without
-the bug."""
+"""Programs in which a goroutine doesn't do what another waits for, in recordings of tools/go/samples/turns (made by tests.go_caused): the
+output has the line of the bug with its reason, and nothing for runs without the bug."""
 
 import unittest
 
@@ -10,7 +9,7 @@ from nrdb.recording import Recording
 from tests.go_caused import NAMES, TURNS, bug_line, source_of
 from tests.test_causes import CAUSED, in_the_folder_of_the_source
 
-# The expected text by name; {} is the line of the bug.
+# The expected text, by name; {} is the line of the bug.
 REASONS = {
     "doubled": (
         r"^Calls gave back more than they took: goroutine 0 took 3 values there at main.go:\d+ in borrow and put 3 back \(2 at main.go:\d+ in "
@@ -75,7 +74,7 @@ REASONS = {
 
 class Turns(unittest.TestCase):
     def said(self, name: str, kind: str) -> list[str]:
-        """The first output, without the line to type next."""
+        """The first output, without the line that suggests a command."""
         recording = Recording.read(str(CAUSED / f"{name}-{kind}.jsonl"))
         recording.lines.written = float("inf")  # (a clone's files are newer than the recording)
         with in_the_folder_of_the_source(source_of(name)):

@@ -1,5 +1,4 @@
-"""scripts/verdicts.py and its rule: a verdict counts for the files that it belongs to, and is compared with the
-page."""
+"""scripts/verdicts.py and its rule: a verdict is valid for the files that it was made for, and is compared with the page."""
 
 import unittest
 

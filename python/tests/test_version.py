@@ -13,7 +13,7 @@ ROOT = Path(__file__).resolve().parents[2]
 
 
 def said(*command: str) -> str:
-    """The output of a command at the top of the repository."""
+    """The output of a command that is run at the top of the repository."""
     return subprocess.run(command, cwd=ROOT, capture_output=True, text=True, check=True).stdout
 
 

@@ -1,5 +1,5 @@
-"""The wait-for graph at a recording's end: what all goroutines wait for comes first, then the goroutines that wait
-for it; cycles are deadlocks, and waits that may be normal come last."""
+"""The wait-for graph at a recording's end: what all goroutines wait for comes first, then the goroutines that wait for it; cycles are
+deadlocks, and waits that may be normal come last."""
 
 import json
 import tempfile
@@ -47,8 +47,7 @@ WAITS_AT = "a value from a channel"
 
 
 def lines_with(steps: Steps, stacks: dict[int, list[int]], of_steps: int, waits: list[list[Any]], file: str) -> Lines:
-    """Lines of NAME.where: stacks of source lines, the stack of all steps, and waits. Line 0 is the wait for a
-    mutex."""
+    """Lines of NAME.where: stacks of source lines, the stack of all steps, and waits. Line 0 is the wait for a mutex."""
     told: list[Any] = [
         {"where": 1, "steps": len(steps)},
         {"call": 1, "function": LOCKS, "file": "sync/mutex.go", "line": 7, "of": "go"},
@@ -66,8 +65,8 @@ def lines_with(steps: Steps, stacks: dict[int, list[int]], of_steps: int, waits:
 
 
 def graph_of(steps: Steps, waits: list[list[Any]], wrote: int = WRITES, file: str = "hub.go") -> WaitGraph:
-    """The graph of these steps, whose calls are at a line of the source, and of these waits: stack 2 waits for the mutex in `broadcast`, 3 in
-    `join`, 4 in `names`, and 5 for a value from a channel."""
+    """The graph of these steps, whose calls have a source line, and of these waits: stack 2 waits for the mutex in `broadcast`, stack 3 in
+    `join`, stack 4 in `names`, and stack 5 for a value from a channel."""
     recording = with_lines(steps)
     stacks = {1: [wrote], 2: [0, BROADCAST], 3: [0, JOIN], 4: [0, NAMES], 5: [NAMES]}
     recording.lines = lines_with(steps, stacks, 1, waits, file)
@@ -97,7 +96,7 @@ class Roots(unittest.TestCase):
         self.assertEqual(graph.shown[0].needs[0].certainty, Certainty.PERHAPS)
 
     def test_another_method_that_locks_the_same_mutex_may_hold_it(self) -> None:
-        """By the source: so nothing is said without it, and nothing of a method that has unlocked it before."""
+        """The source shows that: without it nothing is said, and nothing is said about a method that has already unlocked the mutex."""
         waits = [[9, 0, 2, "", 3, -1]]
         self.assertEqual(len(graph_of(self.BLOCKED, waits).shown), 2)
         with tempfile.TemporaryDirectory() as folder:
@@ -115,7 +114,7 @@ class Roots(unittest.TestCase):
         self.assertEqual(len(graph_of(self.BLOCKED, waits[1:]).shown), 2)
 
     def test_cycles_are_deadlocks_and_come_first(self) -> None:
-        """Goroutines 2 and 3 have woken each other before, and 4 waited for 3."""
+        """Goroutines 2 and 3 have woken each other before, and 4 has waited for 3."""
         ended = [[5, 6, 2, WAITS_AT, 5, 3], [6, 7, 3, WAITS_AT, 5, 2], [7, 8, 4, WAITS_AT, 5, 3]]
         left = [[7 + number, 0, number, WAITS_AT, 5, -1] for number in (2, 3, 4)]
         graph = graph_of(self.BLOCKED, ended + left)
@@ -143,14 +142,13 @@ class Roots(unittest.TestCase):
         self.assertEqual(graph.count, 1)
 
     def test_a_goroutine_that_sleeps_for_good_may_have_nothing_to_do(self) -> None:
-        """A program's main goroutine may do so, and one that a test has left running."""
+        """A program's main goroutine may do so, and also a goroutine that a test has left running."""
         for kind, is_quiet in (("a select without cases", True), ("a nil channel", False)):
             graph = graph_of(self.BLOCKED, [[7, 0, 2, kind, 5, -1]])
             self.assertEqual([hang.is_quiet for hang in graph.shown], [False, is_quiet], kind)
 
     def test_what_nobody_waits_for_is_no_cause_where_the_program_ended_by_itself(self) -> None:
-        """A session opens with it as with a wait that may be normal, but not if others wait for it, or the program
-        was killed."""
+        """A session opens with it as with a wait that may be normal, unless others wait for it or the program was killed."""
         left = [[6, 0, 2, "room in a channel", 5, -1]]
         waited_for = [[3, 4, 3, WAITS_AT, 5, 2], *left, [7, 0, 3, WAITS_AT, 5, -1]]
         quiet = "1 goroutine waits at the end, at hub.go:15 in (*hub).names: info hangs"

@@ -1,6 +1,5 @@
-"""The goroutines that wait for a lock, and its holder: the number of queries and of searches of the recording's text
-doesn't grow with the number of waiters, and a search from the end of the recording finds the same as one of all
-steps."""
+"""The goroutines that wait for a lock, and its holder: the numbers of queries and of searches in the recording's text don't grow with the
+number of waiters, and a search from the end of the recording finds the same as a search of all steps."""
 
 import io
 import json
@@ -48,7 +47,7 @@ class Asked(unittest.TestCase):
         self.folder = folder_of(self)
 
     def session(self, text: str, asked: Counter[str]) -> tuple[Session, io.StringIO]:
-        """A session at the end of a recording, its output, and a count of the queries to netrev."""
+        """A session at the end of a recording, its output, and a count of the queries sent to netrev."""
         path = self.folder / "recording.jsonl"
         path.write_text(text)
         model, interrupts, out = recording_at(path), Interrupts(), io.StringIO()
@@ -119,8 +118,8 @@ class Asked(unittest.TestCase):
         self.assertIn("dump rq 0", many)
 
     def searched(self, count: int, sockets: int, with_lines: bool) -> tuple[int, int, int]:
-        """The work of `info goroutines` with `count` waiters at each of `sockets` sockets: its queries besides the
-        statuses, the searches of the text that it begins, and the pieces of text that it searches."""
+        """The work of `info goroutines` with `count` waiters at each of `sockets` sockets: the queries in addition to the statuses, the
+        searches of the text that it begins, and the pieces of text that it searches."""
         asked, begun = Counter[str](), mock.Mock()
         text = waiters(count, sockets)
         if with_lines:
@@ -134,7 +133,7 @@ class Asked(unittest.TestCase):
         searched, pieces = Recording.found_back, mock.Mock()
 
         class Pieces:
-            """A pattern that counts how often it is searched for."""
+            """A pattern that counts its searches."""
 
             def __init__(self, spelled: Any):
                 self.spelled = spelled
@@ -161,7 +160,7 @@ class Asked(unittest.TestCase):
             with self.subTest(with_lines=with_lines):
                 few, many = (self.searched(count, 4, with_lines) for count in (2, 12))
                 self.assertEqual(few[:2], many[:2])
-                self.assertLessEqual(many[2], few[2] + 2 * 3)  # a text of twice the length has one piece more
+                self.assertLessEqual(many[2], few[2] + 2 * 3)  # a text of twice the length has one more piece
                 one, sixteen = (self.searched(3, sockets, with_lines) for sockets in (1, 16))
                 self.assertEqual((one[1], sixteen[1]), (1 + with_lines, 1 + with_lines))
                 self.assertLessEqual(sixteen[0] - one[0], 15 * 2)  # each socket's lock word, and its queue
@@ -190,7 +189,7 @@ class Backwards(unittest.TestCase):
                 held = holders_of(world.recording, changes, socket, world.position)
                 for side in "rw":
                     found = [one.step for one in held if one.side == [side]][-1:]
-                    # (a `decref` by a goroutine that only has a lock counts as giving back the lock's reference)
+                    # (a `decref` by a goroutine that only has a lock counts as releasing the lock's reference)
                     if found:
                         right[socket, side] = found[0]
                     met[bool(found)] += 1

@@ -1,4 +1,4 @@
-"""Waits outside of the poller: by points of the recorder, in NAME.where, and in the text about a hanging call."""
+"""Waits outside the poller: from points of the recorder, in NAME.where, and in the text about a hanging call."""
 
 import json
 import unittest
@@ -20,11 +20,11 @@ def point(number: int, kind: Kind, goroutine: int, a: int = 0, stack: int = 0) -
 
 
 def waits(*points: Point) -> list[Wait]:
-    """The waits of these points, in NAME.where's form for the recording's goroutines."""
+    """The waits from these points, in NAME.where's form for the recording's goroutines."""
     return waits_of(goroutines_of(points, STEPS, 0), NUMBERS)
 
 
-NUMBERS = {17: 0, 18: 1}  # Go's names of the recording's goroutines
+NUMBERS = {17: 0, 18: 1}  # Go's numbers of the recording's goroutines
 STEPS = [(0, 17, 4), (3, 18, 5), (3, 18, 6)]
 
 

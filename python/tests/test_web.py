@@ -1,5 +1,5 @@
-"""The page's server under requests that aren't the page's: each is refused, and the session continues. Over real
-sockets, with a session that only writes down its lines."""
+"""The page's server with requests that aren't the page's: each is refused, and the session continues. It uses real sockets, and a session
+that only stores its lines."""
 
 import base64
 import hashlib
@@ -17,13 +17,13 @@ from nrdb.web.streams import Streams
 
 from .web_client import LOOPBACK, Address, Listener
 
-SVG = 'xmlns="http://www.w3.org/2000/svg"'  # a namespace in what the page saves; nothing is fetched from it
+SVG = 'xmlns="http://www.w3.org/2000/svg"'  # a namespace in what the page saves; nothing is fetched from there
 TOKEN = "right-token"
 DATA = b'{"cells":{}}'
 
 
 class Written:
-    """A session that writes down its lines."""
+    """A session that stores its lines."""
 
     def __init__(self) -> None:
         self.lines: list[tuple[str, str]] = []
@@ -68,7 +68,7 @@ class Served(unittest.TestCase):
         self.addCleanup(server.stop)
 
     def expect_that_it_goes_on(self) -> None:
-        """The page is served, a line is accepted, and events come."""
+        """Expects that the page is served, a line is accepted, and events come."""
         self.assertEqual(self.address.get(f"/?token={TOKEN}").status, 200)
         with Listener(self.address) as listener:
             self.assertEqual(self.address.type("stepi", Netrev_Browser=str(listener.you["number"])).status, 202)
@@ -163,7 +163,7 @@ class Page(Served):
 
 class Hostile(Served):
     def expect_refused(self, rows: "dict[str, tuple[int, bytes]]") -> None:
-        """Each of these requests is refused with this status, and none reaches the session."""
+        """Expects that each of these requests is refused with this status, and that none reaches the session."""
         for name, (status, data) in rows.items():
             with self.subTest(name):
                 self.assertEqual(self.address.send(data).status, status)
@@ -298,7 +298,7 @@ class Hostile(Served):
             with self.assertRaises(ConnectionError):
                 while sent < long:
                     sent += connection.send(b"a" * 2**16)
-        self.assertLess(sent, long // 4)  # (what the system keeps for a connection, and no more)
+        self.assertLess(sent, long // 4)  # (only as much as the system buffers for a connection)
         self.expect_that_it_goes_on()
 
     def test_who_is_slow_is_ended(self) -> None:

@@ -1,5 +1,5 @@
-"""The session behind the page, with a modelled netrev: who moved and to where, what the page refuses, and the
-messages while netrev is gone and when it is back."""
+"""The session behind the page, with a model of netrev: who moved and where to, what the page refuses, and the messages when netrev ends and
+when it is back."""
 
 import json
 import sys
@@ -36,7 +36,7 @@ PATIENCE = 60  # seconds
 
 
 class Streams:
-    """Browsers that write down what they receive."""
+    """Browsers that store what they receive."""
 
     def __init__(self) -> None:
         self.events: list[dict[str, Any]] = []
@@ -77,7 +77,7 @@ class Played(unittest.TestCase):
         raise ConnectionRefusedError(111, "Connection refused")
 
     def types(self, line: str, who: str = "browser 1") -> list[dict[str, Any]]:
-        """The events that a line brings."""
+        """The events that a line causes."""
         self.running.post(who, line)
         self.running.turn()
         return self.streams.take()
@@ -87,12 +87,12 @@ class Played(unittest.TestCase):
         return [text for event in self.types(line) if event["event"] == "said" for text in event["lines"]]
 
     def look(self) -> list[dict[str, Any]]:
-        """The events of a check for moves of others."""
+        """The events when the session checks for moves by others."""
         self.running.turn()
         return self.streams.take()
 
     def elsewhere(self, line: bytes) -> None:
-        """Somebody at another front moves the session."""
+        """Moves the session from another front."""
         self.netrev._session.answer(line)
 
 
@@ -211,7 +211,7 @@ class Completed(Played):
 class Stopped(Played):
     def test_a_walk_is_stopped_and_the_session_goes_on(self) -> None:
         def stopped(_: Optional[int]) -> None:
-            self.interrupts.came()  # Ctrl-C where nrdb runs
+            self.interrupts.came()  # Ctrl-C in nrdb's terminal
             self.interrupts.check()
 
         with mock.patch.object(CHANGES, "_wait", stopped):
@@ -277,7 +277,7 @@ class Gone(Played):
 
 
 class Pictures(Played):
-    """The picture, made in a process of its own over the model as netrev."""
+    """The picture, made in a separate process with the model instead of netrev."""
 
     def setUp(self) -> None:
         super().setUp()

@@ -1,5 +1,5 @@
-"""The page's server with many clients at once: requests, silent connections, and event streams; the contents of
-streams; and its end."""
+"""The page's server with many clients at once: requests, silent connections, and event streams; the contents of streams; and the end of the
+server."""
 
 import socket
 import threading
@@ -36,7 +36,7 @@ class ManyAtOnce(Served):
 
     def test_a_hundred_who_say_nothing(self) -> None:
         with ExitStack() as stack:
-            stack.enter_context(mock.patch("nrdb.web.wire.IN_TIME", 600))  # so none ends by itself
+            stack.enter_context(mock.patch("nrdb.web.wire.IN_TIME", 600))  # so that none ends by itself
             silent = [stack.enter_context(self.address.connect()) for _ in range(HUNDRED)]
             self.expect_that_it_goes_on()
             ended = [one for one in silent if has_ended(one)]
@@ -78,7 +78,7 @@ class Streaming(Served):
                 self.assertEqual([one.you["number"], other.you["number"], one.you["recording"]], [1, 2, "first.jsonl"])
                 self.assertEqual(other.named("browsers")["here"], ["browser 1", "browser 2"])
                 told = [event["event"] for event in other.events]
-                self.assertEqual(told, ["you", "said", "stands", "browsers"])  # the last state alone
+                self.assertEqual(told, ["you", "said", "stands", "browsers"])  # only the last state
                 self.assertEqual(other.events[2]["position"], 2)
                 self.streams.tell("moved", who="browser 1")
                 self.assertEqual(one.named("moved"), other.named("moved"))
@@ -152,7 +152,7 @@ def has_ended(connection: socket.socket) -> bool:
 
 
 def wait_until(is_so) -> None:
-    """Waits until this is so."""
+    """Waits until a condition holds."""
     limit = time.monotonic() + 10
     while not is_so():
         if time.monotonic() > limit:

@@ -1,5 +1,4 @@
-"""NAME.where with any contents: it is used, or rejected with the reason. Files are written completely, and never
-over the recording."""
+"""NAME.where with any contents: nrdb uses it, or rejects it with the reason. Files are written atomically, and never over the recording."""
 
 import json
 import os
@@ -24,7 +23,7 @@ STEPS = {"step": 1, "stacks": [1, 0]}
 GOOD: list[Any] = [FIRST, CALL, STACK, STEPS]
 SAID = "is malformed"
 
-# a line's replacement, counted from 0, and the message about the file then
+# the number of a line from 0, its replacement, and the message about the file then
 WRONG: tuple[tuple[int, Any, str], ...] = (
     (0, [], SAID), (0, {}, SAID), (0, {"where": 3, "steps": 2}, "another version"),
     (0, {"where": [], "steps": 2}, "another version"), (0, 7, SAID),
@@ -57,7 +56,7 @@ class Where(unittest.TestCase):
         return Recording.read(str(self.recording)).lines
 
     def fault(self, data: bytes) -> str:
-        """The message about such a file, which is then not used."""
+        """The message about such a file, which isn't used then."""
         self.file.write_bytes(data)
         lines = self.lines()
         if lines.fault:

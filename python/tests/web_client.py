@@ -1,4 +1,4 @@
-"""A client of nrdb's page over plain sockets: requests as they are written, and the events of a session."""
+"""A client of nrdb's page that uses plain sockets: requests exactly as written, and the events of a session."""
 
 from __future__ import annotations
 
@@ -25,7 +25,7 @@ class Answer(NamedTuple):
 
     @classmethod
     def of(cls, data: bytes) -> Answer:
-        """The answer that these bytes are."""
+        """Parses an answer from these bytes."""
         head, _, body = data.partition(b"\r\n\r\n")
         first, *lines = head.decode("ascii").split("\r\n")
         if not first:
@@ -41,7 +41,7 @@ class Address(NamedTuple):
 
     @classmethod
     def printed(cls, text: str) -> Address:
-        """The address in a text that nrdb printed."""
+        """The address in a text that nrdb has printed."""
         found = ADDRESS.search(text)
         assert found, text
         return cls(int(found[1]), found[2])
@@ -54,8 +54,7 @@ class Address(NamedTuple):
         return socket.create_connection((LOOPBACK, self.port), timeout=PATIENCE)
 
     def request(self, method: str, target: str, body: bytes = b"", /, **headers: str) -> bytes:
-        """A request as the page makes it, with the given headers, by their names with _ for -; one without a text is
-        omitted."""
+        """A request as the page makes it, with the given headers, named with _ for -; a header whose text is empty is omitted."""
         own = {"Host": f"{LOOPBACK}:{self.port}", "Netrev-Token": self.token}
         if method == "POST":
             own |= {"Origin": f"http://{LOOPBACK}:{self.port}", "Content-Length": str(len(body))}
@@ -75,12 +74,12 @@ class Address(NamedTuple):
         return self.send(self.request("GET", target, **headers))
 
     def type(self, line: str, **headers: str) -> Answer:
-        """The answer to a line: that it is accepted, or why not."""
+        """The answer to a line: it was accepted, or why not."""
         return self.send(self.request("POST", "/line", line.encode("utf-8"), **headers))
 
 
 def rest_of(connection: socket.socket) -> bytes:
-    """Everything that comes up to the connection's end."""
+    """Everything that arrives until the connection ends."""
     data = b""
     with suppress(ConnectionError):
         while came := connection.recv(1 << 16):
@@ -109,7 +108,7 @@ class Listener:
         self._connection.close()
 
     def next(self) -> Event:
-        """The next event; EOFError if none comes any more, and TimeoutError if only pulses come."""
+        """The next event; raises EOFError if there are no more, and TimeoutError if only pulses come."""
         limit = time.monotonic() + PATIENCE
         while line := self._lines.readline():
             if line.startswith(b"data: "):
@@ -133,7 +132,7 @@ class Listener:
         return self.until(lambda event: event["event"] == name)
 
     def asks(self, line: str) -> list[Event]:
-        """Types a line; the events from its beginning to its end, without those of participants."""
+        """Types a line; returns the events from its beginning to its end, without those about participants."""
         taken = self._address.type(line, Netrev_Browser=str(self.you["number"]))
         assert taken.status == 202, taken
         mine = {"who": self.you["who"], "line": line}
@@ -143,5 +142,5 @@ class Listener:
         return [event for event in self.events[before:] if event["event"] != "browsers"]
 
     def said(self, line: str) -> list[str]:
-        """Types a line; the reply to it."""
+        """Types a line; returns the reply."""
         return [text for event in self.asks(line) if event["event"] == "said" for text in event["lines"]]
