@@ -24,8 +24,7 @@ const (
 	netrevShare       = 64 // each time, one descriptor at most is noted for this many points of the ring
 )
 
-// Kinds of points. The first has the lock word's address, the next two the descriptor's. No other point of either is
-// between them.
+// Kinds of points. The first is at the lock word's address, the next two at the descriptor's, with no other point between.
 const (
 	netrevNotedKind          = 134 // a is the lock word, b the descriptor, c the two semaphores
 	netrevNotedPollKind      = 135 // a is the tag, b the sequence of reading, c that of writing
