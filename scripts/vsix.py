@@ -128,7 +128,7 @@ def main() -> int:
         prog="vsix.py", description="packs the extension for VS Code, or checks a packed one"
     )
     parser.add_argument("file", type=Path)
-    parser.add_argument("--check", action="store_true", help="checks FILE, in place of writing it")
+    parser.add_argument("--check", action="store_true", help="checks FILE instead of writing it")
     wanted = parser.parse_args()
     if not wanted.check:
         pack(FOLDER, wanted.file)

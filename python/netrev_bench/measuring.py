@@ -44,7 +44,7 @@ def greatest_memory(process: "subprocess.Popen[bytes]") -> int:
     for line in Path(f"/proc/{process.pid}/status").read_text(encoding="ascii").splitlines():
         if line.startswith("VmHWM:"):
             return int(line.split()[1]) * 1024
-    raise Wrong("the system doesn't tell how much memory a program takes")
+    raise Wrong("the system doesn't report a program's memory")
 
 
 def seconds_of_children() -> float:

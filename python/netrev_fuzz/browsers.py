@@ -140,7 +140,7 @@ def typed(dice: random.Random, shared: Shared, told: Told, length: int) -> str:
         if WATCHED.asked:
             return f"{line!r} asks for {WATCHED.asked[0]}"
     sent = b"".join(told.sent)
-    return "" if sent.isascii() and b"\x1b" not in sent else "what is told has other characters than a page may show"
+    return "" if sent.isascii() and b"\x1b" not in sent else "the output has characters that a page must not show"
 
 
 def files_wrong(folder: Path) -> str:

@@ -233,7 +233,7 @@ def made_wrong(outcome: Outcome, name: Path) -> str:
     if name.exists() and name.stat().st_size > GREATEST:
         return f"the recording has {name.stat().st_size} bytes"
     if not all(line.isprintable() for line in outcome.lines):
-        return f"a terminal may obey what is said: {outcome.lines!r}"
+        return f"the output may contain terminal controls: {outcome.lines!r}"
     if name.exists() and (fault := Lines.beside(str(name), name.read_bytes().count(b"\n") - 1).fault):
         return f"nrdb doesn't take its lines: {fault}"
     return "" if outcome.lines else "nothing is said"
@@ -264,5 +264,5 @@ def forms_wrong(told: list[Told]) -> str:
     if sum(1 for _ in ElementTree.fromstring(forms.junit(told)).iter("testcase")) != len(told):
         return "the cases of JUnit aren't the tests"
     if not all(line.startswith("::error ") and line.isprintable() for line in forms.github_lines(told)):
-        return "an annotation of GitHub's has more than a line, or is none"
+        return "a GitHub annotation has more than one line, or the wrong form"
     return ""

@@ -74,5 +74,5 @@ def by_the_model(recording: pathlib.Path) -> tuple[bool, str]:
     except Fault as fault:
         return False, f"{REFUSES}: {fault}"
     except Doubtful as doubt:
-        return False, f"{REFUSES}: it has no opinion of {doubt}"
+        return False, f"{REFUSES}: it can't decide about {doubt}"
     return True, f"ok {position} steps"

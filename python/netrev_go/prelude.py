@@ -210,7 +210,7 @@ class Leading:
             self.add("pollevent", NOBODY, sides, int(is_error))
         elif is_error:
             if WRITING in self.note.inside:
-                raise Unreachable("a goroutine waits to write there behind an error")
+                raise Unreachable("a goroutine waits to write there after an error")
             self.add("pollevent", NOBODY, SIDES[WRITING], 1)
             self.add("pollreset", NOBODY, SIDES[WRITING], answer=NOTHING_FOUND)
 

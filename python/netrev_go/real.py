@@ -231,7 +231,7 @@ def main(arguments: list[str] | None = None) -> int:
     gc.disable()  # as in cli.py
     netrev = netrev_program()
     if netrev is None and not options.record:
-        say("no netrev is here: make netrev, or NETREV")
+        say("netrev is missing: run `make netrev`, or set NETREV")
         return 3
     names = names_for(options)
     if not names:

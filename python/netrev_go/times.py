@@ -41,5 +41,5 @@ def seconds(text: str) -> float:
     """A duration in Go's form: 5s, 500ms, 2m."""
     found = A_TIME.match(text)
     if not found or not (number := float(found[1]) * UNITS[found[2]]):
-        raise argparse.ArgumentTypeError("it is a time, as 5s, 500ms or 2m")
+        raise argparse.ArgumentTypeError("expected a time such as 5s, 500ms or 2m")
     return number

@@ -45,7 +45,7 @@ def main(words: list[str]) -> int:
         return run(recording)
     ended = printed(program, recording, b"", Observer())
     if ended is None:
-        print("the model has no opinion on this recording", file=sys.stderr)
+        print("the model can't decide about this recording", file=sys.stderr)
         return 3
     sys.stdout.buffer.write(ended.output)
     return ended.status

@@ -143,7 +143,7 @@ def main(words: list[str]) -> int:
     options = parser.parse_args(words)
     netrev = netrev_program()
     if netrev is None:
-        print("no netrev is here: make netrev, or NETREV")
+        print("netrev is missing: run `make netrev`, or set NETREV")
         return 3
     lost = 0
     for release in options.releases:

@@ -143,7 +143,7 @@ class Real(Tools):
         status, said = self.ran("--go", "1.27")
         self.assertEqual((status, "a lock word differs" in said), (3, True))
         self.patch(real, netrev_program=lambda: None)
-        self.assertEqual(self.ran("--go", "1.27"), (3, "no netrev is here: make netrev, or NETREV\n"))
+        self.assertEqual(self.ran("--go", "1.27"), (3, "netrev is missing: run `make netrev`, or set NETREV\n"))
         self.assertEqual(self.ran("--go", "1.27", "--record", "--only", "nothing")[0], 3)
         self.patch(real, names_for=lambda _: [], netrev_program=lambda: "netrev")
         status, said = self.ran()

@@ -264,7 +264,7 @@ class LeftOut(unittest.TestCase):
             (Noted().note(READ_LOCKED + A_READER_WAITS).add(Kind.RW_UNLOCK, 1, WORD, READ_LOCKED + A_READER_WAITS, 0, 1), "the model comes to another lock"),
             (
                 Noted().note(WRITE_LOCKED, EVENT_ERROR, (NIL, GOROUTINE), inside=((WRITE, WRITER, PARKED),)),
-                "a goroutine waits to write there behind an error",
+                "a goroutine waits to write there after an error",
             ),
             (Noted().note(counts=1), "the model comes to another semaphore"),
             (Noted().note(words=(GOROUTINE, NIL)), "the model comes to another word"),
