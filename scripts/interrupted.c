@@ -1,5 +1,5 @@
-/* Interrupts the program's reads and writes, as signals would: before each that is made, INTERRUPTED many fail with EINTR.
-   Each that failed so leaves a byte at file descriptor 9, so that it is known that there were any. */
+/* Interrupts the program's reads and writes as signals would: before each one succeeds, INTERRUPTED of them fail with EINTR.
+   Each failure leaves a byte on file descriptor 9, which shows that there were some. */
 #define _GNU_SOURCE
 #include <dlfcn.h>
 #include <errno.h>

@@ -1,10 +1,10 @@
-/* Put before the C library by LD_PRELOAD: refuses one allocation, that of the number in REFUSED, counted from 1, and
-   tells so by a byte on file descriptor 9. netrev allocates by malloc and realloc alone. Where THREADS is 0 no thread
-   can be started, which is told alike.
+/* Loaded before the C library by LD_PRELOAD: refuses one allocation, whose number from 1 is in REFUSED, and reports it with
+   a byte on file descriptor 9. netrev allocates only with malloc and realloc. If THREADS is 0, starting a thread fails and
+   is reported in the same way.
 
-   Where BEHIND is 1 all allocations behind that one are refused too. Where MARKED is 1 only those are counted that come
-   between the lines "refuse" and "grant" on standard output, which the program has to write in one piece each. Then the
-   line "refuse the next" has the next allocation refused, which is neither counted nor told. */
+   If BEHIND is 1, all later allocations are refused too. If MARKED is 1, only allocations between the lines "refuse" and
+   "grant" on standard output count, each of which the program has to write in one piece. Then the line "refuse the next"
+   makes the next allocation fail, which is neither counted nor reported. */
 #define _GNU_SOURCE
 #include <dlfcn.h>
 #include <errno.h>
@@ -13,10 +13,10 @@
 #include <string.h>
 #include <unistd.h>
 
-/* how many allocations are left to the refused one, that one included; 0 where none is */
+/* the number of allocations up to the refused one, including it; 0 if none is refused */
 static long left = -1;
 
-/* whether allocations are counted now, and whether the next one is refused without that */
+/* whether allocations are counted now, and whether the next one is refused in any case */
 static long counts = -1, refuses_next = 0;
 
 static long number(const char *name)
@@ -33,7 +33,7 @@ static void begin(void)
 	}
 }
 
-/* Whether the allocation is the one to be refused, or one behind it that is refused too. */
+/* Whether the allocation is the one to refuse, or a later one that is refused too. */
 static int is_counted_out(void)
 {
 	long at;
