@@ -4,7 +4,8 @@
     cases, playing, counts              a case from its seed, the program's run, and counts of events
     keeping                             a case that differs, reduced and kept
 
-It also fuzzes the tools around netrev. There a fault is a Python traceback, an unexpected file, a terminal control, or a long time:
+It also fuzzes the tools around netrev. For these tools, a fault is a Python traceback, an unexpected file, a terminal control
+sequence in the output, or a timeout:
 
     around                              cases of all four sorts
     damaged_logs, logs                  the recorder's logs, and their text

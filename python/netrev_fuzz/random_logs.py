@@ -1,6 +1,7 @@
 """Random logs of actions that a Go program may take, and the recording that each must give. Goroutines read, write, dial, set deadlines,
 shut down and close sockets on the small runtime; random numbers decide which goroutine runs, what the network does, which timer a processor
-takes and which clock it reads. The log may be cut as a ring cuts it, and may begin with notes."""
+takes and which clock it reads. The beginning of the log may be missing, as if a ring had overwritten it, and the log may begin
+with notes."""
 
 from __future__ import annotations
 

@@ -85,7 +85,8 @@ class Roots:
         self.here = str(here) + "/"
 
     def call(self, function: str, file: str, line: int) -> Call:
-        """Makes a call. Go's own files are named from their package on, and the program's relative to the folder of the command."""
+        """Makes a call. A file of Go's own is named by its package and file name, a file of the program by its path relative to
+        the command's folder."""
         for root in self.sources:
             if file.startswith(root):
                 return Call(function, file.removeprefix(root), line, OF_GO)

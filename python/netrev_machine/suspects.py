@@ -259,7 +259,7 @@ def reasons_to_answer(world: World, d: int, side: str) -> list[str]:
 
 
 def held_references(replayed: Replayed) -> Iterator[str]:
-    """Each goroutine that holds references of a closed socket at the end."""
+    """Each goroutine that still holds references to a closed socket at the end of the recording."""
     world = replayed.worlds[replayed.end]
     for s, socket in enumerate(world.sockets):
         if socket.lock.number & 1 and socket.lock.references >= 1:

@@ -52,8 +52,8 @@ class Book:
         return {kind: partial(self._seeing_errors, LOOKS.get(kind)) for kind in OF_A_GOROUTINE}
 
     def _seeing_errors(self, maker: Optional[Maker], notes: Notes, g: int, *arguments: Any) -> Look:
-        """Gives the innermost call the step's error, in recordings with errors of the system; the call may end with
-        this step."""
+        """Stores the step's error in the innermost call, in recordings that contain errors of system calls. The call may end
+        with this step."""
         made, goroutine, calls = maker and maker(self, notes, g, *arguments), notes.goroutine(g), self.open[g]
 
         def look(step: int) -> None:

@@ -70,8 +70,8 @@ class Timeout(NamedTuple):
 
 
 class Hold(NamedTuple):
-    """A reference of a socket: its goroutine, the step since which it is held, its kind, and the side of the lock that
-    it came with (if any)."""
+    """A reference to a socket: the goroutine that holds it, the step that took it, its kind, and the side of the lock, if any,
+    that was taken with it."""
 
     goroutine: int
     step: int

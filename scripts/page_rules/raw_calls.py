@@ -98,7 +98,7 @@ def _made(tree: Tree) -> dict[str, Counter[tuple[str, str]]]:
 
 
 def _by_eye(tree: Tree, made: dict[str, Counter[tuple[str, str]]]) -> Iterator[Finding]:
-    """Places to be read by eye that are missing from TRUSTED's table, or in it without need."""
+    """Code that must be reviewed by hand but is missing from TRUSTED's table, and rows of the table that need no review."""
     text = tree.text(PAGE)
     if HEADING not in text:
         return

@@ -159,8 +159,8 @@ def limit_says(index: Index, timers: list[Timer]) -> str:
 
 
 def is_of_a_rest(recording: Recording, timer: Timer) -> bool:
-    """Whether a timer may be what was left of a limit after a redirect: the same goroutine made an earlier timer there
-    that is due at nearly the same time. The timers of two separate requests are as far apart when due as when made."""
+    """Whether a timer may be for the rest of a timeout after a redirect: the same goroutine made an earlier timer at the same
+    place, due at nearly the same time. The timers of two separate requests are as far apart when due as when made."""
     return any(
         (one.goid, one.stack) == (timer.goid, timer.stack) and 2 * abs(one.due - timer.due) < timer.time - one.time
         for one in recording.lines.timers.get(0, ())

@@ -30,7 +30,7 @@ class Waiter(NamedTuple):
 
 
 def is_waiting(index: Index, call: Call) -> bool:
-    """Whether a call that isn't a listener's sleeps at the recording's end, for the other end or for a lock."""
+    """Whether a call, other than one on a listener, still waits for its peer or for a lock when the recording ends."""
     is_asleep = call.name in READING + WRITING and index.book.sleeps_at_the_end(call)
     return is_asleep and not index.is_listening(call)
 
@@ -83,7 +83,7 @@ def is_timed(recording: Recording, wait: Waiting) -> bool:
 
 @lru_cache(maxsize=2)
 def last_time_of(recording: Recording) -> int:
-    """The last time in the lines of a recording."""
+    """The latest timestamp in the lines of a recording."""
     lines = recording.lines
     of_uses = max((use.end for uses in lines.uses.values() for use in uses), default=0)
     of_parks = max((max(park.begin, park.end) for parks in lines.parks.values() for park in parks), default=0)

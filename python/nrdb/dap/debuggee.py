@@ -106,7 +106,7 @@ def debuggee(
     program: str, path: str, interrupts: Interrupts, address: Optional[tuple[str, int]] = None
 ) -> Iterator[Debuggee]:
     """Context with the session of the recording that is debugged: one of its own, or the shared session at an address.
-    Raises Unanswerable if netrev or nrdb can't take the recording."""
+    Raises Unanswerable if netrev or nrdb rejects the recording."""
     printer = Collecting()
     try:
         recording = Recording.read(path)

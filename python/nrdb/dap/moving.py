@@ -84,8 +84,8 @@ class Moves:
         return self.run(True, self._debuggee.length if found is None else found - 1)
 
     def out_of(self, goroutine: int) -> Stop:
-        """Goes to after the step that ends a goroutine's call, or, between calls, out of the program's function; raises
-        Unanswerable if neither ends."""
+        """Runs until a goroutine's call has ended or, between calls, until the goroutine has left the program's function.
+        Raises Unanswerable if that doesn't happen."""
         try:
             with self._interrupts.at_once():
                 goal = finish_goal(self._debuggee.recording, goroutine, self._debuggee.position)

@@ -1,4 +1,4 @@
-"""Python imports this at its start, in processes that tests start while their calls are recorded."""
+"""Python imports this module at startup, in each process that a test starts while the test's calls are recorded."""
 
 import os
 

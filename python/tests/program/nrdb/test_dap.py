@@ -346,7 +346,7 @@ class Ends(unittest.TestCase):
             for process in children(editor.process.pid):
                 os.kill(process, signal.SIGKILL)
             editor.events.clear()
-            with suppress(Refusal):  # (a move that takes long has been answered before)
+            with suppress(Refusal):  # (a long move is answered before it ends)
                 editor("continue", threadId=1)
             self.assertEqual(editor.event("output")["output"], "| netrev has ended\n")
             editor.event("terminated")
