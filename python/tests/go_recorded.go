@@ -1,5 +1,5 @@
-// Scenes of one processor whose log is the same in each run (go_recorded.py): connections of each sort, deadlines, queues for a lock, channels,
-// timers, groups, locks and dials, and in the end notes of what is open.
+// Scenes on one processor whose log is the same in each run (go_recorded.py): connections of each kind, deadlines,
+// queues for a lock, channels, timers, WaitGroups, locks and dials, and at the end notes of open descriptors.
 package main
 
 import (
@@ -22,7 +22,7 @@ func must(err error) {
 	}
 }
 
-// settle lets all other goroutines come to their waits.
+// settle lets all other goroutines reach their waits.
 func settle() {
 	time.Sleep(5 * time.Millisecond)
 }
@@ -217,7 +217,7 @@ func dials() {
 	cancel()
 }
 
-// held are mutexes that are locked in the end.
+// held locks mutexes that stay locked to the end.
 func held(mutex, unlocked *sync.Mutex, shared, written *sync.RWMutex) {
 	mutex.Lock()
 	unlocked.Lock()
@@ -230,7 +230,7 @@ func held(mutex, unlocked *sync.Mutex, shared, written *sync.RWMutex) {
 	runtime.Gosched()
 }
 
-// open are connections in each state that notes have, of which the last one's deadlines are set until there are notes.
+// open makes connections in each state that notes have; it sets the last one's deadlines again until there are notes.
 func open() {
 	a, b := pair("tcp4", "127.0.0.1:0")
 	for i := 0; i < 2; i++ {

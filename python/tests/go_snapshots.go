@@ -1,5 +1,5 @@
-// Streams whose writers wait: each connection has a sender with a deadline for each write, a second one that wants the same lock, and a reader that
-// is slow, until the connection is closed, one side first, and made anew.
+// Streams whose writers wait: each connection has a sender with a deadline for each write, a second sender that wants
+// the same lock, and a slow reader, until the connection is closed, one side first, and opened again.
 package main
 
 import (

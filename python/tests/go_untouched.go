@@ -1,5 +1,5 @@
-// Command go_untouched has small programs that see what a recorder could touch: descriptors, files, output, limits, children. Each is
-// run with and without recording (go_untouched.py), and must leave and print the same:
+// Command go_untouched contains small programs that observe what a recorder could affect: descriptors, files, output,
+// limits and children. Each is run with and without recording (go_untouched.py), and must leave and print the same:
 //
 //	go_untouched NAME      runs one, in the current folder
 package main
@@ -25,7 +25,7 @@ import (
 const (
 	self       = "/proc/self/exe"
 	nobody     = 65534
-	closeRange = 436 // of the system's calls
+	closeRange = 436 // of the system calls
 	fileSize   = syscall.RLIMIT_FSIZE
 )
 
@@ -101,7 +101,7 @@ func pair() (net.Conn, net.Conn) {
 	return a, b
 }
 
-// work passes so many points that the recorder takes more room for them, and leaves no socket open.
+// work logs so many points that the recorder takes more room for them, and leaves no socket open.
 func work() {
 	a, b := pair()
 	passes(a)
@@ -119,7 +119,7 @@ func passes(a net.Conn) {
 	}
 }
 
-// numbers are the descriptors that are open, without the one by which they are found.
+// numbers returns the open descriptors, without the one that is used to find them.
 func numbers() []int {
 	folder, err := os.Open("/proc/self/fd")
 	check(err)
@@ -136,7 +136,7 @@ func numbers() []int {
 	return found
 }
 
-// listed prints the descriptors, each with what it is.
+// listed prints the descriptors, each with its kind.
 func listed() {
 	for _, number := range numbers() {
 		name, _ := os.Readlink(fmt.Sprint("/proc/self/fd/", number))
@@ -144,7 +144,7 @@ func listed() {
 	}
 }
 
-// hold writes a file that stays open.
+// hold writes a file, which stays open.
 func hold(name string) {
 	file, err := os.Create(name)
 	check(err)
@@ -183,7 +183,7 @@ func closeStreams() {
 	}
 }
 
-// closeWhileItWorks closes all but sockets and what Go's poller has, and has files of its own under their numbers.
+// closeWhileItWorks closes everything except sockets and what Go's poller has, and opens files of its own that get the same numbers.
 func closeWhileItWorks() {
 	a, _ := pair()
 	known := map[int]bool{}
@@ -263,7 +263,7 @@ func ended(c *exec.Cmd) {
 
 func child(name string) { ended(command(name)) }
 
-// childOf has a child of another user, whose words are taken.
+// childOf runs a child as another user, and reads its output.
 func childOf(user uint32, name string) {
 	check(os.Mkdir("theirs", 0o777))
 	check(os.Chmod("theirs", 0o777))
@@ -330,7 +330,7 @@ func pipeOfChildren() {
 	fmt.Println(one.Wait(), other.Wait())
 }
 
-// daemon begins a program in a session of its own, which outlives this one.
+// daemon starts a program in a session of its own, which outlives this one.
 func daemon(name string) {
 	c := exec.Command(self, name)
 	c.SysProcAttr = &syscall.SysProcAttr{Setsid: true}
@@ -341,7 +341,7 @@ func become(name string) {
 	check(syscall.Exec(self, []string{self, name}, os.Environ()))
 }
 
-// manyPrograms becomes itself so often that the recorder has no name left for a log.
+// manyPrograms execs itself so often that the recorder has no name left for a log.
 func manyPrograms() {
 	turn, _ := strconv.Atoi(os.Getenv("TURN"))
 	work()
@@ -389,7 +389,7 @@ func caughtSignals() {
 	work()
 }
 
-// halfOfTheInput reads a part, and becomes a program that reads the rest.
+// halfOfTheInput reads a part of the input, and execs a program that reads the rest.
 func halfOfTheInput() {
 	text := make([]byte, 5)
 	_, err := io.ReadFull(os.Stdin, text)
