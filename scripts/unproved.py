@@ -44,7 +44,7 @@ def unproved_netrev(say: Say) -> Path:
     KEPT.mkdir(parents=True, exist_ok=True)
     with exclusive(KEPT / "lock", say):
         if is_intact(program):
-            say("out/look/netrev is of the same sources, so nothing is compiled.")
+            say("out/look/netrev is up to date, so nothing is compiled.")
         else:
             keep_copy(program, say)
         name_it(program)

@@ -1,4 +1,4 @@
-"""Makes the steps of a version 2 recording from points. The recorded answers are Go's, if Go has one. Go doesn't see what the other end
+"""Makes the steps of a version 2 recording from points. A recorded answer is Go's own, if Go has one. Go doesn't see what the other end
 does. So bytes, which are all zeros, arrive just before the read that gets them; they are drained just before the write that needs the room;
 and a socket's output is just large enough to be full when Go found it full."""
 

@@ -59,7 +59,7 @@ REQUESTS, WARMING = 10_000, 10  # one warm-up request for every ten, as in sampl
 ROUND_POINTS, DEADLINE_POINTS = 8, 1
 # The rounds that samples/cost measures after the calls of the poller:
 ROUNDS = (
-    "buffer",  # a value into a buffer, and out of it
+    "buffer",  # a value is put into a channel's buffer and taken out
     "no buffer",  # a value from one goroutine to another and back, through unbuffered channels: two waits
     "handed over",  # the same through channels with a buffer of one
     "select of 3",  # the same, with the other goroutine waiting in a select

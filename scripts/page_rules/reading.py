@@ -93,7 +93,7 @@ class Count:
     lines: int  # without comments
     comments: int  # comment lines
     files: int
-    types: int  # of Rust types that the definitions name
+    types: int  # the number of Rust types that the definitions name
 
     def row(self, says: str, most_lines: int) -> str:
         """A row of the page's table."""

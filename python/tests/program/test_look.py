@@ -73,7 +73,7 @@ def test_a_later_look_compiles_nothing_while_the_sources_are_the_same(clone: Pat
     again = make(clone, "look", f"FILE={RECORDING}", PATH=toolchain.path())
     assert toolchain.compiled() == 1
     assert "Nothing of this netrev is proved" in first.stderr and "Nothing of this netrev is proved" in again.stderr
-    assert "out/look/netrev is of the same sources, so nothing is compiled." in again.stderr
+    assert "out/look/netrev is up to date, so nothing is compiled." in again.stderr
     assert (clone / "out/look/netrev").samefile(clone / "out/look" / kept(clone)[0])
     assert again.stdout == first.stdout
 

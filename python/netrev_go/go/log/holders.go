@@ -86,7 +86,7 @@ func netrevNearby(gp *g) uint64 {
 	return netrevNearEnd
 }
 
-// netrevHolds enters a mutex that the goroutine has locked, with the stack from the given frame.
+// netrevHolds adds a mutex that the goroutine has locked to the table, with the stack from the given frame.
 func netrevHolds(at unsafe.Pointer, how uint64, frame uintptr) {
 	gp := getg()
 	if gp.m == nil || gp != gp.m.curg {

@@ -18,7 +18,7 @@ func runtime_netrevLocked(mutex unsafe.Pointer)
 //go:linkname runtime_netrevUnlocks
 func runtime_netrevUnlocks(mutex unsafe.Pointer)
 
-// netrevHas enters a mutex that the goroutine has locked.
+// netrevHas adds a mutex that the goroutine has locked to the table.
 func (m *Mutex) netrevHas() bool {
 	if netrevMutexesOn != 0 {
 		runtime_netrevLocked(unsafe.Pointer(m))

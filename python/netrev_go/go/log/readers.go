@@ -16,7 +16,7 @@ func runtime_netrevHasRead(mutex unsafe.Pointer)
 
 var _ = [1]byte{}[unsafe.Offsetof(RWMutex{}.w)] // a writer's mutex has the address of the whole RWMutex
 
-// netrevReads enters an RWMutex that the goroutine has locked for reading.
+// netrevReads adds an RWMutex that the goroutine has locked for reading to the table.
 func (rw *RWMutex) netrevReads() bool {
 	if netrevReadersOn != 0 {
 		runtime_netrevReads(unsafe.Pointer(rw))
@@ -24,7 +24,7 @@ func (rw *RWMutex) netrevReads() bool {
 	return true
 }
 
-// netrevHasRead removes an RWMutex that the goroutine is about to unlock.
+// netrevHasRead removes an RWMutex that the goroutine is about to unlock from the table.
 func (rw *RWMutex) netrevHasRead() {
 	if netrevReadersOn != 0 {
 		runtime_netrevHasRead(unsafe.Pointer(rw))

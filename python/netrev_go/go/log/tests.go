@@ -19,7 +19,7 @@ var netrevOn uint32
 //go:linkname runtime_netrevTest runtime.netrevTest
 func runtime_netrevTest(what, name string)
 
-// netrevPackage writes the line of the package; if Go has no path for it, with the program's name.
+// netrevPackage writes the package's line, with the program's name if Go gives no path.
 func netrevPackage(path string) {
 	if path == "" {
 		path = strings.TrimSuffix(os.Args[0][strings.LastIndex(os.Args[0], "/")+1:], ".test")
