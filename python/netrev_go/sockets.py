@@ -251,7 +251,6 @@ class Owned:
 
     points: list[tuple[Point, Socket]]
     sockets: list[Socket]
-    unknown: int  # points of sockets whose opening isn't in the log
     cut: int  # reads and writes that count as fewer bytes
 
     def began(self) -> dict[int, int]:
@@ -272,7 +271,7 @@ def owned(points: list[Point], all_bytes: bool = True) -> Owned:
     of, words, uses = owners.of, owners.words, owners.uses
     mine: list[tuple[Point, Socket]] = []
     writes: list[tuple[Point, Socket]] = []
-    cut = calls = 0
+    cut = 0
     for point in points:
         kind, at = point[1], point[3]
         # (there may be a million points: nearly all are handled without calling `of`)
@@ -284,7 +283,6 @@ def owned(points: list[Point], all_bytes: bool = True) -> Owned:
         if kind in UNLIKE:
             if kind == DEADLINE_CALL:
                 mine += points_of_call(point, socket)
-                calls += 1
                 continue
             if kind == NAMED or kind == NOTED_NAMED:
                 socket.steps -= 1
@@ -305,7 +303,7 @@ def owned(points: list[Point], all_bytes: bool = True) -> Owned:
     count_points(mine)
     count_parts(writes)
     known = [socket for socket in owners.sockets if socket.has_descriptor and not socket.failed]
-    return Owned(mine, known, len(points) + 2 * calls - len(mine), cut)
+    return Owned(mine, known, cut)
 
 
 def lead_to(sockets: list[Socket], begin: int) -> dict[str, int]:

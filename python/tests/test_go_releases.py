@@ -98,6 +98,13 @@ class Calls(unittest.TestCase):
         self.assertEqual(sorted(calls), sorted(known_calls()))
         self.assertEqual(len(calls), len(set(calls)))
 
+    def test_calls_that_read_have_a_sysread_and_those_that_write_a_syswrite(self) -> None:
+        steps = {row[1]: row[2] for row in (line.split("|") for line in table()[2:])}
+        for calls, words in steps.items():
+            reads = any(f"`{name}" in calls for name in ("FD.Read`", "FD.ReadFrom", "FD.Accept"))
+            writes = any(f"`{name}" in calls for name in ("FD.Write`", "FD.WriteTo", "FD.Writev", "SendFile"))
+            self.assertEqual(("`sysread`" in words, "`syswrite`" in words), (reads, writes), calls)
+
 
 class Page(unittest.TestCase):
     """The table of releases in docs/measurements/MEASUREMENTS.md."""

@@ -8,6 +8,7 @@ import hashlib
 import json
 import os
 import random
+import re
 import sys
 import tempfile
 from collections.abc import Iterator
@@ -42,6 +43,7 @@ FILES = (
     "timeline page.html 9 2",
 )
 ENDLESS = ("continue", "reverse-continue")
+PLACES = ("main.go:20", "served.go:30", "main.main", "main.serve", "net.Listen", "Read", "nowhere.go:1")
 
 
 class Author:
@@ -67,11 +69,23 @@ class Author:
             self.number, self.number, self.number, self.cell, self.cell, lambda: self.dice.choice(list(KINDS)),
             lambda: f"{self.dice.choice(('gor', 'sock', 'desc'))} {self.number()}", lambda: f"{self.cell()} {self.dice.choice(VALUES)}",
             lambda: self.dice.choice(("all", "start", "end", "on", "off", "failures", "x", "-1", "p1", "p2", "goid 1", "35ms", "2s", "1ms", "@3")),
-            lambda: self.dice.choice(("main.go:20", "served.go:30", "main.main", "main.serve", "net.Listen", "Read", "nowhere.go:1")),
+            lambda: self.dice.choice(PLACES),
             lambda: f"{self.dice.choice(list(DUMPS))} {self.dice.choice('012')}", lambda: self.dice.choice([*TOPICS, *TOPIC_SPELLINGS]),
             lambda: self.dice.choice(list(COMMANDS)),
         )  # fmt: skip
         return self.dice.choice(choices)()
+
+    def fitting(self, usage: str) -> str:
+        """Words that fit a command's usage."""
+        number, word, usage = self.number, self.dice.choice, usage.replace("gor G|sock S|desc D", "SUBJECT")
+        words = {
+            "CELL": self.cell, "VALUE": lambda: word(VALUES), "KIND": lambda: word(list(KINDS)), "N": number, "G": number, "S": number, "D": number,
+            "TOPIC": lambda: word([*TOPICS]), "WORD": lambda: word(list(COMMANDS)), "COMMAND": lambda: word(list(COMMANDS)),
+            "SUBJECT": lambda: f"{word(('gor', 'sock', 'desc'))} {number()}", "PLACE": lambda: word(PLACES), "FUNCTION": lambda: word(PLACES), "FILE:LINE": lambda: word(PLACES), "TIME": lambda: word(("35ms", "2s")),
+        }  # fmt: skip
+        parts = [word(part.split("|")).strip() for part in re.findall(r"\[[^]]*\]|[^\s\[\]]+", usage)[1:]]
+        chosen = [part.strip("[]").split("|") for part in parts if not part.startswith("[") or self.dice.random() < 0.7]
+        return " ".join(words[name]() if name in words else name for part in chosen for name in word(part).split())
 
     def line(self) -> str:
         if self.open:
@@ -84,6 +98,8 @@ class Author:
             return f"{name} {self.dice.choice([*TOPICS, *TOPIC_SPELLINGS])}{more}"
         if name == "goto" and self.dice.random() < 0.7:
             return f"goto {self.dice.randint(0, self.length)}"
+        if name in COMMANDS and self.dice.random() < 0.6:
+            return f"{name} {self.fitting(COMMANDS[name].usage)}".strip()
         if self.dice.random() < 0.06:
             name = name[: self.dice.randint(1, len(name))]
         words = [name, *(self.word() for _ in range(self.dice.choice((0, 0, 1, 1, 1, 2))) if name not in ENDLESS)]

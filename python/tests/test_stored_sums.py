@@ -6,6 +6,7 @@ NAME.where: checksums are stored, because the texts are long.
 
 import hashlib
 import json
+import os
 import re
 import shutil
 import sys
@@ -23,6 +24,7 @@ from tests.test_causes import CAUSED, in_the_folder_of_the_source
 from tests.test_stored_sentences import PROGRAMS, RECORDINGS, lines_of
 
 STORED = CAUSED / "sums.json"
+COMMENTS = " //~ //~"
 PARTS = 12  # the parts of a recording between which the hangs are listed
 # the lines of NAME.where that are left out
 WITHOUT = {"orders": "orders|waits", "objects": "objects|channels|held|timers"}
@@ -66,6 +68,32 @@ def without(name: str, what: str) -> list[str]:
         return in_short(read(path))
 
 
+def with_source(name: str, changed: Callable[[int, str], str]) -> list[str]:
+    """The views of a recording beside a source whose lines are changed, which have numbers."""
+    before = os.getcwd()
+    with tempfile.TemporaryDirectory() as folder:
+        for path in Path().glob("*.go"):
+            lines = path.read_text().splitlines()
+            Path(folder, path.name).write_text(
+                "".join(f"{changed(number, line)}\n" for number, line in enumerate(lines, 1))
+            )
+        os.chdir(folder)
+        try:
+            return in_short(whole(name))
+        finally:
+            os.chdir(before)
+
+
+def commented(_: int, line: str) -> str:
+    """The line with two comments behind it, if it isn't in a text of several lines."""
+    return line if "`" in line or not line else line + COMMENTS
+
+
+def blanked(number: int, line: str) -> str:
+    """The line, or an empty one in place of some."""
+    return "" if (number * 7 + len(line)) % 11 == 0 else line
+
+
 def whole(name: str) -> Recording:
     return read(CAUSED / f"{name}.jsonl")
 
@@ -73,6 +101,7 @@ def whole(name: str) -> Recording:
 VIEWS: dict[str, Callable[[str], list[str]]] = {
     "hangs": lambda name: hangs(whole(name)),
     "errors": lambda name: errors(whole(name)),
+    "without some lines of the source": lambda name: with_source(name, blanked),
     **{f"without {part}": lambda name, what=what: without(name, what) for part, what in WITHOUT.items()},  # type: ignore[misc]
 }
 
@@ -96,6 +125,14 @@ def sums_of(name: str) -> dict[str, str]:
 @pytest.mark.parametrize("name", [name for name in RECORDINGS if (CAUSED / f"{name}.where").exists()])
 def test_nrdb_says_what_the_sums_are_of(name: str) -> None:
     assert sums_of(name) == json.loads(STORED.read_text())[name]
+
+
+@pytest.mark.parametrize("name", [name for name in RECORDINGS if name.endswith("-bad")][::2])
+def test_comments_change_nothing(name: str) -> None:
+    program = name.rpartition("-")[0]
+    with in_the_folder_of_the_source(source_of(program) if program in PROGRAMS else SOURCE):
+        said = [line.replace(COMMENTS, "") for line in with_source(name, commented)]
+        assert said == with_source(name, lambda _, line: line)
 
 
 def main(words: list[str]) -> None:

@@ -43,12 +43,12 @@ class Verdict:
 
 
 def copied(root: Path, room: Path) -> None:
-    """A copy of the repository: copies of its Python folder and of the files at its top, and links to all other folders."""
+    """A copy of the repository: copies of its Python folder, of the tools that start it and of the files at its top, and links to all other folders."""
     room.mkdir(parents=True)
     for path in root.iterdir():
         if path.is_file():
             shutil.copy2(path, room)
-        elif path.name == "python":
+        elif path.name in ("python", "tools"):
             shutil.copytree(path, room / path.name, ignore=shutil.ignore_patterns("__pycache__"))
         elif path.name not in (".git", "out"):
             (room / path.name).symlink_to(path)

@@ -77,8 +77,8 @@ def begin_of_literal(lines: Lines, line: int) -> int:
     for number in range(line, 0, -1):
         text = lines[number - 1]
         if text.strip() and indent_of(text) < margin:
-            margin = indent_of(text)
-            if "func(" in text and text.rstrip().endswith("{"):
+            margin, code = indent_of(text), text.partition("//")[0].rstrip()
+            if "func(" in code and code.endswith("{"):
                 return number
     return 0
 
