@@ -15,7 +15,7 @@ class Asked:
     goroutine and socket."""
 
     def __init__(self, index: Index) -> None:
-        self._asked: dict[int, int] = {}  # keyed by the first step of a call
+        self._asked: dict[int, int] = {}  # keyed by the first step of the Read
         self._before: dict[int, Call] = {}
         begun: dict[int, int] = {}  # the number of calls that each goroutine had begun
         by_goroutine, asked = index.by_goroutine, self._asked
@@ -39,7 +39,7 @@ class Asked:
                 latest[key] = call
 
     def of(self, call: Call) -> Optional[int]:
-        """The number of bytes that a Read asked for; None if it asked for none."""
+        """The number of bytes that a Read asked for; None if the Read made no system call that asks for bytes."""
         return self._asked.get(call.first)
 
     def before(self, call: Call) -> Optional[Call]:
@@ -47,8 +47,8 @@ class Asked:
         return self._before.get(call.first)
 
     def begin_of(self, call: Call) -> Call:
-        """The first Read of the io.ReadFull that a Read belongs to: each Read asks for what the previous one left. The
-        Read itself if it is the first, or alone."""
+        """The first Read of the io.ReadFull that a Read belongs to: each later Read of an io.ReadFull asks for the
+        bytes that the previous Read left. A Read that is alone is its own first Read."""
         while (before := self.before(call)) and self.is_next(before, call):
             call = before
         return call

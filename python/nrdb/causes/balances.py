@@ -1,5 +1,6 @@
-"""Channels from which goroutines take a value and give it back in the same function: a pool of connections, or a
-semaphore. For each goroutine, how often it took and gave back, and which calls gave back twice or never."""
+"""Channels from which goroutines take a value and give it back in the same function, such as a pool of connections or a
+semaphore. The module counts how often each goroutine took and gave back a value, and finds the calls that gave back
+twice or never."""
 
 from collections import Counter, defaultdict
 from operator import attrgetter
@@ -21,7 +22,8 @@ Path = tuple[Call, ...]  # the calls around the one that takes and gives back
 
 
 class Place(NamedTuple):
-    """The place of a use in the function that takes and gives back: its line there, and the caller's line."""
+    """The place of a use in the function that takes and gives back: the line in that function, and the caller's
+    line."""
 
     line: Call
     path: Path
@@ -36,8 +38,8 @@ class Form(NamedTuple):
     giving: set[Call]
 
     def has_at(self, line: Call) -> bool:
-        """Whether a call at this line has taken something and not yet given it back: it gives it back later, or in a
-        deferred function."""
+        """Whether a call at this line has taken something and not yet given it back. Such a call gives it back at a
+        later line or in a deferred function."""
         deferred = any(one.function != self.function for one in self.giving)
         is_behind = any(one.line < line.line for one in self.taking)
         return is_behind and (deferred or any(line.line < one.line for one in self.giving))
@@ -45,8 +47,8 @@ class Form(NamedTuple):
 
 class Balance(NamedTuple):
     """A goroutine's use of a channel by calls from one place: what it takes (PUT for a semaphore), the lines at which
-    it took and gave back and how often, whether a call in progress has a value, and whether it waits to take or to give
-    back."""
+    it took and gave back, how often it did each, whether a call in progress has a value, and whether the goroutine
+    waits to take or to give back."""
 
     name: Name
     takes: str
@@ -64,7 +66,8 @@ class Balance(NamedTuple):
 
     @property
     def says(self) -> str:
-        """The sentence: `goroutine 3 took 9 values there at a.go:52 and put 10 back: 9 at a.go:53, 1 at a.go:60`."""
+        """The sentence about the balance: `goroutine 3 took 9 values there at a.go:52 and put 10 back: 9 at a.go:53, 1
+        at a.go:60`."""
         did, gave, back = TAKEN_WORDS[self.takes]
         many, given = self.taken.total(), self.given.total()
         words = f"{self.name} {did} {counted(many, 'value')} there{at_lines(self.taken)} and {gave} "
@@ -101,7 +104,7 @@ def balances_of(recording: Recording, number: int, now: dict[Name, Stack]) -> li
 
 
 def give_back(balances: list[Balance]) -> bool:
-    """Whether at least half of what was taken was given back."""
+    """Whether goroutines gave back at least half of what they took."""
     given, taken = (sum(one.given.total() for one in balances), sum(one.taken.total() for one in balances))
     return 2 * given >= taken
 
@@ -109,7 +112,7 @@ def give_back(balances: list[Balance]) -> bool:
 def of_function(
     recording: Recording, function: str, takes: str, found: dict[tuple[Name, Path], list[Use]], now: dict[Name, Stack]
 ) -> list[Balance]:
-    """The balances of a function that takes and gives back, by goroutine and caller's line."""
+    """The balances of a function that takes and gives back, one for each goroutine and caller's line."""
     every = [use for some in found.values() for use in some]
     form = Form(function, takes, *lines_of_form(recording, every, takes, function))
     often = Counter(name for name, _ in found)
@@ -126,7 +129,7 @@ def called_at(path: Path) -> str:
 
 
 def lines_of_form(recording: Recording, uses: list[Use], takes: str, function: str) -> tuple[set[Call], set[Call]]:
-    """The lines at which a function takes, and at which it gives back."""
+    """The lines at which a function takes, and the lines at which it gives back."""
     taking, giving = set[Call](), set[Call]()
     for use in uses:
         if place := place_in(function, program_frames(recording.lines.stacks[use.stack])):
@@ -135,8 +138,8 @@ def lines_of_form(recording: Recording, uses: list[Use], takes: str, function: s
 
 
 def takes_of(recording: Recording, uses: list[Use]) -> tuple[str, set[str]]:
-    """What goroutines take at a channel, PUT or TOOK, and the innermost functions of the program that take it and then
-    give it back, without those that only call such a function."""
+    """What goroutines take at a channel (PUT or TOOK), and the functions of the program that take it and later give it
+    back. Functions that only call such a function are left out."""
     stacks, functions, outer = recording.lines.stacks, Counter[str](), set[str]()
     frames: dict[tuple[int, str], set[Frames]] = defaultdict(set)
     for use in uses:
@@ -166,7 +169,8 @@ def program_frames(stack: Stack) -> Frames:
 
 
 def place_in(function: str, frames: Frames) -> Optional[Place]:
-    """The innermost call of a function in a stack. For a deferred function it is the line of the `defer` statement."""
+    """The innermost call of a function in a stack. For a deferred function, the line is that of the `defer`
+    statement."""
     for at, call in enumerate(frames):
         if call.function == function:
             inner = frames[at - 1] if at and frames[at - 1].function.startswith(f"{function}.") else call
@@ -202,7 +206,8 @@ def has_ended(recording: Recording, name: Name) -> bool:
 
 
 def current_in(function: str, path: Path, stack: Optional[Stack]) -> Optional[tuple[Call, Frames]]:
-    """The current place of a goroutine in a call of the function from the same caller's line, and its whole stack."""
+    """The place that a goroutine is now at in a call of the function from the same caller's line, and the goroutine's
+    whole stack."""
     frames = program_frames(stack) if stack else ()
     for at, call in enumerate(frames):
         if call.function == function and frames[at + 1 :] == path:

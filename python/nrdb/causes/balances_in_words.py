@@ -1,5 +1,5 @@
-"""Sentences about calls that kept a value of a channel from which goroutines take and give back, or gave back too
-often."""
+"""Sentences about functions that take values from a channel and give them back: calls that kept a value, and calls that
+gave back too often."""
 
 from netrev_words.plurals import counted
 
@@ -12,8 +12,8 @@ MOST_BALANCES = 3  # the most sentences
 
 
 def kept_says(recording: Recording, balances: list[Balance]) -> list[str]:
-    """Sentences about the goroutines whose calls kept what they took, and the lines that only they passed among the
-    goroutines of one `go` statement."""
+    """Sentences about the goroutines whose calls kept what they took, and the lines that only these goroutines passed
+    among those started by the same `go` statement."""
     kept = [one for one in balances if one.missing > 0]
     if not kept:
         return []
@@ -32,7 +32,7 @@ def kept_says(recording: Recording, balances: list[Balance]) -> list[str]:
 
 
 def excess_says(balances: list[Balance]) -> list[str]:
-    """A sentence about the goroutines whose calls gave back more than they took; none if no calls did."""
+    """A sentence about the goroutines whose calls gave back more than they took; none if no call did."""
     found = [one for one in balances if one.missing < 0]
     return [f"Calls gave back more than they took: {balances_words(found)}."] if found else []
 

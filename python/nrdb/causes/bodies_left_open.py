@@ -1,4 +1,4 @@
-"""Connections of net/http that wait until the body of a response is read to its end or closed, and the lines of those
+"""Connections of net/http that wait until a response's body is read to its end or closed, and the lines that made those
 requests."""
 
 from collections import defaultdict
@@ -37,7 +37,8 @@ def open_bodies(recording: Recording, ledger: Ledger, waits: Waits, position: in
 
 
 def is_kept(wait: Waiting) -> bool:
-    """Whether a connection's goroutine waits until a body is read: it is in a select that sends nothing."""
+    """Whether a connection's goroutine waits until a body is read: the goroutine is in a select without a case that
+    sends."""
     in_loop = bool(wait.stack.calls) and any(call.function == READ_LOOP for call in wait.stack.calls[:3])
     return in_loop and len(wait.objects) > 1 and all(at.use == FOR_VALUE for at in wait.objects)
 

@@ -1,5 +1,5 @@
 """Why a goroutine closed a connection after it found a channel closed, as net/http does if the context of a request
-ended: the goroutine and line that cancelled it, or the limit that had passed."""
+ended. The reason is the goroutine and line that cancelled the context, or the timeout that had passed."""
 
 import re
 from collections import defaultdict
@@ -29,7 +29,7 @@ LATE = 1_000_000_000  # nanoseconds by which a timer may be late
 
 
 class Found(NamedTuple):
-    """A channel that was found closed, with the time and the function that found it."""
+    """A channel that a goroutine found closed, with the time, and the function that tested the channel."""
 
     object: int
     time: int
@@ -37,8 +37,8 @@ class Found(NamedTuple):
 
 
 class Cancel(NamedTuple):
-    """A goroutine that found a channel closed, with the use by which it found that, and the timers one of which closed
-    the channel."""
+    """A goroutine that found a channel closed, the use by which it found the channel closed, and the timers that may
+    have closed the channel."""
 
     goroutine: int
     use: Use
@@ -51,7 +51,7 @@ class Cancel(NamedTuple):
 
 def cancel_before(index: Index, step: int) -> Optional[Cancel]:
     """Why a goroutine made a step: a function that it is in found a channel closed, and the goroutine has used no
-    socket since."""
+    socket since then."""
     recording = index.recording
     lines, goroutine = recording.lines, recording.step(step).argument("g")
     goid = lines.goid_of(goroutine, step)
@@ -66,7 +66,8 @@ def cancel_before(index: Index, step: int) -> Optional[Cancel]:
 
 
 def found_closed(recording: Recording, goid: int, since: int, until: int) -> Iterator[Found]:
-    """The channels that a goroutine found closed between two steps: it tested them, or the close woke it."""
+    """The channels that a goroutine found closed between two steps: the goroutine tested the channel, or the close woke
+    the goroutine."""
     lines = recording.lines
     for use in looks_of(recording).get(goid, ()):
         if any(since <= at < until for at in (use.first, use.last)):
@@ -95,14 +96,14 @@ def looker_of(stack: Stack) -> str:
 
 
 def last_step_before(index: Index, goroutine: int, step: int) -> int:
-    """The last step of a goroutine's call before the call that a step belongs to."""
+    """The last step of a goroutine's previous call, before the call that contains a step."""
     calls = [one for one in index.by_goroutine.get(goroutine, ()) if 0 < one.last < step]
     return max((one.last for one in calls), default=0)
 
 
 def limits_of(recording: Recording, use: Use, goid: int) -> list[Timer]:
-    """The timers of contexts that may have closed a channel; none if something else did. The timer of the goroutine
-    that found it closed is preferred."""
+    """The timers of contexts that may have closed a channel; none if something else closed the channel. A timer of the
+    goroutine that found the channel closed is preferred."""
     stack = recording.lines.stacks[use.stack]
     if stack.own() or not any(call.function.startswith(OF_A_LIMIT) for call in stack.calls):
         return []
@@ -110,7 +111,8 @@ def limits_of(recording: Recording, use: Use, goid: int) -> list[Timer]:
 
 
 def limits_before(recording: Recording, time: int, goid: int) -> list[Timer]:
-    """The timers of contexts that went off just before a time, latest first; only this goroutine's if it has some."""
+    """The timers of contexts that went off just before a time, latest first. If this goroutine made some of them, only
+    those."""
     timers = [
         timer for timer in recording.lines.timers.get(0, ())
         if has(recording.lines.stacks[timer.stack], OF_A_LIMIT) and timer.due <= time < timer.due + LATE
@@ -120,7 +122,7 @@ def limits_before(recording: Recording, time: int, goid: int) -> list[Timer]:
 
 
 def cancel_says(index: Index, cancel: Cancel) -> str:
-    """Says which goroutine cancelled, or which limit had passed."""
+    """A sentence that names the goroutine that cancelled, or the timeout that had passed."""
     lines, found = index.recording.lines, f"Goroutine {cancel.goroutine} had found"
     if not cancel.timers:
         stack, name = lines.stacks[cancel.use.stack], name_of_goid(lines, cancel.use.goid)
@@ -145,12 +147,12 @@ def cancel_says(index: Index, cancel: Cancel) -> str:
 
 
 def perhaps_of(index: Index, timers: list[Timer]) -> str:
-    """`perhaps ` if timers of several places may have gone off."""
+    """`perhaps ` if timers made at several places may have gone off; else empty."""
     return "perhaps " if len({place_in(index.recording.lines.stacks[one.stack]) for one in timers}) > 1 else ""
 
 
 def limit_says(index: Index, timers: list[Timer]) -> str:
-    """Says that the limit of a context had passed; one of the timers was the context's."""
+    """A sentence which says that a context's timeout had passed. One of the timers was the context's."""
     lines, timer = index.recording.lines, timers[0]
     return (
         f"the limit of a context, {perhaps_of(index, timers)}{duration(timer.due - timer.time)}, had passed since that was "
@@ -159,8 +161,9 @@ def limit_says(index: Index, timers: list[Timer]) -> str:
 
 
 def is_of_a_rest(recording: Recording, timer: Timer) -> bool:
-    """Whether a timer may be for the rest of a timeout after a redirect: the same goroutine made an earlier timer at the same
-    place, due at nearly the same time. The timers of two separate requests are as far apart when due as when made."""
+    """Whether a timer may cover the rest of a timeout after a redirect: the same goroutine made an earlier timer at the
+    same place, and both are due at nearly the same time. For two separate requests, the timers' due times differ as
+    much as the times at which they were made."""
     return any(
         (one.goid, one.stack) == (timer.goid, timer.stack) and 2 * abs(one.due - timer.due) < timer.time - one.time
         for one in recording.lines.timers.get(0, ())
@@ -168,8 +171,8 @@ def is_of_a_rest(recording: Recording, timer: Timer) -> bool:
 
 
 def deferred_says(index: Index, cancel: Cancel) -> list[str]:
-    """Says, for a context that was cancelled when a function returned, the line that defers the cancel and the line
-    that makes the context, if the source has only one such line."""
+    """Sentences about a context that was cancelled when a function returned: the line that defers the cancel, and the
+    line that makes the context. Empty unless the source has exactly one such line."""
     own = index.recording.lines.stacks[cancel.use.stack].own()
     if cancel.timers or not own or not text_at(index.recording, own[0]).strip().startswith(("return", "}")):
         return []
@@ -189,8 +192,8 @@ def under_way(index: Index, call: Call, step: int) -> str:
 
 
 def after_says(index: Index, step: int, goroutine: int) -> list[str]:
-    """Says, for a step of a goroutine that context.AfterFunc started, which goroutine had cancelled the context and
-    where, or which limit had passed."""
+    """Sentences about a step of a goroutine that context.AfterFunc started: which goroutine had cancelled the context,
+    and at which line, or which timeout had passed."""
     lines = index.recording.lines
     known = lines.goroutines.get(lines.goid_of(goroutine, step))
     if known is None or known.made is None or not known.made.function.startswith(AFTER_FUNC):

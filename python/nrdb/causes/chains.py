@@ -1,5 +1,5 @@
-"""What held up the goroutine that a failed call waited for, at the step at which the call failed, and so on along the
-chain."""
+"""What held up the goroutine that a failed call waited for when the call failed, what held up the goroutine that this
+one waited for, and so on along the chain."""
 
 from ..one_call import Call
 from ..waits import Name
@@ -32,14 +32,15 @@ def chain_says(index: Index, call: Call, need: Need, position: int) -> list[str]
 
 
 def is_elsewhere(index: Index, call: Call, waiter: Waiter, need: Need) -> bool:
-    """Whether a goroutine is needed only because it used the other end, and is now in a call of another connection."""
+    """Whether a goroutine is needed only because it used the other end, although it is now in a call on another
+    connection."""
     ends = (call.socket, index.other_end(call.socket))
     return waiter.call is not None and waiter.call.socket not in ends and need.how.endswith("the other end last")
 
 
 def is_still_so(index: Index, waiter: Waiter, position: int) -> bool:
-    """Whether nothing has happened at the channels of a wait since a step, so that the same goroutines are still
-    needed."""
+    """Whether nothing has happened since a step at the channels on which a goroutine waits, so that the same goroutines
+    are still needed."""
     lines, objects = index.recording.lines, waiter.wait.objects if waiter.wait else ()
     return not any(
         use.what == GIVES.get(at.use) and use.last > position for at in objects for use in lines.uses.get(at.object, ())
@@ -47,8 +48,8 @@ def is_still_so(index: Index, waiter: Waiter, position: int) -> bool:
 
 
 def link_says(index: Index, waiter: Waiter, need: Need, is_back: bool, told: list[str]) -> list[str]:
-    """The sentences about one goroutine. If it waits for the failed call's own goroutine, only the remaining
-    sentences."""
+    """The sentences about one goroutine of the chain. If that goroutine waits for the failed call's own goroutine, the
+    reason of its need is left out."""
     more = [*need.says, *need.more] if not (is_back and waiter.call) else need.more
     place = place_in(waiter.stack)
     is_told = bool(place) and any(place in line for line in told)

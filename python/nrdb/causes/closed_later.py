@@ -1,5 +1,5 @@
-"""Selects that another goroutine would end later: it is in a function, before a line that closes the channel or cancels
-the context of a case. Derived from the program's source."""
+"""Selects that another goroutine would end later: the other goroutine is in a function, before a line that closes the
+channel of a case or cancels its context. The lines come from the program's source."""
 
 import re
 from typing import Iterable, Iterator, Optional
@@ -18,8 +18,8 @@ DONE = ".Done"
 
 
 def closed_later(recording: Recording, wait: Waiting, stacks: Iterable[tuple[Name, Stack]]) -> Optional[Need]:
-    """The need of a goroutine that waits in a select; None if it doesn't, or if no other goroutine is before such a
-    line."""
+    """The need of a goroutine that waits in a select. None if the goroutine waits elsewhere, or if no other goroutine
+    has such a line ahead."""
     own = wait.stack.own()
     lines = source_of(recording, own[0].file) if own and own[0].of == OF_THE_PROGRAM else None
     if wait.kind != A_SELECT or not own or not lines:
@@ -34,7 +34,7 @@ def closed_later(recording: Recording, wait: Waiting, stacks: Iterable[tuple[Nam
 
 
 def channels_of(lines: Lines, number: int) -> Iterator[str]:
-    """The channels from which the cases of a select take values, as the source names them: `c.quit`, `ctx.Done`."""
+    """The channels from which the cases of a select receive, as the source names them: `c.quit`, `ctx.Done`."""
     margin = indent_of(lines[number - 1])
     for text in lines[number:]:
         if indent_of(text) <= margin and text.strip().startswith("}"):
@@ -47,7 +47,7 @@ def channels_of(lines: Lines, number: int) -> Iterator[str]:
 def ended_by(
     lines: Lines, call: Call, channel: str, stacks: Iterable[tuple[Name, Stack]]
 ) -> Iterator[tuple[Name, int]]:
-    """The goroutines that end a wait for a channel later, with the lines at which they do."""
+    """The goroutines that will end a wait on a channel, each with the line that ends the wait."""
     cancels = cancels_of(lines, call, channel.removesuffix(DONE)) if channel.endswith(DONE) else []
     closings = [] if channel.endswith(DONE) else closings_of(lines, call, channel)
     for name, stack in stacks:

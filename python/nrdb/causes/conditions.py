@@ -1,5 +1,5 @@
-"""What should wake a goroutine that waits for a sync.Cond, from the program's source: a function that changes what the
-loop around the Wait tests, and calls neither Signal nor Broadcast."""
+"""What should wake a goroutine that waits on a sync.Cond. The module finds, in the program's source, functions that
+change what the loop around the Wait tests and call neither Signal nor Broadcast."""
 
 import re
 from typing import Iterator, NamedTuple, Optional
@@ -45,7 +45,7 @@ def unsignalled(recording: Recording, wait: Waiting) -> list[str]:
 
 
 def one_alone(recording: Recording, wait: Waiting, waiting: int) -> list[str]:
-    """Sentences about a function that sets what all goroutines wait for, and wakes only one."""
+    """Sentences about a function that sets what all waiting goroutines test, and wakes only one goroutine."""
     own = wait.stack.own()
     lines = source_of(recording, own[0].file) if own else None
     return [
@@ -56,7 +56,7 @@ def one_alone(recording: Recording, wait: Waiting, waiting: int) -> list[str]:
 
 
 def mistaken_signal(recording: Recording, wait: Waiting) -> list[str]:
-    """Says, for a loop that tests an entry of its own, that a Signal may wake a goroutine that waits for another
+    """Sentences about a loop that tests an entry of its own: a Signal may wake a goroutine that waits for another
     entry."""
     own = wait.stack.own()
     lines = source_of(recording, own[0].file) if own else None
@@ -82,7 +82,7 @@ def mistaken_signal(recording: Recording, wait: Waiting) -> list[str]:
 
 
 def places_of_waits(recording: Recording, wait: Waiting) -> Iterator[str]:
-    """The lines at which goroutines have waited for a condition."""
+    """The lines at which goroutines have waited on a condition."""
     for some in waits_of(recording).of.values():
         for one in some:
             if one.objects == wait.objects and (own := one.stack.own()):
@@ -90,19 +90,19 @@ def places_of_waits(recording: Recording, wait: Waiting) -> Iterator[str]:
 
 
 def have_waited(recording: Recording, wait: Waiting) -> bool:
-    """Whether several goroutines have waited for a condition."""
+    """Whether several goroutines have waited on a condition."""
     every = (one for some in waits_of(recording).of.values() for one in some if one.objects == wait.objects)
     return len({one.name for one in every}) > 1
 
 
 def head_of(lines: Lines, call: Call) -> int:
-    """The line of the loop around a call; 0 if the call is in no loop."""
+    """The line of the loop around a call; 0 if the call isn't in a loop."""
     within = range_of(lines, call)
     return loop_round(lines, within, call.line) if within else 0
 
 
 def wakings_of(recording: Recording, wait: Waiting) -> list[Waking]:
-    """The functions of the waiter's type, or package, that change what the loop around the Wait tests."""
+    """The functions of the waiter's type, or of its package, that change what the loop around the Wait tests."""
     own = wait.stack.own()
     lines = source_of(recording, own[0].file) if own else None
     name = WAIT.search(lines[own[0].line - 1]) if own and lines and own[0].line <= len(lines) else None
@@ -141,19 +141,19 @@ def fields_of(lines: Lines, call: Call) -> set[str]:
 
 
 def conditions_of(lines: Lines, head: int) -> list[str]:
-    """The conditions in the body of a loop without a condition."""
+    """The conditions in the body of a loop whose head has none."""
     texts = (lines[number - 1].partition("//")[0].strip() for number in body_of(lines, head))
     is_endless = lines[head - 1].strip() == "for {"
     return [text for text in texts if text.startswith(("if ", "for "))] if is_endless else []
 
 
 def conditions_in(lines: Lines, head: int) -> set[str]:
-    """The fields in the conditions of a loop without a condition."""
+    """The fields in the conditions in the body of a loop whose head has none."""
     return {field for text in conditions_of(lines, head) for field in FIELD.findall(text)}
 
 
 def functions_of(lines: Lines) -> list[tuple[str, range]]:
-    """The functions of a file, by their names as in a stack, with their lines."""
+    """The functions of a file, each with its name as in a stack and its lines."""
     found = []
     for number, text in enumerate(lines, 1):
         if named := FUNCTION.match(text):

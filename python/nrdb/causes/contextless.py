@@ -1,5 +1,5 @@
-"""Requests of net/http that carry no context, made in a function that has one, while a goroutine waits for the
-response. Derived from the program's source."""
+"""Requests of net/http without a context, made in a function that has one, while a goroutine waits for the response.
+Derived from the program's source."""
 
 import re
 
@@ -13,8 +13,8 @@ GIVEN = re.compile(r"\b(\w+) (?:context\.Context|\*http\.Request)\b")
 
 
 def contextless_says(recording: Recording, wait: Waiting) -> list[str]:
-    """Says that the request whose response a goroutine waits for doesn't end with the context that its function was
-    given."""
+    """A sentence about the request whose response a goroutine waits for: the request doesn't end when the context
+    passed to its function ends."""
     for call in wait.stack.calls:
         lines = source_of(recording, call.file) if call.of == OF_THE_PROGRAM else None
         within = range_of(lines, call) if lines else None

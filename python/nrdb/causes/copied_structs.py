@@ -1,5 +1,5 @@
-"""Lines of the program's source that copy a struct with the mutex that a goroutine waits for: a mutex that was locked
-when it was copied stays locked in the copy."""
+"""Lines of the program's source that copy a struct together with the mutex that a goroutine waits for. If the mutex was
+locked at the time of the copy, the copy stays locked."""
 
 import os
 import re
@@ -16,8 +16,8 @@ MOST = 2
 
 
 def copies_says(recording: Recording, lock: Call) -> str:
-    """The line that copies the struct of the mutex that a goroutine waits for in the call `lock`: `, as a.go:12 copies
-    it`; empty if unknown."""
+    """The line that copies the struct that contains the mutex which a goroutine waits for in the call `lock`: `, as
+    a.go:12 copies it`; empty if unknown."""
     name = LOCK.search(text_at(recording, lock)) if lock.of == OF_THE_PROGRAM else None
     field = place_of_variable(recording, lock, name[1]) if name else None
     places = list(copies_of(recording, lock.file, field.partition(".")[0])) if field else []
@@ -26,7 +26,7 @@ def copies_says(recording: Recording, lock: Call) -> str:
 
 
 def copies_of(recording: Recording, file: str, struct: str) -> Iterator[str]:
-    """The lines of a package that copy the struct behind a pointer of this type."""
+    """The lines of a package that copy the struct that a pointer of this type points to."""
     for path, lines in files_of(recording, file):
         for number, text in enumerate(lines, 1):
             found = COPY.search(text.partition("//")[0])

@@ -1,4 +1,4 @@
-"""Bodies of net/http that end before their Content-Length: a Read of the rest met the end of the stream."""
+"""Bodies of net/http that end before their Content-Length: a Read of the remaining bytes met the end of the stream."""
 
 import re
 from typing import Iterator
@@ -28,8 +28,8 @@ def is_of_a_body(recording: Recording, call: Call) -> bool:
 
 
 def body_says(recording: Recording, call: Call, closed: Call) -> list[str]:
-    """Says that a body is shorter than its Content-Length because the other end was closed, and which lines of the
-    program set one."""
+    """Sentences about a body that is shorter than its Content-Length because the other end was closed, and about the
+    lines of the program that set a Content-Length."""
     file = next((one.file for one in recording.lines.of(call.first).calls if one.of == OF_THE_PROGRAM), "")
     places = places_with(recording, file, SETS_LENGTH) if file else []
     sets = f", which {' and '.join(places[:MOST])} set{'' if places[1:] else 's'}" if 0 < len(places) <= MOST else ""

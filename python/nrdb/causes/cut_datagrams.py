@@ -25,13 +25,13 @@ INTO = re.compile(r"\.Read\w*\((\w+)")
 
 
 class CutDatagram(NamedTuple):
-    """The Write of a datagram, and the Read that got its beginning."""
+    """The Write of a datagram, and the Read that got the first part of the datagram."""
 
     wrote: Call
     read: Call
 
     def says(self, index: Index) -> list[str]:
-        """The sentences."""
+        """The sentences about the datagram."""
         recording, length = index.recording, counted(size_of(index, self.read), "byte")
         wrote = f"{told(recording, self.wrote)} sent a datagram of {counted(size_of(index, self.wrote), 'byte')} in {self.wrote.steps()}"
         made = made_at(index, self.read)
@@ -40,7 +40,7 @@ class CutDatagram(NamedTuple):
 
 
 def made_at(index: Index, read: Call) -> str:
-    """The line at which a function makes the buffer that it reads into: ` (a.go:30)`; empty if unknown."""
+    """The line at which a function makes the buffer that a Read fills: ` (a.go:30)`; empty if unknown."""
     own = index.recording.lines.of(read.first).own()
     into = INTO.search(text_at(index.recording, own[0])) if own else None
     if not own or not into:
@@ -52,14 +52,14 @@ def made_at(index: Index, read: Call) -> str:
 
 @lru_cache(maxsize=2)
 def cut_datagrams(index: Index) -> tuple[CutDatagram, ...]:
-    """The cut datagrams of a recording, in the order of their Reads: the Reads of each socket are paired with what was
-    sent to its address, as long as the lengths fit."""
+    """The cut datagrams of a recording, in the order of their Reads. The Reads of each socket are paired with the
+    datagrams sent to its address, as long as the lengths fit."""
     found = [pair for socket in sorted(index.by_socket) for pair in cut_at(index, socket)]
     return tuple(sorted(found, key=lambda pair: pair.read.last))
 
 
 def cut_at(index: Index, socket: int) -> Iterator[CutDatagram]:
-    """The datagrams that were cut when they were read at a socket."""
+    """The datagrams that were longer than the buffers of the Reads at a socket."""
     asked = asked_of(index.recording)
     reads = [one for one in index.by_socket[socket] if one.name == "Read" and one.moved and one.last]
     sent = sent_to(index, socket) if reads and is_datagram(index, socket) else []
@@ -81,7 +81,7 @@ def sent_to(index: Index, socket: int) -> list[Call]:
 
 
 def causes_of_cuts(index: Index) -> list[Cause]:
-    """Possible causes from cut datagrams: for each line that read some, the first one."""
+    """Possible causes from cut datagrams: one for each line that read some, about the first of them."""
     found: dict[object, list[CutDatagram]] = defaultdict(list)
     for pair in cut_datagrams(index):
         found[index.recording.lines.of(pair.read.first).own()].append(pair)
@@ -89,15 +89,16 @@ def causes_of_cuts(index: Index) -> list[Cause]:
 
 
 def cause_of(index: Index, pair: CutDatagram, others: int) -> Cause:
-    """The cause for a datagram that was cut, with the number of others."""
+    """The cause for a datagram that was cut, with the number of further ones."""
     more = [f"{others} more like it."] if others else []
     looks = [f"goto {pair.read.last}", f"calls sock {pair.read.socket}"]
     return Cause(pair.read, [*pair.says(index), *more], [pair.wrote.first, pair.read.first], looks)
 
 
 def cut_says(index: Index, call: Call, position: int) -> list[str]:
-    """Says, for a Read that waits for a datagram, that the last datagram that its goroutine sent was cut, and what the
-    reader did then; otherwise, that the last datagram that it received was cut."""
+    """Sentences about a Read that waits for a datagram. If the last datagram that the Read's goroutine sent was cut,
+    they say so, and what the receiver did next. Otherwise, they say so if the last datagram that the goroutine received
+    was cut."""
     wrote = index.last_use(call.socket, call.first, ("Write",)) if is_datagram(index, call.socket) else None
     pair = next((one for one in cut_datagrams(index) if wrote and one.wrote is wrote), None)
     if pair is None or pair.wrote.goroutine != call.goroutine or pair.read.last > position:
@@ -116,13 +117,13 @@ def cut_says(index: Index, call: Call, position: int) -> list[str]:
 
 
 def writes_of(index: Index, read: Call) -> set[Stack]:
-    """The stacks of the Writes by a Read's goroutine to the same socket."""
+    """The stacks of the Writes that a Read's goroutine made to the same socket."""
     calls = (one for one in index.by_socket[read.socket] if one.goroutine == read.goroutine and one.name == "Write")
     return {index.recording.lines.of(one.first) for one in calls}
 
 
 def last_cut(index: Index, call: Call) -> list[str]:
-    """Says that the last datagram that was read at a socket before a call was cut."""
+    """A sentence about the last datagram that was read at a socket before a call, if that datagram was cut."""
     reads = [one for one in index.by_socket[call.socket] if one.name == "Read" and one.moved and one.first < call.first]
     pair = next((one for one in cut_datagrams(index) if reads and one.read is reads[-1]), None)
     return pair.says(index) if pair else []

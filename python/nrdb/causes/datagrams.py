@@ -1,5 +1,5 @@
-"""Datagrams between sockets that no name pairs: a request of this many bytes that was read at another socket and not
-answered."""
+"""Requests by datagrams that perhaps got no answer. If no addresses show which socket got the request, the number of
+bytes does: one Read at another socket got as many."""
 
 from typing import Optional
 
@@ -14,8 +14,8 @@ DEADLINES = ("SetReadDeadline", "SetDeadline")
 
 
 def unanswered_datagram(index: Index, call: Call, position: int) -> list[str]:
-    """Says, for a Read that waits for a datagram, which goroutine perhaps read the request and sent no answer, and that
-    no deadline was set."""
+    """Sentences about a Read that waits for a datagram. They name the goroutine that perhaps read the request and sent
+    no answer, and say if no deadline was set."""
     if not is_datagram(index, call.socket):
         return []
     wrote = index.last_use(call.socket, call.first, ("Write",))
@@ -39,8 +39,8 @@ def unanswered_datagram(index: Index, call: Call, position: int) -> list[str]:
 
 
 def dropped_datagram(index: Index, call: Call) -> list[str]:
-    """Says, for a Read of a datagram that timed out, which goroutine perhaps read the request and sent no answer, and
-    whether it filled the whole buffer."""
+    """Sentences about a Read of a datagram that timed out: the goroutine that perhaps read the request and sent no
+    answer, and whether the request filled the whole buffer."""
     wrote = index.last_use(call.socket, call.first, ("Write",)) if is_datagram(index, call.socket) else None
     read = reader_of(index, call, wrote, call.last) if wrote and wrote.goroutine == call.goroutine else None
     if wrote is None or read is None:
@@ -65,7 +65,7 @@ def dropped_datagram(index: Index, call: Call) -> list[str]:
 
 
 def reader_of(index: Index, call: Call, wrote: Call, position: int) -> Optional[Call]:
-    """The only Read of a datagram of this length at another socket since a Write; None if there are several."""
+    """The only Read of a datagram of this length at another socket since a Write; None if several Reads qualify."""
     found = [
         one
         for socket, calls in index.by_socket.items()

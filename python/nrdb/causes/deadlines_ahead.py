@@ -1,4 +1,4 @@
-"""The deadlines, not yet passed, of calls that wait: such a call ends by itself."""
+"""Deadlines that haven't passed yet, of calls that wait: such a call ends by itself."""
 
 from collections import defaultdict
 from functools import lru_cache
@@ -12,7 +12,7 @@ from .words import name_of, place_of_step
 
 
 class Setting(NamedTuple):
-    """A `setdeadline` of a descriptor: its step, its goroutine, its sides, and how far ahead the deadline is (0: no
+    """A `setdeadline` of a descriptor: its step, its goroutine, its sides, and the time until the deadline (0: no
     deadline, negative: in the past)."""
 
     step: int
@@ -33,7 +33,7 @@ def settings_of(recording: Recording) -> dict[int, list[Setting]]:
 
 
 def deadline_ahead(index: Index, call: Call, position: int) -> Optional[Setting]:
-    """The deadline of a call that waits at a position; None if it has none."""
+    """The deadline of a call that waits at a position; None if the call has no deadline."""
     side, begin = "r" if call.name in READING else "w", index.by_socket[call.socket][0].first
     settings = (
         one
@@ -45,13 +45,13 @@ def deadline_ahead(index: Index, call: Call, position: int) -> Optional[Setting]
 
 
 def until_words(index: Index, call: Call) -> str:
-    """The end of a wait with a deadline: `until the deadline of the Read at a.go:3 passes`."""
+    """Words for the end of a wait with a deadline: `until the deadline of the Read at a.go:3 passes`."""
     place = index.recording.lines.of(call.first).place()
     at = f" at {place}" if place and not place.startswith("in ") else f" {place}".rstrip()
     return f"until the deadline of the {name_of(index.recording, call)}{at} passes"
 
 
 def setting_says(index: Index, setting: Setting) -> str:
-    """The line that set a deadline, and how far ahead the deadline was."""
+    """A sentence with the line that set a deadline, and the time until the deadline."""
     at = place_of_step(index.recording, setting.step, setting.goroutine)
     return f"Its deadline was set{at}, {duration(setting.time)} ahead, and hasn't passed."

@@ -1,5 +1,5 @@
-"""Answers that a goroutine read whole and passed to no other, while the goroutine that wrote the request waits at a
-channel, as in clients of many RPC protocols."""
+"""Answers that a goroutine read completely and passed to no other goroutine, while the goroutine that wrote the request
+waits on a channel, as in clients of many RPC protocols."""
 
 import re
 from collections import defaultdict
@@ -28,7 +28,8 @@ MOST_WAYS = 2
 
 
 class Hand(NamedTuple):
-    """A goroutine that reads at a socket and passes on what it read, by a line that puts values into channels."""
+    """A goroutine that reads from a socket and passes on what it read, and the line at which it puts values into
+    channels."""
 
     reader: Waiter
     call: Call
@@ -41,8 +42,8 @@ def is_for_values(wait: Waiting) -> bool:
 
 
 def dropped_answer(index: Index, wait: Waiting, hands: Mapping[int, list[Hand]]) -> Optional[Need]:
-    """The need of a goroutine that waits for an answer which one of these goroutines, keyed by socket, read and passed
-    to no other; None if unknown."""
+    """The need of a goroutine that waits for an answer, if one of these goroutines, keyed by socket, read the answer
+    and passed it to no other goroutine; None if unknown."""
     sockets = asked_at(index, wait) if hands else set()
     for hand in (hand for socket in sorted(sockets) for hand in hands.get(socket, ())):
         wrote = request_of(index, wait, hand.call.socket)
@@ -53,9 +54,9 @@ def dropped_answer(index: Index, wait: Waiting, hands: Mapping[int, list[Hand]])
 
 
 def hands_of(recording: Recording, wait: Waiting, waiters: Mapping[Name, Waiter]) -> list[Hand]:
-    """The goroutines that wait to read and that put values into channels from which others took them at the waiter's
-    line, or that are in a function in which another goroutine does so. If no goroutine has done so, the goroutines in a
-    function whose source does."""
+    """The goroutines that wait to read and that pass on what they read. Such a goroutine has put values into channels
+    from which others took them at the waiter's line, or it is in a function in which another goroutine does so. If no
+    goroutine has done so: the goroutines in a function whose source does."""
     readers = {name: waiter for name, waiter in waiters.items() if waiter.call and waiter.call.name == "Read"}
     lines, own = recording.lines, wait.stack.own()
     taken = {
@@ -77,7 +78,7 @@ def hands_of(recording: Recording, wait: Waiting, waiters: Mapping[Name, Waiter]
 
 
 def by_socket(hands: list[Hand]) -> dict[int, list[Hand]]:
-    """The goroutines, keyed by the sockets at which they read."""
+    """The goroutines, keyed by the sockets from which they read."""
     found: dict[int, list[Hand]] = defaultdict(list)
     for hand in hands:
         found[hand.call.socket].append(hand)
@@ -107,7 +108,7 @@ def by_source(recording: Recording, wait: Waiting, readers: Mapping[Name, Waiter
 
 
 def request_of(index: Index, wait: Waiting, socket: int) -> Optional[Call]:
-    """The last Write of a goroutine at a socket before it waits; else the first Write of a goroutine to which it passed
+    """The last Write of a goroutine to a socket before it waits; else the first Write of a goroutine to which it passed
     its request."""
     calls = [] if wait.name.is_goid else index.by_goroutine.get(wait.name.number, [])
     writes = [one for one in calls if one.name == "Write" and one.socket == socket and one.moved and one.last]
@@ -116,21 +117,21 @@ def request_of(index: Index, wait: Waiting, socket: int) -> Optional[Call]:
 
 
 def read_since(index: Index, hand: Hand, wrote: Call) -> Optional[Call]:
-    """The last Read of a goroutine that got bytes after a Write, before the Read in which it waits now."""
+    """The last Read after a Write by which a goroutine got bytes, before the Read in which the goroutine waits now."""
     calls = [one for one in index.by_goroutine.get(hand.call.goroutine, []) if one.socket == hand.call.socket]
     reads = [one for one in calls if one.name == "Read" and one.moved and one.last]
     return next((one for one in reversed(reads) if wrote.first < one.last < hand.call.first), None)
 
 
 def has_put(recording: Recording, wait: Waiting, read: Call) -> bool:
-    """Whether a value was put at one of a wait's channels after a Read."""
+    """Whether a goroutine put a value into one of a wait's channels after a Read."""
     uses = (use for at in wait.objects for use in recording.lines.uses.get(at.object, ()))
     return any(use.what == PUT and use.last >= read.last for use in uses)
 
 
 def is_answered(index: Index, wrote: Call) -> bool:
-    """Whether, as far as known, all requests at a socket were answered: a goroutine of the other end read after the
-    request, wrote, and reads on; or the other end made as many Writes."""
+    """Whether, as far as known, all requests at a socket were answered: a goroutine at the other end read after the
+    request, wrote, and now reads again; or the other end made as many Writes."""
     other = index.other_end(wrote.socket)
     if other is None:
         return False
@@ -146,14 +147,14 @@ def is_answered(index: Index, wrote: Call) -> bool:
 
 
 def reads_on(index: Index, goroutine: int, socket: int) -> bool:
-    """Whether a goroutine is in a Read at a socket at the recording's end."""
+    """Whether a goroutine is in a Read on a socket at the end of the recording."""
     now = index.inside(goroutine, index.recording.length)
     return now is not None and now.name == "Read" and now.socket == socket
 
 
 def says_of(index: Index, wait: Waiting, hand: Hand, wrote: Call, read: Call) -> list[str]:
-    """The sentences: the request, the goroutine that read after it, and the lines by which it goes on without passing
-    the answer on."""
+    """The sentences about the request, the goroutine that read after it, and the lines by which that goroutine goes on
+    without passing the answer on."""
     recording, name = index.recording, hand.reader.name
     was = "was" if Name(wrote.goroutine) == wait.name else "was perhaps"
     says = [
@@ -172,8 +173,8 @@ def ways_words(file: str, ways: list[int]) -> str:
 
 
 def ways_past(recording: Recording, stack: Stack, file: str, number: int) -> list[int]:
-    """The lines by which a goroutine goes on from its wait without passing a line that puts a value: `continue`,
-    `default:`, or that line's condition."""
+    """The lines by which a goroutine goes on after its wait without passing a line that puts a value into a channel:
+    `continue`, `default:`, or the condition around that line."""
     lines = source_of(recording, file)
     calls = (
         [call for call in stack.calls if call.file == file and call.of == OF_THE_PROGRAM and call.line < number]
@@ -205,7 +206,7 @@ def defaults_behind(lines: Lines, number: int) -> list[int]:
 
 
 def conditions_round(lines: Lines, begin: int, number: int) -> list[int]:
-    """The innermost condition around a line, after another line."""
+    """The innermost condition around a line that begins after another line."""
     margin = indent_of(lines[number - 1])
     for at in range(number - 1, begin, -1):
         if lines[at - 1].strip() and indent_of(lines[at - 1]) < margin:

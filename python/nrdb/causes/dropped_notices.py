@@ -1,5 +1,5 @@
-"""Values that are dropped if no goroutine waits for them: for a goroutine that waits at a channel, the lines that put a
-value there in a select with a `default`. Derived from the program's source."""
+"""Values that are dropped if no goroutine waits for them. For a goroutine that waits on a channel, the module finds the
+lines that put a value into that channel in a select with a `default`. Derived from the program's source."""
 
 import re
 from typing import Optional
@@ -55,7 +55,7 @@ def is_near(place: str, other: str) -> bool:
 
 
 def names_at(recording: Recording, call: Call) -> list[str]:
-    """The channels from which the line of a call takes values; for a select, the channels of its cases."""
+    """The channels from which the line of a call takes values; for a select, the channels of all its cases."""
     taken = TAKES.search(text_at(recording, call))
     if taken:
         return [taken[1]]
@@ -64,8 +64,8 @@ def names_at(recording: Recording, call: Call) -> list[str]:
 
 
 def is_dropping(recording: Recording, own: Call, name: str, line: Call, lines: Lines) -> bool:
-    """Whether a line is a case of a select with a `default` that puts a value into the channel of this name in the
-    function of a call."""
+    """Whether a line is a case of a select with a `default`, in a function of a call, and puts a value into the channel
+    of this name."""
     sends = SENDS.match(lines[line.line - 1].partition("//")[0])
     if sends is None or default_of(lines, line.line) is None:
         return False

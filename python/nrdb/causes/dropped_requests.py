@@ -1,5 +1,5 @@
-"""Requests that a goroutine took from a channel and didn't answer before it went on to the next, while the goroutine
-that sent the request waits at another channel."""
+"""Requests that a goroutine took from a channel and didn't answer before it took the next request, while the goroutine
+that sent the request waits on another channel."""
 
 from typing import Mapping, NamedTuple, Optional
 
@@ -18,7 +18,7 @@ from .words import place_in
 
 
 class Taken(NamedTuple):
-    """A goroutine that took a request and waits for the next one, and the line at which it would put an answer."""
+    """A goroutine that took a request and waits for the next one, and the line at which it would send an answer."""
 
     taker: Waiter
     use: Use
@@ -27,7 +27,7 @@ class Taken(NamedTuple):
 
 
 def dropped_request(recording: Recording, wait: Waiting, waiters: Mapping[Name, Waiter]) -> Optional[Need]:
-    """The need of a goroutine whose request another took and didn't answer; None if unknown."""
+    """The need of a goroutine whose request another goroutine took and didn't answer; None if unknown."""
     if not wait.objects or any(at.use != FOR_VALUE for at in wait.objects):
         return None
     request = put_before(recording, wait)
@@ -50,28 +50,28 @@ def dropped_request(recording: Recording, wait: Waiting, waiters: Mapping[Name, 
 
 
 def answered_before(recording: Recording, wait: Waiting) -> int:
-    """The step after which the last wait of a goroutine at the same line ended; 0 if none did."""
+    """The step after which a goroutine's last wait at the same line ended; 0 if none ended."""
     earlier = (one for one in waits_of(recording).of.get(wait.name, ()) if one.stack.own() == wait.stack.own())
     return max((one.last for one in earlier if one.last is not None and one.last <= wait.first), default=0)
 
 
 def left_to_a_timer(recording: Recording, taker: Waiter) -> str:
-    """Says, for a goroutine that took a request and waits in a select, that it perhaps answers when a timer goes off
-    that nothing resets; empty if the program's source has no such timer."""
+    """Words about a goroutine that took a request and waits in a select: it perhaps answers when a timer goes off, and
+    nothing resets that timer. Empty if the program's source has no such timer."""
     says = timers_of_select(recording, taker.wait) if taker.wait else []
     is_skipped = taker.wait is not None and bool(says) and ways_past_reset(recording, taker.wait)
     return f"Perhaps {taker.name} keeps it until a timer goes off. {says[0]}" if is_skipped else ""
 
 
 def has_answer(recording: Recording, wait: Waiting, request: Use) -> bool:
-    """Whether a value was put at one of a wait's channels after a request."""
+    """Whether a goroutine put a value into one of a wait's channels after a request."""
     uses = (use for at in wait.objects for use in recording.lines.uses.get(at.object, ()))
     return any(use.what == PUT and use.end >= request.end for use in uses)
 
 
 def taker_of(recording: Recording, wait: Waiting, request: Use, waiters: Mapping[Name, Waiter]) -> Optional[Taken]:
-    """The goroutine that took a request, if all requests were taken and each taker has ended or waits for the next
-    one."""
+    """The goroutine that took a request. None unless all requests were taken, and each goroutine that took one has
+    ended or waits for the next."""
     lines, number = recording.lines, request.object
     uses = lines.uses[number]
     put, took = (sum(use.often for use in uses if use.what == what) for what in (PUT, TOOK))
@@ -88,7 +88,7 @@ def taker_of(recording: Recording, wait: Waiting, request: Use, waiters: Mapping
 
 
 def is_free(recording: Recording, use: Use, number: int, waiters: Mapping[Name, Waiter]) -> bool:
-    """Whether a goroutine has ended, or waits for a value at a channel."""
+    """Whether a goroutine has ended, or waits on a channel."""
     known = recording.lines.goroutines.get(use.goid)
     waiter = waiters.get(name_of_goid(recording.lines, use.goid))
     waits = waiter is not None and waiter.wait is not None and number in {at.object for at in waiter.wait.objects}
@@ -96,8 +96,9 @@ def is_free(recording: Recording, use: Use, number: int, waiters: Mapping[Name, 
 
 
 def answer_line(recording: Recording, wait: Waiting, taker: Waiter) -> int:
-    """The line that puts a value into a channel with the name of the one that the other goroutine waits at: after the
-    taker's wait, in a function that the taker is in or in a literal of it; 0 if there is none."""
+    """The line that puts a value into a channel with the name of the channel that the other goroutine waits on. The
+    line comes after the taker's wait, in a function that the taker is in or in a function literal of it; 0 if no such
+    line exists."""
     own = wait.stack.own()
     numbers = [giving.number for giving in givings_at(recording, wait)]
     for call in taker.stack.calls:

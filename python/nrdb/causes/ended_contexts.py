@@ -1,5 +1,5 @@
-"""Requests of net/http's client that weren't sent because their contexts had ended; and contexts of handlers that
-goroutines use after the handlers returned. Derived from the program's source."""
+"""Requests that net/http's client didn't send because their contexts had ended, and contexts of handlers that
+goroutines use after the handler returned. Derived from the program's source."""
 
 import re
 from typing import Iterator, NamedTuple, Optional
@@ -29,7 +29,7 @@ class EndedBefore(NamedTuple):
     use: Use
 
     def says(self, recording: Recording) -> list[str]:
-        """The sentences."""
+        """The sentences about the request."""
         name, stack = name_of_goid(recording.lines, self.use.goid), recording.lines.stacks[self.use.stack]
         request = f"The request{place_in(stack)} ({name}, step {self.use.last})"
         if any(call.function == GET_CONNECTION for call in stack.calls[:3]):
@@ -54,8 +54,8 @@ def ended_before(index: Index) -> Iterator[EndedBefore]:
 
 
 def of_a_handler(recording: Recording, goid: int) -> list[str]:
-    """Says that a handler of net/http started a goroutine in a function that takes the request's context, which ends
-    when the handler returns."""
+    """Sentences about a handler of net/http that started a goroutine in a function that takes the request's context.
+    That context ends when the handler returns."""
     known = recording.lines.goroutines.get(goid)
     made = known.made if known else None
     lines = source_of(recording, made.file) if made and made.of == OF_THE_PROGRAM else None
@@ -76,8 +76,8 @@ def of_a_handler(recording: Recording, goid: int) -> list[str]:
 
 
 def kept_by_a_handler(recording: Recording, stack: Stack) -> list[str]:
-    """The only line of a package at which a handler of net/http keeps the context of its request; empty if it is in the
-    stack, or if several lines do."""
+    """The only line of a package at which a handler of net/http keeps the context of its request. Empty if the line is
+    in the stack, or if the package has several such lines."""
     own = stack.own()
     if own is None or any(call.function == SERVE for call in stack.calls):
         return []
@@ -93,7 +93,7 @@ def causes_of_ended(index: Index) -> list[Cause]:
 
 
 def cause_of(index: Index, ended: EndedBefore) -> Optional[Cause]:
-    """The cause for such a request, attached to the last call before it; None if there is no call before it."""
+    """The cause for such a request, attached to the last call before the request; None if no call came before it."""
     near = next(back(index.book.calls, ended.use.last), None)
     looks = [f"goto {ended.use.last}", "info goroutines"]
     return Cause(near, ended.says(index.recording), [ended.use.last], looks) if near else None

@@ -1,5 +1,6 @@
-"""Goroutines that ended without doing what another waits for at a channel: they were in a function, or started one,
-with a line that puts or takes a value there, and didn't reach that line. Derived from the program's source."""
+"""Goroutines that ended without doing what another goroutine waits for on a channel. They were in a function, or
+started a function, with a line that puts or takes a value there, and didn't reach that line. Derived from the program's
+source."""
 
 import re
 from typing import Iterator, Optional
@@ -22,8 +23,8 @@ MOST = 50  # the most goroutines to examine
 
 
 def ended_giver(index: Index, wait: Waiting) -> Optional[Need]:
-    """The need for a value or room that goroutines which have ended should perhaps have given; None if none are
-    found."""
+    """The need for a value, or for room, that goroutines which have ended should perhaps have given; None if no such
+    goroutines are found."""
     own, recording = wait.stack.own(), index.recording
     is_select = wait.kind == A_SELECT
     if not own or own[0].of != OF_THE_PROGRAM or not wait.objects or wait.objects[0].use not in WORDS:
@@ -50,7 +51,7 @@ def givings_of_select(recording: Recording, call: Call) -> list[Giving]:
 
 
 def need_of(index: Index, wait: Waiting, found: list[int], own: Call, number: int) -> Need:
-    """The need if these goroutines ended before reaching a line."""
+    """The need, if these goroutines ended before they reached a line."""
     lines, names = index.recording.lines, [name_of_goid(index.recording.lines, goid) for goid in found]
     known = lines.goroutines[found[0]]
     made = f", started at {known.made.place()}," if known.made else ","
@@ -64,7 +65,7 @@ def need_of(index: Index, wait: Waiting, found: list[int], own: Call, number: in
 
 
 def ended_before(recording: Recording, wait: Waiting, file: str, givings: list[Giving]) -> Iterator[int]:
-    """The goroutines that ended without passing a line that gives, latest first; if the waiter started some of them,
+    """The goroutines that ended without passing a line that gives, latest first. If the waiter started some of them,
     only those."""
     waiter, passed, numbers = goid_of(recording, wait.name), lines_of(recording), {one.number for one in givings}
     ended = [goid for goid, known in recording.lines.goroutines.items() if known.last >= 0 and known.made]
@@ -75,8 +76,8 @@ def ended_before(recording: Recording, wait: Waiting, file: str, givings: list[G
 
 
 def upcoming(recording: Recording, goid: int, file: str, givings: list[Giving]) -> int:
-    """The line that gives, after the last line that a goroutine passed in a function that it was in, or in the function
-    that it was started with; 0 if there is none."""
+    """The line that gives, after the last line that a goroutine passed in a function of its stack or in its first
+    function; 0 if no such line exists."""
     made, passed = recording.lines.goroutines[goid].made, lines_of(recording).of(goid)
     for giving in givings:
         last = max((call.line for call in passed if call.file == file and call.line in giving.within), default=0)

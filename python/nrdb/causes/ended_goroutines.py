@@ -19,7 +19,7 @@ MOST_LEAVES = 2
 
 
 class Passed(NamedTuple):
-    """A stack that a goroutine was in, with the step after which it was there and the time."""
+    """A stack of a goroutine, with the step after which the goroutine was there, and the time."""
 
     step: int
     time: int
@@ -27,7 +27,7 @@ class Passed(NamedTuple):
 
 
 def goid_of(recording: Recording, name: Name) -> int:
-    """Go's own number of a goroutine."""
+    """Go's own number for a goroutine."""
     return name.number if name.is_goid else recording.lines.goid_of(name.number)
 
 
@@ -78,8 +78,8 @@ def ended_where(index: Index, name: Name, known: Optional[Stack] = None) -> str:
 
 
 def loop_words(recording: Recording, stack: Stack) -> str:
-    """The lines that leave the loop in which a goroutine did something, in a function that isn't its outermost, in the
-    form of `ended_where`."""
+    """The lines that leave the loop in which a goroutine did something, in the form of `ended_where`; empty if the
+    stack has only one function of the program."""
     own = [call for call in stack.calls if call.of == OF_THE_PROGRAM and WRAPPED not in call.function]
     return ways_out(recording, own[0]) if len(own) > 1 else ""
 
@@ -95,8 +95,8 @@ def ways_out(recording: Recording, call: Call) -> str:
 
 
 def left_by(index: Index, call: OneCall) -> str:
-    """The line by which a goroutine that ended left the loop in which it made a call, in the form of `ended_where`: if
-    several are possible, the first one after the goroutine's last line in that function."""
+    """The line by which a goroutine that ended left the loop in which it made a call, in the form of `ended_where`. If
+    several lines are possible, the first one after the goroutine's last line in that function."""
     own = index.recording.lines.of(call.first).own()
     leaves = every_leave(index.recording, own[0]) if own and own[0].of == OF_THE_PROGRAM else []
     if not own or not leaves:
@@ -138,7 +138,7 @@ def every_leave(recording: Recording, call: Call) -> list[int]:
 
 
 def loop_round(lines: Lines, within: range, line: int) -> int:
-    """The line at which the innermost loop around a line begins; 0 if it is in none."""
+    """The line at which the innermost loop around a line begins; 0 if no loop surrounds the line."""
     margin = indent_of(lines[line - 1])
     if LOOP.match(lines[line - 1]):
         return line

@@ -1,6 +1,6 @@
-"""Goroutines that put values for others into the others' own channels and have ended, while another goroutine waits for
-such a value. Clients of many RPC protocols have a goroutine that passes the answers on, and servers have workers that
-send their results this way."""
+"""Goroutines that put values into channels of other goroutines and have ended, while another goroutine waits for such a
+value. In clients of many RPC protocols a goroutine passes the answers on in this way, and in servers workers send their
+results so."""
 
 from functools import lru_cache
 from typing import NamedTuple, Optional, Sequence
@@ -21,7 +21,8 @@ MOST_NAMED = 4
 
 
 class EndedHand(NamedTuple):
-    """A goroutine that ended, the last value that it put for another, and the line at which it put it."""
+    """A goroutine that ended, the last value that it put into another goroutine's channel, and the line at which it did
+    so."""
 
     name: Name
     use: Use
@@ -30,7 +31,7 @@ class EndedHand(NamedTuple):
 
 def ended_hand(index: Index, wait: Waiting) -> Optional[Need]:
     """The need of a goroutine that waits for a value, if all goroutines that put values for others at the same line
-    have ended; None if one hasn't, or if none did."""
+    have ended. None if one of them hasn't ended, or if no goroutine put values there."""
     lines, own = index.recording.lines, wait.stack.own()
     if not own or own[0].of != OF_THE_PROGRAM or len(wait.objects) != 1 or wait.objects[0].use != FOR_VALUE:
         return None
@@ -46,7 +47,7 @@ def ended_hand(index: Index, wait: Waiting) -> Optional[Need]:
 
 @lru_cache(maxsize=256)
 def hands_at(index: Index, line: Call) -> tuple[EndedHand, ...]:
-    """The goroutines that put values into channels from which others took them at a line, ordered by their last
+    """The goroutines that put values into channels from which others took them at a line, in the order of their last
     values."""
     lines, found = index.recording.lines, dict[Name, EndedHand]()
     taken = [
@@ -62,7 +63,7 @@ def hands_at(index: Index, line: Call) -> tuple[EndedHand, ...]:
 
 
 def says_of(index: Index, hands: Sequence[EndedHand]) -> list[str]:
-    """Sentences about the lines at which these goroutines put values for others, and about what each did last."""
+    """Sentences about the lines at which these goroutines put values for others, and about the last call of each."""
     last, recording = hands[-1], index.recording
     if len(hands) > 1:
         names = of_names([hand.name for hand in hands[:MOST_NAMED]])

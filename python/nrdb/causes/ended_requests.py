@@ -1,4 +1,4 @@
-"""The requests of net/http's client that ended because their contexts did, as causes."""
+"""The requests of net/http's client that ended because their contexts ended, as causes."""
 
 from collections import defaultdict
 from typing import Hashable
@@ -15,7 +15,7 @@ from .unaccepted import unaccepted
 
 def requests_that_ended(recording: Recording, is_late: bool) -> list[Cause]:
     """The requests of net/http's client that ended because a deadline of their context passed or a goroutine cancelled
-    it; requests of the same lines are merged."""
+    the context. Requests of the same lines are merged."""
     alike: dict[Hashable, list[CancelledRequest]] = defaultdict(list)
     for one in cancelled_requests(index_of(recording)):
         if one.is_late is is_late:
@@ -24,7 +24,7 @@ def requests_that_ended(recording: Recording, is_late: bool) -> list[Cause]:
 
 
 def of_request(recording: Recording, ended: CancelledRequest) -> Cause:
-    """The cause for a request that ended because its context did."""
+    """The cause for a request that ended because its context ended."""
     steps, looks = [ended.request.last, ended.step], [f"goto {ended.step}", f"calls sock {ended.request.socket}"]
     index = index_of(recording)
     served = served_says(index, ended.closed, ended.closed.first) or unserved_says(index, ended)
@@ -33,7 +33,8 @@ def of_request(recording: Recording, ended: CancelledRequest) -> Cause:
 
 
 def unserved_says(index: Index, ended: CancelledRequest) -> list[str]:
-    """Says, for a request whose connection no goroutine had accepted, what the goroutine did that should have."""
+    """Sentences about a request on a connection that no goroutine had accepted: what the goroutine did that should have
+    accepted it."""
     step = ended.closed.first
     reads = (one for one in index.by_socket[ended.request.socket] if one.name == "Read" and one.first < step)
     read = next((one for one in reads if not 0 < one.last < step), None)

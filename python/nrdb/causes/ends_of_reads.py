@@ -1,5 +1,5 @@
-"""What a Read that waits looks for, from the functions that called it: the end of the stream, the end of a line, or any
-bytes."""
+"""What a waiting Read looks for, found from the functions that called it: the end of the stream, the end of a line, or
+any bytes."""
 
 import re
 from typing import Optional
@@ -16,7 +16,7 @@ TO_THE_END = ("io.ReadAll", "io.copyBuffer", "io.Copy", "net.genericReadFrom", "
 CLOSES_WRITE, MOST_CLOSES = re.compile(r"\.CloseWrite\(\)"), 2
 OF_A_BODY = ("net/http.(*body).Read",)
 OF_A_COUNT = ("io.CopyN", "io.(*LimitedReader).Read")
-SPLICE = "internal/poll.Splice"  # an io.LimitedReader's limit may end it, which no stack shows
+SPLICE = "internal/poll.Splice"  # an io.LimitedReader's limit may end it, and no stack shows that limit
 OF_A_LINE = {
     "bufio.(*Reader).ReadString": "bufio.(*Reader).ReadString", "bufio.(*Reader).ReadBytes": "bufio.(*Reader).ReadBytes",
     "bufio.(*Reader).ReadLine": "bufio.(*Reader).ReadLine", "bufio.(*Scanner).Scan": "bufio.(*Scanner).Scan",
@@ -25,7 +25,7 @@ OF_A_LINE = {
 
 
 def end_says(index: Index, call: Call, other: int, position: int) -> list[str]:
-    """Sentences about what a Read looks for; none if it is by Go's own code alone."""
+    """Sentences about what a Read looks for; none if only Go's own code made the Read."""
     if call.name != "Read" or is_of_go(index.recording, call):
         return []
     functions = {one.function for one in index.recording.lines.of(call.first).calls}
@@ -40,7 +40,7 @@ def end_says(index: Index, call: Call, other: int, position: int) -> list[str]:
 
 
 def half_closes(index: Index, socket: int, position: int) -> list[str]:
-    """The lines of the program that close a connection for writing, if none of them has done so at this socket."""
+    """The lines of the program that close a connection for writing, if none of these lines has run on this socket."""
     used = index.last_use(socket, position, ("Write",)) or index.last_use(socket, position, ("Read",))
     own = index.recording.lines.of(used.first).own() if used else None
     if own is None or own[0].of != OF_THE_PROGRAM:
@@ -53,15 +53,14 @@ def half_closes(index: Index, socket: int, position: int) -> list[str]:
 
 
 def is_served(index: Index, socket: int, position: int) -> bool:
-    """Whether the goroutine that wrote last at a socket is still in a handler of net/http, so that it may write
-    more."""
+    """Whether the goroutine that wrote last to a socket is still in a handler of net/http, and so may write more."""
     wrote = index.last_use(socket, position, ("Write",))
     wait = waits_of(index.recording).at(Name(wrote.goroutine), position) if wrote else None
     return wait is not None and has(wait.stack, SERVE)
 
 
 def bound_says(functions: set[str], other: int) -> str:
-    """The bound up to which a Read's callers read: the length of a body, a number of bytes, or the end of the
+    """A sentence about how far a Read's callers read: to the length of a body, a number of bytes, or the end of the
     stream."""
     if functions.intersection(OF_A_BODY):
         return "It reads a body of net/http: perhaps fewer bytes came than the header says."

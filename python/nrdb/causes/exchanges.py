@@ -1,5 +1,6 @@
-"""Requests and answers on a connection, by the order of its Writes and Reads: a Read that waits for an answer without a
-request, a request that was read and not answered, and a Read that asks for more bytes than the other end wrote."""
+"""Requests and answers on a connection, by the order of its Writes and Reads. The module finds a Read that waits for an
+answer without a request, a request that was read and not answered, and a Read that asks for more bytes than the other
+end wrote."""
 
 from typing import Iterator, NamedTuple, Optional
 
@@ -19,12 +20,12 @@ from .words import place_of, told
 
 MOST_ASKED = 65_536  # the most bytes that a Read counts
 FEW_ASKED = 256  # bytes that a Read may ask for at once, as for a header
-FEWEST = 2  # how many earlier exchanges show a habit
+FEWEST = 2  # the fewest earlier exchanges that show a habit
 READ_FULL = "io.ReadAtLeast"
 
 
 class Exchange(NamedTuple):
-    """Writes of a goroutine at a socket, and the Reads after them that got bytes."""
+    """Writes of a goroutine to a socket, and the Reads after them that got bytes."""
 
     writes: list[Call]
     reads: list[Call]
@@ -52,8 +53,8 @@ def exchanges_of(index: Index, goroutine: int, socket: int, until: int) -> list[
 
 
 def is_client(index: Index, goroutine: int, socket: int) -> bool:
-    """Whether a goroutine is the only one that reads and writes at a socket, and the socket was dialed; if that isn't
-    known, whether it wrote before it got bytes."""
+    """Whether a goroutine is the only one that reads and writes on a socket, and the socket was dialed. If it isn't
+    known whether the socket was dialed: whether the goroutine wrote before it got bytes."""
     calls = index.by_socket.get(socket, [])
     moved = [call for call in calls if call.name in MOVING and call.moved]
     stack = index.recording.lines.of(calls[0].first) if calls else None
@@ -63,8 +64,8 @@ def is_client(index: Index, goroutine: int, socket: int) -> bool:
 
 
 def unasked(index: Index, call: Call) -> list[str]:
-    """Says, for a Read that waits, that its goroutine wrote no request before it, although it wrote one before each
-    earlier answer."""
+    """Sentences about a Read that waits for an answer without a request: its goroutine wrote a request before each
+    earlier answer, and none before this Read."""
     found = exchanges_of(index, call.goroutine, call.socket, call.first)
     *before, last = found or [Exchange([], [])]
     if not is_client(index, call.goroutine, call.socket):
@@ -75,7 +76,7 @@ def unasked(index: Index, call: Call) -> list[str]:
     if len(last.reads) < max(len(one.reads) for one in before):
         return []
     if index.recording.lines and index.recording.lines.of(call.first).own() not in firsts:
-        return []  # it is in the middle of an answer
+        return []  # the goroutine is in the middle of an answer
     wrote = last.writes[-1]
     return [
         f"Before each of its {len(found)} answers there goroutine {call.goroutine} wrote; since the last of them it has written nothing: its last "
@@ -84,8 +85,8 @@ def unasked(index: Index, call: Call) -> list[str]:
 
 
 def unanswered(index: Index, call: Call, other: int, position: int) -> list[str]:
-    """Says, for a Read that waits for an answer, that a goroutine which had answered earlier requests read this one,
-    and then read on or did something else without a Write."""
+    """Sentences about a Read whose request was read and not answered: the goroutine that read the request had answered
+    earlier ones, and then read again or did something else without a Write."""
     wrote = index.last_use(call.socket, call.first, ("Write",))
     if wrote is None or wrote.goroutine != call.goroutine or not wrote.moved:
         return []
@@ -117,7 +118,7 @@ def unanswered(index: Index, call: Call, other: int, position: int) -> list[str]
 
 
 def unended(index: Index, wrote: Call, read: Call, now: Call) -> list[str]:
-    """Says, for a first request that was read and not answered, that its reader still looks for the end of a line."""
+    """Sentences about a first request that was read and not answered: its reader still looks for the end of a line."""
     line = line_reader_of(index, now)
     if not line or line_reader_of(index, read) != line:
         return []
@@ -131,9 +132,9 @@ def unended(index: Index, wrote: Call, read: Call, now: Call) -> list[str]:
 
 
 def perhaps_why(index: Index, call: Call, now: Call) -> str:
-    """Why a goroutine that looks for the end of a line perhaps reads on. The reason is about the answer if the
+    """Why a goroutine that looks for the end of a line perhaps reads on. The reason concerns the answer if the
     goroutine's function writes through a buffer, or, if that isn't known, if requests of as many Writes were answered
-    before; else it is about the request."""
+    before. Otherwise the reason concerns the request."""
     line = line_reader_of(index, now)
     if not line:
         return ""
@@ -153,7 +154,8 @@ def perhaps_why(index: Index, call: Call, now: Call) -> str:
 
 
 def skips_an_answer(index: Index, now: Call) -> str:
-    """Says that a goroutine perhaps reads on without an answer on one of its paths; empty if the source has none."""
+    """Words for a path on which a goroutine perhaps reads on without an answer; empty if the source has no such
+    path."""
     calls = (one for one in index.by_socket[now.socket] if one.goroutine == now.goroutine and one.name == "Write")
     stacks = {index.recording.lines.of(one.first) for one in calls}
     ways = ways_without_an_answer(index.recording, index.recording.lines.of(now.first), stacks)
@@ -161,21 +163,21 @@ def skips_an_answer(index: Index, now: Call) -> str:
 
 
 def are_alike(index: Index, writes: list[Call], others: list[Call]) -> bool:
-    """Whether requests were written by the same lines."""
+    """Whether the same lines wrote two requests."""
     places = [[index.recording.lines.of(one.first).own() for one in some] for some in (writes, others)]
     return places[0] == places[1]
 
 
 def reader_of(index: Index, other: int, wrote: Call, position: int) -> Optional[Call]:
-    """The last Read at the other end that got bytes of a Write."""
+    """The last Read at the other end that got bytes from a Write."""
     reads = (one for one in back(index.by_socket.get(other, ()), position) if one.name == "Read")
     read = next((one for one in reads if one.moved and one.last and one.last > wrote.first), None)
     return read if read and read.goroutine != wrote.goroutine else None
 
 
 def lacking(index: Index, call: Call, other: int) -> list[str]:
-    """Says, for a Read in an io.ReadFull that waits, how many bytes it asked for and how many it has, and that the
-    other end wrote no more."""
+    """Sentences about a Read that waits in an io.ReadFull: how many bytes the Read asked for, how many bytes came, and
+    that the other end wrote no more."""
     recording = index.recording
     stack = recording.lines.of(call.first)
     if call.name != "Read" or not any(one.function == READ_FULL for one in stack.calls):
@@ -226,7 +228,7 @@ def lacking(index: Index, call: Call, other: int) -> list[str]:
 
 def begin_of_full(index: Index, asked: Asked, call: Call) -> Call:
     """The first Read of the io.ReadFull that a Read belongs to. If a Read's bytes are counted only in part, the next
-    Read shows how many it got, because it asks for the rest."""
+    Read shows how many bytes came, because it asks for the rest."""
     lines, most = index.recording.lines, index.recording.lines.bytes
     begin = asked.begin_of(call)
     while (before := asked.before(begin)) and lines.of(before.first) == lines.of(begin.first):

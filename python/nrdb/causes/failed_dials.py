@@ -1,4 +1,4 @@
-"""Connections that couldn't be opened: Go closed the socket when connecting failed."""
+"""Connections that couldn't be opened: Go closed the socket because connecting failed."""
 
 from typing import Iterator, NamedTuple, Optional
 
@@ -20,12 +20,12 @@ class UnconnectedSocket(NamedTuple):
     close: Call
 
     def words(self, recording: Recording) -> str:
-        """The text, without the goroutine: `Dial at a.go:3 in ask failed (step 9)`."""
+        """The text for the failed Dial, without the goroutine: `Dial at a.go:3 in ask failed (step 9)`."""
         return f"Dial{place_in(recording.lines.of(self.close.first))} failed (step {self.close.first})"
 
 
 def failed_dial(index: Index, goroutine: int) -> Optional[UnconnectedSocket]:
-    """The last Dial of a goroutine if it failed; None if a later one, at the same line, succeeded."""
+    """The last Dial of a goroutine, if that Dial failed. None if a later Dial succeeded."""
     lines, calls = index.recording.lines, index.by_goroutine.get(goroutine, ())
     failed = [
         one for one in calls
@@ -38,8 +38,8 @@ def failed_dial(index: Index, goroutine: int) -> Optional[UnconnectedSocket]:
 
 
 def refused(recording: Recording, goid: int) -> Optional[FailedDial]:
-    """The last connect of a goroutine that the system refused, or that was given up, if the steps show no later one
-    that succeeded."""
+    """The last connect of a goroutine that the system refused or that was given up. None if the steps show a later
+    connect that succeeded."""
     failed = recording.lines.failed_dials.get(goid, ())
     number = recording.lines.goroutines[goid].number if goid in recording.lines.goroutines else -1
     index = index_of(recording)
@@ -69,8 +69,8 @@ def refused_words(recording: Recording, failed: FailedDial) -> str:
 
 
 def ended_says(recording: Recording, failed: FailedDial) -> list[str]:
-    """Says, for a dial that failed, which goroutine had cancelled its context and where; or that a sync.Once made it,
-    which doesn't run again."""
+    """Sentences about a dial that failed: the goroutine that had cancelled its context, and the line; or that a
+    sync.Once made the dial and doesn't run again."""
     lines = recording.lines
     closes = [use for use in lines.uses.get(failed.context, ()) if use.what == CLOSED and use.begin <= failed.time]
     stack = lines.stacks[closes[0].stack] if failed.context and closes else None
@@ -94,8 +94,8 @@ def refused_dials(recording: Recording) -> Iterator[FailedDial]:
 
 
 def failed_dials(index: Index) -> Iterator[Cause]:
-    """The goroutines whose last Dial failed, each as a cause; with the listener that was closed before, if there was
-    only one."""
+    """The goroutines whose last Dial failed, each as a cause. If exactly one listener was closed before, the cause
+    names the listener."""
     recording = index.recording
     for goroutine in sorted(index.by_goroutine):
         dial = failed_dial(index, goroutine)

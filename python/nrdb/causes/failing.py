@@ -1,5 +1,5 @@
-"""The failed calls with their causes: the deadline of a timeout, the close of a descriptor, the close of the other end
-for an end of stream or a broken connection."""
+"""The failed calls with their causes: for a timeout, the deadline; for a closed descriptor, its Close; for an end of
+stream or a broken connection, the Close of the other end."""
 
 from typing import NamedTuple, Optional
 
@@ -63,8 +63,8 @@ def cause_of(index: Index, call: Call, deep: int = 0) -> Cause:
 
 
 def of_timeout(index: Index, call: Call, begins: str) -> Cause:
-    """The cause of a timeout: which goroutine set the deadline and when, what succeeded under it before, and what the
-    call waited for."""
+    """The cause of a timeout: which goroutine set the deadline and when, which calls succeeded under that deadline
+    before, and what the call waited for."""
     recording = index.recording
     step = recording.step(call.cause)
     side = "r" if call.name in READING else "w"
@@ -103,13 +103,15 @@ def of_timeout(index: Index, call: Call, begins: str) -> Cause:
 
 def is_of_a_server(stack: Stack) -> bool:
     """Whether a server of net/http itself set a deadline: the innermost function outside the connection's methods is
-    the server's. A handler may also set one, by its http.ResponseController, with the server below it in the stack."""
+    the server's. A handler may also set a deadline, through its http.ResponseController; the server is then below the
+    handler in the stack."""
     outside = (one.function for one in stack.calls if not one.function.startswith(OF_CONNECTIONS))
     return next(outside, "").startswith(OF_A_SERVER)
 
 
 def between(index: Index, call: Call) -> str:
-    """What a call's goroutine waited for last outside the poller, between the setting of a deadline and the call."""
+    """What a call's goroutine last waited for outside the poller, between the step that set the deadline and the
+    call."""
     waits = waits_of(index.recording).of.get(Name(call.goroutine), [])
     some = [wait for wait in waits if wait.last is not None and call.cause <= wait.first and wait.last <= call.first]
     if not some:
@@ -119,15 +121,16 @@ def between(index: Index, call: Call) -> str:
 
 
 def under(well: list[Call], late: list[Call], name: str) -> str:
-    """What happened under a deadline before it timed out a call; nothing if the deadline was this call's own."""
+    """The text about the calls that succeeded or timed out under a deadline before the deadline ended a call; only the
+    full stop if no call did."""
     did = [f"{counted(len(well), name)} went well under it"] if well else []
     did += [f"{counted(len(late), name)} had timed out by it before"] if late else []
     return f"; {' and '.join(did)}, and nobody has moved it since." if did else "."
 
 
 def of_close(index: Index, call: Call, begins: str, deep: int) -> Cause:
-    """The cause of a call that a close ended: which goroutine closed the descriptor or its write side, and whether the
-    call was in progress then."""
+    """The cause of a call that a Close ended: which goroutine closed the descriptor or its write side, and whether the
+    call was in progress at the time."""
     recording = index.recording
     by = index.at(call.cause)
     goroutine = recording.step(call.cause).argument("g")
@@ -149,8 +152,9 @@ def of_close(index: Index, call: Call, begins: str, deep: int) -> Cause:
 
 
 def context_says(index: Index, call: Call, by: Optional[Call]) -> list[str]:
-    """Says, for a descriptor that was closed because a request's context had ended or a channel was closed, which
-    goroutine did that or which limit had passed, and what the goroutine that served the request did."""
+    """Sentences about a descriptor that was closed because a request's context had ended or because a channel was
+    closed. They name the goroutine that cancelled or closed, or the timeout that had passed, and say what the goroutine
+    that served the request did."""
     request = next((one for one in cancelled_requests(index) if by and one.closed.first == by.first), None)
     cancel = None if request else cancel_before(index, call.cause)
     if request is None and cancel is None:
@@ -166,7 +170,7 @@ def context_says(index: Index, call: Call, by: Optional[Call]) -> list[str]:
 
 
 def served_says(index: Index, call: Call, step: int) -> list[str]:
-    """Sentences about what the goroutine that served the request on a call's connection did at a step. Empty if
+    """Sentences about what the goroutine that served the request on a call's connection did at a step; none if
     unknown."""
     server, served = server_of(index, call.socket, step), under_way(index, call, step)
     chain = chain_says(index, call, Need([served], server), step) if server else []
@@ -174,7 +178,8 @@ def served_says(index: Index, call: Call, step: int) -> list[str]:
 
 
 def of_the_other_end(index: Index, call: Call, begins: str, deep: int) -> Cause:
-    """The cause of a call whose other end was closed: which goroutine closed it, if the recording has it."""
+    """The cause of a call whose other end was closed: the goroutine that closed it, if that Close is in the
+    recording."""
     recording, other = index.recording, index.other_end(call.socket)
     looks = [f"goto {call.last}", f"calls sock {call.socket}"]
     by = None if other is None else index.closing(other, call.last, call.outcome is not Outcome.EOF)
@@ -199,8 +204,8 @@ def of_the_other_end(index: Index, call: Call, begins: str, deep: int) -> Cause:
 
 
 def part_says(index: Index, call: Call, last: Call) -> list[str]:
-    """Says, for a connection whose other end was closed before all bytes were read, that the last Read got less than it
-    asked for, if the program itself asked."""
+    """Sentences about a connection whose other end was closed before all bytes were read: the last Read got fewer bytes
+    than it asked for. None unless the program itself called Read."""
     recording, own = index.recording, index.recording.lines.of(last.first).own()
     functions = [one.function for one in recording.lines.of(last.first).calls]
     is_direct = own is not None and (CONN_READ, own[0].function) in zip(functions, functions[1:])
@@ -216,7 +221,7 @@ def part_says(index: Index, call: Call, last: Call) -> list[str]:
 
 
 def late_write(index: Index, call: Call, by: Call) -> Optional[Call]:
-    """The last Write of a call's goroutine at its socket, if it came after the other end was closed."""
+    """The last Write of a call's goroutine to its socket, if the Write came after the other end was closed."""
     wrote = index.last_use(call.socket, call.first, ("Write",))
     return (
         wrote
@@ -236,14 +241,14 @@ def is_late(index: Index, call: Call) -> bool:
 
 
 class Before(NamedTuple):
-    """Earlier failures: sentences, and the calls."""
+    """Earlier failures: the sentences about them, and the failed calls."""
 
     says: list[str]
     calls: list[Call]
 
 
 def why(index: Index, by: Optional[Call], deep: int) -> Before:
-    """The failure just before a close, with its own cause. The end of a file isn't a failure."""
+    """The failure just before a Close, with its own cause. The end of a file isn't a failure."""
     before = index.before(by) if by else None
     if before is None or deep >= DEEP or not (before.outcome.is_error or before.outcome is Outcome.EOF):
         return Before([], [])

@@ -1,5 +1,6 @@
-"""The first output for a program that failed: each of the program's failed calls with its cause, and what all hanging
-goroutines wait for; if there is neither, what may be wrong. The last line is the command to type next."""
+"""The first output for a program that failed. It shows each failed call of the program with its cause, and what all
+hanging goroutines wait for. If nothing failed and nothing hangs, it shows what may be wrong. The last line is the
+command to type next."""
 
 from collections import defaultdict
 from typing import Callable, Hashable, Union
@@ -35,7 +36,7 @@ CAUSE, INDENT, NEXT = "cause:  ", "        ", "next:   "
 
 
 def first_words(recording: Recording, name: str) -> list[str]:
-    """The lines, before `plain` has been applied; none if there is nothing to say."""
+    """The lines, before `plain` is applied to them; none if no cause is found."""
     failed = failures_of(recording)
     graph = graph_at(recording, recording.length)
     hangs = hangs_of(graph, bool(failed))
@@ -69,13 +70,13 @@ def first_words(recording: Recording, name: str) -> list[str]:
 
 
 def topics_of(graph: WaitGraph, failed: list[Cause], hangs: list[Hang]) -> list[Topic]:
-    """The causes in their order, each hang with the failed call that it explains or follows from."""
+    """The causes in their order. Each hang is joined to the failed call that it explains or follows from."""
     order = [Topic(None, one) if isinstance(one, Hang) else Topic(one) for one in in_order(graph, failed, hangs)]
     return joined(graph, order)
 
 
 def count_in(hangs: list[Hang], topics: list[Topic]) -> int:
-    """The number of these hangs that belong to topics."""
+    """The number of these hangs that belong to one of the topics."""
     return sum(any(topic.hang is hang for topic in topics) for hang in hangs)
 
 
@@ -98,8 +99,8 @@ def topic_lines(graph: WaitGraph, topic: Topic, shown: set[int]) -> list[str]:
 
 
 def in_order(graph: WaitGraph, failed: list[Cause], hangs: list[Hang]) -> list[Union[Cause, Hang]]:
-    """The causes in their order. Failures come first, except those unrelated to a hang of the main goroutine whose
-    reason is known: the program went on after them."""
+    """The causes in their order. Failures come first. If the main goroutine hangs for a known reason, failures
+    unrelated to its hang come last, because the program went on after them."""
     first = next(iter(hangs), None)
     if first is None or not is_of_main(graph, first):
         return [*failed, *hangs]
@@ -114,8 +115,8 @@ def is_of_main(graph: WaitGraph, hang: Hang) -> bool:
 
 
 def has_to_do_with(graph: WaitGraph, hang: Hang, call: Call) -> bool:
-    """Whether a failed call may be related to a hang: its goroutine hangs, or ended without what another needs, or its
-    connection is open and used by a goroutine that hangs."""
+    """Whether a failed call may be related to a hang: its goroutine hangs, or ended without doing what another
+    goroutine needs, or its connection is open and in use by a goroutine that hangs."""
     index, names = index_of(graph.recording), {waiter.name for waiter in waiters_of(hang)}
     needs = [graph.needs[name] for name in names]
     of_needs = {name for need in needs for name in (need.gone, *need.ended)}
@@ -128,8 +129,8 @@ def has_to_do_with(graph: WaitGraph, hang: Hang, call: Call) -> bool:
 
 
 def left_by(graph: WaitGraph, call: Call) -> list[str]:
-    """Says that the goroutine of a failed call ended after that call, which was its last, and which goroutine waits for
-    it."""
+    """Sentences about the goroutine of a failed call that ended after that call, which was its last: that it ended, and
+    which goroutine waits for it."""
     name, index = Name(call.goroutine), index_of(graph.recording)
     left = next((waiter for waiter in graph.waiters.values() if graph.needs[waiter.name].gone == name), None)
     ended = ended_behind(index, call, graph.position)
@@ -145,9 +146,10 @@ def left_by(graph: WaitGraph, call: Call) -> list[str]:
 
 
 def hangs_of(graph: WaitGraph, has_failures: bool) -> list[Hang]:
-    """The hangs of the first output. A hang that no goroutine waits for, such as a read or a select, may have nothing to
-    do: it is listed only if nothing else is, and, for a program that ended by itself, only if it is at a mutex that was
-    left locked. If the main goroutine hangs, only that hang is listed, because the program ends when it does."""
+    """The hangs of the first output. If no goroutine waits for a hang, such as a read or a select, its goroutine may
+    have nothing to do. Such a hang is listed only if nothing else is. If the program ended by itself, such a hang must
+    also be at a mutex that was left locked. If the main goroutine hangs, only that hang is listed, because the program
+    ends when the main goroutine does."""
     hangs = [hang for hang in graph.shown if not hang.is_quiet]
     if graph.has_ended:
         hangs = [hang for hang in hangs if not hang.root.is_of_go or hang.is_deadlock]
@@ -188,8 +190,8 @@ def failures_of(recording: Recording) -> list[Cause]:
 
 
 def telling_failures(recording: Recording) -> list[Cause]:
-    """The failed calls that are worth printing, with their causes. Failures of one stack by one step share a cause,
-    which is computed once, because a program may loop at a closed descriptor."""
+    """The failed calls that are worth printing, with their causes. Failures with the same stack, caused by the same
+    step, share a cause. It is computed once, because a program may loop on a closed descriptor."""
     index, alike = index_of(recording), dict[Hashable, list[Call]]()
     of_line: dict[Hashable, list[Call]] = defaultdict(list)
     stacks = recording.lines.steps
@@ -213,14 +215,15 @@ def telling_failures(recording: Recording) -> list[Cause]:
 
 
 def late_reads(index: Index) -> list[Call]:
-    """The Reads that met the end of a stream instead of an answer to what was written after the other end was
-    closed."""
+    """The Reads that met the end of a stream instead of an answer, after their goroutine wrote to an end that was
+    already closed."""
     return [call for call in index.book.calls if call.outcome is Outcome.EOF and call.last and is_late(index, call)]
 
 
 def opening_words(recording: Recording) -> list[str]:
-    """The opening text of a session: the first failed call, else the first hang, and the line to type next. A hang that
-    no goroutine waits for is only counted if it may have nothing to do or if the program ended by itself."""
+    """The opening text of a session: the first failed call, or else the first hang, and the line to type next. A hang
+    that no goroutine waits for is only counted if its goroutine may have nothing to do or if the program ended by
+    itself."""
     failed = failures_of(recording)
     graph = graph_at(recording, recording.length)
     hangs = hangs_of(graph, True)
@@ -235,13 +238,13 @@ def opening_words(recording: Recording) -> list[str]:
 
 
 def root_sentence(recording: Recording) -> str:
-    """The first sentence of the opening text; empty if nothing failed and no hang has others that wait for it."""
+    """The first sentence of the opening text; empty if nothing failed and no goroutine waits for one that hangs."""
     first = next(iter(opening_words(recording)), "")
     return first.removeprefix(CAUSE) if first.startswith(CAUSE) else ""
 
 
 def quiet_words(hangs: list[Hang]) -> list[str]:
-    """Says where goroutines wait that may have nothing to do; empty if none do."""
+    """A sentence with the places where goroutines wait that may have nothing to do; empty if no goroutine does."""
     count = sum(1 + len(hang.alike) for hang in hangs)
     places = [place.strip() for hang in hangs if (place := place_in(hang.root.stack))]
     at = f", {'; '.join(places[:MOST_HANGS])}{' ..' if places[MOST_HANGS:] else ''}" if places else ""
@@ -251,8 +254,8 @@ def quiet_words(hangs: list[Hang]) -> list[str]:
 
 
 def hang_lines(graph: WaitGraph, hang: Hang, shown: set[int]) -> list[str]:
-    """A hang's sentences; the source after the line at which a goroutine stopped that could have gone on, unless it was
-    shown before; and the goroutines that wait."""
+    """The lines for a hang: its sentences; the source after the line at which a goroutine stopped that could have gone
+    on, unless shown before; and the goroutines that wait."""
     stopped = 0 if hang.is_deadlock else hang.needs[0].stopped
     source = (
         text_after(graph.recording, stopped) if not any(alike(graph.recording, stopped, one) for one in shown) else []
@@ -273,15 +276,15 @@ def paragraph(says: list[str]) -> list[str]:
 
 
 def is_telling(recording: Recording, call: Call) -> bool:
-    """Whether a failed call is worth printing: it isn't by Go's own code alone, isn't a listener's end, and isn't at a
-    descriptor that was known to be closed."""
+    """Whether a failed call is worth printing: it isn't by Go's own code alone, it isn't the end of a listener, and its
+    descriptor wasn't known to be closed."""
     if is_of_go(recording, call) or call.name not in READING + WRITING:
         return False
     return not (call.outcome is Outcome.CLOSED and index_of(recording).is_listening(call))
 
 
 def once(recording: Recording, causes: list[Cause], counts: list[int]) -> list[Cause]:
-    """The causes, with causes of the same lines merged into one that gives their number."""
+    """The causes. Causes of the same lines are merged into one cause that gives their number."""
     kept: dict[object, Cause] = {}
     many: dict[object, int] = {}
     at: Callable[[int], object] = recording.lines.words

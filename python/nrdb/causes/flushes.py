@@ -1,5 +1,5 @@
-"""Paths around a Flush, from the program's source: a loop that reads a request, writes its answer into a buffer, and
-goes on or ends before the line that flushes."""
+"""Paths around a Flush, from the program's source: a loop reads a request, writes its answer into a buffer, and goes on
+or ends before the line that flushes."""
 
 import re
 from typing import Iterable, Optional
@@ -41,7 +41,7 @@ def ways_round_a_flush(recording: Recording, stack: Stack) -> str:
 
 def unflushed_line(lines: Lines, within: range, read: int, named: Named) -> int:
     """The line of a function, after its read, that writes into a buffer which nothing flushes before the next read,
-    though it calls functions that flush on other paths; 0 if there is none."""
+    although other paths call functions that flush; 0 if no such line exists."""
     later = range(read + 1, within.stop)
     habit = any(calls_one_of(code(lines, number), named.flushes) for number in later)
     for number in later if habit else ():
@@ -53,7 +53,7 @@ def unflushed_line(lines: Lines, within: range, read: int, named: Named) -> int:
 
 
 def flushes_after(lines: Lines, within: range, read: int, written: int, named: Named) -> bool:
-    """Whether a line on the path to the next read calls a function that flushes, not counting lines of other cases."""
+    """Whether a line on the path to the next read calls a function that flushes. Lines of other cases don't count."""
     margin, is_other = indent_of(lines[written - 1]), False
     for number in range(written + 1, within.stop):
         text = code(lines, number)
@@ -68,8 +68,8 @@ def flushes_after(lines: Lines, within: range, read: int, written: int, named: N
 
 
 def ways_without_an_answer(recording: Recording, stack: Stack, writes: Iterable[Stack]) -> str:
-    """The paths of the function in which a goroutine reads, up to its next read, that pass none of the lines by which
-    it has written: `main.go:58 goes on without main.go:60, which answers`; empty if there are none."""
+    """The paths of the function in which a goroutine reads, up to its next read, that pass none of the lines at which
+    the goroutine has written: `main.go:58 goes on without main.go:60, which answers`; empty if no such path exists."""
     own = stack.own()
     lines = source_of(recording, own[0].file) if own and own[0].of == OF_THE_PROGRAM else None
     within = range_of(lines, own[0]) if lines and own else None
@@ -86,7 +86,7 @@ def ways_without_an_answer(recording: Recording, stack: Stack, writes: Iterable[
 
 
 def writes_to(writer: str, function: str) -> Test:
-    """A test whether a statement writes into a buffer, directly or by an encoder over it."""
+    """A test whether a statement writes into a buffer, directly or through an encoder on top of the buffer."""
     name = re.escape(writer)
     made = re.findall(rf"\b(\w+) :?= \w+\.NewEncoder\({name}\)", function)
     encoders = "|".join([rf"NewEncoder\({name}\)", *made])

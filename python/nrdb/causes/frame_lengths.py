@@ -1,5 +1,5 @@
-"""Lengths in front of data: for a Read that asks for more bytes than came, the lines that wrote its length and read it,
-from the program's source."""
+"""Lengths in front of data. For a Read that asks for more bytes than came, the module finds the lines of the program's
+source that wrote the length and that read it."""
 
 import re
 from typing import NamedTuple, Optional
@@ -33,8 +33,8 @@ class Line(NamedTuple):
 
 
 def length_says(recording: Recording, wrote: Call, read: Call) -> list[str]:
-    """The lines that wrote the length that a Read asks for, and that read it; and whether it is the length of something
-    other than what was written."""
+    """Sentences about the lines that wrote and read the length that a Read asks for. If that length belongs to
+    something other than the bytes that were written, they say so."""
     written = length_line(recording, wrote)
     if written is None:
         return []
@@ -49,13 +49,14 @@ def length_says(recording: Recording, wrote: Call, read: Call) -> list[str]:
 
 
 def is_of_a_body(recording: Recording, read: Call) -> bool:
-    """Whether a Read is made after a line of its function that reads a length."""
+    """Whether a Read comes after a line of its function that reads a length."""
     own, parsed = recording.lines.of(read.first).own(), line_of(recording, read, PARSED)
     return own is not None and parsed is not None and parsed.file == own[0].file and parsed.number < own[0].line
 
 
 def length_line(recording: Recording, wrote: Call) -> Optional[Line]:
-    """The line of a Write's function that writes a length: of a value, or of a variable that has it."""
+    """The line of a Write's function that writes a length: the length of a value, or a variable that contains the
+    length."""
     if found := line_of(recording, wrote, LENGTH):
         return found
     own = recording.lines.of(wrote.first).own()
@@ -68,7 +69,8 @@ def length_line(recording: Recording, wrote: Call) -> Optional[Line]:
 
 
 def line_of(recording: Recording, call: Call, pattern: "re.Pattern[str]") -> Optional[Line]:
-    """The last line with a pattern, up to the line of a call, in the innermost function of the program that has one."""
+    """The last line that matches a pattern, up to the line of a call, in the innermost function of the program that has
+    such a line."""
     for one in recording.lines.of(call.first).calls:
         lines = source_of(recording, one.file) if one.of == OF_THE_PROGRAM else None
         within = range_of(lines, one) if lines else None
@@ -81,7 +83,7 @@ def line_of(recording: Recording, call: Call, pattern: "re.Pattern[str]") -> Opt
 
 
 def bodies_of(recording: Recording, wrote: Call) -> set[str]:
-    """The variables that the function of a Write writes or assembles, without those named like a header."""
+    """The variables that the function of a Write writes or assembles. Those named like a header are left out."""
     own = recording.lines.of(wrote.first).own()
     lines = source_of(recording, own[0].file) if own and own[0].of == OF_THE_PROGRAM else None
     within = range_of(lines, own[0]) if lines and own else None

@@ -1,5 +1,5 @@
-"""Waits at a channel that were given up, as at a pool whose slots are all taken: the channel was full, or empty, and
-stays so to the end."""
+"""Waits on a channel that were given up, as at a pool whose slots are all taken. The channel was full, or empty, and
+stays so until the end of the recording."""
 
 from operator import attrgetter
 from typing import Iterator
@@ -20,7 +20,7 @@ A_WHILE = 20_000_000  # nanoseconds, the shortest wait that counts
 
 
 def given_up_waits(index: Index) -> Iterator[Cause]:
-    """The first such wait at each channel with room: a select that went on by another case."""
+    """The first given-up wait on each buffered channel: the select went on by another case."""
     recording, seen = index.recording, set[int]()
     every = [wait for some in waits_of(recording).of.values() for wait in some]
     for wait in sorted(every, key=attrgetter("first", "begin")):
@@ -35,7 +35,7 @@ def given_up_waits(index: Index) -> Iterator[Cause]:
 
 
 def is_given_up(recording: Recording, wait: Waiting) -> bool:
-    """Whether a goroutine of the program waited in a select for a while, and went on."""
+    """Whether a goroutine of the program waited for a while in a select and then went on."""
     own, last = wait.stack.own(), wait.last
     ended = next(
         (
@@ -51,7 +51,8 @@ def is_given_up(recording: Recording, wait: Waiting) -> bool:
 
 
 def is_stuck(recording: Recording, at: At) -> bool:
-    """Whether a channel with room is full at the end (for a wait for room) or empty (for a wait for a value)."""
+    """Whether a buffered channel is full at the end of the recording (for a wait for room) or empty (for a wait for a
+    value)."""
     known, uses = recording.lines.objects.get(at.object), recording.lines.uses.get(at.object, ())
     put, took = (sum(use.often for use in uses if use.what == what) for what in (PUT, TOOK))
     if known is None or known.room <= 0 or not put or not recording.lines.made:
@@ -62,7 +63,7 @@ def is_stuck(recording: Recording, at: At) -> bool:
 
 
 def says(recording: Recording, wait: Waiting, at: At) -> list[str]:
-    """The sentences."""
+    """The sentences about a given-up wait."""
     room = recording.lines.objects[at.object].room
     what = (
         f"for room in a channel that has {counted(room, 'value')}, as many as it has room for"

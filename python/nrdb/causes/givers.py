@@ -1,5 +1,5 @@
-"""Which goroutines have done at a channel what a goroutine waits for there, as text; and whether a goroutine is still
-in a function."""
+"""Text about the goroutines that have done what a goroutine waits for on a channel, and tests whether a goroutine is
+still in a function."""
 
 from ..all_goroutines import CLOSED, FOR_ROOM, FOR_VALUE, TOOK
 from ..recording import Recording
@@ -12,7 +12,7 @@ MOST_GIVEN = 50  # the most uses to examine
 
 
 def untouched(recording: Recording, wait: Waiting) -> list[str]:
-    """Says that no goroutine has yet done the awaited operation at a channel."""
+    """A sentence which says that no goroutine has yet done the awaited operation on a channel."""
     uses = recording.lines.uses.get(wait.objects[0].object, ()) if len(wait.objects) == 1 else ()
     if wait.objects[0].use != FOR_ROOM or any(use.what == TOOK for use in uses):
         return []
@@ -20,8 +20,8 @@ def untouched(recording: Recording, wait: Waiting) -> list[str]:
 
 
 def have_ended(recording: Recording, wait: Waiting) -> list[str]:
-    """Says that only goroutines that have ended did the awaited operation at a channel, and that no goroutine
-    closed it."""
+    """A sentence which says that only goroutines that have ended did the awaited operation on a channel, and that no
+    goroutine closed the channel."""
     at, lines = wait.objects[0], recording.lines
     uses, what = lines.uses.get(at.object, ()), GIVES.get(at.use, "")
     goids = {use.goid for use in uses if use.what == what}
@@ -38,7 +38,7 @@ def have_ended(recording: Recording, wait: Waiting) -> list[str]:
 
 
 def only_itself(recording: Recording, wait: Waiting) -> str:
-    """Says that, so far, only the waiting goroutine itself has done what it waits for."""
+    """Words which say that, so far, only the waiting goroutine itself has done what it waits for."""
     at, lines = wait.objects[0], recording.lines
     uses = [use for use in lines.uses.get(at.object, ())[:MOST_GIVEN] if use.what == GIVES.get(at.use, "")]
     if not uses or any(name_of_goid(lines, use.goid) != wait.name for use in uses):

@@ -1,5 +1,5 @@
-"""Goroutines that were the only readers of a connection and have ended, while the connection is still open and bytes
-came afterwards."""
+"""Goroutines that were the only readers of a connection and have ended, although the connection is still open and more
+bytes came."""
 
 from typing import Iterator, NamedTuple, Optional
 
@@ -11,15 +11,15 @@ from .words import came_of, is_of_go, told
 
 
 class GoneReader(NamedTuple):
-    """The last Read at a socket, the step after which its goroutine ended, and the first Write at the other end since,
-    if there was one."""
+    """The last Read on a socket, the step after which its goroutine ended, and the first Write at the other end after
+    that step, if any."""
 
     read: Call
     ended: int
     wrote: Optional[Call]
 
     def says(self, index: Index) -> list[str]:
-        """The sentences."""
+        """The sentences about the reader."""
         recording, read = index.recording, self.read
         says = [
             f"nobody reads on socket {read.socket} any more: goroutine {read.goroutine}, which alone had read there, ended after step {self.ended}.",
@@ -32,7 +32,7 @@ class GoneReader(NamedTuple):
 
 
 def gone_readers(index: Index, position: int) -> Iterator[GoneReader]:
-    """The ended readers at a position, except at connections that were closed at this end."""
+    """The readers that have ended at a position, except those of connections that were closed at this end."""
     for socket in sorted(index.recording.lines.peers):
         gone = gone_reader(index, socket, position)
         if gone is not None:
@@ -40,7 +40,8 @@ def gone_readers(index: Index, position: int) -> Iterator[GoneReader]:
 
 
 def gone_reader(index: Index, socket: int, position: int) -> Optional[GoneReader]:
-    """The ended reader of a socket at a position; None if it has none, or if the socket was closed at this end."""
+    """The reader of a socket that has ended at a position. None if the socket has no such reader or was closed at this
+    end."""
     other = index.recording.lines.peers.get(socket)
     if other is None:
         return None
@@ -56,15 +57,16 @@ def gone_reader(index: Index, socket: int, position: int) -> Optional[GoneReader
 
 
 def ended_behind(index: Index, call: Call, position: int) -> Optional[int]:
-    """The step after which the goroutine of a call had ended at a position; None if it hadn't, or if unknown."""
+    """The step after which the goroutine of a call had ended at a position; None if the goroutine hadn't ended or if
+    the step is unknown."""
     lines = index.recording.lines
     known = lines.goroutines.get(lines.goid_of(call.goroutine, call.first))
     return known.last if known is not None and 0 <= known.last <= position else None
 
 
 def without_reader(index: Index) -> Iterator[Cause]:
-    """Possible causes at the end: ended readers after which bytes came, and whose last Read didn't fail or meet the end
-    of the stream."""
+    """Possible causes at the end of the recording: readers that ended before more bytes came, and whose last Read
+    neither failed nor met the end of the stream."""
     for one in gone_readers(index, index.recording.length):
         if not one.wrote or not one.read.moved or one.read.outcome is not Outcome.DONE:
             continue
@@ -73,8 +75,8 @@ def without_reader(index: Index) -> Iterator[Cause]:
 
 
 def ended_reader(index: Index, call: Call, other: int, position: int) -> list[str]:
-    """Says, for a Read that waits for an answer, that the only goroutine that had read at the other end has ended, and
-    by which lines it left its loop."""
+    """Sentences about a Read that waits for an answer: the only goroutine that had read at the other end has ended, and
+    left its loop by these lines."""
     gone = gone_reader(index, other, position)
     wrote = index.last_use(call.socket, position, ("Write",))
     if gone is None or gone.read.outcome is not Outcome.DONE or wrote is None or wrote.goroutine != call.goroutine:

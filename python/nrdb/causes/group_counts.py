@@ -1,5 +1,5 @@
-"""What goroutines added to a WaitGroup, and which of them called Done: the number of missing calls, and the goroutines
-that ended without one."""
+"""What goroutines added to a WaitGroup, and which goroutines called Done. The module finds the number of missing calls,
+and the goroutines that ended without a call."""
 
 from collections import Counter
 from typing import NamedTuple, Optional
@@ -15,7 +15,7 @@ MOST_PLACES, MOST_KINDS = 2, 2
 
 
 class Count(NamedTuple):
-    """What was added to a WaitGroup, and what was subtracted."""
+    """The sum of what goroutines added to a WaitGroup, and of what they subtracted."""
 
     added: list[Use]
     done: list[Use]
@@ -48,7 +48,7 @@ def count_of(recording: Recording, number: int) -> Optional[Count]:
 
 
 def count_says(recording: Recording, count: Count) -> str:
-    """Says how many calls of Done are missing."""
+    """A sentence with the number of calls of Done that are missing."""
     missing = f"{count.missing} calls of Done are" if count.missing > 1 else "1 call of Done is"
     done = f"{total(count.done)} done{places_of(recording, count.done)}" if count.done else "none done"
     were = "were" if total(count.added) > 1 else "was"
@@ -56,7 +56,7 @@ def count_says(recording: Recording, count: Count) -> str:
 
 
 def places_of(recording: Recording, uses: list[Use]) -> str:
-    """The lines at which most goroutines added or called Done."""
+    """The lines at which most goroutines called Add or Done."""
     often = Counter[str]()
     for use in uses:
         if place := place_in(recording.lines.stacks[use.stack]).partition(", called")[0]:
@@ -66,15 +66,15 @@ def places_of(recording: Recording, uses: list[Use]) -> str:
 
 
 def started_by(recording: Recording, count: Count) -> set[int]:
-    """The goroutines that the ones which called Add started after the first Add."""
+    """The goroutines that were started, after the first Add, by the goroutines that called Add."""
     adders, begin = {use.goid for use in count.added}, min(use.begin for use in count.added)
     goroutines = recording.lines.goroutines
     return {goid for goid, known in goroutines.items() if known.maker in adders and known.begin >= begin}
 
 
 def kinds_at(recording: Recording, count: Count) -> list[Kind]:
-    """The `go` statements whose goroutines should call Done: those with a goroutine that did, or, if there are none,
-    the one after the line that added."""
+    """The `go` statements whose goroutines should call Done: those with a goroutine that did. If no goroutine did, the
+    `go` statement after the line that called Add."""
     found, goroutines = dict[Call, Kind](), recording.lines.goroutines
     for goid in sorted(started_by(recording, count)):
         made = goroutines[goid].made
@@ -87,15 +87,15 @@ def kinds_at(recording: Recording, count: Count) -> list[Kind]:
 
 
 def next_behind(recording: Recording, count: Count, kinds: list[Kind]) -> list[Kind]:
-    """The next go statement after the line that added, in the same function."""
+    """The next `go` statement after the line that called Add, in the same function."""
     own = recording.lines.stacks[count.added[0].stack].own()
     near = [kind for kind in kinds if own and kind.made.function == own[0].function and kind.made.line >= own[0].line]
     return sorted(near, key=lambda kind: kind.made.line)[:1]
 
 
 def ended_says(recording: Recording, count: Count) -> list[str]:
-    """Says which goroutines that should call Done ended without it, and by which lines they differ from the others;
-    else that all have called it."""
+    """Sentences about the goroutines that should call Done and ended without it, and the lines by which they differ
+    from the others. If all have called Done, a sentence that says so."""
     kinds = kinds_at(recording, count)
     says = [kind_says(recording, count, kind) for kind in kinds if kind.ended][:MOST_KINDS]
     if says or not kinds or not count.is_once or any(kind.alive for kind in kinds):
@@ -114,7 +114,7 @@ def ended_names(recording: Recording, count: Count) -> tuple[Name, ...]:
 
 
 def kind_says(recording: Recording, count: Count, kind: Kind) -> str:
-    """Says that goroutines of a go statement ended without Done."""
+    """A sentence which says that goroutines of a `go` statement ended without calling Done."""
     lines, every = recording.lines, [*kind.did, *kind.ended, *kind.alive]
     names = of_names(name_of_goid(lines, goid) for goid in kind.ended)
     if len(every) == 1:

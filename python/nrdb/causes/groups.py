@@ -1,5 +1,6 @@
-"""The need of a goroutine that waits for a WaitGroup: the goroutines that may still call Done, from the source or from
-the function that started them; and which of the ended ones differs from the others."""
+"""The need of a goroutine that waits on a WaitGroup: the goroutines that may still call Done, found from the source or
+from the function that started them. If goroutines ended without Done, the module finds how they differ from the
+others."""
 
 import re
 from typing import Callable, Container, NamedTuple, Optional
@@ -25,7 +26,7 @@ STARTED_BY_GROUP = "sync.(*WaitGroup).Go"
 
 
 class Member(NamedTuple):
-    """A goroutine that may call Done, with the line at which it does (if known), or else with the goroutine that
+    """A goroutine that may call Done, with the line of the call. If the line isn't known: with the goroutine that
     started it."""
 
     name: Name
@@ -39,7 +40,7 @@ def outermost(function: str) -> str:
 
 
 class Groups:
-    """The goroutines that the waiters of WaitGroups wait for. `stacks` has the stacks of all goroutines that wait or
+    """The goroutines on which the waiters of WaitGroups wait. `stacks` has the stacks of all goroutines that wait or
     sleep."""
 
     def __init__(self, index: Index, waits: Waits, stacks: list[tuple[Name, Stack]], position: int) -> None:
@@ -47,10 +48,10 @@ class Groups:
         self._stacks, self._position = stacks, position
         self._members: dict[
             tuple[Call, ...], list[Member]
-        ] = {}  # the members, by the program's calls in which a goroutine waits
+        ] = {}  # the members, keyed by the program's calls in which a goroutine waits
 
     def of(self, waiter: Waiter, waiters: Container[Name], does: Callable[[Name], str]) -> Optional[Need]:
-        """The need of a goroutine that waits for a WaitGroup; None if there is none."""
+        """The need of a goroutine that waits on a WaitGroup; None if no goroutine may call Done."""
         calls = tuple(call for call in waiter.stack.calls if call.of == OF_THE_PROGRAM)
         if calls not in self._members:
             self._members[calls] = [*self._by_source(waiter), *self._started(waiter)]
@@ -81,8 +82,8 @@ class Groups:
         return Need(says) if says else None
 
     def _passed_by(self, count: Count, does: Callable[[Name], str]) -> list[str]:
-        """Says that a goroutine called Add in a function that itself calls Done later, not deferred, and has left that
-        function without calling Done."""
+        """Sentences about a goroutine that called Add and has left that function without calling Done, although a later
+        line of the function calls Done without `defer`."""
         lines = self._recording.lines
         if not count.done_by <= {use.goid for use in count.added}:
             return []
@@ -117,13 +118,14 @@ class Groups:
         return count_of(self._recording, at[0].object) if at else None
 
     def _without_done(self, count: Optional[Count]) -> list[str]:
-        """The number of missing calls of Done, and the goroutines that ended without one; empty if none is known."""
+        """Sentences about the number of missing calls of Done and the goroutines that ended without one; none if no
+        such goroutine is known."""
         ended = ended_says(self._recording, count) if count else []
         return [count_says(self._recording, count), *ended] if count and ended else []
 
     def _in_order(self, members: list[Member], count: Optional[Count]) -> list[Member]:
-        """The goroutines that may call Done, starting with those that haven't yet. If the goroutines that called Add
-        started some of them afterwards, the others are left out."""
+        """The goroutines that may call Done, starting with those that haven't called it yet. If goroutines that called
+        Add started some of these afterwards, only those."""
         if count is None:
             return members
         started = started_by(self._recording, count)
@@ -140,8 +142,8 @@ class Groups:
         return count.is_once and self._goid(member) in count.done_by
 
     def _by_source(self, waiter: Waiter) -> list[Member]:
-        """The goroutines that are in a function whose source calls Done of a WaitGroup of that name later: deferred, or
-        at a later line."""
+        """The goroutines that are in a function whose source calls Done on a WaitGroup of that name: in a `defer`
+        statement, or at a later line."""
         own = waiter.stack.own()
         name = WAIT.search(text_at(self._recording, own[0])) if own else None
         if not own or not name:
@@ -162,7 +164,8 @@ class Groups:
 
     def _started(self, waiter: Waiter) -> list[Member]:
         """Goroutines that wait or sleep and were started by a function that the waiter is in, or by the function around
-        that literal; then those that another literal of that function started; then those that a WaitGroup started."""
+        that literal. If no such goroutine exists: those that another literal of that function, or a WaitGroup,
+        started."""
         inside = {call.function for call in waiter.stack.calls if call.of == OF_THE_PROGRAM}
         outer = set(map(outermost, inside))
         made = [(name, stack.made) for name, stack in self._stacks if stack.made]
@@ -171,7 +174,8 @@ class Groups:
         return [Member(name, at) for name, at in near or others]
 
     def _how(self, waiter: Waiter, member: Member) -> str:
-        """Says at which line a goroutine calls Done; else that the waiter started it, if known, or which line did."""
+        """Words for the line at which a goroutine calls Done. Without such a line, they say that the waiter started the
+        goroutine, if known, or name the line that started it."""
         if member.number:
             return f"which calls Done at {member.line.file}:{member.number}{self._when(member)}"
         lines = self._recording.lines
@@ -186,8 +190,8 @@ class Groups:
         return " as it ends" if is_last or any(one[1] for one in done) else ""
 
     def _of_ended(self, waiter: Waiter) -> list[str]:
-        """Says, if all goroutines that the waiter's functions started have ended, which of them differed from the
-        others."""
+        """Sentences about the goroutines that the waiter's functions started, if all of them have ended: that they
+        ended, and which of them differed from the others."""
         inside = {call.function for call in waiter.stack.calls if call.of == OF_THE_PROGRAM}
         started: dict[Call, list[int]] = {}
         lines = self._recording.lines
@@ -213,7 +217,7 @@ class Groups:
         return [*says, f"Perhaps {names} ended without Done{differs}{''.join(f'; {one}' for one in dials)}."]
 
     def _failed_dial(self, goid: int) -> str:
-        """Says that a goroutine's Dial failed; empty if none did."""
+        """Words which say that a goroutine's Dial failed; empty if none failed."""
         if failed := refused(self._recording, goid):
             return f"its {refused_words(self._recording, failed)}"
         dial = failed_dial(self._index, self._recording.lines.goroutines[goid].number)

@@ -1,5 +1,5 @@
-"""Requests that a goroutine put into a channel from which another took them, such as the one that writes all requests
-of a connection."""
+"""Requests that a goroutine put into a channel and another goroutine took, such as the goroutine that writes all
+requests of a connection."""
 
 from collections import defaultdict
 from functools import lru_cache
@@ -16,7 +16,8 @@ from .ledger import END
 
 
 def put_before(recording: Recording, wait: Waiting) -> Optional[Use]:
-    """The last value that a goroutine put into another channel before it waits, from a function that it is still in."""
+    """The last value that a goroutine put into another channel before it waited, in a function that the goroutine is
+    still in."""
     at, inside = {one.object for one in wait.objects}, functions_of(wait.stack)
     found = (
         use for use in puts_of(recording).get(goid_of(recording, wait.name), ())
@@ -27,7 +28,7 @@ def put_before(recording: Recording, wait: Waiting) -> Optional[Use]:
 
 @lru_cache(maxsize=2)
 def puts_of(recording: Recording) -> dict[int, list[Use]]:
-    """The values that each goroutine put into channels, by Go's own numbers."""
+    """The values that each goroutine put into channels, keyed by Go's own numbers."""
     found: dict[int, list[Use]] = defaultdict(list)
     for uses in recording.lines.uses.values():
         for use in uses:
@@ -37,7 +38,7 @@ def puts_of(recording: Recording) -> dict[int, list[Use]]:
 
 
 def asked_at(index: Index, wait: Waiting) -> set[int]:
-    """The sockets at which a goroutine wrote, or at which the goroutines wrote to which it passed a request by a
+    """The sockets on which a goroutine wrote, and those on which a goroutine wrote to which it passed a request by a
     channel."""
     lines, put = index.recording.lines, put_before(index.recording, wait)
     takers = {use.goid for use in lines.uses.get(put.object, ()) if use.what == TOOK} if put else set()

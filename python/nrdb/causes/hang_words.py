@@ -1,4 +1,4 @@
-"""The text of hangs, the same in every output: a first sentence that says what all goroutines wait for, the reasons,
+"""The text for hangs, the same in every output: a first sentence that says what all goroutines wait for, the reasons,
 and a tree of the goroutines that wait."""
 
 from collections import defaultdict
@@ -40,7 +40,8 @@ INDENT = "  "
 
 
 def hang_says(graph: WaitGraph, hang: Hang) -> list[str]:
-    """The sentences of a hang, without its tree: the first sums it up, the others say why it doesn't end."""
+    """The sentences about a hang, without its tree: the first one sums up the hang, the others say why it doesn't
+    end."""
     recording = graph.recording
     if hang.is_deadlock:
         members = zip(members_words(recording, hang), hang.needs, ahead_says(graph, hang))
@@ -79,14 +80,15 @@ def of_waiters(graph: WaitGraph, hang: Hang) -> list[str]:
 
 
 def ahead_says(graph: WaitGraph, hang: Hang) -> list[list[str]]:
-    """For each root, the deadline that its call still has."""
+    """For each root, sentences about the deadline that its call still has."""
     index = index_of(graph.recording)
     found = (deadline_ahead(index, root.call, graph.position) if root.call else None for root in hang.roots)
     return [[setting_says(index, one)] if one else [] for one in found]
 
 
 def beside_words(graph: WaitGraph, hang: Hang) -> list[str]:
-    """Sentences about the other roots that wait for the same ended goroutine, one for each group that waits alike."""
+    """Sentences about the other roots that wait for the same ended goroutine, one sentence for each group of roots that
+    wait alike."""
     alike: dict[object, list[Waiter]] = defaultdict(list)
     for waiter in hang.beside:
         alike[kind_of(graph.recording, waiter)].append(waiter)
@@ -99,8 +101,8 @@ def beside_words(graph: WaitGraph, hang: Hang) -> list[str]:
 
 
 def unread_words(graph: WaitGraph, hang: Hang) -> list[str]:
-    """Sentences about bytes that a goroutine of a hang wrote and no goroutine reads; none if its root waits for room,
-    because the root's sentence says so already."""
+    """Sentences about bytes that a goroutine of a hang wrote and no goroutine reads. None if the hang's root waits for
+    room, because the root's sentence already names those bytes."""
     call, index, names = hang.root.call, index_of(graph.recording), {waiter.name for waiter in waiters_of(hang)}
     if any(root.call and root.call.name == "Write" for root in hang.roots) or (call and call.is_asking):
         return []
@@ -110,13 +112,13 @@ def unread_words(graph: WaitGraph, hang: Hang) -> list[str]:
 
 
 def wants_value(waiter: Waiter) -> bool:
-    """Whether a goroutine waits for a value from a channel, alone or in a select."""
+    """Whether a goroutine waits for a value from a channel, in a receive or in a select."""
     return waiter.wait is not None and any(at.use == FOR_VALUE for at in waiter.wait.objects)
 
 
 def reader_words(index: Index, names: set[Name], position: int) -> list[str]:
-    """Says that the only reader of a socket has ended, if the last Write to the socket is by one of these goroutines,
-    which wait for values."""
+    """Sentences about a socket whose only reader has ended, if one of these goroutines wrote to the socket last. These
+    goroutines wait for values."""
     for gone in gone_readers(index, position):
         wrote = index.last_use(gone.read.socket, position, ("Write",))
         if wrote and Name(wrote.goroutine) in names:
@@ -154,7 +156,7 @@ def waiting_words(graph: WaitGraph, hang: Hang) -> str:
 
 
 def root_words(recording: Recording, hang: Hang) -> str:
-    """The text of roots that are alike."""
+    """The text for roots that are alike."""
     if hang.root.call:
         return f"{len(hang.alike) + 1} calls wait: {call_words(recording, hang)}"
     names = of_names(waiter.name for waiter in (hang.root, *hang.alike))
@@ -162,7 +164,7 @@ def root_words(recording: Recording, hang: Hang) -> str:
 
 
 def call_words(recording: Recording, hang: Hang) -> str:
-    """The calls of roots that are alike, with goroutines and sockets."""
+    """The text for the calls of roots that are alike, with their goroutines and sockets."""
     root, every = hang.root, [hang.root, *hang.alike]
     names = of_names(waiter.name for waiter in every)
     what = name_of(recording, root.call) if root.call else ""
@@ -170,7 +172,7 @@ def call_words(recording: Recording, hang: Hang) -> str:
 
 
 def since(waiters: Sequence[Waiter]) -> str:
-    """The steps since which they wait: `since step 9`, `since steps 9 to 17`."""
+    """The steps since which these goroutines wait: `since step 9`, `since steps 9 to 17`."""
     steps = sorted({waiter.since for waiter in waiters})
     return f"since steps {steps[0]} to {steps[-1]}" if len(steps) > 1 else f"since step {steps[0]}"
 
@@ -181,7 +183,8 @@ def waits(waiter: Waiter) -> str:
 
 
 def deadlock_words(graph: WaitGraph, hang: Hang) -> str:
-    """Says that goroutines wait for one another, and until when if one of the calls has a deadline."""
+    """A sentence which says that goroutines wait for one another, and, if one of the calls has a deadline, until
+    when."""
     many = NUMBERS.get(len(hang.roots), str(len(hang.roots)))
     what = "calls" if all(root.call for root in hang.roots) else "goroutines"
     is_perhaps = hang.certainty == Certainty.PERHAPS
@@ -215,7 +218,7 @@ def members_words(recording: Recording, hang: Hang) -> list[str]:
 
 
 def for_what(recording: Recording, waiter: Waiter) -> str:
-    """What a call that waits for another needs: bytes, room or a lock."""
+    """What a call that waits for another call needs: bytes, room or a lock."""
     call = waiter.call
     if call is None:
         return ""
@@ -228,15 +231,16 @@ def for_what(recording: Recording, waiter: Waiter) -> str:
 
 
 def waiter_words(recording: Recording, waiter: Waiter) -> str:
-    """The sentence of a waiter, without its end: `Read at a.go:3 in ask (goroutine 0) waits on socket 2 since step
-    9`."""
+    """The sentence about a waiter, without the sentence's end: `Read at a.go:3 in ask (goroutine 0) waits on socket 2
+    since step 9`."""
     if waiter.call:
         return f"{told(recording, waiter.call)} waits on socket {waiter.call.socket} since step {waiter.since}"
     return f"{capital(str(waiter.name))} {waits(waiter)} since step {waiter.since}"
 
 
 def tree_lines(graph: WaitGraph, hang: Hang) -> list[str]:
-    """The goroutines that wait for a root, one line for those that wait alike, up to the greatest number of lines."""
+    """The goroutines that wait for a root, up to the greatest number of lines. Goroutines that wait alike share a
+    line."""
     lines = [line for branch in hang.branches for line in branch_lines(graph.recording, branch, 1)]
     left = len(lines) - MOST_LINES
     return [*lines[:MOST_LINES], *([f"{INDENT}and {counted(left, 'line')} more"] if left > 0 else [])]
@@ -249,7 +253,7 @@ def branch_lines(recording: Recording, branch: Branch, depth: int) -> list[str]:
 
 
 def branch_words(recording: Recording, branch: Branch) -> str:
-    """The goroutines of a branch, what they wait for, and for which goroutines."""
+    """The text for a branch: its goroutines, what they wait for, and the goroutines that they wait for."""
     first = branch.waiters[0]
     names = of_names(waiter.name for waiter in branch.waiters)
     if first.call:
@@ -282,7 +286,7 @@ def of_sockets(waiters: list[Waiter]) -> str:
 
 
 def hang_looks(hang: Hang) -> list[str]:
-    """The line to type next: the root's goroutine, and the step at which it began to wait."""
+    """The line to type next, which shows the root's goroutine and the step at which it began to wait."""
     root = hang.root
     goes = [f"goto {max(waiter.since for waiter in hang.roots)}"]
     return [*goes, f"calls sock {root.call.socket}" if root.call and not hang.is_deadlock else "info goroutines"]

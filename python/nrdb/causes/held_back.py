@@ -1,5 +1,5 @@
 """Answers that a handler of net/http wrote and its server holds back until the handler returns or calls Flush, while a
-goroutine waits for them. Derived from the program's source."""
+goroutine waits for such an answer. Derived from the program's source."""
 
 import re
 from typing import Iterator, Optional
@@ -23,8 +23,8 @@ PROXY = "net/http/httputil.(*ReverseProxy).copyResponse"
 
 
 def held_back(index: Index, socket: int, position: int) -> list[str]:
-    """Says, for a goroutine that waits for an answer on a socket, that the handler perhaps wrote one and didn't flush
-    it."""
+    """Sentences about a goroutine that waits for an answer on a socket: the handler perhaps wrote an answer and didn't
+    flush it."""
     other, server = index.other_end(socket), server_of(index, socket, position)
     stack = stack_of(index, server, position) if server else None
     if other is None or server is None or stack is None or not has(stack, SERVE):
@@ -56,7 +56,7 @@ def stack_of(index: Index, name: Name, position: int) -> Optional[Stack]:
 
 
 def has_written(index: Index, server: Name, socket: int, position: int) -> bool:
-    """Whether a goroutine has written at a socket since it last read there."""
+    """Whether a goroutine has written to a socket since it last read from that socket."""
     moved = (
         one for one in back(index.by_goroutine.get(server.number, ()), position) if one.socket == socket and one.moved
     )
@@ -65,7 +65,8 @@ def has_written(index: Index, server: Name, socket: int, position: int) -> bool:
 
 
 def came_since(index: Index, server: Name, socket: int, position: int) -> list[str]:
-    """Says that a goroutine got bytes elsewhere since it last read at a socket, and wrote none there."""
+    """Sentences about a goroutine that has got bytes elsewhere since it last read from a socket, and has written
+    nothing to that socket."""
     calls = [one for one in index.by_goroutine.get(server.number, []) if one.first <= position]
     asked = next((one for one in reversed(calls) if one.socket == socket and one.name == "Read" and one.moved), None)
     since = [one for one in calls if asked and one.first > asked.last and one.moved]
@@ -80,7 +81,7 @@ def came_since(index: Index, server: Name, socket: int, position: int) -> list[s
 
 def flushed_in_vain(recording: Recording, stack: Stack) -> str:
     """The line that flushes, before the goroutine's line and outside loops, in a function of the stack that has a
-    ResponseWriter; empty if there is none."""
+    ResponseWriter; empty if no such line exists."""
     for call in stack.calls:
         lines = source_of(recording, call.file) if call.of == OF_THE_PROGRAM else None
         within = range_of(lines, call) if lines else None
@@ -93,8 +94,8 @@ def flushed_in_vain(recording: Recording, stack: Stack) -> str:
 
 
 def unflushed(recording: Recording, stack: Stack) -> Iterator[tuple[str, bool]]:
-    """The lines of a stack's functions that write to a ResponseWriter without a flush, and whether each was certainly
-    passed."""
+    """The lines of a stack's functions that write to a ResponseWriter, each with whether the goroutine certainly passed
+    it; none if one of these functions flushes."""
     found: list[tuple[str, bool]] = []
     innermost = next((call for call in stack.calls if call.of == OF_THE_PROGRAM), None)
     for call in stack.calls:
@@ -129,5 +130,5 @@ def writes_of(lines: Lines, call: LineCall, within: range, is_innermost: bool) -
 
 
 def is_passed(lines: Lines, number: int, line: int) -> bool:
-    """Whether a line is in no block that ends before another line."""
+    """Whether a line is outside every block that ends before another line."""
     return all(indent_of(lines[at - 1]) >= indent_of(lines[number - 1]) for at in range(number + 1, line + 1))

@@ -1,5 +1,5 @@
-"""The requests of net/http's client, from the channels of its connections: the line, the goroutine and the socket of
-each; and those that ended because their context did."""
+"""The requests of net/http's client, found from the channels of its connections: the line, the goroutine and the socket
+of each. The module also finds the requests that ended because their contexts ended."""
 
 from functools import lru_cache
 from operator import attrgetter
@@ -22,8 +22,8 @@ WITH_DEADLINE, CLIENT_TIMEOUT = "context.WithDeadlineCause", "net/http.setReques
 
 
 class Request(NamedTuple):
-    """Requests that goroutines wrote from one stack on a connection: how many, and the step and time at which the last
-    one was handed over."""
+    """Requests that goroutines wrote from one stack on a connection: their number, and the step and time at which the
+    last of them was handed over."""
 
     name: Name
     goid: int
@@ -35,8 +35,9 @@ class Request(NamedTuple):
 
 
 class CancelledRequest(NamedTuple):
-    """A request that ended because its context did: the request, the call that closed its connection, the step after
-    which the context ended, the stack and goroutine that ended it, and the timer of its deadline if certain."""
+    """A request that ended because its context ended: the request, the call that closed its connection, the step after
+    which the context ended, the stack and goroutine that ended the context, and the timer of the context's deadline, if
+    certain."""
 
     request: Request
     closed: Call
@@ -47,16 +48,16 @@ class CancelledRequest(NamedTuple):
 
     @property
     def is_late(self) -> bool:
-        """Whether a deadline passed."""
+        """Whether a deadline ended the context."""
         return any(call.function.startswith(BY_A_TIMER) for call in self.stack.calls[-1:])
 
     def places(self, recording: Recording) -> tuple[str, ...]:
-        """The lines of the request, of its cancellation, and of its deadline."""
+        """The line of the request, the line that cancelled it, and the line that set its deadline."""
         of_timer = [recording.lines.stacks[self.timer.stack]] if self.timer else []
         return tuple(map(place_in, (self.request.stack, self.stack, *of_timer)))
 
     def says(self, recording: Recording) -> list[str]:
-        """The sentences."""
+        """The sentences about the request."""
         request = self.request
         begins = f"The request{place_in(request.stack)} ({request.name}), on socket {request.socket} since step {request.last}, ended because"
         if not self.is_late:
@@ -74,8 +75,8 @@ class CancelledRequest(NamedTuple):
 
 
 def requests_of(index: Index) -> list[Request]:
-    """The requests whose connection is certain: each was put into a channel from which only one connection's goroutine
-    took, and that goroutine wrote to only one socket."""
+    """The requests whose connection is certain. Each was put into a channel from which only one connection's goroutine
+    took values, and that goroutine wrote to only one socket."""
     lines, found = index.recording.lines, []
     for uses in lines.uses.values():
         puts = [use for use in uses if use.what == PUT and has(lines.stacks[use.stack], ROUND_TRIP)]
@@ -95,7 +96,7 @@ def request_of(recording: Recording, use: Use, socket: int) -> Request:
 
 
 def written_by(index: Index, goid: int) -> Optional[int]:
-    """The only socket to which a goroutine has written; None if there are several, or none."""
+    """The only socket to which a goroutine has written; None if it has written to none or to several."""
     sockets = {call.socket for call in index.by_goid(goid) if call.name == "Write"}
     return sockets.pop() if len(sockets) == 1 else None
 
@@ -113,14 +114,14 @@ def cancelled_requests(index: Index) -> tuple[CancelledRequest, ...]:
 
 
 def is_by_context(stack: Stack) -> bool:
-    """Whether a round trip asks why its context ended, which it does only after it waited for that."""
+    """Whether a round trip asks why its context ended. A round trip does so only after it waited for that end."""
     functions = [call.function for call in stack.calls[:3]]
     return CAUSE_OF_END in functions and ROUND_TRIP in functions
 
 
 def cancelled(index: Index, every: list[Request], ended: Use, close: Use) -> Iterator[CancelledRequest]:
-    """The request that a cancelled context ended: the last one that its goroutine wrote before, if the goroutine
-    then closed the connection."""
+    """The request that a cancelled context ended. It is the last request that its goroutine wrote before, if that
+    goroutine then closed the connection."""
     lines = index.recording.lines
     own = [request for request in every if request.goid == ended.goid and request.time < close.begin]
     if not own or own[-1].name.is_goid:
@@ -139,9 +140,9 @@ def cancelled(index: Index, every: list[Request], ended: Use, close: Use) -> Ite
 
 
 def timer_of(recording: Recording, request: Request, close: Use) -> Optional[Timer]:
-    """The timer of the deadline that ended a request's context: the timer of its client's Timeout, which is the last
-    one that its goroutine made for a client at the same line before it handed the request over; else the only timer of
-    the program's contexts that was due by then. None if uncertain."""
+    """The timer of the deadline that ended a request's context; None if uncertain. It is the timer of the client's
+    Timeout: the last timer that the request's goroutine made for a client at the same line before it handed the request
+    over. Without such a timer, it is the only timer of the program's contexts that was due by then."""
     stacks = recording.lines.stacks
     timers = [
         timer for some in recording.lines.timers.values() for timer in some

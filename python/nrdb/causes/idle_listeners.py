@@ -1,4 +1,4 @@
-"""Open listeners at which no goroutine has called Accept, while goroutines of one `go` statement accept at another
+"""Open listeners on which no goroutine has called Accept, while goroutines of one `go` statement accept on another
 listener."""
 
 from collections import defaultdict
@@ -15,8 +15,8 @@ LISTENS = "net.(*netFD).listen"
 
 
 def idle_listeners(index: Index, position: int) -> list[str]:
-    """Sentences about such listeners, for a goroutine that waits at a connection that no goroutine has accepted; none
-    if there are no such listeners."""
+    """Sentences about such listeners, for a goroutine that waits on a connection that no goroutine has accepted; none
+    if no such listener exists."""
     listeners = [
         socket for socket in index.by_socket if is_listener(index, socket) and not closed(index, socket, position)
     ]
@@ -34,14 +34,14 @@ def idle_listeners(index: Index, position: int) -> list[str]:
 
 
 def is_listener(index: Index, socket: int) -> bool:
-    """Whether a socket was opened to listen for streams."""
+    """Whether a socket was opened to listen for stream connections."""
     opened = index.by_socket[socket][0]
     calls = index.recording.lines.of(opened.first).calls
     return opened.name == OPEN and any(call.function.startswith(LISTENS) for call in calls)
 
 
 def makers_at(index: Index, socket: int) -> dict[LineCall, set[Name]]:
-    """The goroutines that have called Accept at a listener, by the `go` statements that started them."""
+    """The goroutines that have called Accept on a listener, keyed by the `go` statements that started them."""
     found: dict[LineCall, set[Name]] = defaultdict(set)
     lines = index.recording.lines
     for call in accepts_at(index, socket):

@@ -17,15 +17,15 @@ ACCEPTS = ("internal/poll.(*FD).Accept",)
 
 
 class Cause(NamedTuple):
-    """The explanation of a call that failed or hangs: the call, sentences, the steps that they name, and the lines to
-    type next."""
+    """The explanation of a call that failed or hangs: the call, the sentences, the steps that the sentences name, and
+    the lines to type next."""
 
     call: Call
     says: list[str]
     steps: list[int]
     looks: list[str]
-    stopped: int = 0  # the step after which a goroutine that could have woken it did nothing more
-    chain: list[Call] = []  # the failed calls that the sentences give as its causes
+    stopped: int = 0  # the step after which a goroutine that could have woken the waiter did nothing more
+    chain: list[Call] = []  # the failed calls that the sentences name as causes
     beyond: list[str] = []  # the sentences about goroutines beyond the one that the call needed
 
 
@@ -35,7 +35,7 @@ def with_more(cause: Cause, more: list[str]) -> Cause:
 
 
 def with_others(cause: Cause, others: int) -> Cause:
-    """A cause with the number of others like it."""
+    """A cause with the number of further causes like it."""
     return cause._replace(says=[*cause.says, f"{others} more like it."]) if others else cause
 
 
@@ -54,7 +54,7 @@ class Index:
         self._under_way: dict[tuple[int, int], list[Call]] = {}
 
     def by_goid(self, goid: int) -> list[Call]:
-        """The calls of the goroutine with this goid, if the goroutine still has its number in the recording at the
+        """The calls of the goroutine with this goid, if the goroutine's number in the recording is still its own at the
         end."""
         lines = self.recording.lines
         number = lines.number_of(goid)
@@ -62,7 +62,7 @@ class Index:
         return [call for call in calls if lines.has_step(goid, number, call.first)]
 
     def other_end(self, socket: int) -> Optional[int]:
-        """The socket at the other end of a socket's connection, if known."""
+        """The socket at the other end of a connection, if known."""
         return self.recording.lines.peers.get(socket)
 
     def at(self, step: int) -> Optional[Call]:
@@ -71,7 +71,7 @@ class Index:
         return next((one for one in begun if not one.last or one.last >= step), None)
 
     def closing(self, socket: int, until: int, whole: bool = False) -> Optional[Call]:
-        """The first call, up to a step, that closed a socket, or only its write side."""
+        """The first call, up to a step, that closed a socket, or closed only its write side."""
         if (socket, whole) not in self._closing:
             names = (CLOSE,) if whole else (CLOSE, CLOSE_WRITE)
             closing = (one for one in self.by_socket.get(socket, ()) if one.name in names and not one.outcome.is_error)
@@ -80,18 +80,18 @@ class Index:
         return found if found and found.first <= until else None
 
     def under_way(self, socket: int, step: int) -> list[Call]:
-        """The calls at a socket that began before a step and ended after it."""
+        """The calls on a socket that began before a step and ended after it."""
         if (socket, step) not in self._under_way:
             begun = (one for one in self.by_socket.get(socket, ()) if one.first < step < one.last)
             self._under_way[socket, step] = list(begun)
         return self._under_way[socket, step]
 
     def last_use(self, socket: int, until: int, names: Iterable[str] = MOVING) -> Optional[Call]:
-        """The last call with one of these names that began on a socket up to a step."""
+        """The last call on a socket with one of these names that began up to a step."""
         return next((one for one in back(self.by_socket.get(socket, ()), until) if one.name in names), None)
 
     def before(self, call: Call) -> Optional[Call]:
-        """The call by which its goroutine last read, wrote or waited before this one."""
+        """The last call before this one by which the same goroutine read, wrote or waited."""
         begun = back(self.by_goroutine[call.goroutine], call.first - 1)
         return next((one for one in begun if one.name in READING + WRITING), None)
 
@@ -107,18 +107,18 @@ class Index:
         return next((one for one in begun if not one.last or one.last > position), None)
 
     def is_listening(self, call: Call) -> bool:
-        """Whether a call accepts connections, of which none may ever come."""
+        """Whether a call accepts connections. Such a call may wait for a connection that never comes."""
         return any(one.function in ACCEPTS for one in self.recording.lines.of(call.first).calls)
 
     def moved(self, socket: int, name: str, until: int) -> int:
-        """The number of bytes moved at a socket by the calls with a name, counting only calls that ended up to a
-        step."""
+        """The number of bytes that calls of a name moved on a socket. Only calls that ended up to a step count."""
         calls = self.by_socket.get(socket, ())
         return sum(one.moved or 0 for one in calls if one.name == name and 0 < one.last <= until)
 
     def under_its_deadline(self, call: Call) -> list[Call]:
-        """The calls of the same side that ended between the step that set a call's deadline and the call, in the order
-        of their first steps. This doesn't scan all calls, because a side may have as many timeouts as calls."""
+        """The calls of the same side that ended between the step that set a call's deadline and the call itself, in the
+        order of their first steps. The function doesn't scan all calls, because a side may have as many timeouts as
+        calls."""
         side = call.socket, call.name
         if side not in self._ended:
             calls = (one for one in self.by_socket[call.socket] if one.name == call.name and one.last)

@@ -1,5 +1,5 @@
-"""Hangs that explain a failed call or follow from one: hangs of the goroutine at the other end, or of the goroutine
-that waited for the failed one."""
+"""Hangs that explain a failed call or follow from it: hangs of the goroutine at the other end, or of the goroutine that
+waited for the failed one."""
 
 from typing import Iterator, NamedTuple, Optional
 
@@ -13,7 +13,7 @@ from .words import name_of
 
 
 class Topic(NamedTuple):
-    """The topic of one cause: a failed call, a hang, or both; and the sentence that joins the hang to the call."""
+    """One topic of the output: a failed call, a hang, or both, and the sentence that joins the hang to the call."""
 
     cause: Optional[Cause]
     hang: Optional[Hang] = None
@@ -21,8 +21,8 @@ class Topic(NamedTuple):
 
 
 def joined(graph: WaitGraph, order: list[Topic]) -> list[Topic]:
-    """The topics in their order: each hang with the first failed call that it is related to. A hang that wouldn't be
-    listed, as in a program that ended by itself, is listed if it explains a failed call."""
+    """The topics in their order. Each hang is joined to the first failed call that it is related to. A hang that
+    explains a failed call is listed even if it otherwise wouldn't be, as in a program that ended by itself."""
     hangs = [one.hang for one in order if one.hang]
     left = [*hangs, *(hang for hang in graph.shown if not any(hang is one for one in hangs))]
     of_failures: dict[int, Topic] = {}
@@ -36,9 +36,11 @@ def joined(graph: WaitGraph, order: list[Topic]) -> list[Topic]:
 
 
 def because_of(graph: WaitGraph, hang: Hang, cause: Optional[Cause]) -> str:
-    """The sentence that joins a hang to a failed call; empty if they are unrelated, or the reason of the hang isn't
+    """The sentence that joins a hang to a failed call; empty if they are unrelated, or if the reason of the hang isn't
     known."""
-    is_write = hang.root.call is not None and hang.root.call.name in WRITING  # (says which goroutine doesn't read)
+    is_write = (
+        hang.root.call is not None and hang.root.call.name in WRITING
+    )  # (the first sentence of such a hang says which goroutine doesn't read)
     if cause is None or hang.is_quiet or hang.is_of_go or not (hang.has_reason or hang.is_deadlock or is_write):
         return ""
     call, waiters = cause.call, {waiter.name: waiter for waiter in waiters_of(hang)}
@@ -57,16 +59,16 @@ def because_of(graph: WaitGraph, hang: Hang, cause: Optional[Cause]) -> str:
 
 
 def has_stopped(graph: WaitGraph, waiter: Waiter, call: Call) -> bool:
-    """Whether the goroutine of a failed call began to wait after it, outside the poller, and has used no socket since
-    except to close it."""
+    """Whether the goroutine of a failed call began to wait outside the poller after that call, and has since then used
+    no socket except to close it."""
     calls = index_of(graph.recording).by_goroutine[call.goroutine]
     later = [one for one in calls if one.first > call.last and one.name != CLOSE]
     return waiter.wait is not None and waiter.since >= call.last and not later
 
 
 def others_of(graph: WaitGraph, call: Call) -> Iterator[Name]:
-    """The goroutines at the other end of a call's connection: the one that served a request there, and the one that
-    used it last before the call ended."""
+    """The goroutines at the other end of a call's connection: the goroutine that served a request there, and the
+    goroutine that last used that end before the call ended."""
     index = index_of(graph.recording)
     if server := server_of(index, call.socket, call.first):
         yield server

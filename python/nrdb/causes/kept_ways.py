@@ -1,5 +1,5 @@
-"""Paths on which a call keeps what it took, from the program's source: in a pool or a semaphore whose calls gave back
-less than they took, and with the body of a net/http response that isn't closed."""
+"""Paths on which a call keeps what it took, from the program's source. The call took a value from a pool or a semaphore
+whose calls gave back less than they took, or it got a net/http response whose body it doesn't close."""
 
 import re
 from operator import attrgetter
@@ -27,7 +27,7 @@ TO_OTHERS = (
 )
 USES = re.compile(
     r"\b(?:fmt\.F\w+|io\.\w+|(?:bufio|json|gob)\.New\w+|binary\.\w+)\(\w+"
-)  # functions that use a value and don't keep it
+)  # functions that use a value without keeping it
 CLOSES = r"\b{name}\.Body\.Close\b|\bio\.(?:ReadAll|Copy)\(.*\b{name}\.Body\b"
 AN_ERROR = re.compile(r"\breturn\b.*\b(?:err|fmt\.Errorf|errors\.New|Err\w+|false)\b")
 MOST_PLACES = 2
@@ -50,8 +50,8 @@ def ways_that_keep(recording: Recording, balances: Iterable[Balance]) -> list[st
 
 
 def ways_with_an_error(recording: Recording, wait: Waiting) -> list[str]:
-    """The paths of a function on which it returns an error without giving back what it took from a pool or a semaphore,
-    although it gives back on another such path."""
+    """The paths of a function that return an error without giving back what the function took from a pool or a
+    semaphore. At least one other path of the function gives it back."""
     own = wait.stack.own()
     if not own or own[0].of != OF_THE_PROGRAM or len(wait.objects) != 1:
         return []
@@ -73,8 +73,8 @@ def ways_with_an_error(recording: Recording, wait: Waiting) -> list[str]:
 
 
 def case_of(recording: Recording, line: Call, use: str) -> Call:
-    """The line of a select's first case that does at a channel what a goroutine waits for; for any other line, the line
-    itself."""
+    """The line of a select's first case with the operation that a goroutine waits for; for a line without a select, the
+    line itself."""
     lines = source_of(recording, line.file)
     if not lines or lines[line.line - 1].partition("//")[0].strip() != "select {":
         return line
@@ -90,7 +90,7 @@ def case_of(recording: Recording, line: Call, use: str) -> Call:
 
 
 def gives_on_most_ways(recording: Recording, balances: Iterable[Balance]) -> bool:
-    """Whether the function that takes gives back at several lines, and has fewer paths on which it doesn't."""
+    """Whether the function that takes gives back at several lines, and at more lines than it has paths that don't."""
     taken, given = ({line for one in balances for line in some(one)} for some in (TAKEN_AT, GIVEN_AT))
     ends = gives_back(recording, given)
     for line in taken if ends else ():
@@ -103,15 +103,15 @@ def gives_on_most_ways(recording: Recording, balances: Iterable[Balance]) -> boo
 
 
 def gives_back(recording: Recording, given: Iterable[Call]) -> Optional[Test]:
-    """A test whether a statement gives something back, made from statements that did; None if their text isn't
-    known."""
+    """A test whether a statement gives something back, derived from statements that did; None if the text of these
+    isn't known."""
     patterns = {pattern for line in given if (pattern := pattern_of(text_at(recording, line)))}
     return has("|".join(sorted(patterns))) if patterns else None
 
 
 def pattern_of(text: str) -> str:
-    """A pattern for statements that do the same at a channel or call the same function; empty if this statement does
-    neither."""
+    """A pattern for statements that send on the same channel, receive from the same channel or call the same function
+    as a statement; empty if the statement does none of these."""
     code = LITERAL.sub("", text.strip())
     if found := SEND.search(code):
         return rf"{re.escape(found[1])} <- "
@@ -122,14 +122,14 @@ def pattern_of(text: str) -> str:
 
 
 def value_of(text: str, form: str) -> Test:
-    """A test whether a statement passes on the value that another statement takes."""
+    """A test whether a statement passes on the value that another statement took."""
     found = TAKEN.match(text)
     hands_on = has(form.format(name=found[1])) if found else nothing
     return lambda statement: hands_on(USES.sub("(", statement))
 
 
 def ways_of(recording: Recording, line: Call, text: str, ends: Test, keeps: Test) -> list[Way]:
-    """The paths of a line's function that skip `ends`."""
+    """The paths of a line's function that skip the statements which `ends` finds."""
     lines = source_of(recording, line.file) if line.of == OF_THE_PROGRAM else None
     within = range_of(lines, line) if lines else None
     is_whole = text[-1:] not in ("(", "{", ",")
@@ -138,7 +138,7 @@ def ways_of(recording: Recording, line: Call, text: str, ends: Test, keeps: Test
 
 
 def ways_past_close(recording: Recording, stacks: Iterable[Stack]) -> list[str]:
-    """The paths on which the functions that made requests don't close the response's body, found by the stacks of the
+    """The paths on which functions that made requests don't close the response's body, found from the stacks of the
     requests."""
     says = dict[str, None]()
     for stack in stacks:
@@ -159,8 +159,8 @@ def ways_past_close(recording: Recording, stacks: Iterable[Stack]) -> list[str]:
 
 
 def closed_in_a_loop(recording: Recording, call: Call, name: str) -> str:
-    """Says that something is closed only when the function returns, because its Close is deferred, though the line that
-    made it is in a loop; else empty."""
+    """A sentence about something that is made in a loop and closed only when the function returns, because its Close is
+    deferred; else empty."""
     lines = source_of(recording, call.file)
     within = range_of(lines, call) if lines else None
     head = loop_round(lines, within, call.line) if lines and within else 0

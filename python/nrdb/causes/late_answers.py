@@ -1,5 +1,5 @@
-"""Answers of an http.Server that were cut by its WriteTimeout, if only Go's own code wrote, and the handler that ran
-when the limit passed."""
+"""Answers of an http.Server that its WriteTimeout cut, if only Go's own code wrote them, and the handler that ran when
+the timeout passed."""
 
 from typing import Iterator
 
@@ -21,7 +21,7 @@ def is_of_write_timeout(index: Index, call: Call) -> bool:
 
 
 def late_answers(index: Index) -> Iterator[Cause]:
-    """The answers that were cut, each with what its goroutine did when the limit passed."""
+    """The answers that were cut, each with what its goroutine did when the timeout passed."""
     recording = index.recording
     for call in index.failed(recording.length):
         if not is_of_write_timeout(index, call) or not is_of_go(recording, call):
@@ -36,8 +36,8 @@ def late_answers(index: Index) -> Iterator[Cause]:
 
 
 def at_work(index: Index, call: Call) -> list[str]:
-    """What the goroutine that served the request did when the limit passed, else what it waited for last; empty if
-    unknown."""
+    """What the goroutine that served the request did when the timeout passed, else what the goroutine last waited for;
+    empty if unknown."""
     passed, server = call.passed, f"goroutine {call.goroutine}, which serves the request,"
     if not call.cause < passed < call.first:
         return []
@@ -56,6 +56,6 @@ def at_work(index: Index, call: Call) -> list[str]:
 
 
 def was(wait: Waiting) -> str:
-    """What a goroutine that waited did: `slept at a.go:3 in serve for 9 ms`."""
+    """What a goroutine did that has waited, in the past tense: `slept at a.go:3 in serve for 9 ms`."""
     words = waits_words(wait)
     return words.replace("sleeps", "slept", 1) if wait.is_asleep else words.replace("waits", "waited", 1)

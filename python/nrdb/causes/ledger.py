@@ -16,12 +16,12 @@ END = attrgetter("end")
 
 
 class Given(NamedTuple):
-    """What a goroutine did at a channel, and from which stack."""
+    """An operation of a goroutine on a channel, and its stack."""
 
     name: Name
     what: str
     stack: Stack
-    last: int  # the step after which it last did so
+    last: int  # the step after which the goroutine last did it
 
 
 class Ledger:
@@ -31,7 +31,7 @@ class Ledger:
         self._lines = recording.lines
         self._locked: dict[int, list[Waiting]] = defaultdict(
             list
-        )  # the waits at each object that isn't a channel, by their ends
+        )  # the waits at each object that isn't a channel, ordered by their ends
         for some in waits.of.values():
             for wait in some:
                 for at in wait.objects:
@@ -39,7 +39,7 @@ class Ledger:
                         self._locked[at.object].append(wait)
 
     def given(self, at: At) -> Iterator[Given]:
-        """The goroutines' uses of a channel that end a wait there, latest first."""
+        """The goroutines' operations on a channel that end a wait there, latest first."""
         what = GIVES.get(at.use, "")
         uses = (use for use in self._lines.uses.get(at.object, ()) if use.what == what)
         for use in sorted(uses, key=END, reverse=True):
@@ -49,18 +49,18 @@ class Ledger:
         return Given(name_of_goid(self._lines, use.goid), use.what, self._lines.stacks[use.stack], use.last)
 
     def lines_of(self, number: int) -> set[Call]:
-        """The calls of the program in which goroutines have waited for a mutex: each of them locks it."""
+        """The calls of the program in which goroutines have waited for a mutex. Each of these calls locks the mutex."""
         return {found[0] for wait in self._locked[number] if (found := wait.stack.own())}
 
     def last_holder(self, number: int) -> Optional[Waiting]:
-        """The wait for a mutex that ended last, whose goroutine got the mutex; None if that goroutine has unlocked it
-        for another since."""
+        """The wait for a mutex that ended last, and whose goroutine then got the mutex. None if that goroutine has
+        since unlocked the mutex for another goroutine."""
         ended = [wait for wait in self._locked[number] if wait.last is not None]
         last = max(ended, key=attrgetter("last", "begin"), default=None)
         return last
 
     def had(self, number: int) -> set[Name]:
-        """The goroutines that have held a mutex: those that waited for it and got it, and those that unlocked it for
-        another."""
+        """The goroutines that have held a mutex: those that waited for the mutex and got it, and those that unlocked it
+        for another goroutine."""
         ended = [wait for wait in self._locked[number] if wait.last is not None]
         return {wait.name for wait in ended} | {wait.by for wait in ended if wait.by}

@@ -1,5 +1,5 @@
-"""Requests that are still in a buffer: a goroutine waits for an answer, has written nothing since its last one, and is
-in a function that writes into a bufio.Writer without flushing it. Derived from the program's source."""
+"""Requests that are still in a buffer: a goroutine waits for an answer, has written nothing since the last answer, and
+is in a function that writes into a bufio.Writer without flushing it. Derived from the program's source."""
 
 import re
 from functools import lru_cache
@@ -22,8 +22,8 @@ STARTS = re.compile(r"\b(?:go|defer)\b")
 
 
 class Named(NamedTuple):
-    """The functions of a package that write into a buffer, or flush one, by name; the variables and fields that are
-    buffers, and those that are flushed."""
+    """The names that a package uses for its buffers: the functions that write into a buffer, the functions that flush
+    one, the variables and fields that are buffers, and those that are flushed."""
 
     writes: frozenset[str]
     flushes: frozenset[str]
@@ -44,8 +44,8 @@ def left_in_buffer(index: Index, call: Call) -> list[str]:
 
 
 def unflushed_in(recording: Recording, frame: LineCall) -> str:
-    """The last line of a function, before the goroutine's line, that writes into a buffer which isn't flushed between
-    the two; empty if there is none."""
+    """The last line of a function, before the goroutine's line, that writes into a buffer, if no line in between
+    flushes that buffer; else empty."""
     lines = source_of(recording, frame.file)
     within = range_of(lines, frame) if lines else None
     if not lines or not within:
@@ -62,8 +62,8 @@ def unflushed_in(recording: Recording, frame: LineCall) -> str:
 
 
 def never_flushed(recording: Recording, call: Call) -> str:
-    """The line at which the package of a call makes a buffered writer, if no line of it flushes one: ` main.go:28`;
-    else empty."""
+    """The line at which the package of a call makes a buffered writer, if no line of the package flushes one:
+    `main.go:28`; else empty."""
     own = recording.lines.of(call.first).own()
     if own is None or own[0].of != OF_THE_PROGRAM:
         return ""
@@ -78,7 +78,7 @@ def names_near(recording: Recording, file: str) -> Named:
 
 
 def names_of(files: tuple[Lines, ...]) -> Named:
-    """The functions of a package that write into buffers or flush them, also by calling such a function."""
+    """The functions of a package that write into buffers or flush them, directly or by calling such a function."""
     buffers = frozenset(
         name
         for lines in files
@@ -95,7 +95,7 @@ def names_of(files: tuple[Lines, ...]) -> Named:
 
 
 def bodies_of(lines: Lines) -> Iterator[tuple[str, str]]:
-    """The functions of a file, with their texts."""
+    """The functions of a file, each with its text."""
     for number, text in enumerate(lines, 1):
         if head := HEAD.match(text):
             within = range_of(lines, LineCall(head[3], "", number, OF_THE_PROGRAM))

@@ -1,5 +1,5 @@
-"""Functions that return with a mutex locked on one of their paths, from the program's source, for a mutex that a
-goroutine waits for and that no goroutine is known to hold."""
+"""Functions that return with a mutex locked on one of their paths, from the program's source. A goroutine waits for the
+mutex, and no goroutine is known to hold it."""
 
 import re
 from typing import Iterator, NamedTuple, Optional
@@ -18,7 +18,7 @@ MOST = 2
 
 
 class Function(NamedTuple):
-    """A function of the source: its name, its receiver's name (if it has a receiver), its owner, and its lines."""
+    """A function of the source: its name, its receiver's name, if any, its owner, and its lines."""
 
     name: str
     receiver: str
@@ -27,7 +27,8 @@ class Function(NamedTuple):
 
 
 class Leak(NamedTuple):
-    """A function that locks a mutex at a line, and returns at another without unlocking it (0: it never unlocks it)."""
+    """A function that locks a mutex at a line and returns at another line without unlocking the mutex (0: no line
+    unlocks it)."""
 
     function: str
     locked: int
@@ -53,7 +54,7 @@ def left_locked(recording: Recording, lock: Call) -> list[str]:
 
 
 def returns_locked(recording: Recording, lock: Call) -> list[str]:
-    """Sentences about the function that locked a mutex in a call and left it locked: which line returns without an
+    """Sentences about the function that locked a mutex in a call and left it locked: the line that returns without an
     Unlock, or that the function has no Unlock."""
     lines, name = source_of(recording, lock.file), LOCK.search(text_at(recording, lock))
     own = next((one for one in functions_of(lines, lock) if lock.line in one.within), None) if lines else None
@@ -81,7 +82,7 @@ def functions_of(lines: Lines, near: Call) -> Iterator[Function]:
 
 def field_of(function: Function, name: str) -> Optional[str]:
     """The mutex that an expression names: a field of the receiver, or, in a function without receiver, a variable of
-    the package; None for other variables."""
+    the package. None for other variables."""
     first, dot, rest = name.partition(".")
     if function.receiver:
         return f".{rest}" if dot and first == function.receiver else None
@@ -89,8 +90,8 @@ def field_of(function: Function, name: str) -> Optional[str]:
 
 
 def leaks_of(lines: Lines, functions: list[Function], field: str) -> list[Leak]:
-    """The functions that return with the mutex locked. A function that never unlocks it is taken to lock it for its
-    callers if another function only unlocks it."""
+    """The functions that return with the mutex locked. A function that never unlocks the mutex is assumed to lock it
+    for its callers if another function only unlocks it."""
     helps = any(has(UNLOCK, lines, one, field) and not has(LOCK, lines, one, field) for one in functions)
     return [
         leak
@@ -101,8 +102,8 @@ def leaks_of(lines: Lines, functions: list[Function], field: str) -> list[Leak]:
 
 
 def leak_of(lines: Lines, function: Function, field: str) -> Optional[Leak]:
-    """The first path on which a function returns with the mutex locked. None if unknown: it defers an unlock, lets
-    another function unlock, unlocks first or in a block that goes on, or locks in a block that ends."""
+    """The first path on which a function returns with the mutex locked. None if unknown: the function defers an unlock,
+    lets another function unlock, unlocks first or in a block that goes on, or locks in a block that ends."""
     locked, released, number = 0, 0, function.within.start + 1
     while number in function.within:
         text = lines[number - 1].partition("//")[0]
@@ -133,7 +134,7 @@ def is_unknown(text: str) -> bool:
 
 
 def leaves_block(lines: Lines, number: int) -> bool:
-    """Whether the block of a line ends with a `return` or the like."""
+    """Whether the block of a line ends with a `return` or a similar statement."""
     margin, last = indent_of(lines[number - 1]), ""
     for text in lines[number:]:
         if indent_of(text) < margin:
@@ -143,11 +144,11 @@ def leaves_block(lines: Lines, number: int) -> bool:
 
 
 def has(pattern: "re.Pattern[str]", lines: Lines, function: Function, field: str) -> bool:
-    """Whether a function locks, or unlocks, the mutex in question."""
+    """Whether a function has a line that locks, or unlocks, this mutex."""
     return any(is_of(pattern, lines[number - 1].partition("//")[0], function, field) for number in function.within)
 
 
 def is_of(pattern: "re.Pattern[str]", text: str, function: Function, field: str) -> bool:
-    """Whether a line only locks, or only unlocks, the mutex in question."""
+    """Whether the only effect of a line is to lock, or to unlock, this mutex."""
     found = pattern.search(text)
     return found is not None and text.strip() == found[0] and field_of(function, found[1]) == field

@@ -1,5 +1,5 @@
 """Connections that a function dialed or accepted and left open on one of its paths, so that the other end waits.
-Derived from the later places of their goroutine, and from the program's source."""
+Derived from the later places of the function's goroutine, and from the program's source."""
 
 import re
 from typing import Optional
@@ -22,8 +22,8 @@ TO_OTHERS = r"\breturn\b.*\b{name}\b|[=({{,:]\s*{name}\b\s*[,)}};]|[=:] *{name}$
 
 
 def left_socket(index: Index, socket: int, position: int) -> list[str]:
-    """Sentences about a socket at whose other end a goroutine waits: the socket is open though the function that opened
-    it has returned, and this path of the function doesn't close it. None if unknown."""
+    """Sentences about a socket at whose other end a goroutine waits. The socket is open although the function that
+    opened it has returned, and the path that the function took doesn't close it. None if unknown."""
     opened = next((one for one in index.by_socket.get(socket, ()) if one.name == OPEN), None)
     if opened is None or index.closing(socket, position, whole=True):
         return []
@@ -41,15 +41,15 @@ def left_socket(index: Index, socket: int, position: int) -> list[str]:
 
 
 def kept_by(index: Index, opened: Call, line: LineCall) -> list[str]:
-    """Says that a function that is still running closes a socket only when it returns, and opens one in each round of a
-    loop."""
+    """A sentence about a function that opens a socket in each round of a loop and closes the sockets only when it
+    returns. The function is still running."""
     taken = TAKEN.match(text_at(index.recording, line).strip())
     deferred = closed_in_a_loop(index.recording, line, taken[1]) if taken else ""
     return [f"Socket {opened.socket}, opened at {line.place()}, is still open. {deferred}"] if deferred else []
 
 
 def left_by(index: Index, opened: Call, line: LineCall) -> list[str]:
-    """Says that a function left open a socket that it opened at a line."""
+    """A sentence about a function that opened a socket at a line and left it open."""
     text = text_at(index.recording, line).strip()
     taken = TAKEN.match(text)
     if taken is None:
@@ -73,7 +73,7 @@ def left_by(index: Index, opened: Call, line: LineCall) -> list[str]:
 
 
 def without_users(recording: Recording, file: str, name: str, statement: str) -> str:
-    """A statement without those calls of the package's functions that only use the value that it passes to them."""
+    """A statement, without those calls in it that pass a value to functions of the package which only use the value."""
 
     def shortened(call: "re.Match[str]") -> str:
         arguments = [one.strip() for one in call[2].split(",")]
@@ -84,8 +84,8 @@ def without_users(recording: Recording, file: str, name: str, statement: str) ->
 
 
 def only_uses(recording: Recording, file: str, function: str, place: int) -> bool:
-    """Whether, by its source, the function of the package with that name neither closes, keeps nor passes on its
-    parameter at a place."""
+    """Whether, by its source, the function of the package with that name only uses its parameter at a place: it neither
+    closes, keeps nor passes on the parameter."""
     found = [
         (path, lines, number, head)
         for path, lines in files_of(recording, file)
@@ -104,7 +104,7 @@ def only_uses(recording: Recording, file: str, function: str, place: int) -> boo
 
 
 def stack_at(index: Index, goroutine: int, position: int) -> Optional[Stack]:
-    """The stack of a goroutine's call or wait at a position; else the stack of its last call."""
+    """The stack of a goroutine's call or wait at a position, or else of the goroutine's last call."""
     call, wait = index.inside(goroutine, position), waits_of(index.recording).at(Name(goroutine), position)
     if wait:
         return wait.stack

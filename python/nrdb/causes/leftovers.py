@@ -1,6 +1,6 @@
-"""What may be wrong if no call failed and none hangs: a reader that has ended, bytes that no goroutine read before
+"""What may be wrong if no call failed and no call hangs: a reader that has ended, bytes that no goroutine read before
 their connection was closed, an early end of a stream, sockets left open, and a write between two writes of another
-goroutine. None of it is a fault by itself, so each begins with `Perhaps`."""
+goroutine. None of these is a fault by itself, so each text begins with `Perhaps`."""
 
 from typing import Iterator, NamedTuple, Optional
 
@@ -22,19 +22,19 @@ from .unused_sockets import untaken_results
 from .words import came_of, is_of_go, place_of_step, told, waits_words
 
 
-FAREWELL = "crypto/tls.(*Conn).closeNotify"  # an alert that need not be read
+FAREWELL = "crypto/tls.(*Conn).closeNotify"  # an alert that the other end needn't read
 
 
 class Place(NamedTuple):
-    """A function of the program, and a line of it; 0 if none is known."""
+    """A function of the program, and a line of the function; 0 if no line is known."""
 
     function: str
     line: int
 
 
 def leftovers_of(recording: Recording) -> list[Cause]:
-    """All findings at the end of a recording, each sort in the order of its steps, without those about Go's own code
-    alone."""
+    """All findings at the end of a recording. Each kind is in the order of its steps, and findings about Go's own code
+    alone are left out."""
     index = index_of(recording)
     found = [
         *causes_of_cuts(index),
@@ -57,7 +57,7 @@ def ends_of(index: Index) -> Iterator[tuple[int, int]]:
 
 
 def never_read(index: Index) -> Iterator[Cause]:
-    """Bytes that were written at one end and that the other end didn't read before it was closed."""
+    """Bytes that were written at one end of a connection and not read at the other end before that end was closed."""
     recording, length = index.recording, index.recording.length
     for socket, other in ends_of(index):
         by, read = index.closing(other, length, whole=True), moved_at(index, other, "Read", length)
@@ -85,7 +85,7 @@ def never_read(index: Index) -> Iterator[Cause]:
 
 
 def first_beyond(index: Index, socket: int, count: int) -> Optional[Call]:
-    """The first Write at a socket that brought the number of bytes written there above this one."""
+    """The first Write to a socket after which the total of the bytes written there was above this number."""
     together = 0
     for call in index.by_socket[socket]:
         together += size_of(index, call) if call.name == "Write" else 0
@@ -95,7 +95,7 @@ def first_beyond(index: Index, socket: int, count: int) -> Optional[Call]:
 
 
 def left_open(index: Index) -> Iterator[Cause]:
-    """A socket that no goroutine closes or uses, although its other end is closed."""
+    """A socket that no goroutine closes or uses although its other end is closed."""
     recording, length = index.recording, index.recording.length
     for socket, other in ends_of(index):
         by, last = index.closing(other, length, whole=True), index.last_use(socket, length)
@@ -114,8 +114,8 @@ def left_open(index: Index) -> Iterator[Cause]:
 
 
 def serves_on(recording: Recording, last: Call) -> list[str]:
-    """The place at which the last handler that used the socket of a net/http server still waits, although the client
-    has gone."""
+    """A sentence with the place at which the last handler that used a net/http server's socket still waits, although
+    the client has gone."""
     wait = waits_of(recording).at(Name(last.goroutine), recording.length)
     if wait is None or not has(wait.stack, SERVE) or not wait.stack.own():
         return []
@@ -137,7 +137,7 @@ def early_ends(index: Index) -> Iterator[Cause]:
 
 
 def is_asking(index: Index, call: Call) -> bool:
-    """Whether a Read waits for an answer: its goroutine has written there, and nothing came since."""
+    """Whether a Read waits for an answer: its goroutine has written to the socket, and no bytes came since."""
     moved = [one for one in index.by_socket[call.socket] if one.name in MOVING and one.moved and one.first < call.first]
     return (
         bool(moved) and moved[-1].name == "Write" and moved[-1].goroutine == call.goroutine and moved[0].name == "Write"
@@ -145,12 +145,13 @@ def is_asking(index: Index, call: Call) -> bool:
 
 
 def mixed_writes(index: Index) -> Iterator[Cause]:
-    """A Write of one goroutine between two of another's to the same socket, if one function of the program makes all
-    three, the two at different lines: they may be pieces of one message."""
+    """A Write of one goroutine between two Writes of another goroutine to the same socket, if one function of the
+    program makes all three, and the other goroutine's two at different lines. Those two may be pieces of one
+    message."""
     recording = index.recording
     for calls in index.by_socket.values():
         writes = [(one, place_of_function(recording, one)) for one in calls if one.name == "Write" and went_well(one)]
-        latest: dict[int, int] = {}  # the last one of each goroutine
+        latest: dict[int, int] = {}  # the latest Write of each goroutine
         for at, (last, place) in enumerate(writes):
             before = latest.get(last.goroutine, at)
             latest[last.goroutine] = at

@@ -1,5 +1,5 @@
-"""The mutexes that a goroutine perhaps holds in a call. They come from the program's source, because a recording has no
-step for the locking of a free mutex."""
+"""The mutexes that a goroutine perhaps holds in a call. They come from the program's source, because locking a free
+mutex leaves no step in a recording."""
 
 import os
 import re
@@ -24,7 +24,7 @@ class Held(NamedTuple):
 
 
 def held_at(recording: Recording, call: Call) -> list[Held]:
-    """The mutexes that a function has locked, and not unlocked, before the goroutine's line. None if the source isn't
+    """The mutexes that a function has locked, and not unlocked, before the goroutine's line; none if the source isn't
     available."""
     return _held_at(os.path.abspath(call.file), recording.lines.written, call)
 
@@ -51,7 +51,7 @@ def _held_at(file: str, written: float, call: Call) -> list[Held]:
 
 
 def end_of_literal(lines: Lines, number: int) -> int:
-    """The last line of a function literal that begins at a line; 0 if none does."""
+    """The last line of the function literal that begins at a line; 0 if no literal begins there."""
     text = lines[number - 1].partition("//")[0].rstrip()
     if "func(" not in text or not text.endswith("{"):
         return 0
@@ -60,8 +60,8 @@ def end_of_literal(lines: Lines, number: int) -> int:
 
 
 def is_left(lines: Lines, number: int, lock: int) -> bool:
-    """Whether an unlock is on a path that leaves the function or the loop: deeper than the line that locked, and before
-    a `return`."""
+    """Whether an unlock is on a path that leaves the function or the loop: the unlock is nested deeper than the line
+    that locked, and comes before a `return`."""
     if indent_of(lines[number - 1]) <= indent_of(lines[lock - 1]):
         return False
     rest = (lines[at - 1] for at in range(number + 1, len(lines) + 1))

@@ -8,8 +8,8 @@ SCAN, HALF = "bufio.(*Scanner).Scan", 32_768
 
 
 def long_line_says(index: Index, last: Call) -> list[str]:
-    """Sentences about the last Read of a goroutine at a socket; none if a Scanner's buffer wasn't at its largest
-    there."""
+    """Sentences about the last Read of a goroutine on a socket; none unless a Scanner's buffer was at its largest in
+    that Read."""
     functions = (call.function for call in index.recording.lines.of(last.first).calls)
     if not last.moved or SCAN not in functions or asked_of(index.recording).of(last) != HALF:
         return []

@@ -1,5 +1,5 @@
-"""Variables of loops that goroutines share, from the program's source: in a module whose language is older than Go 1.22
-a loop has one variable for all its rounds."""
+"""Loop variables that goroutines share, from the program's source. In a module whose language version is older than Go
+1.22, a loop has one variable for all its rounds."""
 
 import os
 import re
@@ -13,12 +13,13 @@ from .source_functions import LITERAL, Lines, begin_of_literal, indent_of, range
 
 LOOP = re.compile(r"\bfor (?:(\w+), )?(\w+) := ")
 LANGUAGE = re.compile(r"^go 1\.(\d+)", re.MULTILINE)
-FIRST = 22  # the minor version from which each round has its own
+FIRST = 22  # the minor version since which each round has its own variable
 MOST_FOLDERS = 12
 
 
 def shared_variables(recording: Recording, file: str) -> list[str]:
-    """The loops of a file whose variables are shared by goroutines that they started, a sentence each."""
+    """Sentences about the loops of a file whose variables are shared by the goroutines that the loops start, one
+    sentence for each loop."""
     minor = language_of(os.path.dirname(os.path.abspath(file)))
     if minor is None or minor >= FIRST:
         return []
@@ -62,7 +63,7 @@ def shared_at(lines: Lines, made: Call) -> Iterator[tuple[int, str]]:
 
 @lru_cache(maxsize=64)
 def language_of(folder: str) -> "int | None":
-    """The language of a folder's module, as 21 for Go 1.21; None if there is no module."""
+    """The language version of a folder's module, as 21 for Go 1.21; None if the folder belongs to no module."""
     for _ in range(MOST_FOLDERS):
         try:
             with open(os.path.join(folder, "go.mod"), encoding="utf-8") as file:

@@ -1,5 +1,5 @@
-"""Unbuffered channels whose maker has returned: a goroutine waits for a receiver, and the function that the recording
-shows to have made the channel returns by these lines of the program's source."""
+"""Unbuffered channels whose maker has returned. A goroutine waits for a receiver, and the recording shows which
+function made the channel. The lines by which this function returns come from the program's source."""
 
 import re
 
@@ -20,7 +20,7 @@ MOST = 2
 
 def without_receiver(index: Index, wait: Waiting, position: int) -> list[str]:
     """Sentences about a goroutine that waits for a receiver; none if the function that made the channel is still
-    running, or isn't known."""
+    running or isn't known."""
     lines = index.recording.lines
     made = lines.made.get(wait.objects[0].object) if len(wait.objects) == 1 else None
     own = lines.stacks[made.stack].own() if made else None
@@ -44,7 +44,7 @@ def is_local(index: Index, line: Call) -> bool:
 
 
 def has_returned(index: Index, maker: Name, line: Call, position: int) -> bool:
-    """Whether a goroutine has left the function of a line: it has ended, or is elsewhere."""
+    """Whether a goroutine has left the function of a line: it has ended, or its stack no longer has the function."""
     if has_ended(index.recording, maker):
         return True
     wait = waits_of(index.recording).at(maker, position)
@@ -60,7 +60,7 @@ def returns_says(index: Index, line: Call) -> str:
 
 
 def is_filled_by_maker(recording: Recording, at: At) -> bool:
-    """Whether the function that made a channel put in all its values, as for a token bucket."""
+    """Whether the function that made a channel put in all its values, as in a token bucket."""
     lines = recording.lines
     made = lines.made.get(at.object)
     own = lines.stacks[made.stack].own() if made else None

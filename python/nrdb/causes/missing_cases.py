@@ -1,5 +1,5 @@
-"""Selects that no goroutine ends: a goroutine serves a request while a Shutdown waits for its end, or the select lacks
-a case for a closed channel that another select of the same type has."""
+"""Selects that no goroutine ends. Either a Shutdown waits until a goroutine has served its request, and the goroutine
+waits in the select; or the select lacks a case for a closed channel that another select of the same type has."""
 
 from operator import attrgetter
 from typing import NamedTuple, Optional
@@ -15,15 +15,15 @@ from .words import place_in
 
 
 class Lacking(NamedTuple):
-    """A closed channel that another goroutine waited for: how it was closed, and that wait."""
+    """A closed channel that another goroutine waited on: the use that closed it, and that goroutine's wait."""
 
     closed: Use
     wait: Waiting
 
 
 def missing_case_says(recording: Recording, hang: Hang) -> list[str]:
-    """Says, for a root that waits in a select, which Shutdown waits for it, and which closed channel the select perhaps
-    lacks. None if no Shutdown or WaitGroup waits."""
+    """Sentences about a root that waits in a select: the Shutdown that waits for it, and the closed channel for which
+    the select perhaps lacks a case. None if no Shutdown or WaitGroup waits."""
     wait = hang.root.wait
     if hang.is_deadlock or wait is None or wait.kind != A_SELECT or own_of(wait.stack) is None:
         return []
@@ -42,14 +42,14 @@ def own_of(stack: Stack) -> Optional[Call]:
 
 
 def group_wait_of(branch: Branch) -> Optional[Waiting]:
-    """The wait of a branch's goroutine for a WaitGroup."""
+    """The wait of a branch's goroutine on a WaitGroup."""
     first = branch.waiters[0].wait
     return first if first and first.kind == A_WAIT_GROUP else None
 
 
 def shutdown_of(recording: Recording, wait: Waiting) -> Optional[Waiting]:
-    """The first wait of a Shutdown, if a goroutine serves a request of net/http. Shutdown polls, so a wait that doesn't
-    end is preferred."""
+    """The first wait of a Shutdown, if a goroutine serves a request of net/http. A wait that doesn't end is preferred,
+    because Shutdown polls."""
     if not has(wait.stack, SERVE):
         return None
     every = (one for some in waits_of(recording).of.values() for one in some if one.kind == ALL_REQUESTS)
@@ -64,8 +64,8 @@ def shutdown_says(shutdown: Waiting) -> str:
 
 
 def lacking_of(recording: Recording, wait: Waiting, ends: Waiting) -> Optional[Lacking]:
-    """A channel without values that was closed by the goroutine that waits for the ends of others, if an earlier wait
-    for it was in a function of the same type, or package, as this one."""
+    """A channel without values that was closed by the goroutine that waits until other goroutines end. An earlier wait
+    on that channel was in a function of the same type, or package, as this wait."""
     own, closed = own_of(wait.stack), closed_by(recording, ends.name)
     for at in wait.objects:
         closed.pop(at.object, None)
@@ -85,7 +85,7 @@ def lacking_of(recording: Recording, wait: Waiting, ends: Waiting) -> Optional[L
 
 
 def closed_by(recording: Recording, name: Name) -> dict[int, Use]:
-    """The channels that a goroutine closed at a line of the program, and into which no value was put."""
+    """The channels that a goroutine closed at a line of the program and into which no goroutine put a value."""
     lines = recording.lines
     return {
         number: use
@@ -97,7 +97,7 @@ def closed_by(recording: Recording, name: Name) -> dict[int, Use]:
 
 
 def lacking_says(recording: Recording, lacking: Lacking) -> str:
-    """The sentence."""
+    """The sentence about the lacking case."""
     lines, closed, wait = recording.lines, lacking.closed, lacking.wait
     by = f"{name_of_goid(lines, closed.goid)}, step {closed.last}"
     return (

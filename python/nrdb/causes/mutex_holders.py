@@ -19,11 +19,12 @@ from .waiters import Waiter
 from .words import place_in, short
 
 MUTEX_OF_GO, READS, WRITES = "sync.(*Mutex).", "sync.(*RWMutex).RLock", "sync.(*RWMutex).Lock"
-A_MOMENT = 50_000_000  # nanoseconds; a goroutine that got a mutex more recently may not have run yet
+A_MOMENT = 50_000_000  # nanoseconds; a goroutine that got a mutex more recently may not have run since
 
 
 class Holder(NamedTuple):
-    """A goroutine that holds a mutex, the stack that locked it, and the step after which it did so."""
+    """A goroutine that holds a mutex, the stack that locked the mutex, and the step after which the goroutine locked
+    it."""
 
     name: Name
     stack: Stack
@@ -32,13 +33,13 @@ class Holder(NamedTuple):
 
     @property
     def call(self) -> Optional[Call]:
-        """The call of the program that locked it."""
+        """The call of the program that locked the mutex."""
         found = self.stack.own()
         return found[0] if found and found[0].of == OF_THE_PROGRAM else None
 
     @property
     def locked(self) -> str:
-        """The line that locked it: `, locked at a.go:12`, with the caller of a function that only locks it."""
+        """Words for the line that locked the mutex: `, locked at a.go:12`; empty if no line of the program did."""
         call = self.call
         return f", locked at {call.place()}" if call else ""
 
@@ -57,7 +58,7 @@ class MutexHolders:
 
     @property
     def are_known(self) -> bool:
-        """Whether the recording has the holders of mutexes at this position; it has them only for its end."""
+        """Whether the recording has the holders of mutexes at this position. A recording has them only for its end."""
         return self._recording.lines.held is not None and self._position == self._recording.length
 
     def need(self, wait: Waiting) -> Need:
@@ -70,8 +71,9 @@ class MutexHolders:
         return self._of_holder(wait, others[0], others[1:]) if others else self._of_nobody(wait)
 
     def _holders(self, wait: Waiting) -> Iterator[Holder]:
-        """The holders that a goroutine waits for: the writer; or, if the goroutine is a writer that already has the
-        mutex, the readers that it waits for. The goroutine itself is among them if it also holds the mutex."""
+        """The holders that a goroutine waits for: the writer, or, if the goroutine is itself a writer that already has
+        the mutex, the readers that it waits for. The goroutine itself is among the holders if it also holds the
+        mutex."""
         held = [one for at in wait.objects for one in (self._recording.lines.held or {}).get(at.object, ())]
         writers = [self._holder(one) for one in held if one.how != READ]
         readers = [self._holder(one) for one in held if one.how == READ]
@@ -88,19 +90,19 @@ class MutexHolders:
 
     @staticmethod
     def _is_pending(wait: Waiting, holder: Holder) -> bool:
-        """Whether a goroutine that waits in RWMutex.Lock has its mutex, and waits for readers."""
+        """Whether a goroutine in RWMutex.Lock has the mutex already and waits only for its readers."""
         inside = [call.function for call in wait.stack.calls if call.of != OF_THE_PROGRAM]
         is_in_mutex = any(MUTEX_OF_GO in function for function in inside)
         return not holder.is_reader and not is_in_mutex and any(WRITES in one for one in inside)
 
     def _of_itself(self, wait: Waiting, holder: Holder) -> Need:
-        """The need if the goroutine has locked the mutex before."""
+        """The need of a goroutine that has itself locked the mutex before."""
         if left := self._left_locked(holder, wait.stack):
             return left
         return Need([f"It {holder.how} itself{holder.locked}: Lock waits for its own goroutine."], is_odd=True)
 
     def _of_holder(self, wait: Waiting, holder: Holder, more: list[Holder]) -> Need:
-        """The need if another goroutine holds the mutex."""
+        """The need of a goroutine that waits for a mutex which another goroutine holds."""
         call, does = holder.call, self._does(holder.name)
         if does.startswith("ended"):
             left = returns_locked(self._recording, call) if call else []
@@ -124,8 +126,8 @@ class MutexHolders:
         return Need([f"{str(holder.name).capitalize()} {holder.how}{holder.locked}{others}{doing}."], is_odd=True)
 
     def _left_locked(self, holder: Holder, now: Stack) -> Optional[Need]:
-        """The need if the holder's current line shows that it has left the function that locked the mutex and that
-        unlocks it on other paths; else None."""
+        """The need, if the holder's current line shows that the holder has left the function that locked the mutex.
+        That function unlocks the mutex on other paths. Else None."""
         call = holder.call
         if call is None or not now.calls or any(one.function == call.function for one in now.calls):
             return None
@@ -136,8 +138,8 @@ class MutexHolders:
         return Need([says, *returns_locked(self._recording, call)], is_odd=True, gone=holder.name)
 
     def _of_nobody(self, wait: Waiting) -> Need:
-        """The need if no goroutine holds the mutex: the mutex may be a copy of a locked one if the goroutine has waited
-        for more than a moment."""
+        """The need, if no goroutine holds the mutex: if the goroutine has waited for more than a moment, the mutex may
+        be a copy of a locked mutex."""
         times = self._recording.lines.times
         if not times or times[-1] - wait.begin < A_MOMENT:
             return Need([])
@@ -150,5 +152,5 @@ class MutexHolders:
 
 
 def locked_words(holder: Holder) -> str:
-    """Says which goroutine locked a mutex, and at which line."""
+    """Words for the goroutine that locked a mutex, and for the line."""
     return f"{str(holder.name).capitalize()} locked it{place_in(holder.stack)} (step {holder.step})"

@@ -13,18 +13,19 @@ class Certainty(IntEnum):
     """The strength of the evidence that a goroutine could give what another needs."""
 
     PERHAPS = 1  # from stacks alone
-    LIKELY = 2  # it has done the same before
-    KNOWN = 3  # it has what is needed, as the recording's steps show
+    LIKELY = 2  # the goroutine has done the same before
+    KNOWN = 3  # the goroutine has what is needed, as the recording's steps show
 
 
 class Need(NamedTuple):
-    """A waiter's need. `says` are sentences about it. `by` is the goroutine that could end the wait, `how` a sentence
-    about that goroutine (with `{by}` for its name), and `certainty` the strength of the evidence. `stopped` is the last
-    step of a goroutine that could have gone on and is no longer in a call. `more` are sentences that a deadlock shows
-    too, and `is_plain` means that they give no reason, only what a Read reads up to. `is_odd`: goroutines of one `go`
-    statement differ in what is needed. `gone` is the ended goroutine that gave it before, `ended` are those that ended
-    without giving it, and `others` are further candidates for `by`. `is_kept`: finished calls have kept what is needed,
-    so no waiter has it. `beside` are sentences to add if `by` itself waits for another."""
+    """A waiter's need. `says` are sentences about it. `by` is the goroutine that could end the wait, `how` is a
+    sentence about that goroutine (with `{by}` for its name), and `certainty` is the strength of the evidence. `stopped`
+    is the last step of a goroutine that could have gone on and is no longer in a call. `more` are sentences that a
+    deadlock shows too. `is_plain` means that these sentences give no reason, only what a Read reads up to. `is_odd`
+    means that goroutines of one `go` statement differ in whether they did what is needed. `gone` is the ended goroutine
+    that did it before, `ended` are the goroutines that ended without doing it, and `others` are further candidates for
+    `by`. `is_kept` means that finished calls have kept what is needed, so no waiter has it. `beside` are sentences to
+    add if `by` itself waits for another goroutine."""
 
     says: list[str]
     by: Optional[Name] = None

@@ -75,7 +75,8 @@ class Needs:
         return need._replace(more=more or ends, beside=tuple(lost), is_plain=bool(ends))
 
     def _of_exchange(self, call: Call, other: int) -> list[str]:
-        """The need of a Read that waits, from its earlier Writes, the other end's Reads and the counts of bytes."""
+        """Sentences about the need of a Read that waits, from the earlier Writes of its goroutine, the Reads at the
+        other end, and the counts of bytes."""
         index = self._index
         found = lacking(index, call, other)
         found = (
@@ -88,7 +89,7 @@ class Needs:
         return found
 
     def _of_lock(self, call: Call) -> Need:
-        """The need of a call that waits for the lock of a socket's side: the call that has the lock."""
+        """The need of a call that waits for the lock of a socket's side: the call that holds the lock."""
         holders = [
             one for one in self._index.by_socket[call.socket]
             if one.side == call.side and not one.is_asking and one.first <= self._position and self._is_under_way(one)
@@ -104,7 +105,7 @@ class Needs:
         return not call.last or call.last > self._position
 
     def _of_other_end(self, call: Call, other: int, is_reading: bool) -> Need:
-        """The need of a read for bytes, or of a write for room: the goroutine that used the other end last."""
+        """The need of a read for bytes, or of a write for room: the goroutine that last used the other end."""
         index, wanted = self._index, "Write" if is_reading else "Read"
         did = index.last_use(other, self._position, (wanted,))
         last = did or index.last_use(other, self._position)
@@ -138,8 +139,8 @@ class Needs:
         return Need([*says, *self._since_then(last)], Name(last.goroutine), how, Certainty.LIKELY, self._stopped(last))
 
     def _sibling_of(self, wrote: Call) -> Optional[Name]:
-        """A waiting goroutine that the reader of the requests started by the same `go` statement as an ended goroutine
-        that wrote an answer."""
+        """A waiting goroutine that perhaps writes the answer: a goroutine that has ended wrote an earlier one, and the
+        reader of the requests started both by the same `go` statement."""
         lines = self._recording.lines
         known = lines.goroutines.get(lines.goid_of(wrote.goroutine, wrote.first))
         if known is None or known.made is None or known.last < 0 or not known.maker:
@@ -156,8 +157,9 @@ class Needs:
         return first.name if first else None
 
     def _started_by(self, last: Call) -> Optional[Name]:
-        """The goroutine that is perhaps to write at the other end of a read, if nothing was written there yet: the
-        other end's reader started it after the last request and reads on, and it waits elsewhere."""
+        """The goroutine that should perhaps write at the other end of a read, if nothing was written there yet. The
+        other end's reader started this goroutine after the last request and now reads again, and the goroutine waits
+        elsewhere."""
         lines, reads = self._recording.lines, self._index.by_socket[last.socket]
         got = [
             one for one in reads if one.goroutine == last.goroutine and one.name == "Read" and one.moved and one.last
@@ -171,9 +173,9 @@ class Needs:
         return first.name if first else None
 
     def _relay_back(self, last: Call) -> Optional[Name]:
-        """The goroutine that is perhaps to write at the other end of a read, if nothing was written there and the other
-        end's reader passes on what it reads: the goroutine that waits to read where that reader writes, which is the
-        other half of a relay."""
+        """The goroutine that should perhaps write at the other end of a read, if nothing was written there and the
+        other end's reader passes on what it reads. It is the goroutine that waits to read from the socket to which that
+        reader writes, which is the other half of a relay."""
         if last.name != "Read" or Name(last.goroutine) in self._waiters:
             return None
         wrote = {
@@ -186,7 +188,7 @@ class Needs:
         return found.name if found else None
 
     def _needed(self, call: Call, other: int, did: Optional[Call]) -> list[str]:
-        """What a call needs from the other end, whose last read or write is `did`."""
+        """Sentences about what a call needs from the other end. `did` is the last read or write there."""
         if call.name in READING:
             return [f"It needs bytes from its other end, socket {other}."]
         is_read = did and self._is_under_way(did) and not did.is_asking
@@ -194,7 +196,7 @@ class Needs:
         return [f"Socket {call.socket} has no room: its other end, socket {other}, {ended}."]
 
     def _started_for(self, opened: Call) -> Optional[Name]:
-        """The goroutine that the opener of a socket started next, before it opened another socket: a server starts a
+        """The goroutine that the opener of a socket started next, before it opened another socket. A server starts a
         goroutine for each connection."""
         lines, following = self._recording.lines, self._index.next_of(opened)
         until = following.first if following else self._recording.length + 1
@@ -208,14 +210,15 @@ class Needs:
         return name_of_goid(lines, first.goid) if first else None
 
     def _stopped(self, last: Call) -> int:
-        """The last step of a goroutine that is no longer in a call; 0 if it waits for something else."""
+        """The last step of a goroutine that is no longer in a call; 0 if the goroutine is in a call or waits
+        elsewhere."""
         is_busy = self._index.inside(last.goroutine, self._position) or self._waits.at(
             Name(last.goroutine), self._position
         )
         return 0 if is_busy else last.first
 
     def _since_then(self, last: Call) -> list[str]:
-        """A sentence about the goroutine that used the other end last, and what it does now."""
+        """A sentence about the goroutine that last used the other end: that use, and what the goroutine does now."""
         recording, now = self._recording, self._index.inside(last.goroutine, self._position)
         if now is last:
             return [f"There {told(recording, last)} is itself under way since step {last.first}."]

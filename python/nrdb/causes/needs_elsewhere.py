@@ -1,5 +1,5 @@
-"""What each goroutine that waits outside the poller needs, for a mutex, a channel, a WaitGroup, a descriptor in use, or
-a connection of net/http; and which goroutine could give it."""
+"""What each goroutine that waits outside the poller needs, and which goroutine could give it. Such a goroutine waits
+for a mutex, a channel, a WaitGroup, a descriptor in use, or a connection of net/http."""
 
 from typing import Hashable, Iterator, Optional
 
@@ -41,10 +41,12 @@ class NeedsElsewhere:
         stacks = list(self._stacks())
         self._groups = Groups(index, waits, stacks, position)
         self._channels = NeedsOfChannels(self._recording, waits, self._ledger, waiters, dict(stacks), self._does)
-        # goroutines that pass values on to those that wait at a line
+        # the goroutines that pass values on to the goroutines that wait at a line
         self._hands: dict[Hashable, dict[int, list[Hand]]] = {}
-        self._later: dict[Hashable, Optional[Need]] = {}  # what ends the selects of a line
-        self._conditions: dict[Hashable, list[str]] = {}  # the sentences about waits, by their lines and objects
+        self._later: dict[
+            Hashable, Optional[Need]
+        ] = {}  # the needs of selects that another goroutine ends later, keyed by line
+        self._conditions: dict[Hashable, list[str]] = {}  # the sentences about waits, keyed by their lines and objects
         self._mutexes = NeedsOfMutexes(self._recording, self._ledger, waiters, stacks, self._does)
         self._holders = MutexHolders(self._recording, waiters, position, self._does)
 
@@ -110,8 +112,8 @@ class NeedsElsewhere:
         return need
 
     def _reader_for(self, wait: Waiting) -> Optional[Name]:
-        """The need of a goroutine that wrote, and waits for a value from a channel into which none was put yet: the
-        goroutine that waits to read at that connection, as a client's reader does."""
+        """The goroutine that could give a value to a goroutine that wrote and now waits on a channel into which no
+        value was put yet. It is the goroutine that waits to read from that connection, as a client's reader does."""
         if wait.name.is_goid or not self._channels.is_new(wait) or not is_for_values(wait):
             return None
         wrote = next(back(self._index.by_goroutine[wait.name.number], wait.first), None)
@@ -125,7 +127,8 @@ class NeedsElsewhere:
         return next(readers, None)
 
     def _of_answer(self, wait: Waiting) -> Optional[Need]:
-        """The need of a goroutine that waits for an answer, if another goroutine read it and passed it to no other."""
+        """The need of a goroutine that waits for an answer, if another goroutine read the answer and passed it to no
+        other goroutine."""
         if not is_for_values(wait):
             return None
         own = wait.stack.own()
@@ -136,7 +139,7 @@ class NeedsElsewhere:
 
     def _closed_later(self, wait: Waiting) -> Optional[Need]:
         """The need of a select whose channel or context another goroutine closes or cancels later, computed once for
-        those at the same line."""
+        the selects of a line."""
         key = "later", wait.stack.own()
         if key not in self._later:
             self._later[key] = closed_later(self._recording, wait._replace(name=NOBODY), self._stacks())
@@ -144,11 +147,12 @@ class NeedsElsewhere:
         return closed_later(self._recording, wait, self._stacks()) if need and need.by == wait.name else need
 
     def excess_of(self, names: set[Name]) -> list[str]:
-        """The calls of these goroutines that gave something back to a channel more often than they took from it."""
+        """Sentences about the calls of these goroutines that gave something back to a channel more often than they took
+        from it."""
         return self._channels.excess_of(names)
 
     def _of_close(self, waiter: Waiter) -> Need:
-        """The need of a Close that waits until the descriptor isn't used: the call that uses it."""
+        """The need of a Close that waits until no call uses the descriptor: the call that uses it."""
         closes = None if waiter.name.is_goid else self._index.inside(waiter.name.number, self._position)
         if closes is None:
             return Need([])
@@ -162,7 +166,8 @@ class NeedsElsewhere:
         return Need([says], Name(users[-1].goroutine), "{by} uses the descriptor")
 
     def _of_condition(self, wait: Waiting) -> list[str]:
-        """The need of a wait for a condition: the function that should have woken the goroutine, or all waiters."""
+        """Sentences about the need of a wait on a condition: the function that should have woken the goroutine, or all
+        waiters."""
         key = wait.stack.own(), wait.objects
         if key not in self._conditions:
             alike = [one for one in self._waiters.values() if one.wait and one.wait.objects == wait.objects]
@@ -170,7 +175,7 @@ class NeedsElsewhere:
         return self._conditions[key]
 
     def _of_connection(self) -> Need:
-        """The need of a net/http request that waits for a connection: the goroutine that perhaps has it."""
+        """The need of a net/http request that waits for a connection: the goroutine that perhaps has the connection."""
         asking = (name for name, one in self._waiters.items() if one.wait and one.wait.kind == A_RESPONSE)
         by = next(asking, None)
         how = "perhaps {by} has the connection, and waits for the response"
@@ -195,8 +200,8 @@ class NeedsElsewhere:
         return Need(says)
 
     def _of_response(self, wait: Waiting) -> Optional[Need]:
-        """The need of a wait for a net/http response: the goroutine that serves the request, if it is in this
-        recording."""
+        """The need of a goroutine that waits for a net/http response: the goroutine that serves the request, if it is
+        in this recording."""
         socket = socket_of(self._index, wait, self._position)
         server = None if socket is None else server_of(self._index, socket, self._position)
         if socket is None or server is None or self._reads_on(server):
@@ -208,13 +213,13 @@ class NeedsElsewhere:
         return Need(says, server, "{by} serves the request", Certainty.LIKELY, more=held, beside=beside)
 
     def _reads_on(self, server: Name) -> bool:
-        """Whether a server's goroutine waits for the next request, and so serves none."""
+        """Whether a server's goroutine waits for the next request, and so serves no request now."""
         now = self._waiters.get(server)
         return now is not None and now.is_of_go and now.call is not None and now.call.name in READING
 
     def _ended_before(self, wait: Waiting, elsewhere: bool = False) -> Optional[Name]:
-        """The goroutine that ended this goroutine's last wait at the same line and now waits itself, at the same
-        channel or mutex, or at any."""
+        """The goroutine that ended this goroutine's last wait at the same line and now waits itself. The last wait was
+        on the same channel or mutex, or, with `elsewhere`, on any."""
         earlier = (
             one for one in reversed(self._waits.of[wait.name])
             if one.last is not None and one.by is not None and one.last <= wait.first
@@ -229,8 +234,8 @@ class NeedsElsewhere:
         return next((by for by in same if by in self._waiters), None)
 
     def _does(self, name: Name, stack: Optional[Stack] = None) -> str:
-        """What a goroutine does now, or that it has ended, and its last place, unless that is the known stack; empty if
-        unknown."""
+        """What a goroutine does now. If it has ended: that it has, and its last place unless that is the known stack.
+        Empty if unknown."""
         if wait := self._waits.at(name, self._position):
             return f"{waits_words(wait)} since step {wait.first}"
         lines = self._recording.lines

@@ -1,5 +1,5 @@
-"""What a goroutine that waits at a channel needs. It is derived from how often each goroutine took and gave there, from
-the last goroutine that did the awaited operation, and from those that ended without it."""
+"""What a goroutine that waits on a channel needs. The need is derived from how often each goroutine took and gave
+there, from the last goroutine that did the awaited operation, and from the goroutines that ended without it."""
 
 from itertools import islice
 from typing import Any, Callable, Hashable, Iterable, Iterator, Mapping, Optional, TypeVar
@@ -41,7 +41,7 @@ Rule = Callable[[Recording, Waiting, Iterable[tuple[Name, Stack]]], Optional[Nee
 
 
 class NeedsOfChannels:
-    """The needs of the goroutines that wait at channels. `stacks` has the stacks of all goroutines that wait or
+    """The needs of the goroutines that wait on channels. `stacks` has the stacks of all goroutines that wait or
     sleep."""
 
     def __init__(
@@ -50,7 +50,9 @@ class NeedsOfChannels:
     ) -> None:  # fmt: skip
         self._recording, self._waits, self._ledger = recording, waits, ledger
         self._waiters, self._stacks, self._does = waiters, stacks, does
-        self._memo: dict[Hashable, Any] = {}  # computed once for a channel, because many may wait there
+        self._memo: dict[
+            Hashable, Any
+        ] = {}  # results computed once for a channel, because many goroutines may wait there
 
     def _once(self, key: Hashable, find: Callable[[], Found]) -> Found:
         if key not in self._memo:
@@ -59,7 +61,7 @@ class NeedsOfChannels:
         return found
 
     def _balances(self, number: int) -> list[Balance]:
-        """The balances at a channel; none unless goroutines take from it and give back, as with a pool."""
+        """The balances at a channel; none unless goroutines take from the channel and give back, as with a pool."""
 
         def find() -> list[Balance]:
             found = balances_of(self._recording, number, self._stacks)
@@ -68,7 +70,7 @@ class NeedsOfChannels:
         return self._once(("balances", number), find)
 
     def besides(self, wait: Waiting) -> list[str]:
-        """Further sentences about a channel: values that were perhaps lost there, or kept by a function."""
+        """Further sentences about a channel: values that were perhaps lost there, or that a function kept."""
 
         def find() -> list[str]:
             is_pool = any(self._balances(at.object) for at in wait.objects if self.is_buffered(at))
@@ -81,7 +83,7 @@ class NeedsOfChannels:
 
     def of_balance(self, wait: Waiting) -> Optional[Need]:
         """The need at a channel from which goroutines take and give back: the calls that kept something or gave it back
-        twice; else a goroutine that has something and waits. None if the channel isn't used this way."""
+        twice; else a goroutine that has taken something and now waits. None if the channel isn't used this way."""
         at, wanted = wait.objects[0], GIVES.get(wait.objects[0].use, "")
         balances = self._balances(at.object) if self.is_buffered(at) else []
         if not balances:
@@ -89,7 +91,7 @@ class NeedsOfChannels:
         takes = balances[0].takes
         if takes == wanted and is_filled_by_maker(self._recording, at):
             return None
-        if takes == wanted:  # it waits to give back: there is too much
+        if takes == wanted:  # the goroutine waits to give back: the channel has too many values
             return Need(excess_says(balances)) if any(one.missing < 0 for one in balances) else None
         by = next((one.name for one in balances if self._is_holder(one, wait)), None)
         says = self._once(("kept", at.object), lambda: kept_says(self._recording, balances))
@@ -103,7 +105,7 @@ class NeedsOfChannels:
         )
 
     def _of_slots(self, wait: Waiting) -> Optional[Need]:
-        """The need at a semaphore to which no slot was given back yet: a goroutine that has one."""
+        """The need at a semaphore to which no goroutine has given a slot back yet: a goroutine that has a slot."""
         key = "slots", wait.stack.own(), wait.objects
         need = self._once(
             key, lambda: of_slots(self._recording, wait._replace(name=NOBODY), self._stacks, self._waiters)
@@ -113,8 +115,8 @@ class NeedsOfChannels:
         return need
 
     def _of_nested(self, wait: Waiting) -> Optional[Need]:
-        """The need at a channel that was filled once: a goroutine that took from it in a call that it is still in, and
-        waits there for another."""
+        """The need at a channel that was filled once: a goroutine that took a value in a call that it is still in, and
+        waits there for another value."""
         at = wait.objects[0]
         found = self._once(("nested", at), lambda: list(islice(self._nested(at), MOST_GIVEN)))
         return next((need for need in found if need.by != wait.name), None)
@@ -136,7 +138,7 @@ class NeedsOfChannels:
                 yield Need([], name, f"perhaps {how}", Certainty.PERHAPS)
 
     def excess_of(self, names: set[Name]) -> list[str]:
-        """The calls of these goroutines that gave back to a channel more often than they took."""
+        """Sentences about the calls of these goroutines that gave back to a channel more often than they took."""
         for number in self._recording.lines.objects:
             if self.is_buffered(At(number, "")) and (balances := self._balances(number)):
                 mine = [one for one in balances if one.name in names and one.takes == TOOK]
@@ -149,21 +151,21 @@ class NeedsOfChannels:
         return known is not None and known.room > 0
 
     def _is_holder(self, balance: Balance, wait: Waiting) -> bool:
-        """Whether a goroutine has something that another waits for, and itself waits elsewhere."""
+        """Whether a goroutine has something that another goroutine waits for, and itself waits elsewhere."""
         return balance.name in self._waiters and balance.name != wait.name and balance.has_one
 
     def is_new(self, wait: Waiting) -> bool:
-        """Whether no goroutine has yet done at its channels what a goroutine waits for."""
+        """Whether no goroutine has yet done what a goroutine waits for on its channels."""
         since = self._made_since(wait)
         given = (one for at in wait.objects for one in self._given(at))
         return bool(wait.objects) and all(at.use for at in wait.objects) and not any(one.last >= since for one in given)
 
     def _made_since(self, wait: Waiting) -> int:
-        """The earliest step after which the channel that a goroutine waits at was made."""
+        """The earliest step after which the channel that a goroutine waits on was made."""
         return self._once((wait.name, wait.objects, "made"), lambda: made_since(self._recording, wait))
 
     def of(self, wait: Waiting) -> Need:
-        """The need of a wait at channels: the last goroutine that did there what the waiter waits for."""
+        """The need of a wait on channels: the last goroutine that did what the waiter waits for."""
         is_one = len(wait.objects) == 1
         since = self._made_since(wait)
         given = [one for at in wait.objects for one in self._given(at) if one.name != wait.name and one.last >= since]
@@ -195,7 +197,7 @@ class NeedsOfChannels:
         return self._of_the_past(wait, given[:1], closing)
 
     def _of_ended_takers(self, wait: Waiting) -> Need:
-        """The need of a select that would put a value into a channel from which only ended goroutines took."""
+        """The need of a select that would send on a channel from which only ended goroutines took values."""
         for at in wait.objects:
             given = self._given(at) if at.use == FOR_ROOM else []
             if given and all(has_ended(self._recording, one.name) for one in given):
@@ -206,7 +208,8 @@ class NeedsOfChannels:
         return ended_giver(index_of(self._recording), wait) or Need([])
 
     def _of_the_past(self, wait: Waiting, given: list[Given], closing: Optional[Need]) -> Need:
-        """The need at a channel at which no waiting goroutine did the awaited operation: the last one that did."""
+        """The need at a channel on which no waiting goroutine did the awaited operation: the last goroutine that did
+        it."""
         for one in given:
             loop = loop_words(self._recording, one.stack) if has_ended(self._recording, one.name) else ""
             did = f"{str(one.name).capitalize()} {GIVES_WORDS[one.what]}{place_in(one.stack)} (step {one.last}{loop})"
@@ -228,7 +231,7 @@ class NeedsOfChannels:
         return later
 
     def _given(self, at: At) -> list[Given]:
-        """The first goroutines that did the awaited operation at a channel, starting with those that wait."""
+        """The first goroutines that did the awaited operation on a channel, starting with those that wait."""
 
         def find() -> list[Given]:
             every = list(self._ledger.given(at))
@@ -237,12 +240,12 @@ class NeedsOfChannels:
         return self._once(("given", at), find)
 
     def _closing(self, wait: Waiting) -> Optional[Need]:
-        """The need for the close of a channel, from the source."""
+        """The need of a goroutine that waits until a channel is closed, from the source."""
         return self._by_source("closing", unclosed, wait)
 
     def _by_source(self, key: str, rule: Rule, wait: Waiting) -> Optional[Need]:
-        """The result of a rule that reads the source, computed once for all waits of a line; for a wait whose own
-        goroutine the result names, computed again."""
+        """The result of a rule that reads the source. The result is computed once for all waits of a line, and again
+        for a wait whose own goroutine the result names."""
         nobody = wait._replace(name=NOBODY)
         place = wait.stack.own(), wait.objects, key
         need = self._once(place, lambda: rule(self._recording, nobody, self._stacks.items()))
@@ -254,17 +257,18 @@ class NeedsOfChannels:
         return [*(closing.more if closing else []), *perhaps_dropped(self._recording, wait, self._waiters[by])]
 
     def _of_siblings(self, wait: Waiting) -> list[str]:
-        """The need if some goroutines of a `go` statement of the waiter's function ended without what others did."""
+        """Sentences about a `go` statement in the waiter's function, if some of its goroutines ended without doing what
+        others did."""
         what = GIVES.get(wait.objects[0].use, "")
         return [ended_words(self._recording, kind, DID[what]) for kind in self._kinds_of(wait)]
 
     def _ended_siblings(self, wait: Waiting) -> tuple[Name, ...]:
-        """The goroutines of that `go` statement that ended without the awaited operation."""
+        """The goroutines of that `go` statement that ended without doing the awaited operation."""
         return tuple(name_of_goid(self._recording.lines, goid) for kind in self._kinds_of(wait) for goid in kind.ended)
 
     def _kinds_of(self, wait: Waiting) -> list[Kind]:
-        """The first `go` statement in a function of the waiter whose goroutines partly did the awaited operation,
-        and partly ended without it."""
+        """The first `go` statement in a function of the waiter of whose goroutines some did the awaited operation and
+        others ended without it."""
         what = GIVES.get(wait.objects[0].use, "")
         if len(wait.objects) != 1 or not what:
             return []
@@ -277,13 +281,15 @@ class NeedsOfChannels:
         return kinds_of(self._recording, did)
 
     def left_without(self, wait: Waiting) -> list[str]:
-        """Says which goroutine waited for a value that was never taken from a channel, and went on without it."""
+        """A sentence about the goroutine that waited on a channel for a value that no goroutine ever took, and went on
+        without the value."""
         if len(wait.objects) != 1 or not self.is_new(wait):
             return []
         return self._once(("gone", wait.objects), lambda: self._gone(wait))
 
     def _gone(self, wait: Waiting) -> list[str]:
-        """The goroutine that waited for a value that was never taken, and went on without it."""
+        """A sentence about the goroutine that waited for a value that no goroutine ever took, and went on without the
+        value."""
         at = wait.objects[0]
         if at.use != FOR_ROOM:
             return []

@@ -1,5 +1,5 @@
-"""What a goroutine that waits for a mutex needs: the goroutine that perhaps holds it, from stacks, from earlier
-holders, and from the program's source."""
+"""What a goroutine that waits for a mutex needs: the goroutine that perhaps holds the mutex, found from stacks, from
+earlier holders, and from the program's source."""
 
 from typing import Callable, Mapping, NamedTuple, Optional
 
@@ -21,8 +21,8 @@ MOST_HOLDERS = 50  # the most mutexes to examine
 
 
 class Holder(NamedTuple):
-    """A goroutine that may hold a mutex, the line at which it locked it (0: unknown), and the strength of the
-    evidence."""
+    """A goroutine that may hold a mutex, the line at which the goroutine locked it (0: unknown), and the strength of
+    the evidence."""
 
     name: Name
     file: str
@@ -35,7 +35,8 @@ class Holder(NamedTuple):
 
 
 def of_once(stack: Stack) -> str:
-    """Says that a goroutine that waits in a sync.Once's Do is already running that Do; empty if it isn't."""
+    """A sentence about a goroutine that waits in a sync.Once's Do: the goroutine itself already runs that Do. Empty if
+    it doesn't."""
     lines = [
         outer for inner, outer in zip(stack.calls, stack.calls[1:])
         if inner.function in DO and outer.function not in DO and outer.of == OF_THE_PROGRAM
@@ -84,8 +85,9 @@ class NeedsOfMutexes:
         return Need([f"{held} {first.name}, which {self._does(first.name)}."])
 
     def _crossed(self, waiter: Waiter, wait: Waiting) -> Optional[Need]:
-        """The need if another goroutine waits for another mutex, in a function that both are in, and holds a mutex
-        there too, as when two goroutines call a function with the same mutexes in different orders."""
+        """The need, if another goroutine waits for a different mutex in a function that both goroutines are in, and
+        both hold a mutex there. This happens if two goroutines call a function with the same mutexes in different
+        orders."""
         objects = {at.object for at in wait.objects}
         mine = {call.function for call in waiter.stack.calls if self._held(call)}
         for name, other in self._waiters.items():
@@ -103,7 +105,8 @@ class NeedsOfMutexes:
         return {holder.name for number in numbers if (holder := self._ledger.last_holder(number))}
 
     def _of_itself(self, waiter: Waiter, lock: Call) -> str:
-        """Says that a goroutine has perhaps locked the mutex itself, in a call that it is in."""
+        """A sentence which says that a goroutine has perhaps locked the mutex itself, in a call that it is still in;
+        else empty."""
         name = LOCK.search(text_at(self._recording, lock))
         for call in waiter.stack.calls if name else ():
             for held in self._held(call):
@@ -122,8 +125,8 @@ class NeedsOfMutexes:
         return [holder for holder in self._found[lock, numbers] if holder.name != waiter.name]
 
     def _found_for(self, lock: Call, numbers: frozenset[int], last: set[Name]) -> list[Holder]:
-        """The goroutines that may hold a mutex, leaving out those that wait for the same mutex, unless such a goroutine
-        itself holds it."""
+        """The goroutines that may hold a mutex. Those that wait for the same mutex are left out, unless such a
+        goroutine itself holds it."""
         locks = {lock}.union(*map(self._ledger.lines_of, numbers))
         had = {name for number in numbers for name in self._ledger.had(number)}
         found = list[Holder]()
@@ -149,9 +152,9 @@ class NeedsOfMutexes:
         return {at.object for at in waiter.wait.objects} if waiter and waiter.wait else set()
 
     def _lock_of(self, call: Call, lock: Call, locks: set[Call]) -> Optional[int]:
-        """The line at which a goroutine in a call locked a mutex that may be the one that another waits for in the call
-        `lock`, or others wait for in `locks`; 0 if the line isn't certain, None if the goroutine holds no such mutex
-        there."""
+        """The line at which a goroutine in a call locked a mutex that may be the awaited one. Another goroutine waits
+        for that mutex in the call `lock`, or others wait for it in `locks`. 0 if the line isn't certain, None if the
+        goroutine holds no such mutex there."""
         key = call, lock, frozenset(locks)
         if key not in self._locks:
             self._locks[key] = self._look_for_lock(call, lock, locks)

@@ -1,5 +1,5 @@
-"""Channels that a function makes for one request: what was done earlier at the same address concerned an older channel,
-whose memory was reused. Derived from the program's source."""
+"""Channels that a function makes for one request. Earlier uses at the same address concerned an older channel whose
+memory was reused. Derived from the program's source."""
 
 import re
 
@@ -13,11 +13,11 @@ from .source_functions import range_of, source_of, text_at
 
 
 def made_since(recording: Recording, wait: Waiting) -> int:
-    """The step after which the channel that a goroutine waits at was made, if the waiting function makes it: the step
-    of the function's Write after that, unless it is in a loop; else 0."""
+    """The step after which the channel that a goroutine waits on was made, if the waiting function makes it: the step
+    of the function's Write that follows, unless that Write is in a loop; else 0."""
     own = wait.stack.own()
     if recording.lines.made or not own or own[0].of != OF_THE_PROGRAM or len(wait.objects) != 1 or wait.name.is_goid:
-        return 0  # (if the recorder saw channels being made, a reused address is another channel)
+        return 0  # (if the recorder saw channels being made, a channel at a reused address is a new object)
     text = text_at(recording, own[0])
     name = TAKES.search(text) or PUTS.search(text)
     lines = source_of(recording, own[0].file)

@@ -1,5 +1,5 @@
-"""Buffered readers that a function makes anew in each call, from the program's source: bytes that the previous reader
-had read ahead are lost with it, and the other end waits for the answers to them."""
+"""Buffered readers that a function makes anew in each call, from the program's source. Bytes that the previous reader
+had read ahead are lost with that reader, and the other end waits for answers to them."""
 
 import re
 from typing import Optional
@@ -21,8 +21,8 @@ MAKES = re.compile(r"\b(bufio\.NewReader|bufio\.NewReaderSize|bufio\.NewScanner|
 
 
 def thrown_away(index: Index, call: Call, other: int, position: int) -> list[str]:
-    """Says, for a Read that waits, that its goroutine left the function after the last Read, that the function makes a
-    new reader, and that the other end waits for more than one answer."""
+    """Sentences about a Read that waits: its goroutine left the function after the last Read, the function makes a new
+    reader, and the other end waits for more than one answer."""
     lines = index.recording.lines
     own = lines.of(call.first).own()
     made = maker_line(index, own[0]) if own else 0
@@ -46,8 +46,8 @@ def thrown_away(index: Index, call: Call, other: int, position: int) -> list[str
 
 
 def left_reader(index: Index, call: Call, other: int, position: int) -> list[str]:
-    """Says, for a Read that waits, that an earlier one was of a buffered reader that a function made for itself and has
-    dropped, while the other end has written nothing more."""
+    """Sentences about a Read that waits: an earlier Read was by a buffered reader that a function made for itself and
+    has dropped, while the other end has written nothing more."""
     stacks, calls = index.recording.lines, index.by_socket[call.socket]
     reads = [one for one in calls if one.name == "Read" and one.moved and 0 < one.last < call.first]
     wrote = index.last_use(other, position, ("Write",))
@@ -71,8 +71,8 @@ def left_reader(index: Index, call: Call, other: int, position: int) -> list[str
 
 
 def past_a_reader(index: Index, call: Call, other: int, read: Call, position: int) -> list[str]:
-    """Says, for a Read without a buffer, that the last one there was of a buffered reader, made by a function that the
-    goroutine is still in, or that started it; and that the other end waits to read."""
+    """Sentences about a Read without a buffer: the last Read there was by a buffered reader, which a function made that
+    the goroutine is still in or that started the goroutine; and the other end waits to read."""
     lines = index.recording.lines
     if is_buffered(lines.of(call.first)) or not is_buffered(lines.of(read.first)):
         return []
@@ -95,13 +95,13 @@ def lines_in(index: Index, call: Call) -> tuple[LineCall, ...]:
 
 
 def since_an_answer(reads: list[Call], calls: list[Call]) -> list[Call]:
-    """The last Read of a socket, followed by the earlier ones after which nothing was written there, latest first."""
+    """The last Read on a socket, followed by the earlier Reads after which nothing was written there, latest first."""
     wrote = max((one.first for one in calls if one.name == "Write" and one.moved), default=0)
     return [one for one in reversed(reads) if one is reads[-1] or one.last > wrote]
 
 
 def lost_with(index: Index, file: str, line: int, read: Call, last: Call, why: str) -> str:
-    """Says that bytes are perhaps lost with a reader."""
+    """A sentence which says that bytes are perhaps lost with a reader."""
     since = "since" if read is last else f"since step {last.last}"
     return (
         f"Perhaps bytes that were read before are lost: {file}:{line} made a reader with a buffer, which got "
@@ -110,8 +110,8 @@ def lost_with(index: Index, file: str, line: int, read: Call, last: Call, why: s
 
 
 def may_have_more(index: Index, read: Call, other: int) -> bool:
-    """Whether a Read may have got more than one message: it got as many bytes as are counted, or those of two
-    Writes."""
+    """Whether a Read may have got more than one message: it got at least as many bytes as the recorder counts, or the
+    bytes of two Writes."""
     most, moved = index.recording.lines.bytes, read.moved or 0
     if most is not None and moved >= most:
         return True
@@ -129,12 +129,12 @@ def is_of_one_statement(index: Index, frame: LineCall) -> bool:
 
 
 def is_buffered(stack: Stack) -> bool:
-    """Whether a read is made by a buffered reader."""
+    """Whether a buffered reader makes a read."""
     return any(one.function.startswith(BUFFERED) for one in stack.calls)
 
 
 def own_reader(index: Index, frame: LineCall) -> int:
-    """The line of a function that makes a reader for a variable of its own, which it doesn't pass on; 0 if none
+    """The line of a function that makes a reader for a variable of its own and doesn't pass the reader on; 0 if no line
     does."""
     source, made = source_of(index.recording, frame.file), maker_line(index, frame)
     within = range_of(source, frame) if source else None
@@ -146,7 +146,7 @@ def own_reader(index: Index, frame: LineCall) -> int:
 
 
 def maker_line(index: Index, own: LineCall) -> int:
-    """The line of a function, up to the one that reads, that makes a reader; 0 if none does."""
+    """The line of a function, up to the line that reads, that makes a reader; 0 if no line does."""
     source = source_of(index.recording, own.file) if own.of == OF_THE_PROGRAM else None
     within = range_of(source, own) if source else None
     numbers = range(within.start, own.line + 1) if within else range(0)
@@ -158,8 +158,8 @@ def functions_of(index: Index, call: Call) -> set[str]:
 
 
 def waits_on(index: Index, other: int, read: Call, answer: Call, position: int) -> bool:
-    """Whether a goroutine at the other end got the answer, waits to read more, and has written nothing since what was
-    read."""
+    """Whether a goroutine at the other end got the answer, waits to read more, and has written nothing since the bytes
+    that were read."""
     calls = list(back(index.by_socket.get(other, ()), position))
     now: Optional[Call] = next((one for one in calls if one.name == "Read"), None)
     wrote = next((one for one in calls if one.name == "Write" and one.moved), None)

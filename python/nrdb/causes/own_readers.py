@@ -1,4 +1,4 @@
-"""Goroutines that wait for bytes that only they would read: such a goroutine is in the function that reads a
+"""Goroutines that wait for bytes that only they would read. Such a goroutine is in the function that reads a
 connection, for example because it serves the requests itself, and the connection has unread bytes."""
 
 from typing import Optional
@@ -14,8 +14,8 @@ from .words import place_in, short, told
 
 
 def of_own_reader(index: Index, wait: Waiting, position: int) -> Optional[Need]:
-    """The need of a goroutine that waits in a function that reads a connection; None if others read there too, or if
-    nothing is unread."""
+    """The need of a goroutine that waits in a function that reads a connection; None if other goroutines read from it
+    too, or if it has no unread bytes."""
     inside = {call.function for call in wait.stack.calls if call.of == OF_THE_PROGRAM}
     if wait.name.is_goid:
         return None

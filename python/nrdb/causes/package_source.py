@@ -1,5 +1,5 @@
-"""The files of a package of the program, and the types of its expressions, if these are simple: receivers,
-parameters, and fields of structs."""
+"""The files of a package of the program, and the types of its simple expressions: receivers, parameters, and fields of
+structs."""
 
 import os
 import re
@@ -21,8 +21,8 @@ MOST_FILES = 40
 
 
 def files_of(recording: Recording, file: str) -> Iterator[tuple[str, Lines]]:
-    """The files of the package of a file, named as in a recording, starting with that file; tests are left out unless
-    the file is one."""
+    """The files of a file's package, named as in a recording, starting with the file itself. Test files are left out
+    unless the file is a test."""
     folder, name = os.path.split(file)
     for path in (file, *others_in(os.path.abspath(folder or "."), name)):
         lines = source(os.path.abspath(os.path.join(folder, os.path.basename(path))), recording.lines.written)
@@ -43,7 +43,7 @@ def places_with(recording: Recording, file: str, pattern: "re.Pattern[str]") -> 
 
 @lru_cache(maxsize=64)
 def others_in(folder: str, name: str) -> tuple[str, ...]:
-    """The other files of Go in a folder."""
+    """The other Go files of a folder."""
     try:
         found = sorted(one for one in os.listdir(folder) if one.endswith(".go") and one != name)
     except OSError:
@@ -53,7 +53,7 @@ def others_in(folder: str, name: str) -> tuple[str, ...]:
 
 
 def field_type(recording: Recording, file: str, of_type: str, field: str) -> Optional[str]:
-    """The type of a field of a struct of the package; None if it isn't found."""
+    """The type of a field of a struct of the package; None if the field isn't found."""
     for _, lines in files_of(recording, file):
         if of_type in (fields := fields_in(lines)):
             return fields[of_type].get(field)

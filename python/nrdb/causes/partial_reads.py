@@ -1,4 +1,4 @@
-"""Reads whose count is perhaps ignored, from the program's source: a goroutine waits to read, and lines of its function
+"""Reads whose count is perhaps ignored, from the program's source. A goroutine waits to read, and lines of its function
 read once into a slice of exactly the wanted length, although a Read returns whatever has arrived."""
 
 import re
@@ -22,7 +22,8 @@ MOST = 2
 
 
 def partial_reads(index: Index, call: Call) -> list[str]:
-    """Sentences about a Read that waits: the lines of its functions that have read there before, or name the length."""
+    """Sentences about a Read that waits: the lines of its functions that have read from the socket before, or that name
+    the length."""
     passed = {
         (one.function, one.line)
         for read in index.by_socket[call.socket]
@@ -48,8 +49,8 @@ def partial_reads(index: Index, call: Call) -> list[str]:
 
 
 def part_taken(index: Index, call: Call) -> list[str]:
-    """Says that the last Read before one that waits at a socket got fewer bytes than it asked for, if its line reads a
-    length only once."""
+    """Sentences about a Read that waits: the last Read before it on the socket got fewer bytes than it asked for. None
+    unless that Read's line reads a length only once."""
     for read in reversed(
         [one for one in index.by_socket[call.socket] if one.name == "Read" and one.first < call.first]
     ):

@@ -10,7 +10,7 @@ PAST = {
 
 
 def in_the_past(words: str) -> str:
-    """A sentence in the past."""
+    """A sentence, put into the past tense."""
     for now, then in PAST.items():
         words = re.sub(rf"\b{now}\b", then, words)
     return words

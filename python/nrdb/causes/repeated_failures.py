@@ -7,11 +7,11 @@ from ..where import OF_THE_PROGRAM
 from .ended_goroutines import body_of, is_inner_break, loop_round
 from .source_functions import range_of, source_of
 
-FEWEST = 3  # failed calls
+FEWEST = 3  # the fewest failed calls that count as repeated
 
 
 def repeated_says(recording: Recording, calls: list[Call]) -> list[str]:
-    """Sentences about failed calls that are alike; none if there are few, or if several goroutines made them."""
+    """Sentences about failed calls that are alike; none if the calls are few or if several goroutines made them."""
     own = recording.lines.of(calls[0].first).own()
     if len(calls) < FEWEST or len({call.goroutine for call in calls}) > 1 or not own or own[0].of != OF_THE_PROGRAM:
         return []

@@ -12,8 +12,8 @@ WRITE_LOOP, SERVE = "net/http.(*persistConn).writeLoop", "net/http.(*conn).serve
 
 
 def socket_of(index: Index, wait: Waiting, position: int) -> Optional[int]:
-    """The socket on which the request was written: it belongs to the connection whose goroutine last got a request from
-    the waiter. Another goroutine may have given that goroutine a request since."""
+    """The socket on which the request was written. It belongs to the connection whose goroutine last got a request from
+    the waiter. Another goroutine may have given that connection's goroutine a request since."""
     lines = index.recording.lines
     goid = wait.name.number if wait.name.is_goid else lines.goid_of(wait.name.number)
     put = [
@@ -32,7 +32,7 @@ def socket_of(index: Index, wait: Waiting, position: int) -> Optional[int]:
 
 
 def server_of(index: Index, socket: int, position: int) -> Optional[Name]:
-    """The goroutine that serves the other end of a socket: the last that read a request there."""
+    """The goroutine that serves the other end of a socket: the last goroutine that read a request there."""
     other = index.other_end(socket)
     used = back(index.by_socket.get(other, ()), position) if other is not None else iter(())
     fits = (call for call in used if call.name in MOVING and is_by_server(index, call))

@@ -1,5 +1,5 @@
-"""Calls of net/rpc that are done but weren't delivered: its client puts a finished call into the channel that the
-caller of Go passed only if that channel has room."""
+"""Calls of net/rpc that are done but weren't delivered. The client of net/rpc puts a finished call into the channel
+that the caller of Go passed, but only if that channel has room."""
 
 import re
 
@@ -18,7 +18,7 @@ DONE = "net/rpc.(*Call).done"
 
 
 def dropped_by_rpc(recording: Recording, wait: Waiting) -> list[str]:
-    """Says, for a goroutine that waits for a call of net/rpc, that its channel was perhaps full."""
+    """Sentences about a goroutine that waits for a call of net/rpc: its channel was perhaps full."""
     if len(wait.objects) != 1 or wait.objects[0].use != FOR_VALUE:
         return []
     at, lines, own = wait.objects[0], recording.lines, wait.stack.own()

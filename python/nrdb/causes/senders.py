@@ -1,5 +1,5 @@
-"""Goroutines that may later do at a channel what a goroutine waits for, from the program's source: each is in a
-function before a line that puts or takes a value there."""
+"""Goroutines that may later do what a goroutine waits for on a channel, from the program's source. Such a goroutine is
+in a function before a line that puts a value there or takes one."""
 
 import re
 from typing import Iterable, NamedTuple, Optional
@@ -18,15 +18,15 @@ WORDS = {FOR_VALUE: ("puts a value there", "puts a value into"), FOR_ROOM: ("tak
 
 
 class Giving(NamedTuple):
-    """A line with the awaited operation at a channel, and the lines of its function."""
+    """A line with the awaited operation on a channel, and the lines of its function."""
 
     number: int
     within: range
 
 
 def later_giver(recording: Recording, wait: Waiting, stacks: Iterable[tuple[Name, Stack]]) -> Optional[Need]:
-    """The need that a goroutine may meet later by the awaited operation; else, if no line of the file does it, a need
-    that says so. None if the source isn't available."""
+    """The need, if another goroutine may do the awaited operation later; else, if no line of the file does the
+    operation, a need that says so. None if the source isn't available."""
     own = wait.stack.own()
     if not own or own[0].of != OF_THE_PROGRAM or len(wait.objects) != 1 or wait.objects[0].use not in WORDS:
         return None
@@ -65,7 +65,7 @@ def is_deferred(lines: Lines, number: int) -> bool:
 
 
 def givings_at(recording: Recording, wait: Waiting) -> list[Giving]:
-    """The lines with the awaited operation at a channel, from the source."""
+    """The lines with the awaited operation on a channel, from the source."""
     own = wait.stack.own()
     mine, others = (TAKES, PUTS) if wait.objects[0].use == FOR_VALUE else (PUTS, TAKES)
     name = mine.search(text_at(recording, own[0])) if own else None
@@ -74,7 +74,7 @@ def givings_at(recording: Recording, wait: Waiting) -> list[Giving]:
 
 
 def givings_of(source: Lines, call: Call, name: str, pattern: "re.Pattern[str]") -> list[Giving]:
-    """The lines that do something at a channel that may be the one of this name."""
+    """The lines that do an operation on a channel that may be the one of this name."""
     found = []
     for number, text in enumerate(source, 1):
         gives = pattern.search(text.partition("//")[0])

@@ -1,4 +1,5 @@
-"""Datagram sockets at which several goroutines read: each gets whatever comes next, even what was meant for another."""
+"""Datagram sockets on which several goroutines read. Each goroutine gets whatever datagram comes next, even if it was
+meant for another goroutine."""
 
 from ..one_call import Call
 from ..waits import Name, of_names
@@ -9,8 +10,8 @@ MOST = 6
 
 
 def shared_says(index: Index, call: Call) -> list[str]:
-    """Sentences about a Read at such a socket, if each of those goroutines also writes there, and so waits for an
-    answer of its own."""
+    """Sentences about a Read on such a socket, if each of its readers also writes there and so waits for an answer of
+    its own."""
     if not is_datagram(index, call.socket):
         return []
     calls = index.by_socket[call.socket]

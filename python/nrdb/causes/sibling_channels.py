@@ -1,5 +1,5 @@
-"""Channels that one line makes anew each time: for a goroutine that waits at one of them, the goroutine that gave at
-earlier ones, as recorded."""
+"""Channels that one line makes anew each time it runs. For a goroutine that waits on one of them, the module finds the
+goroutine that gave on earlier ones, from the recording."""
 
 from typing import Container, Optional
 
@@ -14,8 +14,8 @@ DID = {PUT: "put a value into", TOOK: "took one from", CLOSED: "closed"}
 
 
 def giver_at_siblings(recording: Recording, wait: Waiting, waiters: Container[Name]) -> Optional[Need]:
-    """The need of a goroutine that waits at a channel at which none has given yet: another waiting goroutine that gave
-    at an earlier channel."""
+    """The need of a goroutine that waits on a channel on which no goroutine has given yet: another waiting goroutine
+    that gave on an earlier channel."""
     for use in given_at_siblings(recording, wait):
         name, place = name_of_goid(recording.lines, use.goid), place_in(recording.lines.stacks[use.stack])
         if name != wait.name and name in waiters and place:
@@ -25,8 +25,8 @@ def giver_at_siblings(recording: Recording, wait: Waiting, waiters: Container[Na
 
 
 def given_at_siblings(recording: Recording, wait: Waiting) -> list[Use]:
-    """The uses that end such a wait at other channels made at the same line, latest first. None if the channel's line
-    isn't known."""
+    """The operations that end such a wait on other channels made at the same line, latest first; none if the line that
+    made the channel isn't known."""
     lines = recording.lines
     if len(wait.objects) != 1 or wait.objects[0].object not in lines.made:
         return []

@@ -1,5 +1,5 @@
-"""Goroutines of the same `go` statement, of which only some did something: the lines of the program that only one kind
-passed."""
+"""Goroutines of the same `go` statement, of which only some did something. The module finds the lines of the program
+that only these goroutines, or only the others, passed."""
 
 from collections import Counter, defaultdict
 from functools import cached_property, lru_cache
@@ -19,8 +19,8 @@ DEFERRED = ".deferwrap"  # part of the names of Go's functions for `defer`, whic
 
 
 class Kind(NamedTuple):
-    """The goroutines that one `go` statement made: those that did something, those that ended without it, and those
-    that still may."""
+    """The goroutines that one `go` statement started: those that did something, those that ended without doing it, and
+    those that may still do it."""
 
     made: Call
     did: list[int]
@@ -29,14 +29,14 @@ class Kind(NamedTuple):
 
 
 class Lines:
-    """The lines of the program that each goroutine is known to have passed, without deferred ones."""
+    """The lines of the program that each goroutine is known to have passed, without the lines of deferred functions."""
 
     def __init__(self, recording: Recording) -> None:
         self._recording = recording
 
     @cached_property
     def _stacks(self) -> dict[Name, set[int]]:
-        """The stacks of each goroutine: of its steps, waits and uses of channels."""
+        """The stacks of each goroutine: those of its steps, waits and uses of channels."""
         lines, found = self._recording.lines, defaultdict[Name, set[int]](set)
         for goroutine, stack in zip(book_of(self._recording).whose.goroutines, lines.steps):
             found[Name(goroutine)].add(stack)
@@ -65,7 +65,7 @@ def lines_of(recording: Recording) -> Lines:
 
 
 def kinds_of(recording: Recording, did: Collection[int]) -> list[Kind]:
-    """The `go` statements of which only some goroutines did something, ordered by how many did."""
+    """The `go` statements of which only some goroutines did something, ordered by the number of goroutines that did."""
     found: dict[Call, Kind] = {}
     for goid, known in recording.lines.goroutines.items():
         if known.made and known.made.of == OF_THE_PROGRAM:
@@ -89,8 +89,8 @@ def odd_ones(recording: Recording, goids: list[int]) -> Optional[tuple[list[int]
 def lines_words(
     recording: Recording, odd: Iterable[int], others: Iterable[int], known: Collection[Call] = frozenset()
 ) -> str:
-    """The lines that only the odd ones passed, and those that only the others passed, without those in `known`: `; only
-    they passed a.go:3 in ask`; empty if there are none."""
+    """Words for the lines that only the odd goroutines passed, and for those that only the others passed: `; only they
+    passed a.go:3 in ask`. Lines in `known` are left out. Empty if no such line exists."""
     passed = lines_of(recording)
     its, theirs = ([passed.of(goid) for goid in some] for some in (odd, others))
     if not its or not theirs:
@@ -111,18 +111,19 @@ def union(some: list[set[Call]]) -> set[Call]:
 
 
 def is_end(recording: Recording, line: Call) -> bool:
-    """Whether a line is known to be only the end of a function."""
+    """Whether a line is known to be nothing but the end of a function."""
     return text_at(recording, line).strip() == "}"
 
 
 def places(lines: set[Call]) -> str:
-    """The first of some lines, as text."""
+    """The first few of some lines, as text."""
     shown = sorted(lines, key=lambda line: (line.file, line.line))[:MOST_LINES]
     return " and ".join(f"{line.place()} in {short(line.function)}" for line in shown)
 
 
 def ended_words(recording: Recording, kind: Kind, did: str) -> str:
-    """Says that goroutines ended without what the others did: `goroutine 7, started at a.go:44, ended without ..`."""
+    """A sentence about goroutines that ended without doing what the others did: `goroutine 7, started at a.go:44, ended
+    without ..`."""
     names = of_names(name_of_goid(recording.lines, goid) for goid in kind.ended)
     others = counted(len(kind.did), "other")
     does = "did" if len(kind.did) != 1 else "did so"

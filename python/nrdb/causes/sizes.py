@@ -18,14 +18,15 @@ def are_known(index: Index) -> bool:
 
 
 def moved_at(index: Index, socket: int, name: str, until: int) -> int:
-    """The number of bytes moved at a socket by the calls with a name, counting only calls that ended up to a step."""
+    """The number of bytes that calls of a name moved on a socket. Only calls that ended up to a step count."""
     calls = index.by_socket.get(socket, ())
     return sum(size_of(index, call) for call in calls if call.name == name and 0 < call.last <= until)
 
 
 @lru_cache(maxsize=2)
 def sizes_of(index: Index) -> dict[int, int]:
-    """For each call, by its first step, the number of bytes that it moved beyond those that the recording counts."""
+    """For each call, keyed by its first step, the number of bytes that the call moved beyond those that the recording
+    counts."""
     found: dict[int, int] = defaultdict(int)
     lines, length = index.recording.lines, index.recording.length
     for step, size in lines.sizes.items():

@@ -23,8 +23,8 @@ MOST_CALLS = 3  # the most lines between a loop and Done
 
 
 class Rounds(NamedTuple):
-    """A loop that takes values from a channel at a line and calls Done at another line, itself or by a function (0: it
-    takes none)."""
+    """A loop that takes values from a channel at a line and calls Done at another line, directly or through a function.
+    The line that takes is 0 if the loop takes no values."""
 
     line: Call
     head: int
@@ -33,7 +33,8 @@ class Rounds(NamedTuple):
 
 
 def skipped_done(recording: Recording, waits: Waits, count: Count, position: int) -> list[str]:
-    """Says how many rounds of a loop ended without Done, if that is the missing number; empty if unknown."""
+    """Sentences about the rounds of a loop that ended without Done, if their number is the number of missing calls;
+    none if unknown."""
     lines = recording.lines
     loops: dict[tuple[str, int], set[Rounds]] = defaultdict(set)
     for use in count.done:
@@ -56,7 +57,7 @@ def skipped_done(recording: Recording, waits: Waits, count: Count, position: int
 
 
 def perhaps_skipped(recording: Recording, count: Count, loops: dict[tuple[str, int], set[Rounds]]) -> list[str]:
-    """Says, for a loop that takes values for several WaitGroups, which paths skip Done."""
+    """Sentences about a loop that takes values for several WaitGroups: the paths that skip Done."""
     for of_loop in loops.values():
         every = sorted(of_loop, key=lambda rounds: rounds.line.line)
         if ways := words_of_ways(recording, every, False):
@@ -66,8 +67,8 @@ def perhaps_skipped(recording: Recording, count: Count, loops: dict[tuple[str, i
 
 
 def unput_says(recording: Recording, count: Count, puts: list[Use]) -> list[str]:
-    """Says, if each value had its Done, that fewer values were put into the channel than were added, and the paths on
-    which none is put."""
+    """Sentences for the case that each value had its Done: fewer values were put into the channel than were added to
+    the WaitGroup, and on these paths no value is put."""
     owns = [own[0] for use in puts if (own := recording.lines.stacks[use.stack].own())]
     adders = {own[0].function for use in count.added if (own := recording.lines.stacks[use.stack].own())}
     line = next((own for own in owns if own.function in adders and own.of == OF_THE_PROGRAM), None)
@@ -83,8 +84,8 @@ def unput_says(recording: Recording, count: Count, puts: list[Use]) -> list[str]
 
 
 def rounds_of(recording: Recording, stack: Stack) -> Optional[Rounds]:
-    """The loop around a line that calls Done, or around the call of its function, if it takes its values from a
-    channel."""
+    """The loop around a line that calls Done, or around the call of the line's function, if the loop takes its values
+    from a channel."""
     calls = [call for call in stack.calls if call.of == OF_THE_PROGRAM]
     if not calls or not DONE_OF.match(text_at(recording, calls[0]).strip()):
         return None
@@ -99,7 +100,8 @@ def rounds_of(recording: Recording, stack: Stack) -> Optional[Rounds]:
 
 
 def takes_at(lines: Lines, head: int, line: int) -> int:
-    """The line of a loop, before one of its lines, that takes a value from a channel; 0 unless there is exactly one."""
+    """The line of a loop, before one of its lines, that takes a value from a channel; 0 unless exactly one line
+    does."""
     if OVER.match(code(lines, head)):
         return head
     found = [number for number in body_of(lines, head) if number < line and TAKES.match(code(lines, number))]
@@ -111,8 +113,8 @@ def code(lines: Lines, number: int) -> str:
 
 
 def is_at(recording: Recording, use: Use, rounds: Rounds) -> bool:
-    """Whether a use is a loop's taking of a value: at the line that takes it, or in the `select` of which that line is
-    a case."""
+    """Whether a use is a value taken by a loop: at the line that takes it, or at the `select` of which that line is a
+    case."""
     own = recording.lines.stacks[use.stack].own()
     return own is not None and own[0].function == rounds.line.function and rounds.head <= own[0].line <= rounds.takes
 
@@ -135,7 +137,8 @@ def has_ended(recording: Recording, use: Use) -> bool:
 
 
 def rounds_say(recording: Recording, every: list[Rounds], took: list[Use], done: list[Use]) -> list[str]:
-    """Says how often a loop took a value and called Done, at one line or several, and the paths that skip it."""
+    """Sentences about how often a loop took a value and how often it called Done, at one line or several, and about the
+    paths that skip Done."""
     rounds = every[-1]
     file, place = rounds.line.file, " and ".join(dict.fromkeys(one.done.place() for one in every))
     many = f"{counted(total(took), 'value')} from a channel and called Done at {place} {counted(total(done), 'time')}"
@@ -145,7 +148,7 @@ def rounds_say(recording: Recording, every: list[Rounds], took: list[Use], done:
 
 
 def words_of_ways(recording: Recording, every: list[Rounds], has_left: bool) -> str:
-    """The paths of a loop, and of the function that it calls, that skip Done, as text; empty if there are none."""
+    """The paths of a loop, and of the function that it calls, that skip Done, as text; empty if no path does."""
     rounds = every[-1]
     lines, inner = source_of(recording, rounds.line.file), source_of(recording, rounds.done.file)
     within = range_of(lines, rounds.line) if lines else None

@@ -1,5 +1,5 @@
-"""Paths of a function that skip what should be done: from a line that takes or begins something, by a `return`, a
-`continue`, a `break` or the condition of a block around the line that gives it back or finishes it."""
+"""Paths of a function that skip what it should do: they lead from a line that takes or begins something past the line
+that gives it back or finishes it, by a `return`, a `continue`, a `break` or the condition of a block."""
 
 import re
 from typing import Callable, NamedTuple, Optional
@@ -11,7 +11,7 @@ Test = Callable[[str], bool]
 DIES = re.compile(r"(?:panic|os\.Exit|log\.Fatal\w*|runtime\.Goexit|goto|\w\.Fatal\w*)\b")
 LEAVES = re.compile(r"(return|continue|break)\b(?: (\w+))?")
 ENDLESS = re.compile(r"(?:\w+: *)?for \{$")
-IS_THERE = re.compile(r"if (?!err)\w+ != nil \{$")  # tests whether something was taken
+IS_THERE = re.compile(r"if (?!err)\w+ != nil \{$")  # a test whether something was taken
 GOT = re.compile(r"(?:if |case )?(?:[\w.]+, )*(\w+) :?= ")
 DOES = {"return": "returns", "continue": "goes on", "break": "breaks off", "end": "ends"}
 MANY = {"returns": "return", "goes on": "go on", "breaks off": "break off", "ends": "end"}
@@ -35,8 +35,8 @@ def has(pattern: str) -> Test:
 
 
 class Way(NamedTuple):
-    """A path that leaves without doing what should be done: its line, and what it does there; `passes by` for a
-    condition."""
+    """A path that leaves without doing what should be done: its line, and the verb for what the line does. For a
+    condition the verb is `passes by`."""
 
     number: int
     does: str
@@ -44,7 +44,7 @@ class Way(NamedTuple):
 
 class State(NamedTuple):
     """The possible states at a place: something is taken and not yet given back, or it is given back; the block whose
-    condition decides, 0 for none; and whether it is given back in any case when the function ends."""
+    condition decides, 0 if none does; and whether it will be given back in any case when the function ends."""
 
     is_open: bool = False
     is_done: bool = False
@@ -53,7 +53,7 @@ class State(NamedTuple):
 
 
 class Exit(NamedTuple):
-    """A line that leaves a block, how, and the state there."""
+    """A line that leaves a block, the way in which it leaves, and the state at the line."""
 
     kind: str
     number: int
@@ -66,8 +66,8 @@ BEFORE, OPEN, DONE = State(), State(is_open=True), State(is_done=True)
 
 class Walk(NamedTuple):
     """A walk through a function: from statements that take something to those that give it back. `keeps` finds
-    statements that pass it on, after which others are responsible for it. The walk fills `ways`, and fills `given` with
-    the statements that give back on a path that took something."""
+    statements that pass on what was taken, after which other code is responsible for it. The walk fills `ways`, and
+    fills `given` with the statements that give back on a path that took something."""
 
     begins: Test
     ends: Test
@@ -76,8 +76,8 @@ class Walk(NamedTuple):
     given: list[str]
 
     def body(self, statements: list[Statement], state: State, got: str) -> Result:
-        """The state after some statements, None if no path passes all of them; and the exits. `got` is a variable that
-        says whether something was taken, empty if there is none."""
+        """The state after some statements (None if no path passes all of them), and the exits. `got` is a variable that
+        says whether something was taken, empty if no variable does."""
         exits, now = list[Exit](), state
         for one in statements:
             after, left = self.block(one, now, got) if one.kind else self.simple(one, now)
@@ -153,7 +153,7 @@ class Walk(NamedTuple):
         return (condition in (name, f"{name} != nil")) is not is_error
 
     def loop(self, one: Statement, now: State, got: str) -> Result:
-        """The same as `body`, for a loop, which in each round gives back what it takes."""
+        """The same as `body`, for a loop. A loop should give back, in each round, what it took in that round."""
         begins = self.does_begin(one.text) and not now.is_deferred
         after, left = self.body(one.branches[-1].body, OPEN if begins else now, got)
         left += [Exit("end", one.number, after)] if after is not None else []
@@ -167,7 +167,7 @@ class Walk(NamedTuple):
         return joined(behind, one.number), exits
 
     def leave(self, exit: Exit) -> None:
-        """Records a path, if something is taken there and not given back."""
+        """Records a path, if something is taken at its exit and not given back."""
         if exit.state.is_open and exit.state.block:
             self.ways.append(Way(exit.state.block, PASSES))
         elif exit.state.is_open:
@@ -181,7 +181,7 @@ def name_of(text: str) -> str:
 
 
 def is_missing(head: str, now: State) -> bool:
-    """Whether a block is skipped only if something doesn't exist at all."""
+    """Whether a block is skipped only if what should have been taken doesn't exist."""
     return now.is_open and IS_THERE.match(head) is not None
 
 
@@ -197,8 +197,8 @@ def joined(states: list[State], number: int) -> Optional[State]:
 
 
 def skipped_ways(lines: Lines, within: range, begins: Optional[Test], ends: Test, keeps: Test = nothing) -> list[Way]:
-    """The paths of a function that skip what `ends` does, after what `begins` does (None: from the beginning of the
-    function); none if no path leads from one to the other."""
+    """The paths of a function that lead from what `begins` finds (None: from the beginning of the function) past what
+    `ends` finds; none if no path leads from one to the other."""
     if any(lines[number - 1].count("`") % 2 for number in within):
         return []
     walk = Walk(begins or nothing, ends, keeps, [], [])
@@ -209,7 +209,7 @@ def skipped_ways(lines: Lines, within: range, begins: Optional[Test], ends: Test
 
 
 def that_stay(ways: list[Way]) -> list[Way]:
-    """The paths by which a goroutine goes on in a function instead of leaving it."""
+    """The paths by which a goroutine goes on in a function instead of leaving the function."""
     return [one for one in ways if one.does not in (DOES["return"], DOES["end"])]
 
 

@@ -1,5 +1,5 @@
-"""Slots of a channel that is used as a semaphore: for a goroutine that waits for a slot, the goroutine that took one in
-a call that it is still in, and that gives it back later, by the source."""
+"""Slots of a channel that is used as a semaphore. For a goroutine that waits for a slot, the module finds the goroutine
+that took a slot in a call that it is still in. The source shows that this goroutine gives the slot back later."""
 
 import re
 from typing import Iterable, Iterator, Mapping, NamedTuple, Optional
@@ -19,7 +19,7 @@ ENTERS = {FOR_ROOM: PUT, FOR_VALUE: TOOK}  # how a slot is taken
 
 
 class Slot(NamedTuple):
-    """A slot that a goroutine has: the line that took it, and the line that gives it back."""
+    """A slot that a goroutine holds: the line that took the slot, and the line that gives it back."""
 
     name: Name
     taken: Call
@@ -27,7 +27,8 @@ class Slot(NamedTuple):
 
 
 def slot_holders(recording: Recording, wait: Waiting, stacks: Iterable[tuple[Name, Stack]]) -> list[Slot]:
-    """The goroutines that have a slot for which one waits, in the order in which they took it."""
+    """The goroutines that hold a slot for which another goroutine waits, in the order in which they took their
+    slots."""
     at, own = wait.objects[0], wait.stack.own()
     room = recording.lines.objects[at.object].room if at.object in recording.lines.objects else 0
     enters = ENTERS.get(at.use, "")
@@ -54,7 +55,8 @@ def has_more(recording: Recording, at: At, goid: int, enters: str) -> bool:
 
 
 def slots_in(recording: Recording, name: Name, use: Use, stack: Stack, leavings: list[Giving]) -> Iterator[Slot]:
-    """The slot that a goroutine took at an earlier line of a call that it is still in, and that it gives back later."""
+    """The slot that a goroutine took at an earlier line of a call that it is still in, and that the goroutine gives
+    back later."""
     taken = recording.lines.stacks[use.stack]
     own = taken.own()
     for call in stack.calls:
@@ -71,8 +73,8 @@ def is_behind(taken: Stack, call: Call) -> bool:
 
 
 def leaving_line(lines: Lines, call: Call, leavings: list[Giving]) -> int:
-    """The line of a function, after a call or deferred, that gives a slot back, or calls a function that does; 0 if
-    there is none."""
+    """The line of a function, after a call or in a deferred one, that gives a slot back or calls a function that does;
+    0 if no line does."""
     within = range_of(lines, call)
     helpers = {
         named[1]
@@ -92,7 +94,7 @@ def leaving_line(lines: Lines, call: Call, leavings: list[Giving]) -> int:
 def of_slots(
     recording: Recording, wait: Waiting, stacks: Mapping[Name, Stack], waiters: Mapping[Name, object]
 ) -> Optional[Need]:
-    """The need of a goroutine that waits for a slot; None if no goroutine is known to have one."""
+    """The need of a goroutine that waits for a slot; None if no goroutine is known to hold one."""
     slots = [slot for slot in slot_holders(recording, wait, stacks.items()) if slot.name != wait.name]
     slot = next((slot for slot in slots if slot.name in waiters), None)
     if slot is None:

@@ -1,5 +1,5 @@
-"""The program's own text after the line at which a goroutine stopped using a connection, if the file is available and
-hasn't changed since it was recorded."""
+"""The text of the program after the line at which a goroutine stopped using a connection, if the source file is
+available and hasn't changed since the recording."""
 
 import os
 from pathlib import Path
@@ -26,7 +26,7 @@ def text_after(recording: Recording, step: int) -> list[str]:
 
 
 def behind(lines: list[str], line: int) -> list[tuple[int, str]]:
-    """The numbered lines from this one on, to the end of the function."""
+    """The numbered lines from a line to the end of its function."""
     shown = []
     for number in range(line, min(line + SHOWN, len(lines) + 1)):
         if lines[number - 1].startswith("}"):

@@ -1,5 +1,5 @@
-"""Functions of the program's source, if it is available and hasn't changed since it was recorded: their lines, and what
-they call."""
+"""Functions of the program's source, if it is available and hasn't changed since the recording: their lines, and the
+functions that they call."""
 
 import os
 import re
@@ -17,7 +17,7 @@ LITERAL = re.compile(r"\.(?:func|gowrap|deferwrap)\d+")
 
 
 def source_of(recording: Recording, file: str) -> Optional[Lines]:
-    """The lines of a file of the program's source, if it is available and hasn't changed since it was recorded."""
+    """The lines of a file of the program's source, if the file is available and hasn't changed since the recording."""
     return source(os.path.abspath(file), recording.lines.written)
 
 
@@ -47,8 +47,8 @@ def range_of(lines: Lines, call: Call) -> Optional[range]:
 
 
 def is_inside(lines: Lines, call: Call, within: range) -> bool:
-    """Whether a call is in the function of these lines itself rather than in a literal of it, or in a function that
-    only starts another."""
+    """Whether a call is in the function of these lines itself, and not in a function literal inside it or in a function
+    that only starts another."""
     return WRAPPED not in call.function and range_of(lines, call) == within
 
 
@@ -72,7 +72,7 @@ def is_literal_of_one_line(text: str) -> bool:
 
 
 def begin_of_literal(lines: Lines, line: int) -> int:
-    """The line at which the function literal around a line begins; 0 if there is none."""
+    """The line at which the function literal around a line begins; 0 if no literal surrounds the line."""
     margin = indent_of(lines[line - 1])
     for number in range(line, 0, -1):
         text = lines[number - 1]
@@ -111,7 +111,7 @@ def text_at(recording: Recording, call: Call) -> str:
 
 
 def is_same_variable(one: str, other: str, is_near: bool) -> bool:
-    """Whether two expressions may name the same variable: `r.sessions` and `s.sessions` may, and equal expressions in
-    one function and its literals."""
+    """Whether two expressions may name the same variable. `r.sessions` and `s.sessions` may, and so may equal
+    expressions in one function and its literals."""
     dot, other_dot = one.partition(".")[1:], other.partition(".")[1:]
     return bool(dot[1]) and dot == other_dot or (is_near and one == other)

@@ -1,4 +1,4 @@
-"""A Read or a Write at a connection that wasn't accepted: the goroutine that accepts at the listener is in another
+"""A Read or a Write on a connection that wasn't accepted: the goroutine that accepts on the listener is in another
 call, or has ended."""
 
 from typing import Iterator, NamedTuple, Optional
@@ -24,8 +24,8 @@ class Listener(NamedTuple):
 
 
 def unaccepted(index: Index, call: Call, position: int) -> Optional[Need]:
-    """The need of a call at a connection whose other end isn't known: what the goroutine that should accept it does
-    instead. None if it may have been accepted."""
+    """The need of a call on a connection whose other end isn't known: what the goroutine that should accept the
+    connection does instead. None if the connection may have been accepted."""
     if not is_dialed(index, call.socket):
         return None
     listener = listener_of(index, call.socket, position)
@@ -52,7 +52,7 @@ def unaccepted(index: Index, call: Call, position: int) -> Optional[Need]:
 
 
 def is_dialed(index: Index, socket: int) -> bool:
-    """Whether a socket was opened to connect it, for a stream."""
+    """Whether a socket was opened to connect a stream."""
     return has_opened(index, socket, CONNECTS) and not is_datagram(index, socket)
 
 
@@ -61,13 +61,14 @@ def is_datagram(index: Index, socket: int) -> bool:
 
 
 def has_opened(index: Index, socket: int, part: str) -> bool:
-    """Whether a function with this name, or with this part in its name, opened a socket."""
+    """Whether a function of this name, or with this part in its name, opened a socket."""
     opened = next((one for one in index.by_socket.get(socket, ()) if one.name == OPEN), None)
     return opened is not None and any(part in one.function for one in index.recording.lines.of(opened.first).calls)
 
 
 def listener_of(index: Index, socket: int, position: int) -> Optional[Listener]:
-    """The listener that a socket was connected to: the one with the name of the other end, else the only one."""
+    """The listener that a socket was connected to: the listener with the name of the socket's other end, else the only
+    listener."""
     found = {listener: calls for listener in index.by_socket if (calls := accepts_at(index, listener))}
     ends = index.recording.lines.ends
     if socket in ends:
@@ -83,7 +84,7 @@ def listener_of(index: Index, socket: int, position: int) -> Optional[Listener]:
 
 
 def accepts_at(index: Index, socket: int) -> list[Call]:
-    """The Accepts at a socket."""
+    """The Accepts on a socket."""
     calls = index.by_socket[socket]
     return [one for one in calls if one.name == "Read" and index.is_listening(one)] if calls[0].name == OPEN else []
 

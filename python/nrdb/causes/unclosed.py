@@ -28,8 +28,8 @@ class Closing(NamedTuple):
 
 
 def unclosed(recording: Recording, wait: Waiting, stacks: Iterable[tuple[Name, Stack]]) -> Optional[Need]:
-    """What should close the channel, for a goroutine that waits for a value at a channel into which none was ever put,
-    or that ranges over all values. None if the source isn't available."""
+    """The need of a goroutine that waits for a value from a channel into which no value was ever put, or that ranges
+    over the channel: what should close the channel. None if the source isn't available."""
     own, lines = wait.stack.own(), recording.lines
     if not own or own[0].of != OF_THE_PROGRAM or len(wait.objects) != 1 or wait.objects[0].use != FOR_VALUE:
         return None
@@ -66,7 +66,7 @@ def unclosed(recording: Recording, wait: Waiting, stacks: Iterable[tuple[Name, S
 
 
 def ways_without(source: Lines, closing: Closing, name: str) -> list[Way]:
-    """The paths on which a channel isn't closed, in a function that makes the channel and closes it at a line."""
+    """The paths of a function that makes a channel and closes it at a line, on which the channel isn't closed."""
     field = re.escape(name.rpartition(".")[2])
     makes, closes = rf"\b{field}\b(?::| :?=) *make\(chan\b", rf"\bclose\((?:[\w.]+\.)?{field}\)"
     if not any(re.search(makes, source[number - 1]) for number in closing.within if number < closing.number):
@@ -86,8 +86,8 @@ def closings_of(source: Lines, call: Call, name: str) -> list[Closing]:
 
 
 def inside(source: Lines, stack: Stack, file: str, closings: list[Closing]) -> Optional[Closing]:
-    """The line at which a goroutine closes a channel later, if it is in that function before the line, or if the close
-    is deferred."""
+    """The line at which a goroutine closes a channel later: the goroutine is in that function before the line, or the
+    close is deferred."""
     for call in stack.calls:
         for closing in closings:
             if (
@@ -101,8 +101,8 @@ def inside(source: Lines, stack: Stack, file: str, closings: list[Closing]) -> O
 
 
 def closes_in_its_loop(source: Lines, stack: Stack, file: str, closings: list[Closing]) -> Optional[Closing]:
-    """The line at which a goroutine closes a channel later, if that line is before the goroutine's own in a loop of a
-    function that it is in."""
+    """The line at which a goroutine closes a channel later, if that line comes before the goroutine's own line in a
+    loop of a function that the goroutine is in."""
     for call in stack.calls:
         for closing in closings:
             if call.file == file and call.line in closing.within and is_inside(source, call, closing.within):
@@ -112,7 +112,7 @@ def closes_in_its_loop(source: Lines, stack: Stack, file: str, closings: list[Cl
 
 
 def ended_in(recording: Recording, file: str, closing: Closing) -> str:
-    """The goroutine that was started in that function and has ended, and its last place."""
+    """Words for the goroutine that was started in that function and has ended, and for its last place."""
     passed = {
         call
         for stack in recording.lines.stacks.values()

@@ -1,5 +1,6 @@
 """Replies that are perhaps incomplete: a Read got part of an answer and waits for more, while the goroutine that wrote
-it reads on. Derived from the program's source: the loop that writes the reply, and its paths that write nothing."""
+the answer reads again. Derived from the program's source: the loop that writes the reply, and the loop's paths that
+write nothing."""
 
 import re
 from typing import Iterator, NamedTuple
@@ -19,7 +20,8 @@ LOOP = re.compile(r"for .*\{$")
 
 
 class Part(NamedTuple):
-    """A loop that writes: its line, the line that writes, the paths that don't, and whether a call is inside it."""
+    """A loop that writes: its line, the line that writes, the paths that don't write, and whether a call is inside the
+    loop."""
 
     file: str
     loop: int
@@ -55,7 +57,7 @@ def unfinished_reply(index: Index, call: Call, other: int, position: int) -> lis
 
 
 def has_part(index: Index, call: Call, wrote: Call) -> bool:
-    """Whether a goroutine that waits to read got part of what another wrote last, in the same function."""
+    """Whether a goroutine that waits to read got part of what another goroutine wrote last, in the same function."""
     reads = [one for one in index.by_socket[call.socket] if one.name == "Read" and one.moved and one.last]
     last = reads[-1] if reads else None
     if last is None or last.goroutine != call.goroutine or not wrote.first < last.last < call.first:
@@ -64,7 +66,7 @@ def has_part(index: Index, call: Call, wrote: Call) -> bool:
 
 
 def parts_of(index: Index, wrote: Call, now: Call) -> Iterator[Part]:
-    """The loops of the functions that made a Write, without those that still run."""
+    """The loops of the functions that made a Write, without the loops that still run."""
     lines = index.recording.lines
     running = {call.function for call in lines.of(now.first).calls}
     for call in lines.of(wrote.first).calls:

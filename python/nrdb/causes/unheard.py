@@ -1,5 +1,5 @@
-"""Datagrams that a connected socket never gets, because they came from another address than the one to which it is
-connected."""
+"""Datagrams that a connected socket never gets, because they came from an address other than the one to which the
+socket is connected."""
 
 from typing import Iterator, NamedTuple, Optional
 
@@ -12,7 +12,7 @@ UNSPECIFIED = ("0.0.0.0:", "[::]:")
 
 
 class Sent(NamedTuple):
-    """A datagram: the Write, and the addresses from which and to which it went."""
+    """A datagram: its Write, its source address and its destination address."""
 
     wrote: Call
     source: str
@@ -20,7 +20,8 @@ class Sent(NamedTuple):
 
 
 def unheard(index: Index, call: Call, position: int) -> Optional[Need]:
-    """The need of a Read at a connected socket to which a datagram came from elsewhere; None if none did."""
+    """The need of a Read on a connected socket to which a datagram came from another address; None if no such datagram
+    came."""
     own, peer = index.recording.lines.addresses.get(call.socket, ("", ""))
     if not own or not peer:
         return None
@@ -56,14 +57,14 @@ def opened_at(index: Index, socket: int) -> str:
 
 
 def is_same(one: str, other: str) -> bool:
-    """Whether two addresses may be the same; if one is unspecified, only the ports are compared."""
+    """Whether two addresses may be the same. If one address is unspecified, only the ports are compared."""
     if one.startswith(UNSPECIFIED) or other.startswith(UNSPECIFIED):
         return one.rpartition(":")[2] == other.rpartition(":")[2]
     return one == other
 
 
 def sent_at(index: Index) -> Iterator[Sent]:
-    """The datagrams that went from a known address to a known one: by connected sockets, or by Writes that name the
+    """The datagrams whose two addresses are known: those from connected sockets, and those of Writes that name the
     address."""
     lines = index.recording.lines
     for socket, (own, peer) in lines.addresses.items():

@@ -1,6 +1,6 @@
-"""An end of a stream that a relay didn't pass on: a goroutine that only read at one socket and only wrote to another
-met the end, had written everything, and never closed the other one for writing; and the reader at its other end
-hangs."""
+"""An end of a stream that a relay didn't pass on. The relay is a goroutine that only read from one socket and only
+wrote to another. It met the end, had written everything, and never closed the other socket for writing, so the reader
+at that socket's other end hangs."""
 
 from typing import Iterator, NamedTuple, Optional
 
@@ -24,7 +24,7 @@ class UnpassedEnd(NamedTuple):
     waits: Call
 
     def says(self, recording: Recording) -> list[str]:
-        """The sentences."""
+        """The sentences about the end that wasn't passed on."""
         socket, reader = self.wrote.socket, told(recording, self.waits)
         ended = " The goroutine has ended." if has_ended(recording, Name(self.met.goroutine)) else ""
         return [
@@ -47,8 +47,8 @@ def unpassed_ends(index: Index) -> Iterator[UnpassedEnd]:
 
 
 def last_write_of_relay(index: Index, met: Call) -> Optional[Call]:
-    """The last Write of a goroutine whose last call is this Read, whose Reads are all at one socket and whose Writes
-    are all at another, after the last Read that got something; None if it isn't such a goroutine."""
+    """The last Write of a relay after the last Read that got something. The relay's Reads are all on one socket, its
+    Writes are all on another, and its last call is this Read. None if the goroutine isn't such a relay."""
     calls = [one for one in index.by_goroutine[met.goroutine] if one.name in MOVING]
     reads, writes = ([one for one in calls if one.name == name] for name in MOVING)
     if not writes or calls[-1] is not met or len({one.socket for one in reads}) > 1 or not is_over(index, met):
@@ -60,12 +60,13 @@ def last_write_of_relay(index: Index, met: Call) -> Optional[Call]:
 
 
 def is_over(index: Index, met: Call) -> bool:
-    """Whether a goroutine had a chance to close the other socket: it has ended, or enough steps have come since."""
+    """Whether a goroutine had a chance to close the other socket: the goroutine has ended, or enough steps have passed
+    since."""
     return index.recording.length - met.last >= SETTLED or has_ended(index.recording, Name(met.goroutine))
 
 
 def reader_of(index: Index, socket: int) -> Optional[Call]:
-    """The Read at a socket's other end that waits at the end."""
+    """The Read at a socket's other end that waits at the end of the recording."""
     other = index.other_end(socket)
     calls = () if other is None else index.by_socket.get(other, ())
     return next((one for one in calls if one.name == "Read" and not one.last and is_waiting(index, one)), None)

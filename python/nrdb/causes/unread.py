@@ -1,4 +1,5 @@
-"""Bytes that were written and that no goroutine reads: at sockets whose other end is open, with no Read in progress."""
+"""Bytes that were written and that no goroutine reads: the socket that has them is open at the other end, and no Read
+is in progress."""
 
 from typing import Iterable, Iterator, NamedTuple
 
@@ -21,7 +22,7 @@ class Unread(NamedTuple):
 
 
 def unread(index: Index, position: int) -> Iterator[Unread]:
-    """The unread bytes at a position. The number is unknown if the recording counts fewer bytes than the reads or
+    """The unread bytes at a position. Their number is unknown if the recording counts fewer bytes than the reads or
     writes moved."""
     for socket, other in sorted(index.recording.lines.peers.items()):
         count = moved_at(index, socket, "Write", position) - moved_at(index, other, "Read", position)
@@ -40,7 +41,7 @@ def unread(index: Index, position: int) -> Iterator[Unread]:
 
 
 def unread_says(index: Index, names: Iterable[Name], position: int) -> list[str]:
-    """Sentences about the first such bytes that one of these goroutines wrote."""
+    """Sentences about the first unread bytes that one of these goroutines wrote."""
     every = set(names)
     for found in unread(index, position):
         if Name(found.wrote.goroutine) in every:
@@ -52,7 +53,7 @@ def unread_says(index: Index, names: Iterable[Name], position: int) -> list[str]
 
 
 def unread_answers(index: Index, call: Call, other: int, position: int) -> list[str]:
-    """Says, for a Write that waits for room, that its own goroutine hasn't read what was written at the other end."""
+    """Sentences about a Write that waits for room: its own goroutine hasn't read what was written at the other end."""
     count = moved_at(index, other, "Write", position) - moved_at(index, call.socket, "Read", position)
     wrote, calls = index.last_use(other, position, ("Write",)), index.by_socket.get(call.socket, ())
     readers = {one.goroutine for one in calls if one.name == "Read"}

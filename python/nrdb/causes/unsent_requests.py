@@ -1,5 +1,5 @@
-"""Requests of net/http's client that were never written: the goroutine that writes closed its connection first, as it
-does if a body gives an error, ends before its ContentLength, or was read by an earlier request."""
+"""Requests of net/http's client that were never written, because the goroutine that writes closed its connection first.
+It does so if a request's body gives an error, ends before its ContentLength, or was read by an earlier request."""
 
 import re
 from typing import Iterator, NamedTuple, Optional
@@ -25,7 +25,7 @@ READS = re.compile(
 
 class Unsent(NamedTuple):
     """A request that wasn't written: its goroutine, its stack, and the step after which it was handed over; the Close;
-    and the step after which the same goroutine last handed over a request from the same line (0: none)."""
+    and the step after which the same goroutine last handed over an earlier request from the same line (0: none)."""
 
     use: Use
     name: Name
@@ -33,7 +33,7 @@ class Unsent(NamedTuple):
     before: int
 
     def says(self, recording: Recording) -> list[str]:
-        """The sentences."""
+        """The sentences about the request."""
         stack = recording.lines.stacks[self.use.stack]
         says = [
             f"The request{place_in(stack)} ({self.name}, step {self.use.last}) was never written: net/http closed its connection, socket "
@@ -55,7 +55,7 @@ class Unsent(NamedTuple):
 
 
 def reading_line(recording: Recording, call: LineCall) -> int:
-    """The line of a function, before a call, that reads or closes a body; 0 if there is none."""
+    """The line of a function, before a call, that reads or closes a body; 0 if no line does."""
     return next((number for number, _ in found_in(recording, call, READS) if number < call.line), 0)
 
 
@@ -71,7 +71,7 @@ def unsent_requests(index: Index) -> Iterator[Unsent]:
 
 
 def request_of(index: Index, closed: Call) -> Optional[Use]:
-    """The last request that was taken by the goroutine that closed a connection."""
+    """The last request that the goroutine which closed a connection had taken."""
     lines, goid = index.recording.lines, index.recording.lines.goid_of(closed.goroutine, closed.first)
     found = list[Use]()
     for uses in lines.uses.values():
@@ -81,7 +81,7 @@ def request_of(index: Index, closed: Call) -> Optional[Use]:
 
 
 def has_written(index: Index, closed: Call, use: Use) -> bool:
-    """Whether the goroutine that closed a connection wrote there after it took a request."""
+    """Whether the goroutine that closed a connection wrote to it after the goroutine took a request."""
     calls = index.by_goroutine[closed.goroutine]
     return any(one.name == "Write" and use.last <= one.first <= closed.first for one in calls)
 
@@ -92,7 +92,8 @@ def is_of_program(recording: Recording, use: Use) -> bool:
 
 
 def step_before(recording: Recording, last: Use) -> int:
-    """The step after which the same goroutine last handed over a request from the same line; 0 if it didn't."""
+    """The step after which the same goroutine last handed over an earlier request from the same line; 0 if it handed
+    over none."""
     lines, own = recording.lines, recording.lines.stacks[last.stack].own()
     steps = [
         step

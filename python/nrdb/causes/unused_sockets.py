@@ -1,5 +1,5 @@
 """Connections that no goroutine uses: sockets that were dialed and then neither written, read nor closed, and sockets
-of goroutines whose result no goroutine took from a channel."""
+opened by goroutines whose results no goroutine took from a channel."""
 
 from collections import defaultdict
 from typing import Iterator
@@ -18,8 +18,8 @@ from .words import place_in, short
 
 
 def unused_since(index: Index, call: Call, step: int) -> list[str]:
-    """Says, for a call that failed at a connection whose other end was closed, that its goroutine has dialed since, and
-    uses none of those connections."""
+    """Sentences about a call that failed on a connection whose other end was closed: the call's goroutine has dialed
+    since, and uses none of the new connections."""
     opened: dict[str, list[int]] = defaultdict(list)
     for one in index.by_goroutine[call.goroutine]:
         if one.name == OPEN and one.first > step and is_dialed(index, one.socket) and not is_used(index, one.socket):
@@ -32,12 +32,12 @@ def unused_since(index: Index, call: Call, step: int) -> list[str]:
 
 
 def is_used(index: Index, socket: int) -> bool:
-    """Whether a goroutine has read, written or closed at a socket."""
+    """Whether a goroutine has read from, written to or closed a socket."""
     return any(one.name in MOVING or one.name == CLOSE for one in index.by_socket[socket])
 
 
 def untaken_results(index: Index) -> Iterator[Cause]:
-    """Channels with values left by goroutines that opened sockets that are still open, while the function that made the
+    """Channels that still have values from goroutines whose sockets are still open, although the function that made the
     channel has returned."""
     lines, found = index.recording.lines, dict[LineCall, list[Call]]()
     for number, made in lines.made.items():
@@ -62,6 +62,6 @@ def untaken_results(index: Index) -> Iterator[Cause]:
 
 
 def opened_by(index: Index, goid: int) -> list[Call]:
-    """The Opens of a goroutine whose sockets weren't closed."""
+    """The Opens of a goroutine whose sockets no goroutine has closed."""
     opened = [one for one in index.by_goid(goid) if one.name == OPEN and is_dialed(index, one.socket)]
     return [one for one in opened if not any(other.name == CLOSE for other in index.by_socket[one.socket])]

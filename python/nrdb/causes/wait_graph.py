@@ -1,6 +1,6 @@
-"""The wait-for graph at a recording's end, and its roots: each goroutine that waits, the one that it waits for, and
-what all of them finally wait for. If several goroutines could give what a goroutine needs, the graph has only one of
-them."""
+"""The wait-for graph at the end of a recording, and its roots: each goroutine that waits, the goroutine that it waits
+for, and what all of them finally wait for. If several goroutines could give what a goroutine needs, the graph has only
+one of them."""
 
 from collections import defaultdict
 from functools import lru_cache
@@ -17,11 +17,11 @@ from .needs import Needs
 from .waiters import Waiter, waiters_at
 from .words import name_of, place_in
 
-# Waits that may be normal because there is nothing to do.
+# Waits that may be normal because the goroutine has nothing to do.
 QUIET = ("a select", "a value from a channel", "a condition", "a select without cases")
 
 
-DEEP = 16  # levels of a tree
+DEEP = 16  # the most levels of a tree
 MAIN = 1  # Go's own number of the main goroutine
 
 
@@ -34,8 +34,8 @@ class Edge(NamedTuple):
 
 
 class Branch(NamedTuple):
-    """Goroutines that wait alike for others: these, the need of the first one, the goroutines that they wait for, and
-    the branches that wait for them."""
+    """Goroutines that wait alike for others: these goroutines, the need of the first, the goroutines that they wait
+    for, and the branches that wait for them."""
 
     waiters: list[Waiter]
     need: Need
@@ -44,10 +44,11 @@ class Branch(NamedTuple):
 
 
 class Hang(NamedTuple):
-    """A root: the goroutine that others wait for, or goroutines that wait for one another. `needs` has the need of
-    each, `waiting` is the number of goroutines that wait for them, and `perhaps` is how many of those do so only
-    perhaps. `alike` are similar roots, and `beside` others that wait for the same ended goroutine. `is_loose`: it isn't
-    known which root waits for which. `until`: a call of the roots whose deadline will end the wait."""
+    """A root of the graph: a goroutine that others wait for, or goroutines that wait for one another. `needs` has the
+    need of each, `waiting` is the number of goroutines that wait for the root, and `perhaps` is the number of those
+    that do so only perhaps. `alike` are similar roots, and `beside` are other roots that wait for the same ended
+    goroutine. `is_loose` means that it isn't known which root waits for which. `until` is a call of the roots whose
+    deadline will end the wait."""
 
     roots: list[Waiter]
     needs: list[Need]
@@ -62,12 +63,12 @@ class Hang(NamedTuple):
 
     @property
     def root(self) -> Waiter:
-        """The first of those that wait for one another, or the root itself."""
+        """The first of the goroutines that wait for one another, or the root itself."""
         return self.roots[0]
 
     @property
     def every_root(self) -> list[Waiter]:
-        """All roots: these, the similar ones, and those beside."""
+        """All roots: these, the similar roots, and those in `beside`."""
         return [*self.roots, *self.alike, *self.beside]
 
     @property
@@ -82,9 +83,9 @@ class Hang(NamedTuple):
 
     @property
     def has_reason(self) -> bool:
-        """Whether more is known than what its roots wait for: that they hold mutexes, or why what they wait for doesn't
-        come. A channel that isn't closed isn't a reason, because a goroutine that takes values may have nothing to
-        do."""
+        """Whether more is known than what the hang's roots wait for: that they hold mutexes, or why what they wait for
+        doesn't come. A channel that isn't closed isn't a reason, because a goroutine that takes values may have nothing
+        to do."""
         need, wait = self.needs[0], self.root.wait
         if self.is_deadlock:
             return self.is_of_mutexes or any(one.more and not one.is_plain for one in self.needs)
@@ -98,8 +99,8 @@ class Hang(NamedTuple):
 
     @property
     def is_quiet(self) -> bool:
-        """Whether no goroutine waits for this hang, and it may be of a goroutine that has nothing to do: a read, a
-        select, a wait for a value from a channel."""
+        """Whether no goroutine waits for this hang, and its goroutine may have nothing to do: it waits in a read, in a
+        select, or for a value from a channel."""
         call, wait = self.root.call, self.root.wait
         reads = call is not None and call.name in READING and not call.is_asking
         idles = wait is not None and wait.kind in QUIET
@@ -108,8 +109,8 @@ class Hang(NamedTuple):
 
 
 class WaitGraph:
-    """The graph at a position: the waiters, their needs, the edges, and the hangs, the one with the most waiters
-    first."""
+    """The graph at a position: the waiters, their needs, the edges, and the hangs, ordered so that the hang with the
+    most waiters comes first."""
 
     def __init__(self, recording: Recording, position: int) -> None:
         index = index_of(recording)
@@ -135,12 +136,12 @@ class WaitGraph:
 
     @property
     def count(self) -> int:
-        """The number of goroutines that hang, without those that may have nothing to do."""
+        """The number of goroutines that hang, without the goroutines that may have nothing to do."""
         return sum(len(hang.every_root) + hang.waiting for hang in self.shown if not hang.is_quiet)
 
     @property
     def main(self) -> Optional[Name]:
-        """The main goroutine, if it is known."""
+        """The main goroutine, if known."""
         return name_of_goid(self.recording.lines, MAIN) if MAIN in self.recording.lines.goroutines else None
 
     @property
@@ -152,9 +153,9 @@ class WaitGraph:
         return self.main not in self.waiters and waits_of(self.recording).at(self.main, self.position) is None
 
     def _is_idle(self, name: Name, by: Name) -> bool:
-        """Whether a goroutine that has answered the last request reads at a connection that the other end perhaps no
-        longer uses: the goroutine that wrote there last waits for a connection, because finished calls have kept
-        theirs."""
+        """Whether a goroutine that has answered the last request reads from a connection that the other end perhaps no
+        longer uses: the goroutine that wrote last at the other end waits for a connection, because finished calls have
+        kept their connections."""
         call = self.waiters[name].call
         if call is None or call.name not in READING or not self.needs[by].is_kept:
             return False
@@ -175,16 +176,16 @@ class WaitGraph:
         return sorted(found, key=order)
 
     def _cause_of_root(self, waiter: Waiter) -> Hashable:
-        """The key by which roots are one hang: the ended goroutine for which they wait, else what they wait for and the
-        line."""
+        """The key under which roots form one hang: the ended goroutine for which they wait, else what they wait for and
+        the line."""
         need = self.needs[waiter.name]
         if need.gone:
             return need.gone
         return (kind_of(self.recording, waiter), need.how) if waiter.stack.calls else waiter.name
 
     def _ring(self, ring: list[Name]) -> Hang:
-        """The hang of goroutines that wait for one another, including others that may hold a mutex instead of one of
-        these and that wait for one of them."""
+        """The hang of goroutines that wait for one another. Further goroutines belong to it if each may hold a mutex
+        instead of a goroutine of the ring and waits for a goroutine of the ring."""
         every = list(ring) if all(is_at_mutex(self.waiters[name]) for name in ring) else []
         for name in every:
             others = [other for other in self.needs[name].others if other not in every and other in self.edges]
@@ -225,8 +226,8 @@ class WaitGraph:
         return Hang(roots, needs, branches, count, count - sure, certainty, alike, beside)
 
     def _branches(self, names: list[Name], seen: set[Name], depth: int = 0) -> list[Branch]:
-        """The branches that wait for these goroutines, equal ones merged, most certain first. Below a certain depth the
-        rest form one level."""
+        """The branches that wait for these goroutines, most certain first. Equal branches are merged. Below a certain
+        depth, the rest form one level."""
         alike: dict[Hashable, list[Name]] = defaultdict(list)
         upcoming = list(names)
         while upcoming:
@@ -249,7 +250,7 @@ class WaitGraph:
 
 
 def kind_of(recording: Recording, waiter: Waiter) -> tuple[str, str, int]:
-    """The line at which a waiter waits, and what it waits for: waiters that agree in both are alike."""
+    """The line at which a waiter waits, and what the waiter waits for. Waiters that agree in both are alike."""
     what = name_of(recording, waiter.call) if waiter.call else ""
     return place_in(waiter.stack), waiter.wait.kind if waiter.wait else what, mutex_of(waiter)
 
@@ -260,13 +261,15 @@ def is_at_mutex(waiter: Waiter) -> bool:
 
 
 def mutex_of(waiter: Waiter) -> int:
-    """The number of the mutex that a goroutine waits for; 0 if it waits for something else, or if unknown."""
+    """The number of the mutex that a goroutine waits for; 0 if the goroutine waits for something else, or if
+    unknown."""
     wait = waiter.wait
     return wait.objects[0].object if wait and wait.objects and wait.kind in MUTEXES else 0
 
 
 def count_of(branches: Iterable[Branch], is_meant: Callable[[Branch], bool]) -> int:
-    """The number of goroutines that wait in certain branches, down to uncertain ones."""
+    """The number of goroutines that wait in the branches that a test accepts. Branches below a rejected one don't
+    count."""
     return sum(len(one.waiters) + count_of(one.branches, is_meant) for one in branches if is_meant(one))
 
 
@@ -281,9 +284,9 @@ def waiters_of(hang: Hang) -> Iterator[Waiter]:
 
 
 def order(hang: Hang) -> tuple[bool, bool, int, int, int]:
-    """The sort key of hangs: certain deadlocks come first, then hangs that others wait for and whose reason is known,
-    then those that most goroutines wait for, and last those that may have nothing to do. Reads that wait for one
-    another are a deadlock without a known reason."""
+    """The sort key of hangs: first certain deadlocks, then hangs that others wait for and whose reason is known, then
+    hangs that the most goroutines wait for, and last hangs of goroutines that may have nothing to do. Reads that wait
+    for one another are a deadlock without a known reason."""
     is_certain = hang.is_deadlock and hang.certainty > Certainty.PERHAPS and not hang.until
     are_reads = all(root.call and root.call.name in READING for root in hang.roots)
     has_reason = hang.has_reason and (hang.is_deadlock or hang.waiting > 0 or hang.needs[0].is_odd)

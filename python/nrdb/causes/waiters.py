@@ -1,4 +1,5 @@
-"""The goroutines that wait at a recording's end and don't go on: each in a call of a socket, or outside the poller."""
+"""The goroutines that wait at the end of a recording and don't go on: each in a call on a socket, or outside the
+poller."""
 
 from functools import lru_cache
 from typing import NamedTuple, Optional
@@ -14,7 +15,7 @@ TICKERS = ("time.NewTicker", "time.Tick", "time.(*Ticker).Reset")
 
 
 class Waiter(NamedTuple):
-    """A goroutine that waits and doesn't go on: the step at which the wait began, its stack, and its call on a socket
+    """A goroutine that waits and doesn't go on: the step at which its wait began, its stack, and its call on a socket
     or its other wait."""
 
     name: Name
@@ -25,7 +26,7 @@ class Waiter(NamedTuple):
 
     @property
     def is_of_go(self) -> bool:
-        """Whether only Go's own code waits there, as net/http does between two requests."""
+        """Whether only Go's own code waits, as net/http does between two requests."""
         return bool(self.stack.calls) and not any(call.of == OF_THE_PROGRAM for call in self.stack.calls)
 
 
@@ -69,10 +70,10 @@ def waiters_during(index: Index, position: int) -> dict[Name, Waiter]:
 
 
 def is_timed(recording: Recording, wait: Waiting) -> bool:
-    """Whether a wait ends by itself: at the channel of a ticker, or of a timer that goes off after the end of the
+    """Whether a wait ends by itself: it is on the channel of a ticker, or of a timer that goes off after the end of the
     recording."""
     lines = recording.lines
-    if wait.kind == ALL_REQUESTS:  # (which tests repeatedly)
+    if wait.kind == ALL_REQUESTS:  # (Shutdown, which tests repeatedly)
         return False
     return any(
         timer.due > last_time_of(recording) or any(call.function in TICKERS for call in lines.stacks[timer.stack].calls)

@@ -21,7 +21,7 @@ ENDED = {
     Outcome.EOF: "met the end of the stream",
 }
 POLL = "internal/poll.(*FD)."
-# The names that programs use for Go's own functions, if they differ from those of internal/poll.
+# The names that programs use for Go's own functions, if these differ from the names in internal/poll.
 NAMES = {
     "Accept": "Accept",
     "ReadFrom": "Read",
@@ -75,8 +75,8 @@ def place_in(stack: Stack) -> str:
 
 
 def caller_of(stack: Stack, own: LineCall) -> str:
-    """The line at which the program called its current function, if that is the program's own and has a caller in the
-    program."""
+    """The line at which the program called its current function, if that function is the program's own and the program
+    called it."""
     own_calls = [call for call in stack.calls if call.of == OF_THE_PROGRAM and call.file != OF_TESTS]
     behind = own_calls[own_calls.index(own) + 1 :] if own in own_calls else []
     is_main = bool(behind) and behind[0].function == "main.main"
@@ -84,7 +84,7 @@ def caller_of(stack: Stack, own: LineCall) -> str:
 
 
 def is_of_a_lock(stack: Stack) -> bool:
-    """Whether a wait is for the lock of a descriptor, which has steps of its own."""
+    """Whether a wait is for the lock of a descriptor. Such a wait has steps of its own."""
     return any(call.function == "internal/poll.(*fdMutex).rwlock" for call in stack.calls)
 
 
@@ -95,12 +95,12 @@ def waits_words(wait: Waiting) -> str:
 
 
 def is_of_the_program(stack: Stack) -> bool:
-    """Whether a stack has a line of the program, not counting the main function that Go makes for tests."""
+    """Whether a stack has a line of the program. The main function that Go makes for tests doesn't count."""
     return any(call.of == OF_THE_PROGRAM and call.file != OF_TESTS for call in stack.calls)
 
 
 def is_of_go(recording: Recording, call: Call) -> bool:
-    """Whether a call is certainly by Go's own code alone, like those of net/http between two requests."""
+    """Whether only Go's own code certainly made a call, as net/http does between two requests."""
     stack = recording.lines.of(call.first)
     return bool(stack.calls) and all(one.of == OF_GO for one in stack.calls)
 
@@ -120,7 +120,8 @@ def told(recording: Recording, call: Call) -> str:
 
 def place_of_step(recording: Recording, step: int, goroutine: Optional[int] = None) -> str:
     """The place of a step, its goroutine if given, and its number: ` at pool.go:20 in ping (goroutine 0, step 8)`. A
-    step that leads to the beginning of the recording has neither, because its number names no goroutine."""
+    step that leads to the beginning of the recording has neither place nor goroutine, because its number names no
+    goroutine."""
     if 0 < step <= begins_at(recording):
         return " before the recording begins"
     whose = "" if goroutine is None else f"goroutine {goroutine}, "
@@ -128,8 +129,8 @@ def place_of_step(recording: Recording, step: int, goroutine: Optional[int] = No
 
 
 def since_begin(recording: Recording, opened: int = 0) -> str:
-    """The addition to a sentence about everything since a step: ` since the recording begins`, if the object
-    existed before."""
+    """Words to add to a sentence about everything since a step: ` since the recording begins`, if the object existed
+    before."""
     return " since the recording begins" if opened <= begins_at(recording) > 0 else ""
 
 
