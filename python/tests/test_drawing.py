@@ -7,15 +7,19 @@ import xml.etree.ElementTree as ET
 from collections import Counter
 from pathlib import Path
 
+import pytest
+
 from nrdb.calls import book_of
 from nrdb.causes.index import index_of
 from nrdb.causes.waiters import is_waiting
 from nrdb.recording import Recording
 from nrdb.timeline.calls import FAILED, HANGS
-from nrdb.timeline.drawing import CLASS, LETTER, drawing, fitted
+from nrdb.timeline.drawing import CLASS, EDGE, LEFT, LETTER, WIDE, drawing, fitted
 from nrdb.timeline.sequence import MOST, sequence, spelled
 from nrdb.timeline.stories import causes_data
 from nrdb.where import Call, Stack
+
+from .test_suspects import Steps, recording_of
 
 EXAMPLES = Path(__file__).resolve().parents[2] / "examples"
 REAL = ("past", "lost", "leak", "half", "hung", "hijacked")
@@ -126,3 +130,13 @@ class Sequences(unittest.TestCase):
         recording = read("hung")
         self.assertGreater(recording.length, MOST)
         self.assertEqual(sequence(recording, None), "")
+
+
+@pytest.mark.parametrize("length", [1, 9, 17, 33, 44, 90, 170, 215, 440, 870, 1_800, 4_300, 9_000])
+def test_the_ruler_has_the_closest_round_distances_that_leave_room(length: int) -> None:
+    steps: Steps = [["tick", at] for at in range(1, length + 1)]
+    ticks = [int(found) for found in re.findall(r'class="tick">(\d+)<', drawing(recording_of(steps), None))]
+    room = (WIDE - LEFT - EDGE) / (length + 1)
+    rounds = [one * 10**power for power in range(3) for one in (1, 2, 5)] + [10**9]
+    every = next(distance for distance in rounds if distance * room >= 40)
+    assert ticks == list(range(0, length + 1, every))

@@ -1,0 +1,45 @@
+"""The pager on a screen of a given size: it asks when the next line would push the first one since the last question off the screen."""
+
+import io
+import os
+from unittest import mock
+
+import pytest
+
+from nrdb.prompt.paging import MORE, Paged
+
+ROWS, COLUMNS = 6, 10
+
+
+def paged(keys: list[str], lengths: list[int], rows: int = ROWS, is_on: bool = True) -> list[str]:
+    """What is written of lines with these lengths: each line's first letter, `?` where it asks, which gives the next key."""
+    out = io.StringIO()
+    pager = Paged(out, lambda: keys.pop(0), lambda: is_on)
+    with mock.patch.object(out, "fileno", return_value=1), mock.patch.object(
+        os, "get_terminal_size", return_value=os.terminal_size((COLUMNS, rows))
+    ):
+        for number, length in enumerate(lengths):
+            pager.write(chr(ord("a") + number) * length + "\n")
+    return [line[:1] for line in out.getvalue().replace(MORE, "?\n").splitlines()]
+
+
+@pytest.mark.parametrize("length", [1, 9, 10, 11, 20, 21, 30])
+def test_it_asks_when_the_screen_is_full(length: int) -> None:
+    """A line takes as many rows as its letters fill."""
+    rows, told = 0, list[str]()
+    for number in range(9):
+        if rows >= ROWS - 1:
+            rows, told = 0, [*told, "?"]
+        rows, told = rows + -(-length // COLUMNS), [*told, chr(ord("a") + number)]
+    assert paged([""] * 9, [length] * 9) == told
+
+
+def test_keys_leave_out_the_rest_or_go_on_without_stopping() -> None:
+    assert paged(["q"], [1] * 9) == [*"abcde?"]
+    assert paged(["", " Quit"], [1] * 14) == [*"abcde?fghij?"]
+    assert paged(["c"], [1] * 14) == [*"abcde?fghijklmn"]
+
+
+def test_a_small_screen_and_a_pager_that_is_off_never_ask() -> None:
+    assert paged([], [1] * 9, rows=3) == paged([], [1] * 9, is_on=False) == [*"abcdefghi"]
+    assert paged([""] * 3, [1] * 9, rows=4) == [*"abc?def?ghi"]
