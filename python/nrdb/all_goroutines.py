@@ -1,5 +1,5 @@
-"""All goroutines of a log, as NAME.where has them (docs/reference/RECORDING.md has the format), including those without
-sockets: Go's numbers, each wait outside the poller, and the objects at which goroutines wait."""
+"""All goroutines of a log, including those without sockets, as NAME.where has them (docs/reference/RECORDING.md has the
+format): Go's numbers, each wait outside the poller, and the objects on which goroutines wait."""
 
 from typing import TYPE_CHECKING, Any, Container, Iterator, NamedTuple, Optional, Sequence
 
@@ -9,7 +9,7 @@ if TYPE_CHECKING:
 OF_GOROUTINES = frozenset(
     ("goroutines", "parks", "objects", "uses", "timers", "left_out", "channels", "failed_dials", "held")
 )  # lines of the file
-STILL = -1  # the end of a wait that lasts to the end of the recording
+STILL = -1  # the end of a wait that lasts until the end of the recording
 # What goroutines wait for outside the poller.
 A_RECEIVER = "a receiver at a channel"  # for a channel without a buffer
 A_VALUE, ROOM, A_SELECT, A_CONDITION = "a value from a channel", "room in a channel", "a select", "a condition"
@@ -22,14 +22,14 @@ A_WAIT_GROUP, A_SEMAPHORE, A_NIL_CHANNEL, NO_CASES = (
 )
 MUTEXES = (A_MUTEX, A_READ_LOCK, A_WRITE_LOCK)
 FOR_VALUE, FOR_ROOM = "value", "room"  # at a channel
-PUT, TOOK, CLOSED, ENDED = "put", "took", "closed", "ended"  # what goroutines do at a channel
-ADDED, DONE = "added", "done"  # at a WaitGroup
+PUT, TOOK, CLOSED, ENDED = "put", "took", "closed", "ended"  # what goroutines do on a channel
+ADDED, DONE = "added", "done"  # what goroutines do on a WaitGroup
 
 
 class GoGoroutine(NamedTuple):
     """A goroutine by Go's own number, as in a stack dump: its number in the recording (-1: it made no step), the call
-    of the `go` statement that started it, the goroutine that called `go` (0 if unknown), the steps after which it
-    started and ended, and the times of both. An unknown start or end is -1."""
+    of the `go` statement that started it, the goroutine that called `go` (0 if unknown), and the steps after which it
+    started and ended, with the times of both. An unknown start or end is -1."""
 
     goid: int
     number: int
@@ -42,7 +42,7 @@ class GoGoroutine(NamedTuple):
 
 
 class At(NamedTuple):
-    """The number of an object at which a goroutine waits, and the operation that the goroutine waits for: FOR_VALUE,
+    """The number of an object on which a goroutine waits, and the operation that the goroutine waits for: FOR_VALUE,
     FOR_ROOM, or empty."""
 
     object: int
@@ -50,9 +50,9 @@ class At(NamedTuple):
 
 
 class Park(NamedTuple):
-    """A wait outside the poller, by Go's number of the goroutine: the steps after which it begins and ends and the
-    times of both (-1: it still waits), the reason in words, its stack, the goroutine that ended it (0 if unknown), the
-    objects (one for each case of a select), and the end of a sleep (0 if unknown)."""
+    """A wait outside the poller of a goroutine, by Go's number: the steps after which the wait begins and ends, with
+    the times of both (-1: the goroutine still waits), the reason in words, the stack, the goroutine that ended the wait
+    (0 if unknown), the objects (one for each case of a select), and the end of a sleep (0 if unknown)."""
 
     goid: int
     first: int
@@ -66,12 +66,12 @@ class Park(NamedTuple):
     due: int = 0
 
     def is_at(self, position: int) -> bool:
-        """Whether it is in progress at a position; never if it begins and ends between two steps."""
+        """Whether the wait is in progress at a position; never if the wait begins and ends between two steps."""
         return self.first <= position and (self.last == STILL or position < self.last)
 
 
 class Object(NamedTuple):
-    """An object at which goroutines wait: its number, its sort, and, for a channel, its capacity (-1: unknown)."""
+    """An object on which goroutines wait: its number, its kind, and, for a channel, its capacity (-1: unknown)."""
 
     object: int
     sort: str
@@ -79,8 +79,8 @@ class Object(NamedTuple):
 
 
 class Use(NamedTuple):
-    """The uses of an object by a goroutine from one stack (of a channel: PUT, TOOK, CLOSED or ENDED; of a WaitGroup:
-    ADDED or DONE): how many, and the steps and times of the first and the last."""
+    """The uses of an object by a goroutine from one stack: their number, and the steps and times of the first and the
+    last. A use of a channel is PUT, TOOK, CLOSED or ENDED; a use of a WaitGroup is ADDED or DONE."""
 
     object: int
     goid: int
@@ -94,9 +94,9 @@ class Use(NamedTuple):
 
 
 class Timer(NamedTuple):
-    """A timer that a goroutine made, reset or stopped: its channel (0 if it calls a function), the stack, the step
-    before, the time, and the time at which it was due (-1 if it was stopped). For a timer without a channel, only its
-    making is recorded."""
+    """A timer that a goroutine made, reset or stopped: its channel (0 if the timer calls a function), the stack, the
+    step before, the time, and the time at which the timer was due (-1 if it was stopped). For a timer without a
+    channel, the recording has only the call that made it."""
 
     object: int
     goid: int
@@ -107,12 +107,12 @@ class Timer(NamedTuple):
 
     @property
     def is_stopped(self) -> bool:
-        """Whether it was stopped."""
+        """Whether the goroutine stopped the timer."""
         return self.due < 0
 
 
 class Making(NamedTuple):
-    """A channel that was made: the goroutine that made it, the stack, the step after which it was made, and the
+    """The making of a channel: the goroutine that made the channel, the stack, the step after which it did so, and the
     time."""
 
     object: int
@@ -123,9 +123,9 @@ class Making(NamedTuple):
 
 
 class FailedDial(NamedTuple):
-    """A dial of a goroutine that failed: the stack, the step before it, the time, the reason (the system's error,
-    `timeout`, `cancelled`, or empty), the address (empty if unknown), and the channel of its context (0 if it has
-    none)."""
+    """A dial of a goroutine that failed: the stack, the step before the dial, the time, the reason (the system's error,
+    `timeout`, `cancelled`, or empty), the address (empty if unknown), and the channel of the dial's context (0 if it
+    has none)."""
 
     goid: int
     stack: int
@@ -137,8 +137,8 @@ class FailedDial(NamedTuple):
 
 
 class Held(NamedTuple):
-    """A mutex that is locked at the recording's end: the goroutine that locked it, how (READ: for reading), the stack,
-    and the step before."""
+    """A mutex that is locked at the end of the recording: the goroutine that locked it, the way it is held (READ: for
+    reading), the stack, and the step before."""
 
     object: int
     goid: int
@@ -151,7 +151,8 @@ READ = "read"  # how an RWMutex is held
 
 
 class LeftOut(NamedTuple):
-    """The number of waits with a reason and a stack that didn't fit into the file, by whether they last to the end."""
+    """The numbers of waits with a reason and a stack that didn't fit into the file: those that last until the end, and
+    the others."""
 
     reason: str
     stack: int
@@ -177,9 +178,9 @@ class AllGoroutines:
     """The file's facts about all goroutines. It is empty for a file of the first format."""
 
     def begin_goroutines(self) -> None:
-        """Starts without any known goroutine."""
+        """Starts without any goroutine."""
         self.goroutines: dict[int, GoGoroutine] = {}
-        self.parks: dict[int, list[Park]] = {}  # by goroutine, in the order in which they begin
+        self.parks: dict[int, list[Park]] = {}  # by goroutine, in the order of their beginnings
         self.objects: dict[int, Object] = {}
         self.uses: dict[int, list[Use]] = {}  # by object
         self.timers: dict[int, list[Timer]] = {}  # by channel
@@ -190,14 +191,14 @@ class AllGoroutines:
         self._goids: dict[int, int] = {}  # by the recording's numbers
         self.owners: dict[
             int, list[tuple[int, int]]
-        ] = {}  # for a number of the recording: the step after which each goroutine took it, and the goroutine's goid
+        ] = {}  # for a number of the recording: the steps after which goroutines took the number, and their goids
         self._owned: dict[int, int] = {}  # the number that a goroutine has taken, by Go's number
 
     def add_goroutines(self, line: dict[str, Any], calls: dict[int, "Call"], stacks: Container[int]) -> None:
-        """Adds a line about all goroutines, or about the objects at which they wait."""
+        """Adds a line about all goroutines, or about the objects on which they wait."""
 
         def known(numbers: Sequence[int]) -> Iterator[int]:
-            """The numbers of stacks, with 0 for a stack that isn't in the file."""
+            """These numbers of stacks, with 0 in place of a stack that isn't in the file."""
             return (number if number in stacks else 0 for number in numbers)
 
         if "goroutines" in line:
@@ -238,31 +239,32 @@ class AllGoroutines:
             self.left_out += map(LeftOut._make, zip(reasons, known(of_stacks), *rest))
 
     def add_owners(self, rows: Any) -> None:
-        """Adds the goroutines that took over a number, each with the step after which it did."""
+        """Adds the goroutines that took over a number, each with the step after which it took the number over."""
         for number, step, goid in zip(*columns(rows, OF_OWNER)):
             self.owners.setdefault(number, []).append((step, goid))
             self._owned[goid] = number
 
     def goid_of(self, number: int, step: Optional[int] = None) -> int:
-        """Go's number of the goroutine that has a number of the recording at a step, or of the last one that has it; 0 if unknown."""
+        """Go's number of the goroutine that has a number of the recording at a step, or of the last goroutine that had
+        it; 0 if unknown."""
         if step is None or number not in self.owners:
             return self._goids.get(number, 0)
         return next((goid for taken, goid in reversed(self.owners[number]) if taken < max(step, 1)), 0)
 
     def reused_goid(self, number: int, step: int) -> int:
         """Go's number of the goroutine that has a number of the recording at a step, if several goroutines had that
-        number; 0 if only one had it or the goroutine is unknown."""
+        number; 0 if only one had it, or if the goroutine is unknown."""
         return self.goid_of(number, step) if number in self.owners else 0
 
     def number_of(self, goid: int, step: Optional[int] = None) -> int:
-        """The number in the recording that a goroutine, given by its goid, has at a step, else at the end; -1 if it has
-        none."""
+        """The number in the recording that the goroutine with this goid has at a step, or else at the end; -1 if the
+        goroutine has no number."""
         known = self.goroutines.get(goid)
         number = self._owned.get(goid, known.number if known else -1)
         return -1 if number in self.owners and self.goid_of(number, step) != goid else number
 
     def has_step(self, goid: int, number: int, step: int) -> bool:
-        """Whether a step with a number of the recording was made by the goroutine with this goid."""
+        """Whether the goroutine with this goid made a step which the recording gives to a goroutine of this number."""
         return number not in self.owners or self.goid_of(number, step) == goid
 
     def park_of(self, goid: int, position: int) -> Optional[Park]:
@@ -271,15 +273,15 @@ class AllGoroutines:
 
 
 def typed(value: Any, sort: type) -> Any:
-    """The value; raises a TypeError if it has another type."""
+    """A value of a known type; raises a TypeError if the value has another type."""
     if type(value) is not sort:
         raise TypeError
     return value
 
 
 def columns(rows: Any, sorts: Sequence[type]) -> list[Any]:
-    """The columns of some rows, of these types; raises a TypeError or a ValueError if a value differs. There may be
-    65,536 rows, so no Python loop visits all values."""
+    """The columns of some rows, of these types; raises a TypeError or a ValueError if a value has another type. There
+    may be 65,536 rows, so no Python loop visits all values."""
     if set(map(len, rows)) - {len(sorts)}:
         raise ValueError
     found = list(zip(*rows)) or [()] * len(sorts)

@@ -20,8 +20,8 @@ PIPE = 2**20  # bytes
 
 
 class ArrivingChanges(RecordedChanges):
-    """The output of `netrev changes FILE`, which is started by the first request. If it fails, Lost is raised, and the
-    next request starts it again."""
+    """The output of `netrev changes FILE`, which the first request starts. If that run fails, the request raises Lost,
+    and the next request starts another run."""
 
     def __init__(self, program: str, path: str, interrupts: Interrupts, tell: Callable[[str], None]) -> None:
         super().__init__()
@@ -29,7 +29,7 @@ class ArrivingChanges(RecordedChanges):
         self._process: Optional["subprocess.Popen[bytes]"] = None
         self._reader: Optional[Thread] = None
         self._came = Condition()
-        self._wanted: Optional[int] = 0  # the position up to which a caller waits for them; None for all
+        self._wanted: Optional[int] = 0  # the position up to which a caller waits for changes; None for all
         self._failure = ""
 
     def prepare(self) -> None:
@@ -99,7 +99,7 @@ class ArrivingChanges(RecordedChanges):
 
     @contextmanager
     def _lost_where_wrong(self) -> Iterator[None]:
-        """Context in which a line that isn't a change counts as netrev's failure."""
+        """Context in which a line that isn't a change counts as a failure of netrev."""
         try:
             yield
         except NoChanges as wrong:

@@ -1,4 +1,4 @@
-"""`commands N`: lines that are run each time a mark hits, as in GDB."""
+"""`commands N`: lines that nrdb runs each time a mark hits, as GDB does."""
 
 from collections import deque
 from dataclasses import dataclass, field
@@ -20,7 +20,7 @@ class Attached:
         self.lines[mark], self.taking = [], mark
 
     def takes(self, line: str) -> bool:
-        """Whether the line belongs to a mark: it is kept, and runs when the mark hits."""
+        """Whether the line belongs to a mark. Such a line is kept, and runs when the mark hits."""
         if self.taking is None:
             return False
         if line.strip() == END:

@@ -1,5 +1,5 @@
-"""Facts about the steps before a position, found for all requested objects in one backward search of the recording's
-text."""
+"""Facts about the steps before a position. One backward search of the recording's text finds them for all requested
+objects."""
 
 import re
 from itertools import islice
@@ -16,7 +16,7 @@ GOROUTINES = rb'\[\s*"(?:%s)"\s*,\s*(\d+)\b' % "|".join(OF_A_GOROUTINE).encode()
 
 
 def takings(recording: Recording, until: int, locks: Collection[Lock]) -> dict[Lock, Step]:
-    """The steps that took these locks, which are held after this many steps: each is the first `rwlock` after the last
+    """The steps that took these locks, each of which is held after this many steps: the first `rwlock` after the last
     `rwunlock`."""
     sought, taking = set(locks), dict[Lock, int]()
     if sought:
@@ -31,8 +31,8 @@ def takings(recording: Recording, until: int, locks: Collection[Lock]) -> dict[L
 
 
 def locks_back(recording: Recording, until: int, sockets: set[int]) -> Iterator[tuple[int, bool, Lock]]:
-    """Each `rwlock` and `rwunlock` of these sockets, latest first, perhaps mixed with steps of other sockets: its
-    number, whether it is a `rwlock`, and the lock."""
+    """Each `rwlock` and `rwunlock` of these sockets, latest first: the step's number, whether it is a `rwlock`, and the
+    lock. Steps of other sockets may be among them."""
     if recording.has_escapes:
         for step in reversed(list(recording.steps_of(("rwlock", "rwunlock"), until))):
             yield step.number, step.kind == "rwlock", (step.argument("s"), step.argument("side"))
@@ -44,7 +44,8 @@ def locks_back(recording: Recording, until: int, sockets: set[int]) -> Iterator[
 
 
 def last_steps(recording: Recording, until: int, goroutines: Collection[int]) -> dict[int, int]:
-    """The last step of each of these goroutines among the first steps; 0 if a goroutine has none."""
+    """The last step of each of these goroutines among the first steps, up to a position; 0 for a goroutine without
+    steps."""
     last = dict.fromkeys(goroutines, 0)
     if recording.has_escapes:
         for number, (kind, *arguments) in enumerate(islice(recording.arrays(), until), 1):

@@ -1,4 +1,5 @@
-"""The beginning of a recording: in a recording of a long-running server, the first steps lead to its state."""
+"""The beginning of a recording. In a recording of a long-running server, the first steps only lead to the state in
+which the recording begins."""
 
 from typing import Optional, Protocol
 
@@ -10,7 +11,7 @@ from .shapes import go_to, position_of
 
 
 class Standing(Protocol):
-    """The parts of a session that are needed here: its netrev, its recording, its position, and its printer."""
+    """The parts of a session that this module needs: its netrev, its recording, its position, and its printer."""
 
     netrev: Netrev
     recording: Optional[Recording]
@@ -21,24 +22,25 @@ class Standing(Protocol):
         """The first line of netrev's reply."""
 
     def place(self, position: int) -> Place:
-        """The position with the steps around it."""
+        """The position, with the steps before and after it."""
 
 
 def begins_at(recording: Recording) -> int:
-    """The position at which a recording begins: 0, or after the steps that lead to its first state."""
+    """The position at which a recording begins: 0, or the position after the steps that lead to the recording's first
+    state."""
     begins = recording.lines.prelude
     return begins if 0 < begins <= recording.length else 0
 
 
 def begin_words(recording: Recording) -> str:
-    """The note of a recording that begins in the middle of a run; empty for others."""
+    """A note about a recording that begins in the middle of a run; empty for other recordings."""
     begins = begins_at(recording)
     return messages.BEGINS_IN_THE_MIDDLE.format(steps=begins) if begins else ""
 
 
 def tell_begin(session: Standing, reply: str) -> None:
-    """Goes to the beginning of the recording and prints the position; `reply` is netrev's to `info position`. A shared
-    session keeps its position."""
+    """Goes to the beginning of the recording and prints the position; `reply` is netrev's reply to `info position`. A
+    shared session keeps its position."""
     recording = session.recording
     if recording and begins_at(recording) and session.stood == 0 and isinstance(session.netrev, Own):
         go_to(begins_at(recording), session.ask)

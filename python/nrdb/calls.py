@@ -1,5 +1,5 @@
-"""Go's calls instead of steps: the `Read`, `Write`, `SetDeadline` or `Close` that each step belongs to, how long it
-waited and how it ended. nrdb finds them in one pass over the recording's steps."""
+"""Go's calls instead of steps: the `Read`, `Write`, `SetDeadline` or `Close` that each step belongs to, how long the
+call waited, and how it ended. nrdb finds the calls in one pass over the recording's steps."""
 
 from collections import defaultdict
 from functools import cached_property, lru_cache, partial
@@ -14,7 +14,7 @@ from .notes import CLOSED, Look, Looks, Notes
 from .recording import Recording
 from .whose import NONE, Whose
 
-# called with the book, the notes, and the step's arguments, the first of which is its goroutine
+# called with the book, the notes, and the step's arguments; the first argument is the step's goroutine
 Maker = Callable[..., Look]
 SETTING = {"r": "SetReadDeadline", "w": "SetWriteDeadline", "rw": "SetDeadline"}
 LOCKING = {"r": "Read", "w": "Write"}
@@ -28,9 +28,9 @@ class Book:
     def __init__(self, recording: Recording) -> None:
         self.calls: list[Call] = []
         self._recording, self._errors = recording, recording.lines.errors
-        self.error = ""  # the system's name for the step's error, until a call gets it
+        self.error = ""  # the system's name for the step's error, until it is stored in a call
         self.open: dict[int, list[Call]] = defaultdict(list)  # the calls that each goroutine is in, the innermost last
-        # the step since which each goroutine has slept, and the clock then
+        # the step since which each goroutine has slept, and the clock at that step
         self.asleep: dict[int, tuple[int, int]] = {}
         self.descriptor_of: dict[int, int] = {}  # for each open socket, its descriptor
         self.notes = Notes(recording, self._looks())
@@ -46,14 +46,14 @@ class Book:
         return call.goroutine in self.asleep and bool(inside) and inside is not None and inside[-1] is call
 
     def _looks(self) -> Looks:
-        """The function that looks at the state after each step of a kind."""
+        """The functions that inspect the state after the steps of each kind."""
         if not self._errors:
             return {kind: partial(look, self) for kind, look in LOOKS.items()}
         return {kind: partial(self._seeing_errors, LOOKS.get(kind)) for kind in OF_A_GOROUTINE}
 
     def _seeing_errors(self, maker: Optional[Maker], notes: Notes, g: int, *arguments: Any) -> Look:
-        """Stores the step's error in the innermost call, in recordings that contain errors of system calls. The call may end
-        with this step."""
+        """Stores the step's error in the innermost call, if the recording contains errors of system calls. The call may
+        end with this step."""
         made, goroutine, calls = maker and maker(self, notes, g, *arguments), notes.goroutine(g), self.open[g]
 
         def look(step: int) -> None:
@@ -66,14 +66,14 @@ class Book:
         return look
 
     def begin(self, step: int, g: int, name: str, socket: int, calls: list[Call]) -> Call:
-        """Begins a call of a socket at this step."""
+        """Begins a call on a socket at this step."""
         call = Call(g, name, socket, self.descriptor_of.get(socket, NONE), step)
         calls.append(call)
         self.calls.append(call)
         return call
 
     def settle(self, step: int, goroutine: Goroutine, calls: list[Call]) -> None:
-        """Updates the call after a step by which it may end."""
+        """Updates the call after a step that may end it."""
         if self.error and calls:
             calls[-1].outcome, calls[-1].error = Outcome.SYSTEM_ERROR, self.error
             self.error = ""
@@ -82,8 +82,8 @@ class Book:
 
 
 def fail(notes: Notes, call: Call, outcome: Outcome) -> None:
-    """Ends a call with this result; for a timeout, a close and a shut write side, also stores the step that caused
-    it."""
+    """Ends a call with this result. For a timeout, a close or a shut write side, it also stores the step that caused
+    the result."""
     call.outcome = outcome
     if outcome is Outcome.CLOSED and call.socket in notes.closer:
         call.cause = notes.closer[call.socket].step
@@ -96,7 +96,7 @@ def fail(notes: Notes, call: Call, outcome: Outcome) -> None:
 
 
 # The functions that run after the steps of each kind, made from the book, the notes and a step's arguments, as in
-# `noting.py`. (`sysread`, `syswrite`, `setdeadline` and `closewrite` end no call.)
+# `noting.py`. (`sysread`, `syswrite`, `setdeadline` and `closewrite` don't end a call.)
 
 
 def goes_on(book: Book, notes: Notes, g: int, *_: object) -> Look:
@@ -160,7 +160,7 @@ def locks(book: Book, notes: Notes, g: int, s: int, side: str) -> Look:
 
 
 def gives(book: Book, notes: Notes, g: int, s: int, side: str = "") -> Look:
-    """Handles a step by which a call gives up its reference, with or without the lock of a side."""
+    """Handles a step by which a call gives up its reference, with the lock of a side or without it."""
     goroutine, calls, locked, holds, settle = notes.goroutine(g), book.open[g], notes.locks, notes.holds[s], book.settle
 
     def look(step: int) -> None:
@@ -176,7 +176,8 @@ def gives(book: Book, notes: Notes, g: int, s: int, side: str = "") -> Look:
 
 
 def begins(name: str, has_failed: Callable[[Notes, int, int, int], bool]) -> Maker:
-    """Makes the function for a step that begins a call; the call has failed at once if the socket was closed before."""
+    """Makes the function for a step that begins a call. If the socket was closed before, the call has failed at
+    once."""
 
     def of(book: Book, notes: Notes, g: int, s: int) -> Look:
         goroutine, calls = notes.goroutine(g), book.open[g]
@@ -206,7 +207,7 @@ def destroys(book: Book, notes: Notes, g: int, d: int) -> Look:
 
 
 def checks(book: Book, notes: Notes, g: int, d: int, side: str) -> Look:
-    """Handles a step that checks a descriptor's side; outside a call, as in `Dial`, the step is a call of its own."""
+    """Handles a step that checks a descriptor's side. Outside a call, as in `Dial`, the step is a call of its own."""
     goroutine, calls, names = notes.goroutine(g), book.open[g], tuple(WAITING.values())
 
     def look(step: int) -> None:
@@ -223,7 +224,7 @@ def checks(book: Book, notes: Notes, g: int, d: int, side: str) -> Look:
 
 
 def checks_again(book: Book, notes: Notes, g: int) -> Look:
-    """Handles `waitcheck`, which ends a wait and has the wait's side."""
+    """Handles `waitcheck`, which ends a wait. Its side is that of the wait."""
     goroutine, calls = notes.goroutine(g), book.open[g]
 
     def look(step: int) -> None:
@@ -259,8 +260,8 @@ def writes(book: Book, notes: Notes, g: int, s: int, digits: str) -> Look:
 
 
 def names_control(name: Callable[[str], str]) -> Maker:
-    """Makes the function for a step that gives a call its name in place of `Control`, which it had since its `incref`:
-    `setdeadline`, by its mode, and `closewrite`."""
+    """Makes the function for a step that names a call: `setdeadline`, by its mode, or `closewrite`. Since its `incref`,
+    the call has had the name `Control`."""
 
     def of(book: Book, notes: Notes, g: int, which: int, mode: str = "", *_: object) -> Look:
         calls = book.open[g]

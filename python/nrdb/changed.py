@@ -1,4 +1,4 @@
-"""The changes made by the last step to goroutines, sockets, descriptors, the clock and the counts."""
+"""The changes that the last step made to goroutines, sockets, descriptors, the clock and the counts."""
 
 from typing import Collection, Iterator, Optional, Sequence
 
@@ -19,8 +19,8 @@ NOTHING = "changed: nothing that a cell shows"
 def tables_beside(
     changes: RecordedChanges, recording: Recording, position: int, hit: Sequence[Listed]
 ) -> Iterator[Table]:
-    """The tables after a move to a position: the owners of the timers of the steps there, the marks that hit, and the
-    changes of the last step."""
+    """The tables after a move to a position: the owners of the timers in the steps there, the marks that hit, and the
+    changes made by the last step."""
     if (timers := timers_beside(recording, position)).rows:
         yield timers
     if hit:
@@ -31,8 +31,8 @@ def tables_beside(
 
 
 def changed_table(changes: RecordedChanges, position: int, told: Collection[str] = ()) -> Optional[Table]:
-    """The changes of the step that led to the position, in one line, without those printed already; None at the
-    start."""
+    """The changes made by the step that led to the position, in one line, without the changes printed already; None at
+    the start."""
     if not position:
         return None
     cells = sorted((cell for cell, _ in changes.at(position)), key=_order)
@@ -46,13 +46,13 @@ def changed_table(changes: RecordedChanges, position: int, told: Collection[str]
 
 
 def _order(cell: str) -> tuple[int, int, int]:
-    """The sort key of a cell: the sort of its object, the object's number, and the cell's name."""
+    """The sort key of a cell: the kind of its object, the object's number, and the cell's name."""
     name, *number = cell.split()
     return ORDER.index(CELLS[name].of), int(number[0]) if number else 0, NAMES.index(name)
 
 
 def _spelled(cell: str, old: str, new: str) -> str:
-    """A change in words; a new object has only its new value."""
+    """A change in words. For a new object, only its new value."""
     name, *number = cell.split()
     if number and old == "absent":
         return f"{CELLS[name].of.value} {number[0]} is made"

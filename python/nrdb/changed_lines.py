@@ -9,11 +9,11 @@ from .messages import session as messages
 
 LINE = re.compile(rb"\d+ [a-z]+(?: \d+)? = [ -~]+")
 LINES = re.compile(r"^(\d+) ([a-z]+(?: \d+)?) = ([ -~]+)$", re.MULTILINE | re.ASCII)
-WINDOW = 2**14  # how many bytes of lines are parsed at once: few enough for a processor's cache
+WINDOW = 2**14  # the number of bytes of lines that are parsed at once; they fit into a processor's cache
 
 
 def next_step(text: str, place: int) -> int:
-    """The place after the given one at which the lines of the next step begin; -1 if the text ends first."""
+    """The place after a given place at which the lines of the next step begin; -1 if the text ends first."""
     line = text.find("\n", place)
     step = text[line + 1 : text.find(" ", line) + 1]
     while step and text.startswith(step, line + 1):
@@ -33,7 +33,7 @@ class ChangedLines:
         self._lasts = array("I")  # the last step of each piece
 
     def take(self, lines: bytes) -> None:
-        """Adds whole lines, each with its line feed; raises NoChanges if they have another form."""
+        """Adds whole lines, each with its line feed; raises NoChanges if a line isn't a change."""
         first, last = lines[: lines.index(b"\n")], lines[lines.rfind(b"\n", 0, -1) + 1 : -1]
         if lines.count(b"\n") != lines.count(b" = ") or not (LINE.fullmatch(first) and LINE.fullmatch(last)):
             raise NoChanges(messages.CHANGES_MALFORMED)
@@ -42,12 +42,12 @@ class ChangedLines:
 
     @property
     def last(self) -> int:
-        """The last step that has a line; 0 if there is none."""
+        """The last step with a line; 0 if no step has one."""
         return self._lasts[-1] if self._lasts else 0
 
     def texts(self, first: int, end: int) -> Iterator[tuple[str, str, str]]:
-        """The step, the cell and the value of each line of these pieces, as texts; raises NoChanges if a line lacks one
-        of them."""
+        """The step, the cell and the value of each line of these pieces, as texts; raises NoChanges if a line lacks any
+        of these."""
         for piece in self.pieces[first:end]:
             found = LINES.findall(piece.decode("latin-1"))
             if len(found) != piece.count(b"\n"):
@@ -55,15 +55,15 @@ class ChangedLines:
             yield from found
 
     def between(self, first: int, last: int) -> Iterator[tuple[str, str, str]]:
-        """The changes of `texts` at the steps that lead from one position to another."""
+        """The changes, in the form of `texts`, at the steps that lead from one position to another."""
         begin, end = (bisect_right(self._lasts, position) for position in (first, last))
         for step, cell, value in self.texts(begin, end + 1):
             if first < int(step) <= last:
                 yield step, cell, value
 
     def whole_steps(self, end: int) -> Iterator[tuple[int, str]]:
-        """The lines as texts, each of which has all lines of its steps and begins with a line feed, with the step after
-        which it ends. The last text ends before `end`."""
+        """The lines as texts, each with the step after which it ends. Each text begins with a line feed and has all
+        lines of its steps. The last text ends before `end`."""
         text = "\n"
         for piece in self.pieces:
             text, begin = text + piece.decode("latin-1"), 0
@@ -90,7 +90,8 @@ class ChangedLines:
         return found
 
     def changes_of(self, cell: str, until: Optional[int] = None) -> Iterator[tuple[int, str]]:
-        """The steps that changed a cell, in rising order, with the new values; up to a position if one is given."""
+        """The steps that changed a cell, in rising order, with the new values; only up to a position, if one is
+        given."""
         named = b" %s = " % cell.encode()
         end = len(self._lasts) if until is None else bisect_right(self._lasts, until) + 1
         for piece in self.pieces[:end]:

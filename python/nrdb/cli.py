@@ -51,7 +51,7 @@ def main(words: Optional[Sequence[str]] = None) -> int:
     printer = JsonPrinter() if wanted.json else TextPrinter(is_coloured=has_colours())
     try:
         return run(wanted, printer)
-    except OSError as error:  # Runs the requested session, reports how it ended, and returns the exit status.
+    except OSError as error:  # Runs the requested session, reports how the session ended, and returns the exit status.
         sys.stdout = open(os.devnull, "w", encoding="utf-8")
         if not isinstance(error, BrokenPipeError):
             print(messages.STANDARD_OUTPUT.format(why=error.strerror), file=sys.stderr)
@@ -59,7 +59,7 @@ def main(words: Optional[Sequence[str]] = None) -> int:
 
 
 def run(wanted: argparse.Namespace, printer: Printer) -> int:
-    """Runs the requested session and reports how it ended; the exit status."""
+    """Runs the requested session, reports how the session ended, and returns the exit status."""
     try:
         status = start(wanted, printer)
     except Ended as ended:
@@ -86,7 +86,7 @@ def run(wanted: argparse.Namespace, printer: Printer) -> int:
 
 
 def without_netrev(file: Optional[str]) -> str:
-    """Says what to do if the program netrev can't be started."""
+    """The message that says what to do if the program netrev can't be started."""
     look = make_command(f"look FILE={shlex.quote(os.path.abspath(file))}") if file else None
     how = how_to_get_netrev("NETREV or --netrev")
     return messages.NETREV_UNPROVED.format(how=how, look=look) if look else messages.NETREV_IS_MISSING.format(how=how)
@@ -127,13 +127,13 @@ def begun(wanted: argparse.Namespace, netrev: Netrev, interrupts: Interrupts, pr
 
 
 def has_prompt(wanted: argparse.Namespace) -> bool:
-    """Whether a user types at a terminal, so that Ctrl-C may be meant for something else than the session."""
+    """Whether a user types at a terminal. Ctrl-C may then be meant for something other than the session."""
     ends = wanted.batch or wanted.suspects or wanted.explore or wanted.explore_failures or wanted.web is not None
     return sys.stdin.isatty() and not ends and all(getattr(wanted, name) is None for name in WRITERS)
 
 
 def is_of_all(wanted: argparse.Namespace) -> bool:
-    """Whether the output covers all steps, regardless of the position."""
+    """Whether the output covers all steps, whatever the position is."""
     return bool(wanted.suspects or wanted.trace or wanted.timeline)
 
 
@@ -144,7 +144,7 @@ def session_of(wanted: argparse.Namespace, netrev: Netrev, interrupts: Interrupt
         raise NoRecording(messages.NOT_A_RECORDING.format(path=wanted.file, fault=fault))
     lent = netrev if is_of_all(wanted) and not wanted.lines and not wanted.join else None
     scout = Scout(lambda: Own(wanted.netrev, wanted.file, interrupts), lent) if wanted.file else None
-    # (in a batch, the output mustn't depend on the speed)
+    # (in a batch, the output mustn't depend on how fast netrev runs)
     tell = printer.note if has_prompt(wanted) else lambda _: None
     recorded = ArrivingChanges(wanted.netrev, wanted.file, interrupts, tell) if wanted.file else None
     session = Session(netrev, recording, scout, printer, interrupts, ANSWERS, recorded=recorded)
@@ -158,7 +158,7 @@ def session_of(wanted: argparse.Namespace, netrev: Netrev, interrupts: Interrupt
 
 
 def refused(wanted: argparse.Namespace, netrev: Netrev, first: str, printer: Printer) -> int:
-    """Reports that netrev's first reply is a fault, explains the fault for a recording, and returns the exit status."""
+    """Reports that netrev's first reply is a fault, explains a fault in a recording, and returns the exit status."""
     if wanted.join and not first.startswith("fault "):
         raise Strange("info position", first)
     printer.reply("", Reply(first), "")
@@ -168,15 +168,15 @@ def refused(wanted: argparse.Namespace, netrev: Netrev, first: str, printer: Pri
 
 
 def opened(wanted: argparse.Namespace, interrupts: Interrupts, printer: Printer) -> Netrev:
-    """A netrev of this session alone, or a front of a shared session."""
+    """A netrev of this session alone, or a connection to a shared session."""
     if wanted.join:
         return Joined(address(wanted.join), interrupts, lambda: printer.note(messages.NO_REPLY_YET))
     return Own(wanted.netrev, wanted.file, interrupts)
 
 
 def played(session: Session, wanted: argparse.Namespace) -> int:
-    """Runs the lines of -x and -ex; then prints the suspects, writes the timeline, or reads lines from the terminal or
-    the input. Returns the exit status."""
+    """Runs the lines of -x and -ex. Then prints the suspects, writes the timeline, or reads lines from the terminal or
+    another input. Returns the exit status."""
     for sort, text in wanted.lines or ():
         if sort == "line":
             session.printer.echo(text)
@@ -199,7 +199,7 @@ def played(session: Session, wanted: argparse.Namespace) -> int:
 
 
 def unless_stopped(session: Session, work: Callable[[], int]) -> int:
-    """The exit status of some work; FAILED if it was interrupted or isn't possible."""
+    """The exit status of a task; FAILED if Ctrl-C interrupted the task or the task isn't possible."""
     try:
         with session.interrupts.held():
             return work()
@@ -227,7 +227,7 @@ def schedules_tried(session: Session, is_of_failures: bool) -> int:
 
 
 def made(session: Session, path: str, write: Callable[..., str], part: Sequence[int]) -> int:
-    """Writes a file (for a timeline, perhaps of a part), says what was written, and returns the exit status."""
+    """Writes a file (a timeline perhaps for a part of the recording), reports the file, and returns the exit status."""
     session.printer.note(write(session, path, *part))
     return DONE
 
@@ -269,7 +269,8 @@ def typed(session: Session) -> None:
 
 
 def run_typed(session: Session, run: Sequence[str]) -> bool:
-    """Runs the lines of an input that isn't a terminal, each echoed first. Returns False if the session has ended."""
+    """Runs the lines of an input that isn't a terminal, and echoes each line first. Returns False if the session has
+    ended."""
     if len(run) > 1:
         return session.guarded(lambda _: answer_run(session, run), "")
     session.printer.echo(run[0])

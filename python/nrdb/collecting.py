@@ -6,7 +6,7 @@ from .output import TextPrinter
 
 
 class Collecting(TextPrinter):
-    """Collects the output until it is taken. It is escaped as at a terminal."""
+    """Collects the output until a caller takes it. The output is escaped as at a terminal."""
 
     def __init__(self) -> None:
         self.kept = io.StringIO()

@@ -152,7 +152,7 @@ FORMS = {
 }
 ALL_TOPICS = "; ".join(f"info {topic.usage}" for topic in TOPICS.values())
 
-# The spellings that other debuggers use, and their equivalents here.
+# The spellings that other debuggers use, and nrdb's equivalents.
 SPELLINGS = {
     "s": "stepi",
     "step": "stepi",
@@ -187,11 +187,11 @@ TABLES_OF_OTHERS = {
     "goroutines": "goroutines",
     "grs": "goroutines",
     "threads": "goroutines",
-}  # commands there, topics here
+}  # commands of other debuggers, topics of nrdb
 
 FILE = re.compile(r"\b(FILE|OUT\.\w+)\b(?!:)")  # the words for a file in a command's usage
 DIRECTIONS = ("reverse", "forward")
-PAGINATION = "pagination"  # a setting that GDB has too
+PAGINATION = "pagination"  # a setting of nrdb that GDB has too
 SETTINGS = ("exec-direction", PAGINATION)
 
 
@@ -203,8 +203,8 @@ class Ambiguous(Exception):
 
 
 def whole(word: str, known: Collection[str], spellings: Mapping[str, str] = {}) -> str:
-    """The known word that a word is, perhaps in another debugger's spelling, or the only known word that it is a prefix
-    of. Otherwise the word itself."""
+    """The known word for a word: the word itself, the same word in another debugger's spelling, or the only known word
+    that begins with it. Otherwise the word unchanged."""
     if word in known:
         return word
     if word in spellings:
@@ -221,13 +221,13 @@ ALL_SPELLINGS = {**SPELLINGS, **SHORT}
 
 @lru_cache(maxsize=1_024)
 def whole_command(word: str) -> str:
-    """The command that a word stands for, perhaps abbreviated or in another debugger's spelling. Otherwise the word
-    itself."""
+    """The command for a word, which may be abbreviated or in another debugger's spelling. Otherwise the word
+    unchanged."""
     return whole(word, COMMANDS, ALL_SPELLINGS)
 
 
 def whole_words(words: list[str]) -> list[str]:
-    """The words of a line with all abbreviations written out: of the command, a topic, a direction, a dump."""
+    """The words of a line with all abbreviations expanded: of the command, a topic, a direction, a dump."""
     if words[0] in TABLES_OF_OTHERS:
         return ["info", TABLES_OF_OTHERS[words[0]], *words[1:]]
     first = whole_command(words[0])

@@ -1,4 +1,4 @@
-"""Conditions of marks: a cell, and the value that it must have when the mark hits."""
+"""Conditions of marks: a cell, and the value that the cell must have when the mark hits."""
 
 from fnmatch import fnmatchcase
 from typing import NamedTuple, Optional, Sequence
@@ -9,7 +9,7 @@ from .messages import session as messages
 
 
 class Condition(NamedTuple):
-    """A cell, and the required value, either as printed or in words; `*` matches any text."""
+    """A cell, and the value that it must have, as printed or in words; `*` matches any text."""
 
     cell: str
     value: str
@@ -24,7 +24,8 @@ class Condition(NamedTuple):
         return None
 
     def is_met(self, value: str, words: str) -> bool:
-        """Whether the cell has the required value, which is compared with both its value and its words."""
+        """Whether the cell has the required value. The condition is compared with both the cell's value and its
+        words."""
         return fnmatchcase(value, self.value) or fnmatchcase(words, self.value)
 
     def says(self, number: str) -> str:

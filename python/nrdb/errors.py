@@ -1,4 +1,4 @@
-"""Errors of commands, and unexpected errors, which are nrdb's own: one line for the user, and the traceback on
+"""Errors of commands, and unexpected errors, which are faults of nrdb: one line for the user, and the traceback on
 request."""
 
 import os
@@ -22,18 +22,19 @@ Part = TypeVar("Part")
 
 
 def needed(part: Optional[Part]) -> Part:
-    """A part of a session that exists only with the recording; raises Misused if a session was joined without it."""
+    """A part of a session that exists only with a recording; raises Misused if a session was joined without a
+    recording."""
     if part is None:
         raise Misused(messages.NEEDS_RECORDING)
     return part
 
 
 class Mismatched(Exception):
-    """Raised if the recording of the joined session is another one."""
+    """Raised if the joined session has a different recording."""
 
 
 def unexpected(error: Exception) -> str:
-    """The line that reports an error. If NRDB_TRACEBACK is set, its traceback goes to standard error."""
+    """The line that reports an error. If NRDB_TRACEBACK is set, the error's traceback goes to standard error."""
     if isinstance(error, MemoryError):
         return messages.OUT_OF_MEMORY
     if os.environ.get(WANTED_BY):

@@ -12,7 +12,7 @@ from .errors import Misused
 
 
 def spare(path: str, recording: str) -> None:
-    """Raises Misused if a file to be written is the recording, or the NAME.where beside it."""
+    """Raises Misused if a file to be written is the recording, or the recording's NAME.where."""
     for own in (Path(recording), Path(recording).with_suffix(".where")) if recording else ():
         if os.path.exists(path) and own.exists() and own.samefile(path):
             raise Misused(messages.OWN_FILE.format(path=path))

@@ -35,20 +35,21 @@ class Subject(NamedTuple):
 
     @classmethod
     def of(cls, words: list[str]) -> Optional[tuple["Subject", list[str]]]:
-        """The subject at the beginning of these words, and the words after it; None if they begin with no subject."""
+        """The subject at the beginning of these words, and the words after the subject; None if the words begin with no
+        subject."""
         number = number_of(words[1]) if len(words) > 1 else None
         if words[:1] and words[0] in SUBJECTS:
             return None if number is None else (cls(words[0], number), words[2:])
         return (cls(words[0]), words[1:]) if words[:1] and words[0] in KINDS else None
 
     def has(self, call: Call) -> bool:
-        """Whether a call is of this subject."""
+        """Whether the subject has a call."""
         numbers = {"gor": call.goroutine, "sock": call.socket, "desc": call.descriptor}
         return not self.name or numbers[self.name] == self.number
 
 
 def steps_table(recording: Recording, subject: Subject, position: int, most: Optional[int]) -> Table:
-    """The last steps of the subject up to the position: at most `most` of them, or all if that is None."""
+    """The last steps of the subject up to the position: at most `most` of them, or all if `most` is None."""
     found = list(_numbers(recording, subject, position))
     shown = found if most is None else found[-most:]
     rows = [_step_row(recording, recording.step(number)) for number in shown]
@@ -72,7 +73,7 @@ def _typed(subject: Subject) -> str:
 
 
 def _step_row(recording: Recording, step: Step) -> Row:
-    """The row of a step: the step, its answer if it has one, the owner of its timer, and the program's line."""
+    """The row of a step: the step, its answer, if any, the owner of its timer, and the program's line."""
     timer, at = timer_of(recording, step), recording.lines.words(step.number)
     values = {"step": step.number, "line": step.line, "does": str(step), "timer": timer and timer._asdict()}
     answered = f", answered {answer_text(step.answer)}" if step.answer not in (None, "done") else ""
@@ -83,7 +84,7 @@ def _step_row(recording: Recording, step: Step) -> Row:
 
 
 def _rest(count: int, shown: int, name: str, line: str, subject: Subject, position: int) -> str:
-    """The line that says what is omitted, or that nothing was found."""
+    """The line that says how many rows are omitted, or that none was found."""
     if shown < count:
         return f"{count - shown} earlier ones: {line} all"
     return "" if count else f"no {name} of {subject} up to position {position}"
@@ -99,7 +100,7 @@ def calls_table(recording: Recording, subject: Subject, position: int, most: Opt
 
 
 def call_row(recording: Recording, call: Call, position: int) -> Row:
-    """The row of a call. If it ends after the position, it is shown as unfinished."""
+    """The row of a call. If the call ends after the position, the row shows it as unfinished."""
     seen = call if call.last <= position else call.as_begun()
     at = recording.lines.words(call.first)
     values = {
@@ -130,7 +131,8 @@ class Goal(NamedTuple):
 
 
 def goroutine_at(recording: Recording, position: int) -> int:
-    """The goroutine of the last step that a goroutine made up to the position; at the start, of the next one."""
+    """The goroutine that made the last step up to the position; at the start, the goroutine that makes the next step.
+    Steps that no goroutine made don't count."""
     whose = book_of(recording).whose.goroutines
     for at in chain(range(position - 1, -1, -1), range(position, len(whose))):
         if whose[at] >= 0:
@@ -155,8 +157,8 @@ def previous_goal(recording: Recording, goroutine: int, position: int) -> Goal:
 
 
 def finish_goal(recording: Recording, goroutine: int, position: int) -> Goal:
-    """The position after the call that the goroutine is in; between two calls, before its first step outside the
-    program's function."""
+    """The position after the call that the goroutine is in. Between two calls: the position before the goroutine's
+    first step outside the program's function."""
     inside = calls_at(book_of(recording), goroutine, position)
     if not inside:
         return return_goal(recording, goroutine, position)
@@ -193,7 +195,7 @@ def _own_step(book: Book, goroutine: int, numbers: range) -> int:
 
 
 def _call_at(book: Book, goroutine: int, position: int) -> Call:
-    """The innermost call that the goroutine is in; raises Stay if it is in none."""
+    """The innermost call that the goroutine is in; raises Stay if it is in no call."""
     inside = calls_at(book, goroutine, position)
     if not inside:
         raise Stay(messages.IN_NO_CALL.format(goroutine=goroutine))

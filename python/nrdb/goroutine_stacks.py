@@ -11,8 +11,8 @@ from .where import Stack
 
 
 class GoroutineStack(NamedTuple):
-    """The stack of a goroutine at a position, the step since which it has been there, and what it does, as text.
-    `is_past`: it has since gone on without a step, so the stack is that of its last step."""
+    """The stack of a goroutine at a position, the step since which the goroutine has been there, and what it does, as
+    text. `is_past` means that the goroutine has gone on since without a step, so the stack is that of its last step."""
 
     name: Name
     stack: Stack
@@ -29,7 +29,7 @@ class GoroutineStack(NamedTuple):
 
 def stack_of(recording: Recording, name: Name, position: int) -> Optional[GoroutineStack]:
     """The stack of a goroutine at a position; None if the recording has neither a step nor a wait of the goroutine
-    before it."""
+    before that position."""
     wait = waits_of(recording).at(name, position)
     goid = 0 if name.is_goid else recording.lines.reused_goid(name.number, position)
     if wait:

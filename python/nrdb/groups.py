@@ -1,4 +1,4 @@
-"""Groups the goroutines of `info goroutines` that wait for the same lock or event into one row."""
+"""Groups goroutines that wait for the same lock or event into one row of `info goroutines`."""
 
 from typing import Any, Callable, Hashable, Optional
 
@@ -6,8 +6,8 @@ from .output import Row
 from .waits import Name, of_names
 from .words import DOING, SIDES
 
-MANY = 4  # the least number of goroutines that share a row if they wait for the same thing
-RUNS = 8  # numbers that are shown
+MANY = 4  # the fewest goroutines that share a row if they wait for the same lock or event
+RUNS = 8  # the most ranges of numbers that are shown
 
 
 def grouped(rows: list[Row], who_has: Callable[[int, str], str]) -> list[Row]:
@@ -23,18 +23,19 @@ def grouped(rows: list[Row], who_has: Callable[[int, str], str]) -> list[Row]:
 
 
 def _likeness(values: dict[str, Any]) -> Optional[Hashable]:
-    """The key that a goroutine shares with those that wait for the same thing; None if it doesn't sleep."""
+    """The key that a goroutine shares with the goroutines that wait for the same lock or event; None if it doesn't
+    sleep."""
     if values.get("elsewhere"):
         return (values["waits_for"], *_place(values))
     name, *rest = values["status"].split()
     if name == "queued":
         return values["status"]
-    # (each is parked at a descriptor of its own, and has its own deadline and step)
+    # (each goroutine is parked at its own descriptor, and has its own deadline and step)
     return (name, rest[1], *_common(values)) if name == "parked" else None
 
 
 def _common(values: dict[str, Any]) -> tuple[str, ...]:
-    """The text that the parked goroutines of a group share: what is unread, the deadline, the line of the program."""
+    """The text that the parked goroutines of a group share: the unread bytes, the deadline, the line of the program."""
     known = values["waits_for"].split("; ")[1:]
     unread = "bytes are unread" if "unread" in known[0] else ""
     rest = ["deadlines to come" if words.startswith("deadline at ") else words for words in known[1:]]
@@ -71,12 +72,12 @@ def _group(rows: list[Row], who_has: Callable[[int, str], str]) -> Row:
 
 
 def _goid(row: Row) -> dict[str, Any]:
-    """Go's own number, if the row has one."""
+    """The key and value for Go's own number, if the row has one."""
     return {"goid": row.values["goid"]} if "goid" in row.values else {}
 
 
 def _runs(numbers: list[int]) -> str:
-    """Numbers as text, with consecutive ones as a range."""
+    """Numbers as text, with consecutive numbers as a range."""
     runs: list[list[int]] = []
     for number in sorted(numbers):
         if runs and runs[-1][1] == number - 1:

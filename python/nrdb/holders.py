@@ -1,4 +1,4 @@
-"""The goroutines that hold references of a socket, derived from the steps that changed the count in its lock word."""
+"""The goroutines that hold references to a socket, derived from the steps that changed the count in its lock word."""
 
 from dataclasses import dataclass
 from typing import NamedTuple
@@ -16,8 +16,8 @@ LOCKING = ("incref", "increfclose", "decref", "rwlock", "rwunlock")
 
 @dataclass(frozen=True)
 class Reference:
-    """A reference that is held: the goroutine, the step since which it holds it, and, for a lock, its side in a list of
-    one."""
+    """A reference that is held: the goroutine, the step since which the goroutine holds it, and, for a lock, its side
+    in a list of one element."""
 
     step: Step
     goroutine: int
@@ -33,8 +33,8 @@ class Holding(NamedTuple):
 
 
 def holders_of(recording: Recording, changes: RecordedChanges, socket: int, position: int) -> list[Reference]:
-    """The references of the socket at the position, oldest first: a step that raised their number added one, and a step
-    that lowered it removed one."""
+    """The references to the socket at the position, oldest first. A step that raised the number of references added
+    one, and a step that lowered the number removed one."""
     counts = {step: LockWord.of(int(word)).references for step, word in changes.changes_of(f"lock {socket}", position)}
     held: list[Holding] = []
     end = -1 if recording.has_answers else None
@@ -51,14 +51,14 @@ def holders_of(recording: Recording, changes: RecordedChanges, socket: int, posi
 
 
 def _given(held: list[Holding], goroutine: int, side: list[str]) -> Holding:
-    """The reference that a step gives back: the same goroutine's newest one, if it has one."""
+    """The reference that a step gives back: the newest reference of the same goroutine, if the goroutine has any."""
     fits = [one for one in held if one.side == side]
     own = [one for one in fits if one.goroutine == goroutine]
     return (own or fits or held)[-1]
 
 
 def holders_table(world: World, changes: RecordedChanges, socket: int) -> Table:
-    """The goroutines that hold the socket's references, with what each does now."""
+    """The goroutines that hold references to the socket, with what each goroutine does now."""
     shown = world.value(f"lock {socket}")
     if shown == "absent":
         return Table("holders", [], f"socket {socket} doesn't exist yet")

@@ -1,5 +1,5 @@
-"""Ctrl-C. During a query, nrdb stops only after it has read the whole reply; a long search checks for Ctrl-C between
-two queries. A second Ctrl-C, while netrev doesn't answer, ends the session."""
+"""Ctrl-C. During a query, nrdb stops only after it has read the whole reply. A long search checks for Ctrl-C between
+two queries. A second Ctrl-C while netrev doesn't answer ends the session."""
 
 import signal
 from contextlib import contextmanager
@@ -7,12 +7,12 @@ from typing import Callable, Iterator
 
 
 class Interrupted(Exception):
-    """Raised when Ctrl-C was pressed during a long search, which stops."""
+    """Raised if Ctrl-C was pressed during a long search; the search then stops."""
 
 
 class GivenUp(Exception):
-    """Raised when Ctrl-C was pressed again while netrev didn't answer: a reply is half read, so the session can't be
-    used any more."""
+    """Raised if Ctrl-C was pressed again while netrev didn't answer. A reply is half read, so the session can't
+    continue."""
 
 
 class Interrupts:
@@ -38,7 +38,7 @@ class Interrupts:
 
     @contextmanager
     def at_once(self) -> Iterator[None]:
-        """Context in which netrev isn't asked, and Ctrl-C raises Interrupted at once, except inside `shielded`."""
+        """Context in which netrev isn't asked. Ctrl-C raises Interrupted at once, except inside `shielded`."""
         self.check()
         before, self._stops_at_once = self._stops_at_once, True
         try:
@@ -49,8 +49,8 @@ class Interrupts:
 
     @contextmanager
     def shielded(self) -> Iterator[None]:
-        """Context in which Ctrl-C is remembered, so that nothing is left half done. A second Ctrl-C gives the
-        session up."""
+        """Context in which Ctrl-C is remembered, so that no work is left half done. A second Ctrl-C gives the session
+        up."""
         self._shields += 1
         try:
             yield
@@ -58,11 +58,11 @@ class Interrupts:
             self._shields -= 1
 
     def clear(self) -> None:
-        """Forgets an earlier Ctrl-C whose work is done."""
+        """Forgets an earlier Ctrl-C after the interrupted work has ended."""
         self._came = False
 
     def give_up(self) -> None:
-        """Raises GivenUp; each later request raises it too."""
+        """Raises GivenUp. Each later request raises it too."""
         self._is_given_up = True
         self.check_given_up()
 

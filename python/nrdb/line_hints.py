@@ -1,4 +1,4 @@
-"""Hints about a line that netrev answers with a fault."""
+"""Hints about a line that netrev rejects with a fault."""
 
 import difflib
 import re
@@ -13,7 +13,7 @@ from .commands import ALL_TOPICS, COMMANDS, SPELLINGS, TOPIC_SPELLINGS, TOPICS
 
 
 def hint(words: list[str], fault: str) -> str:
-    """The hint about a line of these words that netrev answered with this fault."""
+    """The hint about a line of these words that netrev rejected with this fault."""
     number = fault.split()[1]
     if number == "201":
         return unknown(words)
@@ -83,7 +83,8 @@ def of_numbered(cell: Cell, rest: list[str], command: str) -> str:
 
 
 def of_condition(cell: str, words: list[str]) -> str:
-    """The hint for a watched cell with words after it: a value of its own, or a condition about another cell."""
+    """The hint for a watched cell with words after it: a value of the cell itself, or a condition about another
+    cell."""
     rest = [word for word in words if word not in ("if", "=", "==")]
     length = next((length for length in (2, 1) if cell_of(rest[:length]) and rest[length:]), 0)
     if not length:
@@ -109,7 +110,8 @@ def of_steps(words: list[str], command: str) -> str:
 
 
 def spelled_number(word: str) -> Optional[int]:
-    """The number that a word is in another notation; None if it is no number, or one that netrev accepts nowhere."""
+    """The number that a word is in another notation; None if the word isn't a number, or if netrev accepts that number
+    nowhere."""
     try:
         number = int(word, 0)
     except ValueError:
@@ -139,7 +141,7 @@ def of_break(words: list[str], command: str = "break") -> str:
 
 
 def kind_hint(word: str) -> str:
-    """The kind that may be meant by a word."""
+    """The hint with the kind of step that a word may mean."""
     plain = re.sub(r"^(runtime|internal/poll|poll)[._]", "", word).lower()
     if plain.replace("_", "") in KINDS:
         return messages.DID_YOU_MEAN.format(names=plain.replace("_", ""))

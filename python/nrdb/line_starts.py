@@ -1,11 +1,11 @@
-"""The beginnings of a text's lines. There may be a million lines, so they are counted by block, and found within a
-block only when one of its lines is needed."""
+"""The places at which the lines of a text begin. A text may have a million lines, so the lines are counted by block.
+The places within a block are found only when a caller needs one of its lines."""
 
 from bisect import bisect_left
 from itertools import accumulate
 
 BLOCK = 2**16  # bytes
-KEPT = 4  # blocks whose line feeds have been found
+KEPT = 4  # the number of blocks whose line feeds are kept
 
 
 class LineStarts:
@@ -15,8 +15,8 @@ class LineStarts:
         self._data = data
         counts = (data.count(b"\n", begin, begin + BLOCK) for begin in range(0, len(data), BLOCK))
         self._before = list(accumulate(counts, initial=0))  # how many line feeds precede each block
-        # the number of line feeds before the last block used and up to its end, and their places in it; then the places
-        # of a few blocks
+        # the number of line feeds before the block used last, their number up to its end, and their places in it; then
+        # the places of a few blocks
         self._first = self._last = 0
         self._behind = [0]
         self._kept: dict[int, list[int]] = {}

@@ -1,4 +1,4 @@
-"""Lines of text on a terminal: broken between words, with continuation lines indented."""
+"""Lines of text for a terminal: broken between words, with continuation lines indented."""
 
 import os
 import textwrap
@@ -11,7 +11,8 @@ INDENT = 4
 
 
 def width_of(out: TextIO) -> int:
-    """The width of a terminal, from COLUMNS or the terminal itself; 0 if it is unknown or there is no terminal."""
+    """The width of a terminal, from COLUMNS or from the terminal itself; 0 if the width is unknown or the output isn't
+    a terminal."""
     if not out.isatty():
         return 0
     if (named := number_of(os.environ.get("COLUMNS", ""))) is not None:
@@ -23,7 +24,8 @@ def width_of(out: TextIO) -> int:
 
 
 def wrapped(text: str, width: int) -> list[str]:
-    """A line broken between words into lines of at most that width; unbroken if it fits or the width is too small."""
+    """A line broken between words into lines of at most that width; unbroken if the line fits or the width is too
+    small."""
     if width < LEAST or len(text) <= width:
         return [text]
     begun = len(text) - len(text.lstrip())

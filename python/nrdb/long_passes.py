@@ -1,4 +1,4 @@
-"""Turns garbage collection off during passes over a million steps."""
+"""Turns garbage collection off during passes over up to a million steps."""
 
 import gc
 from contextlib import contextmanager
@@ -7,8 +7,8 @@ from typing import Iterator
 
 @contextmanager
 def without_collections() -> Iterator[None]:
-    """Context in which Python doesn't search for cycles of objects: nearly everything that a long pass makes is kept,
-    and searching it repeatedly would take as long as the pass."""
+    """Context in which Python doesn't search for cycles of objects. A long pass keeps nearly everything that it makes,
+    and repeated searches would take as long as the pass."""
     was_on = gc.isenabled()
     gc.disable()
     try:

@@ -1,4 +1,4 @@
-"""A connection to netrev: a process `netrev run FILE`, or a front of a session that netrev serves."""
+"""A connection to netrev: a process `netrev run FILE`, or a connection to a session that netrev serves."""
 
 import errno
 import os
@@ -14,16 +14,16 @@ from .messages import session as messages
 from .interrupts import Interrupts
 from .shapes import Listed, Strange, entries_in, mark_of, value_of
 
-AT_ONCE = 16_384  # bytes that are sent before replies are read: they fit into any pipe
+AT_ONCE = 16_384  # the most bytes of lines that are sent before their replies are read; any pipe has room for them
 READ = 65_536
 LONGEST = 2 * 1_048_576 + 64  # the bytes of the longest reply, which is a dump of a full buffer
 QUERIES = ("print ", "dump ", "info position")  # queries whose replies only other lines change
 MOST_KEPT, LONGEST_KEPT = 65_536, 200  # the most replies that are kept, and the most bytes of one
-SILENCE = 1  # seconds of waiting for the first reply after which the caller is notified
+SILENCE = 1  # after this many seconds without a first reply, the caller is notified
 
 
 def bytes_of(text: str) -> bytes:
-    """Lines as bytes. Bytes that aren't UTF-8 are sent unchanged; so is half a character, which an editor's JSON
+    """Lines as bytes. Bytes that aren't UTF-8 are sent unchanged. So is half a surrogate pair, which an editor's JSON
     can contain."""
     try:
         return text.encode("utf-8", "surrogateescape")
@@ -48,18 +48,18 @@ class Reply:
 
     @property
     def lines(self) -> list[str]:
-        """All its lines."""
+        """All lines of the reply."""
         return [self.first, *self.entries]
 
 
 def is_kept(reply: Reply) -> bool:
-    """Whether the same query would get this reply again: the reply isn't an error, such as a lack of memory. A long
+    """Whether a repeated query would get this reply again: the reply isn't an error, such as a lack of memory. A long
     reply isn't kept."""
     return len(reply.first) <= LONGEST_KEPT and not reply.first.startswith("fault")
 
 
 class Lines:
-    """The lines that come through a file descriptor."""
+    """The lines that arrive through a file descriptor."""
 
     def __init__(self, descriptor: int, silent: Optional[Callable[[], None]] = None):
         self._descriptor, self._silent = descriptor, silent
@@ -67,8 +67,8 @@ class Lines:
         self._rest = b""
 
     def next(self, asked: str) -> Optional[str]:
-        """The next line, without its line feed; None at the end. Raises Strange, with the line that was sent, if a
-        line doesn't end."""
+        """The next line, without its line feed; None at the end. If a line has no end, raises Strange with the line
+        that was sent."""
         while not self._whole:
             if len(self._rest) > LONGEST:
                 raise Strange(asked, self._rest[:READ].decode("latin-1"))
@@ -94,10 +94,10 @@ class Lines:
 
 
 class Netrev:
-    """Sends lines, and reads a reply to each: one line, and for the two lists one more line for each entry. No line is
-    sent while a reply is unread, so each reply belongs to its line."""
+    """Sends lines, and reads a reply to each line: one line, or, for the two lists, one more line for each entry. No
+    line is sent while a reply is unread, so each reply belongs to its line."""
 
-    asks_ahead = True  # whether no other front can change the reply to a query
+    asks_ahead = True  # whether no other user of the session can change the reply to a query
 
     def __init__(self, interrupts: Interrupts):
         self._interrupts = interrupts
@@ -105,10 +105,10 @@ class Netrev:
         self._ahead: deque[tuple[str, Reply | Exception]] = deque()  # queries that were sent early, with their results
         self._kept: dict[
             str, Reply
-        ] = {}  # replies to queries since the last other line, if no other front can change them
+        ] = {}  # replies to queries since the last other line, if no other user of the session can change them
 
     def ask(self, line: str) -> Reply:
-        """The reply to this line: netrev's, or the reply to the same query since the last other line."""
+        """The reply to this line: netrev's, or the stored reply to the same query, if no other line was sent since."""
         if self._ahead and self._ahead[0][0] == line:
             self._interrupts.check_given_up()
             _, came = self._ahead.popleft()
@@ -118,8 +118,9 @@ class Netrev:
         return self._answers([line])[0]
 
     def ask_ahead(self, queries: Sequence[str]) -> None:
-        """Sends several queries at once, each with a reply of one line; they change nothing. `ask` returns their
-        replies as long as no other line is sent; an error is raised when its reply is asked for."""
+        """Sends several queries at once, each with a reply of one line. The queries change nothing. `ask` returns their
+        replies as long as no other line is sent. If a query failed, `ask` raises the error when its reply is
+        requested."""
         self._begin(list(queries))
         for query in queries:
             try:
@@ -129,7 +130,7 @@ class Netrev:
                 return
 
     def ask_all(self, lines: Sequence[str]) -> list[str]:
-        """The replies to these lines, of one line each. The lines are sent in batches that don't fill a pipe; Ctrl-C is
+        """The replies to these lines, one line each. The lines are sent in batches that don't fill a pipe. Ctrl-C is
         checked between batches."""
         replies: list[str] = []
         batch: list[str] = []
@@ -159,7 +160,7 @@ class Netrev:
         return [reply.first for reply in self._answers(batch)]
 
     def _answers(self, batch: list[str]) -> list[Reply]:
-        """The replies to these lines. A query whose reply is kept isn't sent again."""
+        """The replies to these lines. A query with a stored reply isn't sent again."""
         if not self.asks_ahead or not all(line.startswith(QUERIES) for line in batch):
             self._begin(batch)
             return [self._reply(line) for line in batch]
@@ -196,8 +197,8 @@ class Netrev:
         return line
 
     def _send(self, text: bytes) -> None:
-        """Sends these lines. If netrev has ended, the output that it wrote before is still read, and reading then
-        reports the end."""
+        """Sends these lines. If netrev has ended, its remaining output is still read, and reading then reports the
+        end."""
         raise NotImplementedError
 
     def _next(self, asked: str) -> Optional[str]:
@@ -205,16 +206,16 @@ class Netrev:
         raise NotImplementedError
 
     def close(self) -> Optional[int]:
-        """Ends the conversation, and returns the exit status if there is one. It may be called again."""
+        """Ends the connection, and returns the exit status if netrev has one. Further calls do nothing."""
         raise NotImplementedError
 
     def drop(self) -> None:
-        """Ends the conversation without waiting for netrev to finish."""
+        """Ends the connection without waiting for netrev to finish."""
         self.close()
 
 
 class Own(Netrev):
-    """`netrev run FILE`, in a process group of its own, so Ctrl-C at the keyboard doesn't reach it."""
+    """`netrev run FILE`, in a process group of its own, so that Ctrl-C at the keyboard doesn't reach netrev."""
 
     def __init__(self, program: str, path: str, interrupts: Interrupts):
         super().__init__(interrupts)
@@ -245,7 +246,7 @@ class Own(Netrev):
 
 
 class Joined(Netrev):
-    """A front of a session of `netrev serve`, at its address. `silent` is called if the first reply takes long."""
+    """A connection to a session of `netrev serve`, at its address. `silent` is called if the first reply takes long."""
 
     asks_ahead = False
 

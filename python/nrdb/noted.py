@@ -1,11 +1,11 @@
-"""The notes of a recording: a class for each sort of note, and a class for uses of descriptors, which have most of the
-notes. (Goroutines: `noted_goroutines.py`.)"""
+"""The notes of a recording: a class for each kind of note, and a class for uses of descriptors, which have most of the
+notes. (`noted_goroutines.py` has the classes for goroutines.)"""
 
 from bisect import bisect_left
 from typing import NamedTuple, Optional
 
 CLOSING, TIMED_OUT, EVENT_ERROR = 1, 2, 3  # the codes of a side
-# (a million steps make some 100,000 notes, and NamedTuple's own constructor takes three times as long)
+# (a million steps make some 100,000 notes, and the constructor of a NamedTuple takes three times as long)
 new = tuple.__new__
 
 
@@ -19,8 +19,8 @@ class Setting(NamedTuple):
 
 
 class Due(NamedTuple):
-    """The origin of a side's deadline: the last call that set it, and the first later call that set only the other
-    side's deadline."""
+    """The origin of a side's deadline: the last call that set the deadline, and the first later call that set only the
+    other side's deadline."""
 
     setting: Setting
     moved: Optional[Setting]
@@ -35,7 +35,8 @@ class Passing(NamedTuple):
 
 
 class Taking(NamedTuple):
-    """A readiness that was taken: the step, the goroutine, and the step of the event that brought it."""
+    """A goroutine's taking of a readiness: the step, the goroutine, and the step of the event that brought the
+    readiness."""
 
     step: int
     goroutine: int
@@ -70,8 +71,8 @@ class Timeout(NamedTuple):
 
 
 class Hold(NamedTuple):
-    """A reference to a socket: the goroutine that holds it, the step that took it, its kind, and the side of the lock, if any,
-    that was taken with it."""
+    """A reference to a socket: the goroutine that holds it, the step that took it, the kind of that step, and the side
+    of the lock that the step took too, if any."""
 
     goroutine: int
     step: int
@@ -86,13 +87,13 @@ class By(NamedTuple):
     goroutine: int
 
 
-AT = {"r": 0, "w": 1}  # the values of both sides, by the index of the side
-SIDES = {"r": (0,), "w": (1,), "rw": (0, 1)}  # of a mode
+AT = {"r": 0, "w": 1}  # the indexes of the sides
+SIDES = {"r": (0,), "w": (1,), "rw": (0, 1)}  # the indexes of the sides of a mode
 
 
 class Use:
-    """A use of a descriptor: its socket, its first and last step (0: it lasts to the end), its tag, and what happened
-    in it."""
+    """A use of a descriptor: its socket, its first and last step (0: the use lasts until the end), its tag, and the
+    notes about it."""
 
     __slots__ = (
         *("descriptor", "socket", "opened", "closed", "tag"),
@@ -103,9 +104,9 @@ class Use:
         self.descriptor, self.socket, self.opened, self.closed, self.tag = descriptor, socket, opened, 0, tag
         self.settings: list[Setting] = []
         self.errors: list[ErrorEvent] = []
-        self.thrown: list[Taking] = []  # readinesses for reading that a pollreset discarded
-        # for both sides: the origin of the deadline, the steps at which it passed, the last event, the last readiness
-        # that was taken or discarded, and the waits
+        self.thrown: list[Taking] = []  # readinesses for reading that a `pollreset` discarded
+        # for both sides: the origin of the deadline, the steps at which the deadline passed, the last event, the last
+        # readiness that was taken or discarded, and the waits
         self.dues: list[Optional[Due]] = [None, None]
         self.passings: tuple[list[Passing], ...] = ([], [])
         self.last_events = [0, 0]
@@ -113,11 +114,11 @@ class Use:
         self.waits: tuple[list[Wait], ...] = ([], [])
 
     def last_event(self, side: str) -> int:
-        """The step of the last event of a side; 0 if none has come."""
+        """The step of the last event of a side; 0 if no event has come."""
         return self.last_events[AT[side]]
 
     def setting(self, step: int) -> Setting:
-        """The setting of a step."""
+        """The setting that a step made."""
         return self.settings[bisect_left(self.settings, (step,))]
 
     def setting_behind(self, side: str, step: int) -> Optional[Setting]:
@@ -127,7 +128,7 @@ class Use:
 
 
 def code_of(info: int, side: str) -> int:
-    """The code of a side, from a descriptor's `info`: that of the first condition that holds, or 0."""
+    """The code of a side, from a descriptor's `info`: the code of the first condition that holds, or 0."""
     if info & 1:
         return CLOSING
     if info & (4 if side == "r" else 8):

@@ -3,11 +3,11 @@
 from typing import Optional
 
 IDLE, ACQUIRING, QUEUED, PARKED = "idle", "acquiring", "queued", "parked"
-MANY = 3  # how many pauses at a place must have ended before the longest of them counts
+MANY = 3  # the number of pauses at a place that must have ended before the longest of them counts
 
 
 class Pauses:
-    """The number of reported pauses that ended in a status, and the longest of them. A pause longer than `enough` must
+    """The number of reported pauses that ended in a status, and the longest of these. A pause longer than `enough` must
     be reported."""
 
     __slots__ = ("count", "longest", "enough")
@@ -34,8 +34,8 @@ class NoPauses(Pauses):
 
 
 class Status(str):
-    """A status as netrev prints it, with what each step needs: the number and the side of its socket or descriptor, the
-    pauses in this status, and the goroutines that sleep in it, in order."""
+    """A status as netrev prints it, with what each step needs: the number and the side of the status's socket or
+    descriptor, the pauses in this status, and the goroutines that sleep in it, in order."""
 
     __slots__ = ("number", "side", "pauses", "sleepers", "is_idle", "is_acquiring", "is_asleep")
 
@@ -57,12 +57,12 @@ class Status(str):
 
 
 class Statuses(dict[str, Status]):
-    """The statuses that goroutines had, by their texts; and the pauses of each place."""
+    """The statuses that goroutines had, keyed by their texts, and the pauses of each place."""
 
     def __init__(self) -> None:
         super().__init__()
-        # an idle goroutine pauses while it holds a reference; that pause is recorded at its steps rather than when it
-        # leaves the status
+        # an idle goroutine pauses while it holds a reference; the pause is recorded at the goroutine's steps rather
+        # than when the goroutine leaves the status
         self.pauses: dict[str, Pauses] = {IDLE: Pauses()}
         self[IDLE] = Status(IDLE, NoPauses())
 
@@ -76,9 +76,9 @@ ABSENT = Status("absent", NoPauses())
 
 
 class Goroutine:
-    """A goroutine: its cell after a step, its status and the step since which it has it, its last step, its last
-    `pollreset`, its last read or write, and the number of references that it holds. The last step isn't stored while
-    the goroutine makes one step after the other."""
+    """A goroutine: its cell after a step, its status and the step since which it has that status, its last step, its
+    last `pollreset`, its last read or write, and the number of references that it holds. While the goroutine makes
+    consecutive steps, its last step isn't stored."""
 
     __slots__ = ("number", "cell", "status", "since", "last", "reset", "tried", "held")
 

@@ -1,6 +1,6 @@
 """Facts that no cell shows, gathered in one pass over a recording's steps and their changes: which goroutine has held
-which reference since when, which set which deadline, which took which event, and how long each paused. This is nrdb's
-own analysis. A recording may have a million steps, so the work for a step is prepared once for all similar lines
+which reference since when, which goroutine set which deadline or took which event, and how long each paused. This is
+nrdb's own analysis. A recording may have a million steps, so the work for a step is prepared once for all similar lines
 nearby, as two functions: one notes the step, the other inspects the state."""
 
 from collections import deque
@@ -18,10 +18,10 @@ from .recorded_changes import RecordedChanges, Told
 from .recording import Recording
 
 Look = Callable[[int], None]  # called with the step's number
-Looks = Mapping[str, Callable[..., Look]]  # makes such a function for a kind, from the notes and a step's arguments
+Looks = Mapping[str, Callable[..., Look]]  # makes such a function for each kind, from the notes and a step's arguments
 Row = tuple[Goroutine, Optional[Note], Optional[Look]]
-CLOSED = 1  # in a lock word
-MOST_CHANGED = 1_024  # bytes of a firing's changes: a dozen lines at most
+CLOSED = 1  # the bit of a lock word for a closed socket
+MOST_CHANGED = 1_024  # the most bytes of a firing's changes, which are a dozen lines at most
 
 
 class Now(dict[str, str]):
@@ -41,19 +41,19 @@ class Notes:
 
     def __init__(self, recording: Recording, looks: Looks = MappingProxyType({})) -> None:
         self.recording, self.changes, self._looks = recording, changes_of(recording), looks
-        # the step, the number of bytes that it moved, and the code that it found
+        # the step, the number of bytes that the step moved, and the code that it found
         self.step = self.moved = self.code = 0
-        self.told: dict[str, str] = {}  # the changes of the steps nearby: `12 lock 0`, with the value
+        self.told: dict[str, str] = {}  # the changes made by the steps nearby: `12 lock 0`, with the value
         self._lines, self._fired_at = "", 0  # the lines of those changes, and the place of the last firing in them
         self.clock = 0
         self.statuses = Statuses()
         self.pauses = self.statuses.pauses
         self.goroutines: dict[int, Goroutine] = {}
         self.goroutine(0).is_made(0, self.statuses[IDLE])
-        self.made = 1  # goroutines
+        self.made = 1  # the number of goroutines
         self._turn = NOBODY  # the goroutine that made the last step
-        self.wakers: dict[int, Note] = {}  # for descriptors, the goroutines that are woken there
-        # for events at descriptors, with their modes and errors, the functions that note them
+        self.wakers: dict[int, Note] = {}  # for descriptors, the functions that note that a goroutine is woken there
+        # for events on descriptors, with their modes and errors, the functions that note them
         self.comings: dict[tuple[int, str, int], Note] = {}
         # for sockets: their lock words, the contents of their buffers, the holders, the steps that closed them or their
         # write sides, and the steps at which bytes came, the peer closed, and an evict happened
@@ -64,7 +64,7 @@ class Notes:
         self.closer: dict[int, By] = {}
         self.shut: dict[int, By] = {}
         self.arrived: dict[int, int] = {}
-        # for each side, the last try that was answered EAGAIN
+        # for each side, the last try whose answer was EAGAIN
         self.again: dict[str, dict[int, int]] = {"r": {}, "w": {}}
         self.peer: dict[int, int] = {}
         self.evicted: dict[int, int] = {}
@@ -76,8 +76,8 @@ class Notes:
         self.use_of: dict[int, Use] = {}  # the last use of each descriptor
         self.socket_before: dict[Use, int] = {}  # the socket of the previous use
         self.open_tags: dict[int, int] = {}
-        self.free: list[int] = []  # the descriptors that are free, with the one freed last at the end
-        self.ready: dict[str, set[int]] = {"r": set(), "w": set()}  # of each side
+        self.free: list[int] = []  # the free descriptors, with the one freed last at the end
+        self.ready: dict[str, set[int]] = {"r": set(), "w": set()}  # the descriptors that are ready, for each side
         self.stale: dict[int, tuple[int, int]] = {}
         self.timeouts: list[Timeout] = []
         # the writes after a CloseWrite: the step, the goroutine, and the socket
@@ -96,14 +96,13 @@ class Notes:
                     self._note_steps(range(told.first, told.end))
             self._turn.last = self.step
         except (KeyError, IndexError, ValueError):
-            deque(self.changes.texts(), maxlen=0)  # (a malformed line shows here)
+            deque(self.changes.texts(), maxlen=0)  # (raises NoChanges if a line is malformed)
             raise
         self.told.clear()
         self._lines = ""
 
     def _note_steps(self, steps: range) -> None:
-        """Notes these steps. After enough pauses, a step of a goroutine right after another of its own steps doesn't
-        report a pause."""
+        """Notes these steps. After enough pauses, two consecutive steps of a goroutine no longer report a pause."""
         turn, is_enough = self._turn, self.pauses[IDLE].count >= MANY
         for step, number, (goroutine, note, look) in zip(steps, map(str, steps), self._rows):
             if goroutine is not turn:
@@ -119,19 +118,21 @@ class Notes:
         self.step, self._turn = steps.stop - 1, turn
 
     def _pauses(self, goroutine: Goroutine, step: int) -> None:
-        """Checks that an idle goroutine that holds a reference made no step before this one."""
+        """Records the pause of an idle goroutine that holds a reference before a step, if the pause is long enough to
+        count."""
         idle, pause = self.pauses[IDLE], step - max(goroutine.last, goroutine.since)
         if pause > idle.enough:
             idle.ends(pause)
 
     def _holds(self, told: Told) -> None:
-        """Stores what the next steps changed, in the same dictionary, because callers keep a reference to it."""
+        """Stores the changes made by the next steps. It fills the same dictionary, because callers keep a reference to
+        it."""
         self.told.clear()
         self.told.update(told.cells())
         self._lines, self._fired_at = told.text, 0
 
     def _row(self, values: list[Any]) -> Row:
-        """The parts of a step's array: its goroutine, if it has one, the function that notes it, and the function
+        """The parts of a step's array: the step's goroutine, if any, the function that notes the step, and the function
         that inspects the state."""
         kind, *arguments = values[:-1] if self._has_answers else values
         goroutine = self.goroutine(arguments[0]) if kind in OF_A_GOROUTINE else NOBODY
@@ -139,15 +140,15 @@ class Notes:
         return goroutine, note and note(self, *arguments), look and look(self, *arguments)
 
     def goroutine(self, g: int) -> Goroutine:
-        """A goroutine, created if it isn't known yet."""
+        """A goroutine, created if it isn't known."""
         found = self.goroutines.get(g)
         if found is None:
             found = self.goroutines[g] = Goroutine(g)
         return found
 
     def fired(self, number: str) -> list[str]:
-        """The lines of a firing's changes, without its number: netrev first prints that the number of firings fell by
-        one."""
+        """The lines of a firing's changes, each without the step's number. netrev's first line, by which the number of
+        firings falls by one, is left out."""
         before = f"\n{number} "
         at = self._fired_at = self._lines.index(f"{before}firings", self._fired_at)
         _, _, *lines = self._lines[at : at + MOST_CHANGED].split(before)
@@ -155,11 +156,11 @@ class Notes:
             lines[-1] = lines[-1].partition("\n")[0]
         return lines
 
-    # the effects of a step on a goroutine
+    # the effects of a step on goroutines
 
     def moves(self, goroutine: Goroutine, step: int, shown: str) -> None:
-        """Gives a goroutine a new status by its own step, which ends its pause. A goroutine that isn't idle can make no
-        other step."""
+        """Gives a goroutine a new status after a step of its own, which ends the goroutine's pause. A goroutine that
+        isn't idle can't make any other step."""
         before = goroutine.status
         status = goroutine.status = self.statuses[shown]
         if step - goroutine.since > before.pauses.enough:
@@ -169,7 +170,7 @@ class Notes:
             status.sleepers[goroutine] = None
 
     def is_woken(self, goroutine: Goroutine, step: int, shown: str) -> None:
-        """Gives a sleeping goroutine another status by another goroutine's step."""
+        """Gives a sleeping goroutine a new status after another goroutine's step."""
         del goroutine.status.sleepers[goroutine]
         goroutine.status, goroutine.since = self.statuses[shown], step
 
@@ -180,7 +181,7 @@ class Notes:
         if self.code == TIMED_OUT:
             use, at = self.use_of[d], AT[side]
             due = use.dues[at]
-            assert due  # (it has passed)
+            assert due  # (the deadline has passed)
             self.timeouts.append(Timeout(step, g, d, side, use.passings[at][-1], due))
         return self.code > 0
 

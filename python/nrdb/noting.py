@@ -1,8 +1,8 @@
 """The functions that note the steps of each kind: each gets the notes and a step's arguments, and returns a function
-that is called at each step with this line, with the step's number as an integer and as text. Goroutines, sockets and
-descriptors have a module each. Each function reads the cells that it needs by the step and the cell (`12 lock 0`).
-`changed_aspects` in crates/nr_rev/specs/Aspect.antt says which cells a kind may change; `parkcommit` neither makes a
-word ready nor takes a readiness, nor does a deadline or an evict."""
+that is called at each step with the same line. Its arguments are the step's number as an integer and as text.
+Goroutines, sockets and descriptors have a module each. Each function reads the cells that it needs by the step and the
+cell (`12 lock 0`). `changed_aspects` in crates/nr_rev/specs/Aspect.antt says which cells a kind may change.
+`parkcommit`, a deadline and an evict neither make a word ready nor take a readiness."""
 
 from typing import Callable
 

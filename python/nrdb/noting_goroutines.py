@@ -28,7 +28,7 @@ def ticked(notes: Notes, time: int) -> Note:
 
 
 def stepped(notes: Notes, g: int, *_: object) -> Note:
-    """Notes that a goroutine may get another status."""
+    """Notes that the step may give a goroutine a new status."""
     goroutine, told, cell, moves = notes.goroutine(g), notes.told.get, f" gor {g}", notes.moves
 
     def note(step: int, number: str) -> None:
@@ -52,7 +52,7 @@ def released(notes: Notes, g: int) -> Note:
 
 
 def wake(notes: Notes, status: Status, step: int, number: str) -> None:
-    """Notes that the first goroutine that sleeps in a status may have been woken."""
+    """Notes that the first of the goroutines that sleep in a status may have been woken."""
     for goroutine in status.sleepers:
         if shown := notes.told.get(number + goroutine.cell):
             notes.is_woken(goroutine, step, shown)

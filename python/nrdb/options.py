@@ -21,7 +21,7 @@ At the prompt, `help` lists the commands."""
 
 
 class InOrder(argparse.Action):
-    """Keeps -x and -ex in the given order."""
+    """Keeps -x and -ex in the order in which they were given."""
 
     def __call__(self, _parser: Any, space: argparse.Namespace, value: Any, _option: Optional[str] = None) -> None:
         space.lines = [*(space.lines or []), (self.const, value)]
@@ -101,8 +101,8 @@ def parser() -> Words:
 
 
 def parsed(words: Sequence[str]) -> argparse.Namespace:
-    """The parsed command line. Two numbers after the file of --timeline are the beginning and the end of the part to
-    show."""
+    """The parsed command line. Two numbers after the file of --timeline are the beginning and the end of the part that
+    it shows."""
     at = words.index("--timeline") + 2 if "--timeline" in words else len(words)
     part = [number for word in words[at : at + 2] if (number := number_of(word)) is not None]
     if len(part) < 2:

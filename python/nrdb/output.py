@@ -1,5 +1,5 @@
-"""nrdb's output: events, as text for people or as lines of JSON for editors and scripts. netrev's replies are
-printed unchanged; everything else begins with `|`."""
+"""nrdb's output: events, as text for people or as lines of JSON for editors and scripts. netrev's replies are printed
+unchanged. Everything else begins with `|`."""
 
 import json
 import os
@@ -49,14 +49,14 @@ class Style(Enum):
     """The style of a line on a terminal with colours; netrev's own replies have none."""
 
     PLAIN = ""
-    ADDED = "36"  # cyan: what nrdb adds
+    ADDED = "36"  # cyan: text that nrdb adds
     ALARM = "1;31"  # red: a suspect
 
 
 @dataclass(frozen=True)
 class Row:
-    """A row of a table: its values by name, and its line. A row without a line is part of the line before; a row
-    without values is a further line of the row before."""
+    """A row of a table: its values by name, and its line. A row without a line belongs to the line before it. A row
+    without values is a further line of the row before it."""
 
     values: Values
     text: str
@@ -64,7 +64,7 @@ class Row:
 
 @dataclass(frozen=True)
 class Table:
-    """Rows about a topic, with a line that says what was omitted or that the table is empty."""
+    """Rows about a topic, with a line that says how much was omitted or that the table is empty."""
 
     topic: str
     rows: list[Row]
@@ -72,7 +72,7 @@ class Table:
 
 
 def displays_table(cells: Sequence[str], values: Sequence[str], words_of: Callable[[str, str], str]) -> Table:
-    """The table of displayed cells, each with its value and the value's meaning."""
+    """The table of displayed cells, each with its value and the meaning of the value."""
     rows = []
     for cell, value in zip(cells, values):
         words = words_of(cell, value)
@@ -82,8 +82,8 @@ def displays_table(cells: Sequence[str], values: Sequence[str], words_of: Callab
 
 
 class Printer(ABC):
-    """Prints each event before the next line is read. All text goes through `plain`, so that a terminal doesn't obey
-    text from a recording or a server. `is_paged` says whether output pauses when the screen is full."""
+    """Prints each event before the next line is read. All text goes through `plain`, so that a terminal doesn't execute
+    escape sequences from a recording or a server. `is_paged` says whether output pauses when the screen is full."""
 
     def __init__(self, out: Optional[TextIO] = None):
         self.out = out if out is not None else sys.stdout
@@ -100,7 +100,7 @@ class Printer(ABC):
 
     @contextmanager
     def joined(self) -> Iterator[None]:
-        """Context in which no line is read; the output is written together at the end."""
+        """Context in which no line is read. The output is written together at the end."""
         self._flushes = False
         try:
             yield
@@ -110,11 +110,11 @@ class Printer(ABC):
 
     @abstractmethod
     def echo(self, line: str) -> None:
-        """Prints a line that wasn't typed, as the prompt would show it."""
+        """Prints a line that wasn't typed as the prompt would show it."""
 
     @abstractmethod
     def reply(self, line: str, reply: Reply, words: str) -> None:
-        """Prints netrev's reply to a line, and the meaning of its value."""
+        """Prints netrev's reply to a line, and the meaning of the reply's value."""
 
     @abstractmethod
     def place(self, place: Place) -> None:
@@ -126,7 +126,7 @@ class Printer(ABC):
 
     @abstractmethod
     def table(self, table: Table) -> None:
-        """A table."""
+        """Prints a table."""
 
     @abstractmethod
     def end(self, status: int) -> None:
@@ -141,12 +141,12 @@ class TextPrinter(Printer):
         self.is_coloured = is_coloured
 
     def styled(self, text: str, style: Style) -> str:
-        """The text made plain, in this style."""
+        """The text in this style, made plain first."""
         is_styled = self.is_coloured and style is not Style.PLAIN
         return f"\x1b[{style.value}m{plain(text)}\x1b[0m" if is_styled else plain(text)
 
     def add(self, text: str, style: Style = Style.ADDED) -> None:
-        """Prints a line of nrdb's own, broken into several on a narrow terminal."""
+        """Prints a line of nrdb's own text. On a narrow terminal, the line is broken into several."""
         for line in wrapped(plain(text), width_of(self.out) - len("| ")):
             self.put(self.styled(f"| {line}", style))
 

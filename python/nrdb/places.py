@@ -28,8 +28,8 @@ def sockets_table(world: World, numbers: Optional[Iterable[int]] = None, is_all:
 
 
 def _says_something(values: list[str], queues: list[list[int]]) -> bool:
-    """Whether a socket isn't at rest: at rest, no goroutine holds or waits for it, and its input is empty or it is
-    closed."""
+    """Whether a socket isn't at rest. A socket is at rest if no goroutine holds it or waits for it, and if its input is
+    empty or the socket is closed."""
     if values[0] == "absent":
         return False
     word = LockWord.of(int(values[0]))
@@ -63,7 +63,7 @@ def descriptors_table(world: World, numbers: Optional[Iterable[int]] = None, is_
 
 
 def rest_words(every: list[int], left: int, name: str, all_of_them: str) -> str:
-    """The number of rows that aren't shown, or a message that there are none; empty if all are shown."""
+    """The message with the number of rows that aren't shown, or that there are no rows; empty if all rows are shown."""
     if not every:
         return f"no {name} exists yet"
     return f"{left} {all_of_them}" if left else ""
@@ -87,7 +87,7 @@ def _descriptor_row(number: int, values: list[str], socket: Optional[int]) -> Ro
 
 
 def timers_table(world: World) -> Table:
-    """The clock, and the deadlines of open descriptors that are still to come, in order of time."""
+    """The clock, and the deadlines of open descriptors that haven't passed yet, in order of time."""
     names = ("clock", "timers", "least", "firings")
     values = dict(zip(names, world.values(list(names))))
     clock = int(values["clock"])

@@ -1,4 +1,4 @@
-"""Consecutive queries, such as those of a script, which are sent to netrev together and shown one by one."""
+"""Consecutive queries, such as those of a script, which nrdb sends to netrev together and shows one by one."""
 
 import codecs
 import io
@@ -10,7 +10,7 @@ from .commands import Ambiguous, parts_of, whole_words
 from .netrev import AT_ONCE, Netrev
 from .output import Printer
 
-MOST = 1_024  # lines that are sent together
+MOST = 1_024  # the most lines that are sent together
 
 
 class Answering(Protocol):
@@ -21,12 +21,12 @@ class Answering(Protocol):
     attached: Attached
 
     def echoed(self, line: str) -> bool:
-        """Shows a line that wasn't typed, and answers it. Returns False if the session has ended."""
+        """Shows a line that wasn't typed, and answers the line. Returns False if the session has ended."""
 
 
 @lru_cache(maxsize=1_024)
 def query_of(line: str) -> str:
-    """A line in the form in which it is sent to netrev, if it is only a `print`; otherwise empty."""
+    """The form in which a line is sent to netrev, if the line is only a `print`; otherwise empty."""
     try:
         parts = parts_of(line)
         words = whole_words(parts[0].split()) if len(parts) == 1 else [""]
@@ -36,8 +36,8 @@ def query_of(line: str) -> str:
 
 
 def runs_of(session: Answering, lines: Sequence[str]) -> Iterator[Sequence[str]]:
-    """Lines in runs: consecutive queries that may be sent together, or any other line alone. Each run is determined
-    after the lines before it have been answered."""
+    """The lines in runs. A run is a sequence of consecutive queries that may be sent together, or any other line alone.
+    Each run is determined after the lines before it have been answered."""
     first = 0
     while first < len(lines):
         end = first + 1
@@ -48,7 +48,7 @@ def runs_of(session: Answering, lines: Sequence[str]) -> Iterator[Sequence[str]]
 
 
 def end_of_queries(lines: Sequence[str], first: int) -> int:
-    """The end of the consecutive queries that begin at a line, limited to those that are sent together."""
+    """The end of the consecutive queries that begin at a line, counting at most as many as are sent together."""
     size = 0
     for at in range(first, min(first + MOST, len(lines))):
         query = query_of(lines[at])
@@ -59,7 +59,7 @@ def end_of_queries(lines: Sequence[str], first: int) -> int:
 
 
 def answer_run(session: Answering, run: Sequence[str]) -> bool:
-    """Answers a run of lines that weren't typed, and shows each first. Returns False if the session has ended."""
+    """Answers a run of lines that weren't typed, and shows each line first. Returns False if the session has ended."""
     if len(run) == 1:
         return session.echoed(run[0])
     session.netrev.ask_ahead(list(map(query_of, run)))

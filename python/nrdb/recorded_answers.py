@@ -1,5 +1,5 @@
-"""Recorded answers as text: the answers that a step of each kind can have, their meanings, and hints for a program's
-answer that differs from the machine's."""
+"""Recorded answers as text: the answers that a step of each kind can have, their meanings, and hints about a program's
+answer that differs from the machine's answer."""
 
 import json
 from typing import Any, Optional
@@ -79,7 +79,7 @@ def name_of(answer: Any) -> str:
 
 
 def answer_words(kind: str, answer: Any) -> str:
-    """The meaning of an answer; empty if its name says everything."""
+    """The meaning of an answer; empty if the answer's name says everything."""
     name = name_of(answer)
     said = SAYS.get(kind, {}).get(name, "")
     if name in ("got", "put"):
@@ -90,13 +90,13 @@ def answer_words(kind: str, answer: Any) -> str:
 
 
 def spelled(kind: str) -> str:
-    """The answers that a kind can give, as they appear in a recording."""
+    """The answers that a kind of step can have, as they appear in a recording."""
     names = [f'["{name}",N]' if name in COUNTED_ANSWERS else f'"{name}"' for name in KINDS[kind].answers]
     return names[0] if len(names) == 1 else f"{', '.join(names[:-1])} or {names[-1]}"
 
 
 def meaning(kind: str, recorded: Any) -> Optional[str]:
-    """The meaning of a difference between the program's answer and the machine's."""
+    """The meaning of a difference between the program's answer and the machine's answer."""
     if name_of(recorded) not in KINDS[kind].answers:
         return messages.ONLY_ANSWERS.format(kind=kind, answers=spelled(kind))
     return MEANS.get(kind)

@@ -1,6 +1,6 @@
-"""The output of `netrev changes` for a recording: the cells that each step changed, with their new values. The lines
-are kept as text at first. For a caller with many queries they become arrays of numbers, two for each cell, with each
-value stored once, because a million steps change some millions of cells."""
+"""The output of `netrev changes` for a recording: the cells that each step changed, with their new values. At first the
+lines are kept as text. For a caller with many queries they become arrays of numbers, two for each cell, with each value
+stored once, because a million steps change several million cells."""
 
 from array import array
 from bisect import bisect_left, bisect_right
@@ -11,12 +11,12 @@ from typing import Callable, Iterable, Iterator, NamedTuple, Optional, Sequence
 from .messages import session as messages
 from .changed_lines import ChangedLines, NoChanges
 
-FEW = 300  # the number of queries that are answered by searching the lines, before arrays are made
+FEW = 300  # the number of queries that are answered by searching the lines before the arrays are made
 AT_START = {"clock": "0", "waiters": "0", "timers": "0", "firings": "0", "gor 0": "idle"}
 
 
 class Change(NamedTuple):
-    """A step, a cell that it changed, and the new value."""
+    """A step, a cell that the step changed, and the cell's new value."""
 
     step: int
     cell: str
@@ -24,7 +24,7 @@ class Change(NamedTuple):
 
 
 class Told(NamedTuple):
-    """The changes of a range of steps, with their lines in one text, a line feed before each."""
+    """The changes of a range of steps. Their lines are in one text, with a line feed before each line."""
 
     first: int
     end: int
@@ -63,20 +63,20 @@ def value_at_start(cell: str) -> str:
 
 
 class RecordedChanges:
-    """The changes of a recording's steps. They may still be arriving: a caller waits for those that it needs."""
+    """The changes of a recording's steps. They may still be arriving; a caller waits for the changes that it needs."""
 
     def __init__(self) -> None:
         # for each cell, the numbers of its changes
         self._steps, self._values, self._texts = OfCells(), OfCells(), Texts()
         self._lines = ChangedLines()
-        self._held = 0  # how many of the pieces are in the arrays
+        self._held = 0  # the number of pieces whose changes are in the arrays
         self._asked = 0
         self._rest = b""
         self._is_whole, self._length, self._fault = False, 0, ""
 
     @classmethod
     def read(cls, pieces: Iterable[bytes]) -> "RecordedChanges":
-        """The changes of a whole output, given in pieces; raises NoChanges if it is malformed or incomplete."""
+        """The changes of a whole output, given in pieces; raises NoChanges if the output is malformed or incomplete."""
         changes = cls()
         for piece in pieces:
             changes.take(piece)
@@ -88,13 +88,13 @@ class RecordedChanges:
 
     @property
     def length(self) -> int:
-        """The number of steps that apply: all of them, or those before the first fault."""
+        """The number of steps that apply: all steps, or the steps before the first fault."""
         self._wait(None)
         return self._length
 
     @property
     def fault(self) -> str:
-        """The line of the recording's first fault; empty if it has none."""
+        """The line with the recording's first fault; empty if the recording has no fault."""
         self._wait(None)
         return self._fault
 
@@ -104,7 +104,7 @@ class RecordedChanges:
         return self._lines.at(step)
 
     def between(self, first: int, last: int) -> Iterator[tuple[int, list[tuple[str, str]]]]:
-        """The steps that lead from one position to another and changed a cell, each with its changes."""
+        """The steps that lead from one position to another and changed at least one cell, each with its changes."""
         self._wait(last)
         for step, lines in groupby(self._lines.between(first, last), itemgetter(0)):
             yield int(step), [(cell, value) for _, cell, value in lines]
@@ -126,20 +126,20 @@ class RecordedChanges:
         return [self.value(cell, position) for cell in cells]
 
     def steps_of(self, cell: str, until: Optional[int] = None) -> "array[int]":
-        """The steps that changed a cell, in rising order; up to a position if one is given."""
+        """The steps that changed a cell, in rising order; only up to a position, if one is given."""
         return array("I", (step for step, _ in self.changes_of(cell, until)))
 
     def nearest(
         self, cells: Sequence[str], are_wanted: Callable[[list[str]], bool], position: int, backwards: bool
     ) -> Optional[int]:
-        """The nearest position, in a direction, after a step that changed one of the cells and gave them wanted values;
-        None if none exists."""
+        """The nearest position, in a direction, after a step that changed one of the cells and gave the cells wanted
+        values; None if no such position exists."""
         steps = sorted({step for cell in cells for step in self.steps_of(cell, position if backwards else None)})
         ways = reversed(steps[: bisect_left(steps, position)]) if backwards else steps[bisect_right(steps, position) :]
         return next((step for step in ways if are_wanted(self.values(step, cells))), None)
 
     def changes_of(self, cell: str, until: Optional[int] = None) -> list[tuple[int, str]]:
-        """The steps that changed a cell, with the new values; up to a position if one is given."""
+        """The steps that changed a cell, with the new values; only up to a position, if one is given."""
         self._wait(until)
         if self._is_asked_little():
             return list(self._lines.changes_of(cell, until))
@@ -148,16 +148,16 @@ class RecordedChanges:
         return [(step, texts[value]) for step, value in zip(steps[:end], self._values.get(cell, ()))]
 
     def cells(self) -> list[str]:
-        """The cells that any step changed, in the order in which they first did."""
+        """The cells that any step changed, in the order of their first changes."""
         return list(dict.fromkeys(cell for _, cell, _ in self.texts()))
 
     def texts(self) -> Iterator[tuple[str, str, str]]:
-        """All changes, step by step, as texts: the step, the cell and its value."""
+        """All changes, step by step, as texts: the step, the cell and the cell's value."""
         self._wait(None)
         return self._lines.texts(0, len(self._lines.pieces))
 
     def pieces(self) -> Sequence[bytes]:
-        """The lines of all changes as they came, in pieces of whole lines."""
+        """The lines of all changes as they arrived, in pieces of whole lines."""
         self._wait(None)
         return self._lines.pieces
 
@@ -166,7 +166,7 @@ class RecordedChanges:
         return (Change(int(step), cell, value) for step, cell, value in self.texts())
 
     def told(self) -> Iterator[Told]:
-        """All changes, some thousands of steps at a time, for a caller that needs few of them, so that lines aren't
+        """All changes, some thousands of steps at a time, for a caller that needs few of the changes. Lines aren't
         parsed one by one."""
         self._wait(None)
         first = 1
@@ -175,7 +175,7 @@ class RecordedChanges:
             first = end
 
     def _is_asked_little(self) -> bool:
-        """Whether so few queries came that searching the lines is enough. If not, puts the changes so far into the
+        """Whether so few queries came that searching the lines is fast enough. If not, puts the changes so far into the
         arrays."""
         self._asked += 1
         if self._asked > FEW:
@@ -196,7 +196,7 @@ class RecordedChanges:
         self._held += 1
 
     def _wait(self, position: Optional[int]) -> None:
-        """Waits until the changes up to a position, or all changes, have arrived."""
+        """Waits until the changes up to a position, or else all changes, have arrived."""
 
     # ---- reading the changes
 
@@ -208,11 +208,11 @@ class RecordedChanges:
 
     @property
     def is_whole(self) -> bool:
-        """Whether everything has been read."""
+        """Whether the whole output has been read."""
         return self._is_whole
 
     def has(self, position: Optional[int]) -> bool:
-        """Whether the changes up to a position, or all changes, have been read."""
+        """Whether the changes up to a position, or else all changes, have been read."""
         return self._is_whole or (position is not None and position < self._lines.last)
 
     def take(self, piece: bytes) -> None:

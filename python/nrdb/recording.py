@@ -1,5 +1,5 @@
-"""The text of a recording: its steps by number, each with its line. netrev decides whether the text is a recording and whether its
-steps apply."""
+"""The text of a recording: its steps by number, each with its line. netrev decides whether the text is a recording and
+whether its steps apply."""
 
 import json
 import os
@@ -20,18 +20,18 @@ from .recorded_changes import RecordedChanges
 from .suspect_list import SuspectList
 from .where import Lines
 
-# any text with a blank line after the first line contains one of these
+# any text with a blank line after the first line contains at least one of these
 BEFORE_BLANKS = (b"\n\n", b"\n ", b"\n\t", b"\n\r")
 BLANK_LINE = re.compile(rb"^[ \t\r]*$", re.MULTILINE)
 SHOWN = 40
 PIECE = 1_024  # steps
-AT_ONCE = 16_384  # steps that are parsed together
+AT_ONCE = 16_384  # the number of steps that are parsed together
 Row = TypeVar("Row")
 
 
 class Step(NamedTuple):
-    """A step: its number from 1, its line, its kind, its arguments, and, in version 2, the recorded answer as JSON: a
-    string, or a list of a string and a number."""
+    """A step: its number from 1, its line, its kind, its arguments, and, in version 2, the recorded answer as JSON,
+    which is a string or a list of a string and a number."""
 
     number: int
     line: int
@@ -52,7 +52,7 @@ class Step(NamedTuple):
 
 
 class NoRecording(Exception):
-    """Raised for a text that isn't a recording: netrev never read it, or read another one."""
+    """Raised for a text that isn't a recording: netrev didn't read the text, or read a different one."""
 
 
 def parsed(text: bytes) -> Any:
@@ -64,7 +64,7 @@ def parsed(text: bytes) -> Any:
 
 
 def check_size(path: str, size: int) -> None:
-    """Raises NoRecording for a file that has more bytes than this machine has memory."""
+    """Raises NoRecording if a file has more bytes than this machine has memory."""
     if size > os.sysconf("SC_PHYS_PAGES") * os.sysconf("SC_PAGE_SIZE"):
         raise NoRecording(too_large(path))
 
@@ -84,7 +84,7 @@ class Recording:
     def __init__(self, data: bytes):
         self.data = data
         self._starts = LineStarts(data)
-        end = len(data.rstrip(b" \t\r\n"))  # (only blank lines follow it)
+        end = len(data.rstrip(b" \t\r\n"))  # (only blank lines follow that place)
         numbers = range(1, self._starts.line_at(end) + (end > 0))
         blanks = (
             BLANK_LINE.finditer(data, 0, end)
@@ -95,16 +95,17 @@ class Recording:
         self._numbers: Sequence[int] = [number for number in numbers if number not in blank] if blank else numbers
         self.header_line = self._numbers[0] if self._numbers else 1
         self.lines = Lines()
-        self.changes: Optional[RecordedChanges] = None  # the changes of its steps, from netrev, once they are needed
-        self.suspects: Optional[SuspectList] = None  # netrev's list, for a recording in a file
+        self.changes: Optional[RecordedChanges] = None  # from netrev, once a caller needs them
+        self.suspects: Optional[SuspectList] = None  # the output of `netrev suspects`, for a recording in a file
 
     def _are_arrays(self, end: int) -> bool:
-        """Whether each line before that place, except the first, begins as an array does, so that none is blank."""
+        """Whether each line before that place, except the first, begins as an array does. Then no line is blank."""
         return self.data.count(b"\n[", 0, end) == self._starts.line_at(end) - 1
 
     @classmethod
     def read(cls, path: str) -> "Recording":
-        """Reads the same file as netrev; raises an OSError if that fails, and NoRecording if it can't be read twice."""
+        """Reads the file that netrev reads. Raises an OSError if that fails, and NoRecording if the file can't be read
+        twice."""
         check_name(path)
         if not stat.S_ISREG(os.stat(path).st_mode) and not os.path.isdir(path):
             raise NoRecording(messages.NOT_A_FILE.format(path=path))
@@ -123,7 +124,7 @@ class Recording:
         return max(len(self._numbers) - 1, 0)
 
     def line(self, number: int) -> bytes:
-        """The line with this number, from 1, without its line feed; empty if it doesn't exist."""
+        """The line with this number, from 1, without its line feed; empty if no such line exists."""
         if not 1 <= number < len(self._starts):
             return b""
         begin = self._starts[number - 1]
@@ -135,7 +136,7 @@ class Recording:
         return self.data[: self._starts[number - 1]]
 
     def before_step(self, number: int) -> bytes:
-        """The text before the line of step `number`, which may be the last step's number plus one."""
+        """The text before the line of step `number`. The number may be that of the last step plus one."""
         return self.before_line(self._numbers[number]) if number <= self.length else self.data
 
     def between(self, first: int, last: int) -> bytes:
@@ -157,11 +158,11 @@ class Recording:
 
     @property
     def has_answers(self) -> bool:
-        """Whether each step's array ends with a recorded answer: in version 2."""
+        """Whether each step's array ends with a recorded answer, as in version 2."""
         return self.limits.get("netrev") == 2
 
     def step_or_none(self, number: int) -> Optional[Step]:
-        """The step with this number, from 1; None if it doesn't exist."""
+        """The step with this number, from 1; None if no such step exists."""
         return self.step(number) if 1 <= number <= self.length else None
 
     def step(self, number: int) -> Step:
@@ -195,7 +196,7 @@ class Recording:
         return self.rows(lambda values: values)
 
     def rows(self, made: Callable[[list[Any]], Row], begin: int = 1, end: Optional[int] = None) -> Iterator[Row]:
-        """A value made from each step's array, in order; the value is made only once for similar lines nearby."""
+        """A value made from each step's array, in order. The value is made only once for similar lines nearby."""
         return chain.from_iterable(self._rows_together(made, begin, end))
 
     def _rows_together(
@@ -216,7 +217,7 @@ class Recording:
             yield map(rows.__getitem__, lines)
 
     def steps_of(self, kinds: tuple[str, ...], until: int, socket: Optional[int] = None) -> Iterator[Step]:
-        """The steps of these kinds among the first ones, only those at this socket if one is given."""
+        """The steps of these kinds up to a position; only the steps at this socket, if one is given."""
         for number, values in self.arrays_like(kinds, until, socket):
             step = self._made(number, values)
             if step.kind in kinds and socket in (None, step.argument("s")):
@@ -225,19 +226,20 @@ class Recording:
     def arrays_like(
         self, kinds: tuple[str, ...], until: int, socket: Optional[int] = None
     ) -> Iterator[tuple[int, list[Any]]]:
-        """The arrays of steps of these kinds with their numbers, perhaps with other steps between."""
+        """The arrays of steps of these kinds, with their numbers. Other steps may be among them."""
         numbers = list(self._numbers_of(kinds, until, socket))
         lines = [self.line(self._numbers[number]) for number in numbers]
         yield from zip(numbers, parsed(b"[%s]" % b",".join(lines)))
 
     @cached_property
     def has_escapes(self) -> bool:
-        """Whether the text contains an escape, which could hide a kind from a search of the text."""
+        """Whether the text contains an escape. A search of the text could miss a kind that is spelled with an
+        escape."""
         return b"\\" in self.data
 
     def _numbers_of(self, kinds: tuple[str, ...], until: int, socket: Optional[int]) -> Iterable[int]:
-        """The numbers of steps of these kinds, perhaps with others between. They come from a search of the text if that
-        finds all of them."""
+        """The numbers of steps of these kinds, from a search of the text if that finds all of them. Other steps may be
+        among them."""
         until = min(until, self.length)
         if not until or self.has_escapes:
             return range(1, until + 1)
@@ -250,7 +252,8 @@ class Recording:
         return self._numbers_at(places, self._numbers[1], begin)
 
     def _numbers_at(self, places: Iterable[int], line: int, begin: int) -> Iterator[int]:
-        """The numbers of the steps at these places of the text, in rising order, after the start of a line."""
+        """The numbers of the steps at these places of the text, in rising order. The search starts at a line's
+        beginning."""
         for place in places:
             line += self.data.count(b"\n", begin, place)
             begin = place

@@ -1,5 +1,5 @@
-"""Explains why netrev refuses a recording: names the line, what to correct in it, and, for a step that doesn't apply or
-whose recorded answer isn't the machine's, the values just before it."""
+"""Explains why netrev refuses a recording: names the line and what to correct in it. For a step that doesn't apply, or
+whose recorded answer differs from the machine's, also the values just before the step."""
 
 import json
 import os
@@ -33,7 +33,7 @@ OF_TIME = {"tick": ("clock",), "pop": ("clock", "least", "timers", "firings"), "
 
 
 def explained(program: str, path: str, fault: str) -> list[str]:
-    """The lines that explain a fault, which is netrev's whole reply to this file."""
+    """The lines that explain a fault, which is netrev's complete reply to this file."""
     recording = Recording.read(path)
     if found := LINE.match(fault):
         number = int(found[1])
@@ -48,7 +48,7 @@ def explained(program: str, path: str, fault: str) -> list[str]:
 
 
 def fault_of(program: str, path: str) -> str:
-    """The first fault of a recording; empty if netrev accepts it, or isn't installed."""
+    """The first fault of a recording; empty if netrev accepts the recording or isn't installed."""
     try:
         words = [program, "check", path]
         ended = subprocess.run(words, stdin=subprocess.DEVNULL, stdout=subprocess.PIPE, check=False)
@@ -67,12 +67,12 @@ def step_explained(program: str, recording: Recording, number: int, reason: int)
 
 
 def line_of(step: Step) -> str:
-    """The step, followed by the form of steps of its kind."""
+    """The step, followed by the form that steps of its kind have."""
     return f"line {step.line}: {step}" + (f"   ({KINDS[step.kind].usage})" if step.arguments else "")
 
 
 def answer_explained(program: str, recording: Recording, number: int) -> list[str]:
-    """The recorded answer of a step and the machine's, side by side, with a hint about where to look."""
+    """The recorded answer of a step next to the machine's answer, with a hint about where to look."""
     step = recording.step(number)
     shown = before(program, recording, step)
     said = [line_of(step), f"recorded: {with_meaning(step.kind, step.answer)}"]
@@ -87,14 +87,14 @@ def answer_explained(program: str, recording: Recording, number: int) -> list[st
 
 
 def with_meaning(kind: str, answer: Any) -> str:
-    """An answer with its meaning."""
+    """An answer, followed by its meaning."""
     words = answer_words(kind, answer)
     return answer_text(answer) + (f"   ({words})" if words else "")
 
 
 def likely(recording: Recording, step: Step, shown: list[str]) -> Iterator[Any]:
-    """The answers that the machine may give to a step, derived from the values just before it; netrev then decides
-    which one it is."""
+    """The answers that the machine may give to a step, derived from the values just before the step. netrev then
+    decides which of them is right."""
     for name in KINDS[step.kind].answers:
         if name == "code":
             yield from (["code", code] for code in range(4))
@@ -105,7 +105,8 @@ def likely(recording: Recording, step: Step, shown: list[str]) -> Iterator[Any]:
 
 
 def count_of(recording: Recording, step: Step, shown: list[str]) -> int:
-    """The number in the machine's answer to a step: the new object's number, or how many bytes move."""
+    """The number in the machine's answer to a step: the number of the new object, or the number of bytes that the step
+    moves."""
     earlier = step.number - 1
     if step.kind == "pollopen":
         return opened_by(recording, earlier)[1]
@@ -118,7 +119,7 @@ def count_of(recording: Recording, step: Step, shown: list[str]) -> int:
 
 
 def held(shown: list[str], cell: str) -> int:
-    """How many bytes a buffer holds, from the values just before a step."""
+    """The number of bytes that a buffer holds, from the values just before a step."""
     return next(int(told.split()[3]) for told in shown if told.startswith(f"{cell} "))
 
 
@@ -141,7 +142,7 @@ def named_cells(step: Step) -> list[str]:
 
 
 def before(program: str, recording: Recording, step: Step) -> list[str]:
-    """The values, just before a step, of the cells that it names, from a run of the recording up to there."""
+    """The values, just before a step, of the cells that the step names, from a run of the recording up to that step."""
     lines = [f"stepi {FAR}", *(f"print {cell}" for cell in named_cells(step))]
     with tempfile.TemporaryDirectory(prefix="nrdb-") as folder:
         cut = os.path.join(folder, "cut.jsonl")

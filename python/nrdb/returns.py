@@ -15,7 +15,7 @@ def function_at(recording: Recording, goroutine: int, position: int) -> str:
 
 
 def position_of_return(recording: Recording, goroutine: int, position: int) -> Optional[int]:
-    """The position before the goroutine's first step outside the function that it is in; None if no such step exists or
+    """The position before the goroutine's first step outside the function that it is in. None if no such step exists or
     the function isn't known. A call of the function from another line or from another function counts as outside."""
     frames = frames_from_own(stack_at(recording, goroutine, position))
     whose = book_of(recording).whose.goroutines
@@ -26,14 +26,15 @@ def position_of_return(recording: Recording, goroutine: int, position: int) -> O
 
 
 def stack_at(recording: Recording, goroutine: int, position: int) -> Stack:
-    """The stack of a goroutine's last step up to a position; a stack without calls if it has made none."""
+    """The stack of a goroutine's last step up to a position; a stack without calls if the goroutine has made no
+    step."""
     whose = book_of(recording).whose.goroutines
     last = next((number for number in range(position, 0, -1) if whose[number - 1] == goroutine), 0)
     return recording.lines.of(last) if last else Stack((), None)
 
 
 def frames_from_own(stack: Stack) -> tuple[Call, ...]:
-    """The calls of a stack from the program's innermost call outwards."""
+    """The calls of a stack, from the program's innermost call outwards."""
     found = stack.own()
     return stack.calls[stack.calls.index(found[0]) :] if found else ()
 

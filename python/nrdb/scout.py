@@ -1,9 +1,8 @@
 """A second netrev on the same recording for queries at other positions, so that the session's position, marks and
 checkpoints stay as they are.
 
-An interrupted query may leave unread replies. Its netrev is therefore ended, and the next query starts another; if
-netrev ended by itself, the query is repeated once.
-"""
+An interrupted query may leave unread replies. The scout therefore ends that netrev, and the next query starts another.
+If netrev ended by itself, the scout repeats the query once."""
 
 from typing import Callable, Optional, Sequence, TypeVar
 
@@ -11,7 +10,7 @@ from .messages import session as messages
 from .netrev import Ended, Netrev
 from .shapes import move_of
 
-JOURNAL = 65_536  # how many commands fit into a session of `netrev run`
+JOURNAL = 65_536  # the number of commands that fit into a session of `netrev run`
 MOST_PLACED = 2  # the most commands that a move to a position takes
 
 Seen = TypeVar("Seen")
@@ -22,18 +21,18 @@ class Lost(Exception):
 
 
 class Scout:
-    """Answers queries at any position. netrev is started at the first query, and again when its journal is nearly full.
-    A session in which nothing moves may lend its own netrev for the first queries; the session ends that netrev
-    itself."""
+    """Answers queries at any position. The first query starts netrev, and a later query starts it again when its
+    journal is nearly full. A session in which nothing moves may lend its own netrev for the first queries; that session
+    ends the lent netrev itself."""
 
     def __init__(self, opened: Callable[[], Netrev], lent: Optional[Netrev] = None):
         self._opened = opened
         self._netrev = self._lent = lent
         self._placed = 0
-        self._stands: Optional[int] = None  # its position, if known
+        self._stands: Optional[int] = None  # netrev's position, if known
 
     def prepare(self) -> None:
-        """Starts netrev, if it hasn't started, without waiting until it has read the recording."""
+        """Starts netrev, unless it runs already, without waiting until it has read the recording."""
         if self._netrev is None:
             try:
                 self._netrev, self._placed, self._stands = self._opened(), 0, None
@@ -41,7 +40,7 @@ class Scout:
                 raise Lost(f"{error.filename}: {error.strerror}") from None
 
     def drop(self) -> None:
-        """Ends netrev, whatever it is doing; a lent one is given back."""
+        """Ends netrev, whatever netrev is doing. A lent netrev is given back instead."""
         dropped, self._netrev = self._netrev, None
         if dropped is not None and dropped is not self._lent:
             dropped.drop()
@@ -55,7 +54,7 @@ class Scout:
         return self.look(position, lambda netrev: netrev.values(cells))
 
     def _anew(self, look: Callable[[], Seen]) -> Seen:
-        """The result of a query, repeated on another netrev if the first one ended during it."""
+        """The result of a query. If netrev ended during the query, the query is repeated on another netrev."""
         try:
             return self._whole(look)
         except Ended:
@@ -66,7 +65,7 @@ class Scout:
             raise Lost(messages.SECOND_NETREV_ENDED) from None
 
     def _whole(self, look: Callable[[], Seen]) -> Seen:
-        """The complete result of a query. If the query is interrupted for any reason, its netrev is ended."""
+        """The complete result of a query. If anything interrupts the query, its netrev is ended."""
         try:
             return look()
         except BaseException:
@@ -74,7 +73,7 @@ class Scout:
             raise
 
     def _walker(self) -> Netrev:
-        """The netrev for queries, with the position taken as unknown, because it is about to move."""
+        """The netrev for queries. Its position counts as unknown, because netrev is about to move."""
         self.prepare()
         assert self._netrev
         self._stands = None

@@ -1,4 +1,4 @@
-"""A session: lines go to netrev or are answered here, and each move prints the new position."""
+"""A session. Each line goes to netrev, or the session answers it. Each move prints the new position."""
 
 from dataclasses import dataclass, field
 from typing import Callable, Mapping, Optional, Sequence
@@ -48,22 +48,22 @@ class Session:
     stood: int = 0
     length: int = 0
     depth: int = 0
-    program: str = ""  # netrev's program, and the recording's file if known
+    program: str = ""  # netrev's program, and the recording's file, if known
     path: str = ""
-    breaks: Breaks = field(default_factory=Breaks)  # at places of the program
-    frame: Optional[int] = None  # the frame of the stack, counted from the innermost; None for the program's own line
-    is_before: bool = False  # whether the stack is the next step's, at a place of the program
+    breaks: Breaks = field(default_factory=Breaks)  # breaks at places of the program
+    frame: Optional[int] = None  # the stack's frame, counted from the innermost; None for the program's own line
+    is_before: bool = False  # whether the stack is that of the next step, at a place of the program
     goroutine: Optional[Name] = None  # the chosen goroutine, until the session moves
-    recorded: Optional[RecordedChanges] = None  # if the session has a recording
-    errors: int = 0  # of nrdb's own
-    conditions: dict[str, Condition] = field(default_factory=dict)  # conditions of marks, by their numbers
+    recorded: Optional[RecordedChanges] = None  # None if the session has no recording
+    errors: int = 0  # the number of nrdb's own errors
+    conditions: dict[str, Condition] = field(default_factory=dict)  # conditions of marks, keyed by the marks' numbers
     latest: str = ""  # the number of the mark set last
 
     def __post_init__(self) -> None:
         self.breaks.is_met = lambda number, at: number not in self.conditions or self.holds(self.conditions[number], at)
 
     def begin(self, reply: str) -> None:
-        """Prints the position that netrev's first reply gives; raises Mismatched if the session has another
+        """Prints the position that netrev's first reply gives; raises Mismatched if the session has a different
         recording."""
         self.stood, self.length, _ = position_of(reply)
         if self.recording and self.recording.length != self.length:
@@ -79,7 +79,7 @@ class Session:
         return position_of(self.ask("info position"))
 
     def place(self, position: int) -> Place:
-        """The position, with the steps around it."""
+        """The position, with the steps before and after it."""
         if self.recording is None:
             return Place(position, self.length, None, None)
         last, then = (self.recording.step_or_none(number) for number in (position, position + 1))
@@ -90,15 +90,15 @@ class Session:
         return World(self.netrev, self.text(), self.stands().position)
 
     def text(self) -> Recording:
-        """The recording; raises Misused if a session was joined without it."""
+        """The recording; raises Misused if a session was joined without a recording."""
         return needed(self.recording)
 
     def looks(self) -> Scout:
-        """The second netrev; raises Misused if a session was joined without the recording."""
+        """The second netrev; raises Misused if a session was joined without a recording."""
         return needed(self.scout)
 
     def changes(self) -> RecordedChanges:
-        """The changes of each step; raises Misused if a session was joined without the recording."""
+        """The changes made by each step; raises Misused if a session was joined without a recording."""
         return needed(self.recorded)
 
     def run(self, line: str) -> bool:
@@ -106,7 +106,7 @@ class Session:
         return self.guarded(self.attempt, line)
 
     def play(self, path: str) -> bool:
-        """Answers the lines of a file; raises an OSError if it can't be read. Returns False if the session has
+        """Answers the lines of a file; raises an OSError if the file can't be read. Returns False if the session has
         ended."""
         return self.guarded(self.source, path)
 
@@ -161,7 +161,7 @@ class Session:
         return self.pass_on(line, words)
 
     def pass_on(self, line: str, words: list[str]) -> bool:
-        """Sends a line to netrev, and shows its reply. A line that netrev knows is sent as it was typed."""
+        """Sends a line to netrev, and shows netrev's reply. A line that netrev knows is sent as it was typed."""
         sent = " ".join(words) if words[0] in COMMANDS else line
         # (a stop deletes the temporary breaks that it names, so the marks are listed before it)
         stood = self.netrev.marks() if words[0] in STOPPING and self.recorded else []
@@ -181,7 +181,7 @@ class Session:
 
     def note_marks(self, entries: Sequence[str]) -> None:
         """Prints the lines that run when the marks of `info breakpoints` hit, the breaks at places of the program, and
-        the conditions."""
+        the conditions of marks."""
         standing = [*(entry.split()[0] for entry in entries), *self.breaks.standing]
         conditions = [one.says(number) for number, one in self.conditions.items() if number in standing]
         breaks = [one.words() for one in self.breaks.standing.values()]
@@ -189,7 +189,7 @@ class Session:
             self.printer.note(line)
 
     def stop_of(self, sent: str) -> Reply:
-        """The reply to a move to a stop, which continues past marks whose conditions don't hold."""
+        """The reply to a move that ends at a stop. The move continues past marks whose conditions don't hold."""
         while True:
             reply = self.back_to_a_break(sent, self.netrev.ask(sent))
             move = move_of(sent, reply.first) if MOVED.fullmatch(reply.first) and sent != "resume" else None
@@ -201,17 +201,17 @@ class Session:
             self.interrupts.check()
 
     def holding(self, marks: Sequence[str]) -> list[str]:
-        """Those of the marks that hit whose conditions hold at the session's position or that have no condition."""
+        """Those of the marks that hit which have no condition or a condition that holds at the session's position."""
         return [mark for mark in marks if mark not in self.conditions or self.holds(self.conditions[mark])]
 
     def holds(self, condition: Condition, position: Optional[int] = None) -> bool:
-        """Whether a condition holds at a position, by default the session's."""
+        """Whether a condition holds at a position. The default is the session's position."""
         cell = condition.cell
         value = self.netrev.values([cell])[0] if position is None else self.changes().value(cell, position)
         return condition.is_met(value, self.words_of(cell, value))
 
     def back_to_a_break(self, sent: str, reply: Reply) -> Reply:
-        """The reply to a move, or, if the move passed a break of the program, to the move back to that break."""
+        """The reply to a move. If the move passed a break of the program, the reply to the move back to that break."""
         if not self.breaks.standing or not MOVED.fullmatch(reply.first):
             return reply
         position = move_of(sent, reply.first).position
@@ -221,7 +221,7 @@ class Session:
         return Reply(self.go(near))
 
     def tell_breaks(self, name: str, position: int) -> None:
-        """Prints which breaks of the program stop at a position, after a move to one."""
+        """Prints the breaks of the program that stop at a position, after a move to a break."""
         for hit in self.breaks.hit(position) if name in STOPPING else ():
             self.is_before = True
             self.printer.note(f"break {hit.number}: {hit.place.spelled}")
@@ -239,8 +239,8 @@ class Session:
         return dump_words(cell, value) if is_dump else in_words(cell, value) if cell_of(cell.split()) else ""
 
     def arrive(self, position: int, numbers: Sequence[str] = (), stood: Sequence[Listed] = ()) -> None:
-        """Prints the position after a move, the marks that hit (`stood` are the marks listed before the move), and the
-        changes of the last step."""
+        """Prints the position after a move, the marks that hit, and the changes made by the last step. `stood` are the
+        marks listed before the move."""
         self.stood, self.frame, self.is_before, self.goroutine = position, None, False, None
         self.attached.hits(numbers)
         self.printer.place(self.place(position))
@@ -250,7 +250,7 @@ class Session:
         self.show_displays()
 
     def hit(self, numbers: Sequence[str], stood: Sequence[Listed]) -> list[Listed]:
-        """The marks with these numbers, as listed now or before the move."""
+        """The marks with these numbers, as they are listed now or were listed before the move."""
         listed = {mark.number: mark for mark in [*stood, *self.netrev.marks()]} if numbers else {}
         return [listed[number] for number in numbers if number in listed]
 
@@ -270,12 +270,12 @@ class Session:
             self.stood = now
 
     def go(self, position: int) -> str:
-        """Goes to the position, whatever the direction is, and returns the reply to the last command."""
+        """Goes to the position, whatever the session's direction is, and returns the reply to the last command."""
         return go_to(position, self.ask)
 
     def source(self, path: str) -> bool:
-        """Prints and answers each line of a file; raises an OSError if it can't be read. Returns False if the session
-        has ended."""
+        """Prints and answers each line of a file; raises an OSError if the file can't be read. Returns False if the
+        session has ended."""
         if self.depth == NESTED:
             raise Misused(messages.NESTED.format(most=NESTED))
         lines = lines_of_script(path)
@@ -286,7 +286,7 @@ class Session:
             self.depth -= 1
 
     def echoed(self, line: str) -> bool:
-        """Prints a line that wasn't typed, and answers it. Returns False if the session has ended."""
+        """Prints a line that wasn't typed, and answers the line. Returns False if the session has ended."""
         if line.split():
             self.printer.echo(line)
         return self.attempt(line)

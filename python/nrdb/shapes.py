@@ -1,5 +1,5 @@
-"""The forms of netrev's replies, as docs/reference/COMMANDS.md has them. Each reply must have the form for its line, so
-that it isn't mistaken for the reply to another line; a reply in another form isn't netrev's."""
+"""The forms of netrev's replies, as docs/reference/COMMANDS.md gives them. Each reply must have the form for its line,
+so that nrdb doesn't mistake it for the reply to another line. A reply in another form isn't netrev's."""
 
 import re
 from typing import Callable, Match, NamedTuple
@@ -37,7 +37,7 @@ class Refused(Exception):
 
 
 class Strange(Exception):
-    """Raised for a reply that netrev doesn't give, because another program answers."""
+    """Raised for a reply that netrev never gives, because another program answers."""
 
     def __init__(self, line: str, reply: str):
         shown = reply if len(reply) <= SHOWN else f"{reply[: SHOWN - 2]}.."
@@ -53,8 +53,8 @@ class Position(NamedTuple):
 
 
 class Move(NamedTuple):
-    """The result of a move: the position, whether it is an end of the recording, and the numbers of the marks that
-    hit."""
+    """The result of a move: the new position, whether the position is an end of the recording, and the numbers of the
+    marks that hit."""
 
     position: int
     is_end: bool
@@ -62,7 +62,7 @@ class Move(NamedTuple):
 
 
 class Listed(NamedTuple):
-    """A mark of `info breakpoints`: its number, `break`, `tbreak` or `watch`, and what it marks."""
+    """A mark of `info breakpoints`: its number, its kind (`break`, `tbreak` or `watch`), and what it marks."""
 
     number: str
     sort: str
@@ -73,8 +73,8 @@ class Listed(NamedTuple):
 
 
 def matched(shape: re.Pattern[str], line: str, reply: str) -> Match[str]:
-    """The parts of a reply to this line, which must have this form; raises Refused if it is a fault, otherwise
-    Strange."""
+    """The parts of a reply to this line. The reply must have this form; otherwise raises Refused for a fault, and
+    Strange for anything else."""
     found = shape.fullmatch(reply)
     if found is None:
         raise Refused(reply) if reply.startswith("fault ") else Strange(line, reply)

@@ -1,5 +1,5 @@
 """The output of `netrev suspects FILE` for a recording: each line as netrev printed it, and its meaning. netrev is
-started only once. An older netrev without that command, or one that fails, lists nothing; then the rules of `info
+started only once. If netrev is too old to have this command, or fails, the list is empty; then the rules of `info
 suspects` use nrdb's own notes (`suspects/reckoned.py`)."""
 
 import re
@@ -23,21 +23,21 @@ LAST = re.compile(r"ok (\d+) steps")
 
 
 class LostWakeUp(NamedTuple):
-    """A goroutine that is parked at a side whose last event was taken, and at which no try has been answered EAGAIN
-    since."""
+    """A goroutine that is parked at a side. The readiness of the side's last event was taken, and no try on the side
+    has been answered EAGAIN since."""
 
     line: str
     goroutine: int
     descriptor: int
     side: str
-    event: int  # its step
+    event: int  # the step of the event
     taken: int  # the step that took the readiness, and its goroutine
     by: int
 
 
 class HeldReference(NamedTuple):
-    """A goroutine that took more references of a closed socket than it gave back: how many more, and the step `since`
-    that took the last one."""
+    """A goroutine that took more references to a closed socket than it gave back: the number of references that it
+    still holds, and the step `since` that took the last of them."""
 
     line: str
     socket: int
@@ -48,9 +48,9 @@ class HeldReference(NamedTuple):
 
 
 class OfDeadline(NamedTuple):
-    """The effect of a side's deadline at a step, the step that set it and for which sides, and the first later setting
-    of the other side alone. The deadline passed, a goroutine's call ended with it, or it was withdrawn before that
-    goroutine checked."""
+    """The effect of a side's deadline at a step: the deadline passed, a goroutine's call ended with it, or it was
+    withdrawn before that goroutine checked. Also the step that set the deadline, the sides for which that step set it,
+    and the first later setting of the other side alone."""
 
     line: str
     step: int
@@ -63,9 +63,9 @@ class OfDeadline(NamedTuple):
 
 
 class Listed:
-    """The entries of a list of suspects. Lost wake-ups, in order. Goroutines that sleep although their side must be
-    answered, by goroutine, descriptor and side. Held references, by socket and goroutine. Deadlines that passed, in
-    order; the calls that they ended, by step; and those that were withdrawn, by step, descriptor and side."""
+    """The entries of a list of suspects: lost wake-ups, in order; goroutines that sleep although their side must be
+    answered, by goroutine, descriptor and side; held references, by socket and goroutine; deadlines that passed, in
+    order; deadlines that ended calls, by step; and deadlines that were withdrawn, by step, descriptor and side."""
 
     def __init__(self, lines: Iterable[str] = ()) -> None:
         self.lost_wake_ups: list[LostWakeUp] = []
@@ -78,7 +78,7 @@ class Listed:
             self._take(line)
 
     def _take(self, line: str) -> None:
-        """Adds a line; a line of an unknown form is ignored by the rules."""
+        """Adds a line. The rules ignore a line of an unknown form."""
         if found := OF_A_DEADLINE.fullmatch(line):
             self._take_deadline(line, *found.groups())
         elif found := HELD_REFERENCE.fullmatch(line):
@@ -104,7 +104,7 @@ class Listed:
 
 
 class SuspectList:
-    """The list of a recording's file, for which netrev is started at the first use."""
+    """The list for a recording's file. The first use starts netrev."""
 
     def __init__(self, program: str, path: str, interrupts: Interrupts) -> None:
         self._words, self._interrupts = [program, "suspects", path], interrupts
@@ -112,7 +112,7 @@ class SuspectList:
         self._lines: Optional[list[str]] = None
 
     def prepare(self) -> None:
-        """Starts netrev, if that hasn't been done."""
+        """Starts netrev, unless it has been started."""
         if self._process is not None or self._lines is not None:
             return
         try:
@@ -128,7 +128,7 @@ class SuspectList:
             self._lines = []
 
     def of(self, length: int) -> Optional[Listed]:
-        """The list for a recording with this many steps; None if netrev has none."""
+        """The list for a recording with this many steps; None if netrev has no such list."""
         if self._lines is None:
             self._lines = self._read()
         *lines, last = self._lines or [""]
@@ -136,7 +136,7 @@ class SuspectList:
         return Listed(lines) if found and int(found[1]) == length else None
 
     def _read(self) -> list[str]:
-        """All lines, after netrev has ended; none if it failed."""
+        """All lines, after netrev has ended; none if netrev failed."""
         self.prepare()
         while self._process is not None:
             self._interrupts.check()
@@ -148,7 +148,7 @@ class SuspectList:
         return []
 
     def drop(self) -> None:
-        """Ends netrev if its output hasn't been read."""
+        """Ends netrev, if its output hasn't been read."""
         if self._process is not None and self._lines is None:
             self._process.kill()
             self._process.communicate()

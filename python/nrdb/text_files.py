@@ -11,14 +11,14 @@ MOST_BYTES = 2**20
 
 
 def lines_of_script(path: str) -> list[str]:
-    """The lines of a file of commands; raises an OSError if it can't be read. Bytes that aren't UTF-8 are passed on
-    unchanged."""
+    """The lines of a file of commands; raises an OSError if the file can't be read. Bytes that aren't UTF-8 are passed
+    on unchanged."""
     check_name(path)
     return Path(path).read_text(encoding="utf-8", errors="surrogateescape").splitlines()
 
 
 def lines_of(path: Path) -> Optional[list[str]]:
-    """The lines of a file; None if it can't be read or isn't text."""
+    """The lines of a file; None if the file can't be read or isn't text."""
     try:
         status = os.stat(path)
         if not stat.S_ISREG(status.st_mode) or status.st_size > MOST_BYTES:

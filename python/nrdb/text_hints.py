@@ -28,7 +28,7 @@ MOST_STEPS = 1_000_000
 
 
 def text_hint(recording: Recording, number: int, fault: int) -> str:
-    """The hint for line `number`, which has this fault."""
+    """The hint for line `number`, in which netrev found this fault."""
     line = recording.line(number)
     for magic, said in messages.MAGIC.items():
         if line.startswith(magic):
@@ -52,7 +52,7 @@ def text_hint(recording: Recording, number: int, fault: int) -> str:
 
 
 def parsed(text: str) -> Any:
-    """The JSON value of a text, or None."""
+    """The JSON value of a text; None if the text isn't JSON."""
     try:
         return json.loads(text)
     except (ValueError, RecursionError):
@@ -159,7 +159,7 @@ def arguments_hint(value: list[Any]) -> str:
 
 
 def argument_hint(kind: Kind, name: str, given: Any) -> Optional[str]:
-    """A description of what is wrong with an argument; None if nothing is."""
+    """A description of what is wrong with an argument; None if the argument is valid."""
     how = written(kind, name)
     if is_written(how, given):
         return None

@@ -1,5 +1,5 @@
-"""The timer that a `pop` starts and a `fire` runs, and the step that set it. They are computed from the recording's
-steps, because netrev shows only the number of timers."""
+"""The timer that a `pop` starts and a `fire` runs, and the step that set it. nrdb computes the timers from the
+recording's steps, because netrev shows only the number of timers."""
 
 from functools import lru_cache
 from typing import Any, Mapping, NamedTuple, Optional
@@ -17,7 +17,7 @@ FOLLOWED = frozenset(("pollopen", "pollclose", "setdeadline", "evict", "tick", "
 
 
 class Timer(NamedTuple):
-    """A timer of a `pop` or a `fire`: its sides, the descriptor and the socket that it had when the deadline was set,
+    """A timer of a `pop` or a `fire`: its sides, the descriptor and the socket that it had when its deadline was set,
     the due time, and the step that set the deadline. A stale timer was stopped or moved before its function ran."""
 
     sides: str
@@ -41,7 +41,7 @@ class Following:
         self._deadlines = Deadlines()
         self._clock = 0
         self._free: list[int] = []  # free descriptors, with the one freed last at the end
-        self._sockets: dict[int, int] = {}  # of descriptors
+        self._sockets: dict[int, int] = {}  # the sockets of descriptors
 
     def follow(self, number: int, kind: str, *arguments: Any) -> Optional[Timer]:
         """Processes a step, and returns the timer that it pops or runs."""
@@ -83,12 +83,12 @@ def timers_of(recording: Recording) -> Mapping[int, Timer]:
 
 
 def timer_of(recording: Recording, step: Optional[Step]) -> Optional[Timer]:
-    """The timer of a step; None if it has none."""
+    """The timer of a step; None if the step has none."""
     return timers_of(recording)[step.number] if step and step.kind in ("pop", "fire") else None
 
 
 def timer_words(recording: Recording, step: Step) -> str:
-    """The owner of a step's timer, in parentheses after a row; empty if it has none."""
+    """The owner of a step's timer, in parentheses after a row; empty if the step has no timer."""
     timer = timer_of(recording, step)
     return f"({timer})" if timer else ""
 

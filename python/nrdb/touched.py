@@ -18,7 +18,7 @@ class Touched(Counter[Place]):
         before = bisect_right(notes.uses, self._begin, key=lambda use: use.opened)
         self._socket_of = {use.descriptor: use.socket for use in notes.uses[:before]}
         self._opened = iter(notes.uses[before:])
-        self._named: dict[int, int] = {}  # the socket that a goroutine named last
+        self._named: dict[int, int] = {}  # the socket that a goroutine last named
         self._count(last)
 
     def _count(self, last: int) -> None:
@@ -43,8 +43,8 @@ class Touched(Counter[Place]):
             self[g, named[g]] += 1
 
     def _named_before(self, g: int) -> int:
-        """The socket that a goroutine named last before these steps. It continues the call that it began then, so its
-        status belongs to that socket."""
+        """The socket that a goroutine last named before these steps. The goroutine continues a call that it began then,
+        so its status belongs to that socket."""
         begun, words = 0, [""]
         for step, status in self._notes.changes.back(f"gor {g}", self._begin):
             if status == "idle":

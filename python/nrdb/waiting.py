@@ -1,6 +1,6 @@
 """`info goroutines`: for each goroutine that is neither idle nor gone, what it does and what it waits for, in the
-poller or elsewhere. This is usually the first query when something hangs, so for a thousand goroutines that wait for
-one lock, the lock is read once."""
+poller or elsewhere. This is usually the first query when a program hangs, so the lock for which a thousand goroutines
+wait is read only once."""
 
 from functools import cached_property
 from typing import Iterable, Mapping, Optional
@@ -46,18 +46,18 @@ class Queue:
 
     @property
     def is_taken(self) -> bool:
-        """Whether a goroutine has the lock."""
+        """Whether a goroutine holds the lock."""
         return self.word.read_locked if self._side == "r" else self.word.write_locked
 
 
 def lock_of(status: str) -> Optional[Lock]:
-    """The lock that a goroutine with this status waits for; None if it waits for none."""
+    """The lock that a goroutine with this status waits for; None if it doesn't wait for a lock."""
     name, *rest = status.split()
     return (int(rest[0]), rest[1]) if name in ("acquiring", "queued", "relock") else None
 
 
 def queues_of(world: World, statuses: Iterable[str]) -> dict[Lock, Queue]:
-    """The queues in which goroutines with these statuses wait, by their locks, and the steps that took these locks."""
+    """The queues in which goroutines with these statuses wait, keyed by lock, each with the step that took the lock."""
     queues = {lock: Queue(world, *lock) for lock in map(lock_of, statuses) if lock}
     taken = [lock for lock, queue in queues.items() if queue.is_taken]
     found = takings(world.recording, world.position, taken)
@@ -67,7 +67,7 @@ def queues_of(world: World, statuses: Iterable[str]) -> dict[Lock, Queue]:
 
 
 class Waits:
-    """What the goroutines of one table wait for; `statuses` has the status of each goroutine in it."""
+    """What the goroutines of one table wait for; `statuses` has the status of each of these goroutines."""
 
     def __init__(self, world: World, statuses: Mapping[int, str]):
         self._world, self._statuses = world, statuses
@@ -76,7 +76,7 @@ class Waits:
 
     @cached_property
     def _owing(self) -> dict[int, list[int]]:
-        """The goroutines that owe a release, by socket."""
+        """The goroutines that owe a release, keyed by socket."""
         found: dict[int, list[int]] = {}
         for number, status in self._statuses.items():
             if status.startswith("owing "):
@@ -84,7 +84,7 @@ class Waits:
         return found
 
     def of(self, goroutine: int) -> str:
-        """What a goroutine waits for, with the known facts about that."""
+        """What a goroutine waits for, with the known facts about it."""
         status = self._statuses[goroutine]
         name, *rest = status.split()
         if name == "absent":
@@ -108,7 +108,7 @@ class Waits:
         )
 
     def _owed(self, socket: int, queue: Queue) -> str:
-        """The goroutines that owe releases at a socket, and whether the socket is closed."""
+        """The goroutines that owe releases on a socket, and whether the socket is closed."""
         owed = "".join(f"; goroutine {number} owes a release there" for number in self._owing.get(socket, ()))
         return owed + ("; the socket is closed" if queue.word.closed else "")
 
@@ -121,7 +121,7 @@ class Waits:
         return "which is taken" if queue.is_taken else f"which nobody has{self._owed(socket, queue)}"
 
     def _wait_words(self, descriptor: int, side: str) -> list[str]:
-        """The text about a wait: its descriptor's socket, what is unread or has room, and its deadline."""
+        """Words about a wait: its descriptor's socket, what is unread or has room, and its deadline."""
         world, said = self._world, []
         if descriptor in self._sockets:
             socket = self._sockets[descriptor]
@@ -139,8 +139,8 @@ class Waits:
 
 
 def goroutines_table(world: World, numbers: Optional[Iterable[int]] = None, is_all: bool = False) -> Table:
-    """The table of the goroutines that do or wait for something, of all goroutines, or of those with these numbers.
-    Waiting goroutines without a step in the recording come last."""
+    """The table of the goroutines that do something or wait, of all goroutines, or of those with these numbers. Waiting
+    goroutines without a step in the recording come last."""
     every = list(range(world.made(Of.GOROUTINE)) if numbers is None else numbers)
     statuses = {number: status for number, (status,) in world.of_each(every, "gor").items()}
     elsewhere = {wait.name: wait for wait in waits_of(world.recording).all_at(world.position)}
@@ -187,8 +187,8 @@ def row_of_wait(wait: Waiting) -> Row:
 
 
 def _with_line(row: Row, stack: Stack, step: int) -> Row:
-    """The row with the program's line, the step since which the goroutine has been there, and the line that started
-    it."""
+    """The row with the program's line, the step since which the goroutine has been at that line, and the line that
+    started it."""
     if not stack.calls:
         return row
     started = f"; started at {stack.made.place()}" if stack.made else ""

@@ -11,7 +11,7 @@ from .recording import Recording
 from .where import Lines, Stack, Wait
 from .words import duration
 
-MOST_NUMBERS = 8  # the most goroutines that are named
+MOST_NUMBERS = 8  # the most goroutines whose numbers are given
 LAST_USE, A_CONNECTION, A_RESPONSE, ALL_REQUESTS = (
     "the last user of the descriptor",
     "a connection of net/http",
@@ -36,7 +36,7 @@ FIRST = attrgetter("first")
 
 
 class Name(NamedTuple):
-    """A goroutine, named by its number in the recording, or by Go's own number if it made no step there."""
+    """A goroutine, named by its number in the recording, or by Go's own number if the goroutine made no step."""
 
     number: int
     is_goid: bool = False
@@ -51,8 +51,9 @@ class Name(NamedTuple):
 
 
 class Waiting(NamedTuple):
-    """A wait outside the poller: the steps after which it began and ended (None: it doesn't end), the reason, its stack, the
-    goroutine that ended it if known, and the objects, each with what the goroutine waits for there."""
+    """A wait outside the poller: the steps after which it began and ended (None: it doesn't end), the reason, its
+    stack, the goroutine that ended it, if known, and the objects, each with the operation that the goroutine waits
+    for."""
 
     name: Name
     first: int
@@ -70,12 +71,12 @@ class Waiting(NamedTuple):
 
     @property
     def is_asleep(self) -> bool:
-        """Whether its goroutine only sleeps for a time."""
+        """Whether the wait is only a sleep."""
         return self.reason == A_SLEEP or any(call.function == A_SLEEP for call in self.stack.calls[:2])
 
     @property
     def kind(self) -> str:
-        """The kind of what it waits for: `a mutex`, `a select`; empty if that isn't known."""
+        """The kind of object that the goroutine waits for: `a mutex`, `a select`; empty if the kind isn't known."""
         return (
             next((OF_FUNCTIONS[call.function] for call in self.stack.calls if call.function in OF_FUNCTIONS), "")
             or self.reason
@@ -83,14 +84,15 @@ class Waiting(NamedTuple):
 
     @property
     def does(self) -> str:
-        """What its goroutine does, in words."""
+        """What the wait's goroutine does, in words."""
         if self.is_asleep:
             return f"sleeps for {duration(self.due - self.begin)}" if self.due > self.begin else "sleeps"
         return f"waits for {self.kind}" if self.kind else "waits"
 
 
 class Waits:
-    """The waits outside the poller of a recording, by goroutine, each list in the order in which they began."""
+    """The waits outside the poller of a recording, keyed by goroutine, each list in the order of the waits'
+    beginnings."""
 
     def __init__(self, waits: Iterable[Waiting]) -> None:
         self.of: dict[Name, list[Waiting]] = defaultdict(list)
@@ -116,8 +118,8 @@ class Waits:
 
 @lru_cache(maxsize=2)
 def waits_of(recording: Recording) -> Waits:
-    """The waits outside the poller in NAME.where: those of all goroutines, or, in the first format, of goroutines with
-    steps."""
+    """The waits outside the poller in NAME.where: the waits of all goroutines, or, in the first format, of goroutines
+    with steps."""
     lines = recording.lines
     if lines.parks:
         return Waits(of_park(lines, park) for parks in lines.parks.values() for park in parks)
@@ -141,14 +143,14 @@ def of_park(lines: Lines, park: Park) -> Waiting:
 
 
 def name_of_goid(lines: Lines, goid: int, step: Optional[int] = None) -> Name:
-    """The goroutine with this goid: named by its number in the recording at the step, if it has one then, else at the
-    end."""
+    """The name of the goroutine with this goid: its number in the recording at the step, if it has a number then, or
+    else its number at the end."""
     number = lines.number_of(goid, step)
     return Name(number) if number >= 0 else Name(goid, True)
 
 
 def of_names(names: Iterable[Name]) -> str:
-    """Goroutines by their names: `goroutine 3`, `goroutines 3 and 5, goid 41`; if there are many, the first ones and
+    """Goroutines by their names: `goroutine 3`, `goroutines 3 and 5, goid 41`. If there are many, the first ones, and
     the number of the others."""
     every = set(names)
     numbers, goids = (sorted(name.number for name in every if name.is_goid is is_goid) for is_goid in (False, True))

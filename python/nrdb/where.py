@@ -21,7 +21,7 @@ FORMS = (1, 2)  # formats of the file; the second has all goroutines
 
 
 class Call(NamedTuple):
-    """A call: its function, file and line, and whose code it is."""
+    """A call: its function, file and line, and whose code the function is."""
 
     function: str
     file: str
@@ -33,13 +33,13 @@ class Call(NamedTuple):
 
 
 class Stack(NamedTuple):
-    """A step's calls, innermost first, and the `go` statement that started its goroutine."""
+    """The calls at a step, innermost first, and the `go` statement that started the step's goroutine."""
 
     calls: tuple[Call, ...]
     made: Optional[Call]
 
     def own(self) -> Optional[tuple[Call, str]]:
-        """The innermost call of the program, or else of a library, with the function that is called there."""
+        """The innermost call of the program, or else of a library, with the function that this call calls."""
         for wanted in ((OF_THE_PROGRAM,), (OF_THE_PROGRAM, OF_A_LIBRARY)):
             inner = ""
             for call in self.calls:
@@ -49,12 +49,12 @@ class Stack(NamedTuple):
         return None
 
     def place(self) -> str:
-        """The program's line; `in` and the innermost function if only that is known."""
+        """The program's line; only `in` and the innermost function if no line is known."""
         found = self.own()
         return found[0].place() if found else self.words()
 
     def words(self) -> str:
-        """The program's line, and the function that is called there."""
+        """The program's line, and the function that it calls."""
         found = self.own()
         if not found:
             return f"in {self.calls[0].function}" if self.calls else ""
@@ -63,9 +63,9 @@ class Stack(NamedTuple):
 
 
 class Wait(NamedTuple):
-    """A wait outside the poller: the steps after which it begins and ends (0: it doesn't end in the recording), the
-    goroutine, the reason in words (empty if only the stack shows it), its stack, and the goroutine that ended it (-1:
-    unknown)."""
+    """A wait outside the poller: the steps after which the wait begins and ends (0: it doesn't end in the recording),
+    the goroutine, the reason in words (empty if only the stack shows the reason), the stack, and the goroutine that
+    ended the wait (-1: unknown)."""
 
     first: int
     last: int
@@ -80,7 +80,7 @@ class Unusable(Exception):
 
 
 class Lines(AllGoroutines):
-    """The source lines of a recording's steps, and, if NAME.where can't be used, the reason. A missing file isn't a
+    """The source lines of a recording's steps, and the reason if NAME.where can't be used. A missing file isn't a
     fault."""
 
     def __init__(self, text: str = "", steps: int = 0) -> None:
@@ -111,40 +111,40 @@ class Lines(AllGoroutines):
         return made
 
     def why_unused(self, path: str) -> str:
-        """The message about a file that can't be used."""
+        """The message that says why a file can't be used."""
         name = Path(path).with_suffix(".where").name
         return messages.LINES_UNUSED.format(name=name, fault=self.fault)
 
     def _begin(self) -> None:
-        """Starts without any known line."""
+        """Starts without any line."""
         self.steps = array("l")
         self.stacks: dict[int, Stack] = {0: Stack((), None)}
         # the pairs of steps that the program orders; None if the recorder saw none
         self.orders: Optional[list[tuple[int, int]]] = None
         self.bytes: Optional[
             int
-        ] = None  # the most bytes that a read or a write counts; None if each counts all of its bytes
+        ] = None  # the most bytes that the count of a read or a write shows; None if each count has all bytes
         self.has_tags = False  # whether Go compared an event's tag with the current use of the descriptor
-        self.prelude = 0  # how many steps lead to the state in which the recording begins
-        # for each test, the first and the last step while it ran, its package and its name
+        self.prelude = 0  # the number of steps that lead to the state in which the recording begins
+        # for each test, the first and the last step during the test, its package and its name
         self.tests: list[tuple[int, int, str]] = []
-        self.peers: dict[int, int] = {}  # for a socket, the socket at the connection's other end
-        # for a socket, the numbers of its own name and of its other end's name
+        self.peers: dict[int, int] = {}  # for a socket, the socket at the other end of its connection
+        # for a socket, the numbers of its own name and of the name of its other end
         self.ends: dict[int, tuple[int, int]] = {}
-        # for datagram sockets, their addresses and those that they are connected to
+        # for datagram sockets, their addresses, and the addresses to which they are connected
         self.addresses: dict[int, tuple[str, str]] = {}
-        self.sent: dict[int, str] = {}  # the address that a datagram was sent to, by a step of the call
-        # by step, the bytes that a read or a write moved, if the recording counts fewer
+        self.sent: dict[int, str] = {}  # the address to which a datagram was sent, keyed by a step of the call
+        # keyed by step, the number of bytes that a read or a write moved, if the recording counts fewer
         self.sizes: dict[int, int] = {}
-        self.errors: dict[int, str] = {}  # the system's errors, by the step after which a goroutine's call got them
-        self.waits: dict[int, list[Wait]] = {}  # waits outside the poller, by goroutine
+        self.errors: dict[int, str] = {}  # the system's errors, keyed by the step after which a call got them
+        self.waits: dict[int, list[Wait]] = {}  # waits outside the poller, keyed by goroutine
         # the times of the steps, in nanoseconds from the start of the log; empty if the recorder had none
         self.times = array("q")
         self._calls: dict[int, Call] = {}
         self.begin_goroutines()
 
     def _take(self, lines: Iterable[str], steps: int) -> None:
-        """Reads all lines of the file, or none of them if one is wrong."""
+        """Reads all lines of the file. If a line is wrong, none of them counts."""
         number = 0
         try:
             for number, line in enumerate(lines, 1):
@@ -200,11 +200,11 @@ class Lines(AllGoroutines):
             self.add_goroutines(line, self._calls, self.stacks)
         elif line["step"] == len(self.steps) + 1:
             numbers = line["stacks"]
-            are_known = self.stacks.keys() >= set(numbers)  # (usually all thousand are known)
+            are_known = self.stacks.keys() >= set(numbers)  # (usually all thousand numbers are known)
             self.steps.extend(numbers if are_known else (one if one in self.stacks else 0 for one in numbers))
 
     def _add_of_sockets(self, line: dict[str, Any]) -> None:
-        """Adds a line about sockets: the pairs of ends of connections, their names and addresses, or errors of the
+        """Adds a line about sockets: the two ends of connections, their names and addresses, or errors of the
         system."""
         if "ends" in line:
             for one, own, other in line["ends"]:
@@ -239,7 +239,7 @@ class Lines(AllGoroutines):
         return next((one for one in waits if one.first <= position and (not one.last or position < one.last)), None)
 
     def words(self, step: int) -> str:
-        """The program's line of a step, and the function that is called there; empty if unknown."""
+        """The program's line at a step, and the function that the line calls; empty if unknown."""
         return self.of(step).words()
 
 
@@ -252,8 +252,8 @@ def of_steps(first: Any, steps: int) -> None:
 
 
 def _later(values: Any) -> Any:
-    """The differences between times; raises a TypeError or a ValueError if a value is invalid. There may be a million
-    of them."""
+    """The differences between times, as given; raises a TypeError or a ValueError if a value is invalid. A recording
+    may have a million of them."""
     if set(map(type, values)) - {int}:
         raise TypeError
     if min(values, default=0) < 0:
@@ -262,7 +262,7 @@ def _later(values: Any) -> Any:
 
 
 def stack_lines(stack: Stack) -> list[str]:
-    """The calls of a stack, one per line, with those of the program marked."""
+    """The calls of a stack, one per line. The program's own calls are marked."""
     lines = []
     for call in stack.calls[:SHOWN]:
         mark = "*" if call.of == OF_THE_PROGRAM else " "

@@ -12,7 +12,7 @@ from .timers import timers_of
 NONE = -1
 Place = tuple[int, int]  # a socket and a descriptor
 NOWHERE = NONE, NONE
-# the ways to find the socket and descriptor of a step
+# the ways in which the socket and the descriptor of a step are found
 OF_A_SOCKET, OF_A_DESCRIPTOR, AS_BEFORE, OF_NONE, OTHER = range(5)
 OTHERS = ("sockopen", "pollopen", "pollclose", "pollevent", "pop", "fire")
 
@@ -45,18 +45,18 @@ def row_of(values: list[Any]) -> Row:
 
 
 class Whose:
-    """The goroutine, socket and descriptor of each step; -1 for none."""
+    """The goroutine, the socket and the descriptor of each step; -1 if the step has none."""
 
     def __init__(self, recording: Recording, notes: Notes) -> None:
         self._recording = recording
         self.goroutines, self._sockets, self._descriptors = array("i"), array("i"), array("i")
-        self._of_timers: list[int] = []  # the steps of timers whose owners haven't been needed yet
+        self._of_timers: list[int] = []  # the steps of timers whose owners no caller has needed yet
         self._opened = iter(notes.uses)
-        self._made = 0  # sockets
-        self._named: dict[int, Place] = {}  # the last object that a goroutine named
+        self._made = 0  # the number of sockets
+        self._named: dict[int, Place] = {}  # the object that a goroutine last named
         self._descriptor_of: dict[int, int] = {}
         self._socket_of: dict[int, int] = {}
-        self._tagged: dict[Place, int] = {}  # for a descriptor and a tag of its use, the socket of that use
+        self._tagged: dict[Place, int] = {}  # for a descriptor and the tag of a use, the socket of that use
         self._go_through()
 
     @property
@@ -86,7 +86,8 @@ class Whose:
             descriptor_is(d)
 
     def _other(self, number: int, kind: str, g: int, arguments: list[Any]) -> Place:
-        """The socket and the descriptor of a step that makes or frees one, or that belongs to a timer or an event."""
+        """The socket and the descriptor of a step that makes or frees a descriptor, or that belongs to a timer or an
+        event."""
         if kind == "sockopen":
             self._made += 1
             return self._made - 1, NONE

@@ -8,7 +8,7 @@ from netrev_words.plurals import counted
 from netrev_words.vocabulary import CELLS, Of
 
 DUMPED = 80  # the most digits of a dump that are shown as text
-FIELD = 0xFFFFF  # the field for references and waiters, which are counted in 20 bits each
+FIELD = 0xFFFFF  # the fields for references and waiters have 20 bits each
 UNITS = ((1_000_000_000, "s"), (1_000_000, "ms"), (1_000, "µs"), (1, "ns"))
 SIDES = {"r": "read", "w": "write"}
 DOING = {"r": "reading", "w": "writing"}
@@ -110,7 +110,8 @@ WORDS = {
 
 
 def in_words(cell: str, value: str) -> str:
-    """The meaning of a cell's value; empty if the value says everything. For `absent`, the caller knows more."""
+    """The meaning of a cell's value; empty if the value says everything. For `absent`, the caller knows the meaning
+    better."""
     words = WORDS.get(cell.split()[0])
     return words(value) if words and value != "absent" else ""
 
@@ -123,8 +124,8 @@ def dump_words(what: str, value: str) -> str:
 
 
 def absent_words(cell: str, limits: Mapping[str, Any]) -> str:
-    """The reason why a cell is absent: there is no object with that number yet, or there never can be, by the limits in
-    the recording's header."""
+    """The reason why a cell is absent: no object with that number exists yet, or none ever can, by the limits in the
+    recording's header."""
     name, *number = cell.split()
     of = CELLS[name].of if name in CELLS else Of.SOCKET
     if of is Of.ALL:

@@ -1,5 +1,5 @@
-"""The objects at the session's position, derived from netrev's replies and the recording's steps: which descriptors are
-open, and on which sockets."""
+"""The objects at the session's position, derived from netrev's replies and the recording's steps: the open descriptors,
+and the socket of each."""
 
 import re
 from functools import lru_cache
@@ -13,9 +13,9 @@ from .recording import Recording
 OF_POLL = re.compile(rb'"poll(?:close"\s*,\s*\d+\s*,\s*(\d+)|open"\s*,\s*\d+\s*,\s*(\d+))')
 COUNTED_BY = {Of.GOROUTINE: "gor", Of.SOCKET: "lock", Of.DESCRIPTOR: "fdseq"}
 LIMITS = {Of.GOROUTINE: "gor", Of.SOCKET: "sock", Of.DESCRIPTOR: "desc"}
-AT_FIRST, TIMES = 8, 8  # how many cells are asked for at first, and by what factor the number grows each time
+AT_FIRST, TIMES = 8, 8  # the number of cells in the first query, and the factor for each later one
 BLOCK = 16_384  # the number of steps after which the open descriptors are stored again
-PIECE = 256  # the same within a block, for positions near recent ones
+PIECE = 256  # the same number within a block, for positions near recent ones
 
 
 class World:
@@ -43,12 +43,12 @@ class World:
         return {number: values[at * len(names) : (at + 1) * len(names)] for at, number in enumerate(numbers)}
 
     def queue(self, dump: str, socket: int) -> list[int]:
-        """The goroutines in a queue of a socket, front first."""
+        """The goroutines in a queue of a socket, from front to back."""
         (shown,) = self.netrev.looks([f"dump {dump} {socket}"])
         return [] if shown in ("-", "absent") else [int(word) for word in shown.split()]
 
     def made(self, of: Of) -> int:
-        """The number of goroutines, sockets or descriptors that exist; they are numbered from 0."""
+        """The number of goroutines, sockets or descriptors that exist. They are numbered from 0."""
         return made_at(self.netrev, of, room_for(self.recording, of))
 
     def sockets_of_open(self) -> dict[int, int]:
@@ -112,8 +112,8 @@ def opened_by(recording: Recording, position: int) -> tuple[dict[int, int], int]
 
 
 def closings_and_openings(recording: Recording, first: int, last: int) -> Iterable[tuple[bytes, bytes]]:
-    """For each `pollclose` and `pollopen` among the steps from one position to another, the descriptor or the socket,
-    as spelled; the other text is empty."""
+    """For each `pollclose` and `pollopen` among the steps from one position to another, a pair: the descriptor and an
+    empty text for a `pollclose`, an empty text and the socket for a `pollopen`."""
     if not recording.has_escapes:
         return OF_POLL.findall(recording.between(first, last))
     steps = recording.steps_of(("pollopen", "pollclose"), last)
@@ -122,7 +122,7 @@ def closings_and_openings(recording: Recording, first: int, last: int) -> Iterab
 
 
 def room_for(recording: Recording, of: Of) -> int:
-    """How many goroutines, sockets or descriptors a recording may have, by its header."""
+    """The most goroutines, sockets or descriptors that a recording may have, by its header."""
     return int(recording.limits[LIMITS[of]])
 
 

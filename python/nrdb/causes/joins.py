@@ -38,9 +38,8 @@ def joined(graph: WaitGraph, order: list[Topic]) -> list[Topic]:
 def because_of(graph: WaitGraph, hang: Hang, cause: Optional[Cause]) -> str:
     """The sentence that joins a hang to a failed call; empty if they are unrelated, or if the reason of the hang isn't
     known."""
-    is_write = (
-        hang.root.call is not None and hang.root.call.name in WRITING
-    )  # (the first sentence of such a hang says which goroutine doesn't read)
+    # (the first sentence of such a hang says which goroutine doesn't read)
+    is_write = hang.root.call is not None and hang.root.call.name in WRITING
     if cause is None or hang.is_quiet or hang.is_of_go or not (hang.has_reason or hang.is_deadlock or is_write):
         return ""
     call, waiters = cause.call, {waiter.name: waiter for waiter in waiters_of(hang)}
