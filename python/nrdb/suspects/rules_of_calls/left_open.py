@@ -1,5 +1,5 @@
-"""Left open: the other end of a connection was closed, 50 steps or more before the end, and no goroutine closes this end
-or is in a call there that would meet the end of the stream."""
+"""Left open: the other end of a connection was closed, 50 steps or more before the recording ends, and no goroutine
+closes this end or is in a call on it that would return EOF."""
 
 from typing import Iterator
 
