@@ -1,5 +1,5 @@
-"""Goroutines that wait at the end for something that has already come: they are parked for reading although bytes are
-unread or the peer has closed."""
+"""Goroutines that wait at the end of the recording for something that has already come: each is parked for reading
+although bytes are unread or the peer has closed."""
 
 from typing import Iterator, NamedTuple
 
@@ -10,7 +10,7 @@ from .run import Run
 
 class Waiting(NamedTuple):
     """A goroutine that is parked for reading: the step since which it is parked, what came (as text), and the step at
-    which that came."""
+    which it came."""
 
     goroutine: int
     use: Use
@@ -25,11 +25,11 @@ class Waiting(NamedTuple):
 
     @property
     def has_event(self) -> bool:
-        """Whether an event reported what came."""
+        """Whether an event reported the bytes or the close that came."""
         return self.use.last_event("r") >= self.came
 
     def has_stale_event(self, run: Run) -> bool:
-        """Whether an event that reported what came was dropped."""
+        """Whether an event that reported the bytes or the close was dropped."""
         return not self.has_event and run.notes.stale.get(self.use.descriptor, (0, 0))[0] > self.came
 
     def suspect(self, run: Run, step: int, weight: int, says: list[str]) -> Suspect:

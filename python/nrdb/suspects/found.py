@@ -9,7 +9,7 @@ from typing import NamedTuple, Optional
 class Weight(IntEnum):
     """The weight of a suspect. Suspects below SHOWN are counted but not shown."""
 
-    CERTAIN = 95  # a goroutine hangs or a reference leaks because of it, and nothing else explains that
+    CERTAIN = 95  # a goroutine hangs or a reference leaks because of the suspect, with no other explanation
     STRONG = 85
     LIKELY = 60
     POSSIBLE = 40
@@ -17,13 +17,13 @@ class Weight(IntEnum):
     DOUBTFUL = 10
 
 
-# what is added to the weight if the suspect's goroutine hangs there, is still there, or went on, and if a call timed
-# out because of it
+# added to the weight if the suspect's goroutine hangs there, if it is still there, if it went on, and if a call timed
+# out because of the suspect
 HANGS, STILL_THERE, WENT_ON, TIMED_OUT = 50, 40, -30, 20
 
 
 class Evidence(NamedTuple):
-    """A query to netrev at a position, and the answer that the rule expects; None if any answer will do."""
+    """A query to netrev at a position, and the answer that the rule expects; None if the rule accepts any answer."""
 
     position: int
     cell: str
@@ -40,24 +40,24 @@ class Suspect:
     goroutine: Optional[int] = None
     descriptor: Optional[int] = None
     socket: Optional[int] = None
-    listed: list[str] = field(default_factory=list)  # the lines of `netrev suspects` about it
+    listed: list[str] = field(default_factory=list)  # the lines of `netrev suspects` about the suspect
     evidence: list[Evidence] = field(default_factory=list)
     looks: list[str] = field(default_factory=list)
-    steps: list[int] = field(default_factory=list)  # the steps that it names, in the order of events
-    rule: str = ""  # the name of the rule that found it
+    steps: list[int] = field(default_factory=list)  # the steps that the suspect names, in the order of events
+    rule: str = ""  # the name of the rule that found the suspect
 
     @property
     def is_shown(self) -> bool:
-        """Whether the suspect's weight is enough to be shown."""
+        """Whether the suspect's weight is high enough for the suspect to be shown."""
         return self.weight >= Weight.SHOWN
 
     @property
     def subject(self) -> tuple[object, ...]:
-        """The rule and its object; only one of several suspects with the same subject is shown."""
+        """The rule and its object. Of several suspects with the same subject, only one is shown."""
         return self.rule, self.goroutine, self.descriptor, self.socket
 
     def has_line(self, line: str) -> None:
-        """Adds netrev's own line about the suspect, unless it is empty."""
+        """Adds netrev's own line about the suspect, unless the line is empty."""
         self.listed += [line] if line else []
 
     def sentence(self) -> str:

@@ -1,5 +1,5 @@
-"""References that are still held at the end although their holders are gone, have stopped, or have gone on to other
-work."""
+"""References that are still held at the end of the recording although their holders are gone, have stopped, or have
+gone on to other work."""
 
 from typing import Iterator, NamedTuple
 
@@ -10,12 +10,13 @@ from ..words import SIDES as NAMES
 from .found import Evidence, Suspect, Weight
 from .run import TWICE, Run
 
-BRIEF = 20  # holding a reference for at most this many steps proves nothing
+BRIEF = 20  # holding a reference for at most this number of steps proves nothing
 
 
 class Kept(NamedTuple):
-    """A reference of a socket that is held at the end: whether its holder is gone (else it is idle), how long the
-    holder has paused if that is too long, and how long it has held the reference if that is too long."""
+    """A reference to a socket that is held at the end: whether its holder is gone (otherwise the holder is idle), how
+    long the holder has paused if that is too long, and how long the holder has held the reference if that is too
+    long."""
 
     socket: int
     hold: Hold
@@ -29,7 +30,8 @@ class Kept(NamedTuple):
         return not self.is_gone and is_of_close and bool(self.pause or self.age)
 
     def suspect(self, run: Run, how: str, open_and_closed: tuple[Weight, Weight]) -> Suspect:
-        """The suspect, from how the reference is held and the weights for an open and for a closed socket."""
+        """The suspect, from the way in which the reference is held and from the weights for an open and for a closed
+        socket."""
         (g, step, kind, side), s, notes = self.hold, self.socket, run.notes
         lock = f" {NAMES[side]}" if side else ""
         says = [f"goroutine {g} holds a reference of socket {s} since step {step} ({kind}{lock}) {how}"]
@@ -51,7 +53,7 @@ class Kept(NamedTuple):
 
 
 def kept(run: Run) -> Iterator[Kept]:
-    """All references that are held at the end. A goroutine that sleeps for a lock is reported by another rule."""
+    """All references that are held at the end. Another rule reports a goroutine that sleeps for a lock."""
     asleep = {(int(s), side) for _, (s, side) in run.statuses("queued")}
     for s in sorted(run.notes.holds):
         for hold in run.notes.holds[s]:

@@ -1,4 +1,5 @@
-"""The suspects of a recording by all rules, worst first, and only one of several with the same subject."""
+"""The suspects of a recording by all rules, worst first. Of several suspects with the same subject, only one is
+listed."""
 
 from typing import Iterable, NamedTuple
 
@@ -19,13 +20,13 @@ class Ranked(NamedTuple):
 
 
 def suspects_of(recording: Recording) -> Ranked:
-    """The suspects by the rules about cells, which are all rules except those about calls."""
+    """The suspects by the rules about cells, which are all rules except the rules about calls."""
     prepare(recording)
     return by_cells(Run(Notes(recording)))
 
 
 def all_suspects_of(recording: Recording) -> Ranked:
-    """The suspects by all rules; those about calls come last."""
+    """The suspects by all rules. The suspects by the rules about calls come last."""
     prepare(recording)
     run = Run(book_of(recording).notes)
     ranked = by_cells(run)
@@ -33,7 +34,7 @@ def all_suspects_of(recording: Recording) -> Ranked:
 
 
 def prepare(recording: Recording) -> None:
-    """Starts `netrev suspects`, if its list is used."""
+    """Starts `netrev suspects`, if the rules use its list."""
     if recording.suspects:
         recording.suspects.prepare()
 
@@ -48,7 +49,7 @@ def found(rules: Iterable[Rule], run: Run) -> list[Suspect]:
 
 
 def one_of_each(suspects: list[Suspect]) -> list[Suspect]:
-    """The worst suspect of each subject, with the number of others like it, worst first."""
+    """The worst suspect of each subject, with the number of further suspects like it, worst first."""
     kept: dict[tuple[object, ...], list[Suspect]] = {}
     for suspect in sorted(suspects, key=lambda one: (-one.weight, one.step)):
         kept.setdefault(suspect.subject, []).append(suspect)

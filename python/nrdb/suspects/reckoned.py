@@ -1,5 +1,6 @@
-"""The facts of `netrev suspects` computed from nrdb's own notes, without netrev's lines, for candidates of `explore`
-and `reduce` and for an older netrev. (For references and withdrawn deadlines, the rules use the notes directly.)"""
+"""The facts of `netrev suspects`, computed from nrdb's own notes and without netrev's lines, for candidates of
+`explore` and `reduce` and for an older netrev. (For references and withdrawn deadlines, the rules use the notes
+directly.)"""
 
 from typing import Iterator, Optional
 
@@ -20,7 +21,7 @@ def by_the_notes(notes: Notes) -> Listed:
 
 
 def lost_wake_ups(notes: Notes) -> Iterator[LostWakeUp]:
-    """Each goroutine that is parked at a side at which no try has been answered EAGAIN since its last event."""
+    """Each goroutine that is parked at a side on which no try has been answered EAGAIN since the side's last event."""
     for g, goroutine in notes.goroutines.items():
         if notes.status(g) == PARKED:
             side, use = goroutine.status.side, notes.use_of[goroutine.status.number]

@@ -16,9 +16,9 @@ from ..notes import Notes
 from ..suspect_list import Listed
 from .reckoned import by_the_notes
 
-SIDES = {"Read": "r", "Write": "w"}  # for calls that a deadline ends
-SHORT = 10  # a pause of at most this many steps proves nothing, whatever the others were
-TWICE = 2  # a pause or a hold counts as too long if it is more than this many times as long as the longest that ended
+SIDES = {"Read": "r", "Write": "w"}  # the sides of calls that a deadline ends
+SHORT = 10  # a pause of at most this number of steps proves nothing, whatever the other pauses were
+TWICE = 2  # a pause or a hold is too long if it is more than this many times as long as the longest one that ended
 
 
 class Run:
@@ -30,12 +30,13 @@ class Run:
 
     @cached_property
     def facts(self) -> Listed:
-        """The list of `netrev suspects`, or, if netrev is missing or older, the same facts from the notes."""
+        """The list of `netrev suspects`. If netrev is missing or too old, the same facts from the notes."""
         listed = self.recording.suspects.of(self.end) if self.recording.suspects else None
         return listed or by_the_notes(self.notes)
 
     def asleep(self, g: int, d: int, side: str) -> str:
-        """netrev's line about a goroutine that sleeps at a side that must be answered; empty if netrev printed none."""
+        """netrev's line about a goroutine that sleeps at a side that must be answered; empty if netrev printed no such
+        line."""
         return self.facts.asleep.get((g, d, side), "")
 
     @cached_property
@@ -65,7 +66,7 @@ class Run:
         return self.changes.value(f"gor {g}", position).split()
 
     def statuses(self, place: str) -> list[tuple[int, list[str]]]:
-        """The goroutines that have a status at the end, each with the rest of its words."""
+        """The goroutines with a certain status at the end, each with the remaining words of its status."""
         found = ((g, one.status.split()) for g, one in self.notes.goroutines.items())
         return [(g, words) for g, (at, *words) in found if at == place]
 
@@ -74,7 +75,7 @@ class Run:
         return self.notes.goroutines[g].since
 
     def inside(self, use: Use, side: str, position: int) -> Optional[int]:
-        """The goroutine that is inside the wait of a side; None if there is none."""
+        """The goroutine that is inside the wait of a side; None if no goroutine is."""
         wait = next((one for one in reversed(use.waits[AT[side]]) if one.step <= position), None)
         if wait is None:
             return None
@@ -82,14 +83,14 @@ class Run:
         return wait.goroutine if place in INSIDE and at == [str(use.descriptor), side] else None
 
     def unread(self, s: int) -> str:
-        """A socket's unread bytes at the end, or its peer's close, as text; empty if it has neither."""
+        """Words for a socket's unread bytes, or for its peer's close, at the end; empty if the socket has neither."""
         if number := int(self.notes.now[f"in {s}"]):
             return f"{counted(number, 'byte')} unread"
         return f"the peer closed at step {self.notes.peer[s]}" if s in self.notes.peer else ""
 
     def stalled(self, g: int) -> str:
-        """How long a goroutine that could continue has paused, if that is too long compared with the pauses in its
-        status that ended; otherwise empty."""
+        """Words for how long a goroutine that could continue has paused, if that is too long compared with the ended
+        pauses in its status; otherwise empty."""
         known = self.notes.pauses.get(self.notes.status(g))
         longest = known.longest if known and known.count >= MANY else None
         pause = self.end - max(self.notes.goroutines[g].last, self.since(g))

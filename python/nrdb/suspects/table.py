@@ -30,8 +30,8 @@ def shown_of(ranked: Ranked) -> list[Suspect]:
 
 
 def is_by_go(recording: Recording, timeout: Timeout) -> bool:
-    """Whether Go's own code ended a wait of its own by a deadline in the past, as net/http ends the read between two
-    requests; the program then sees no timeout."""
+    """Whether Go's own code ended a wait of its own by a deadline in the past, as net/http ends its read between two
+    requests. The program then sees no timeout."""
     calls = recording.lines.of(timeout.step).calls
     return timeout.passing.kind == "setdeadline" and bool(calls) and all(call.of == OF_GO for call in calls)
 
@@ -59,8 +59,8 @@ def _rows(scout: Scout, recording: Recording, at: int, suspect: Suspect) -> list
 
 
 def _evidence(scout: Scout, suspect: Suspect) -> tuple[list[str], list[str]]:
-    """netrev's answers at the positions in question, and a sentence for each answer that isn't what the rule
-    expects."""
+    """netrev's answers at the positions in question, and a sentence for each answer that differs from the rule's
+    expectation."""
     answers, doubts = [], []
     for position, cell, expected in suspect.evidence:
         answer = scout.values(position, [cell])[0]
@@ -71,7 +71,7 @@ def _evidence(scout: Scout, suspect: Suspect) -> tuple[list[str], list[str]]:
 
 
 def _lines(recording: Recording, suspect: Suspect) -> list[str]:
-    """The program's lines at the suspect's steps, if they are known."""
+    """The program's lines at the suspect's steps, if known."""
     told = []
     for number in dict.fromkeys(suspect.steps):
         if words := recording.lines.words(number):

@@ -1,5 +1,5 @@
-"""The weight of a suspect, from the fate of its goroutine: whether it hangs because of it, whether a call ended because
-of it, or whether it is in one of Go's own calls."""
+"""The weight of a suspect, from the fate of its goroutine: whether the goroutine hangs because of the suspect, whether
+a call ended because of the suspect, or whether the goroutine is in one of Go's own calls."""
 
 from netrev_machine.machine import INSIDE
 
@@ -10,7 +10,7 @@ from .run import Run
 
 METHODS = ("Read", "Pread", "ReadFrom", "ReadMsg", "Write", "Pwrite", "WriteTo", "WriteMsg", "Writev", "Accept")
 # Go's own calls that hold a lock over a system call, those that hold only a reference, and those that call a function
-# of the program meanwhile
+# of the program in the meantime
 OF_GO = frozenset(
     (*(f"internal/poll.(*FD).{name}" for name in METHODS), "internal/poll.SendFile", "internal/poll.Splice")
 )
@@ -19,12 +19,12 @@ CONTROLS = frozenset(
 )
 OF_THE_PROGRAM = frozenset(f"internal/poll.(*FD).Raw{name}" for name in ("Read", "Write", "Control"))
 ACCEPT = "internal/poll.(*FD).Accept"
-UNSHOWN = OF_THE_PROGRAM | {ACCEPT}  # calls some or all of whose tries a recording doesn't show
+UNSHOWN = OF_THE_PROGRAM | {ACCEPT}  # calls for which a recording doesn't show some or all tries
 
 
 def of_a_holder(run: Run, suspect: Suspect) -> Suspect:
-    """Weighs a suspect by the holder of a lock or a reference: it is doubtful if Go's own call gives it back after its
-    system call."""
+    """Weighs a suspect by the holder of a lock or a reference. The suspect is doubtful if Go's own call gives the lock
+    or the reference back after its system call."""
     if is_in_a_system_call(run, suspect):
         suspect.weight = Weight.DOUBTFUL
     return suspect
@@ -32,8 +32,9 @@ def of_a_holder(run: Run, suspect: Suspect) -> Suspect:
 
 def is_in_a_system_call(run: Run, suspect: Suspect) -> bool:
     """Whether the recording ended while the holder of a lock or a reference was in one of Go's own calls, which gives
-    it up after its system call. By the program's lines, the holder took the lock in that call and hasn't left the call
-    since. Without lines, the holder's last step must be the `pollreset`, after which Go's own calls try."""
+    the lock or reference up after its system call. By the program's lines, the holder took the lock in that call and
+    hasn't left the call since. Without lines, the holder's last step must be the `pollreset`, after which Go's own
+    calls try."""
     g, recording = suspect.goroutine, run.recording
     if g is None:
         return False
@@ -52,26 +53,26 @@ def is_about_to_try(run: Run, took: int, g: int) -> bool:
 
 
 def is_accepting(recording: Recording, suspect: Suspect) -> bool:
-    """Whether a listener waits in Go's own Accept, which tries again after each pollreset, so that no wake-up is
-    lost."""
+    """Whether a listener waits in Go's own Accept. Accept tries again after each pollreset, so no wake-up is lost."""
     return call_of_poll(recording, suspect.steps[-1]) == ACCEPT
 
 
 def is_without_tries(recording: Recording, suspect: Suspect) -> bool:
-    """Whether a goroutine waits in a call whose tries no step shows: a function of the program makes them, or they are
-    Accept's."""
+    """Whether a goroutine waits in a call whose tries no step shows: a function of the program makes the tries, or
+    Accept does."""
     return call_of_poll(recording, suspect.steps[-1]) in UNSHOWN
 
 
 def call_of_poll(recording: Recording, step: int) -> str:
-    """The innermost call of a step that is one of the calls listed above; empty if there is none or it is unknown."""
+    """The innermost call of a step that is one of the calls listed above; empty if the step has no such call or its
+    calls are unknown."""
     known = OF_GO | CONTROLS | OF_THE_PROGRAM
     return next((call.function for call in recording.lines.of(step).calls if call.function in known), "")
 
 
 def of_a_goroutine(run: Run, suspect: Suspect) -> Suspect:
-    """Weighs a suspect whose goroutine was woken for nothing, or not at all, by whether the goroutine hangs because of
-    that."""
+    """Weighs a suspect whose goroutine was woken for nothing, or not woken at all, by whether the goroutine hangs for
+    that reason."""
     g, d = suspect.goroutine, suspect.descriptor
     if g is None or d is None:
         return suspect
@@ -88,7 +89,7 @@ def of_a_goroutine(run: Run, suspect: Suspect) -> Suspect:
 
 
 def hangs(run: Run, g: int, d: int) -> str:
-    """How a goroutine hangs in the wait of a descriptor, in words; empty if it doesn't hang."""
+    """Words for how a goroutine hangs in the wait of a descriptor; empty if the goroutine doesn't hang."""
     place, *at = run.notes.now[f"gor {g}"].split()
     if place != "parked" or at[0] != str(d):
         return ""
@@ -98,7 +99,7 @@ def hangs(run: Run, g: int, d: int) -> str:
 
 
 def of_a_deadline(run: Run, passed: OfDeadline, suspect: Suspect) -> Suspect:
-    """Weighs a deadline that passed by whether a call ended with that timeout."""
+    """Weighs a deadline that passed by whether a call ended with a timeout because of it."""
     due = passed.descriptor, passed.side, passed.setting
     for timeout in run.facts.timeouts.values():
         if (timeout.descriptor, timeout.side, timeout.setting) == due:

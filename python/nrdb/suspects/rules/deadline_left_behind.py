@@ -11,7 +11,7 @@ from ..found import Evidence, Suspect, Weight
 from ..run import Run
 from ..weighing import of_a_deadline
 
-HABIT = 2  # how many settings of one side alone make a goroutine count as setting that side regularly
+HABIT = 2  # the number of settings of one side alone that make it a goroutine's habit to set that side
 
 
 def rule(run: Run) -> Iterator[Suspect]:
@@ -21,8 +21,8 @@ def rule(run: Run) -> Iterator[Suspect]:
 
 
 def left_behind(run: Run, passed: OfDeadline, moved: By) -> Optional[Suspect]:
-    """The suspect of a deadline that passes, if the other side's deadline was set in its place, for the first time at
-    step `moved`."""
+    """The suspect of a deadline that passes, if a goroutine set the other side's deadline in its place. Step `moved` is
+    the first step that did so."""
     side, other, (set_at, g) = passed.side, "w" if passed.side == "r" else "r", passed.setting
     use = run.use_at(passed.descriptor, passed.step)
     if passed.sides == "rw":
@@ -47,7 +47,7 @@ def left_behind(run: Run, passed: OfDeadline, moved: By) -> Optional[Suspect]:
 
 def before_the_recording(run: Run, passed: OfDeadline, use: Use) -> Optional[Suspect]:
     """The suspect of a deadline that existed when the recording began, if since then only the other side's deadline was
-    set, and more than once."""
+    set, more than once."""
     prelude, other = run.recording.lines.prelude, "w" if passed.side == "r" else "r"
     since = [one for one in use.settings if prelude < one.step < passed.step]
     if len(since) < HABIT or any(one.mode != other for one in since):

@@ -8,7 +8,7 @@ from ..found import Evidence, Suspect, Weight
 from ..run import Run
 from ..weighing import of_a_goroutine
 
-# statuses inside a wait, before the check of why the goroutine was woken
+# statuses inside a wait, before the goroutine checks why it was woken
 NOT_LOOKED = ("armed", "parking", "swapping", "checking")
 
 
@@ -24,7 +24,8 @@ def rule(run: Run) -> Iterator[Suspect]:
 
 
 def not_looked(run: Run, use: Use, side: str, position: int) -> Optional[int]:
-    """The goroutine that a side's passed deadline woke and that hasn't checked why yet; None if there is none."""
+    """The goroutine that a side's passed deadline woke and that hasn't yet checked why it was woken; None if no
+    goroutine is in that state."""
     who, word = run.inside(use, side, position), run.changes.value(f"{side}g {use.descriptor}", position)
     place = "" if who is None else run.status(who, position)[0]
     is_woken = place in ("swapping", "checking") or word == "nil"

@@ -39,8 +39,8 @@ def rule(run: Run) -> Iterator[Suspect]:
 
 
 def is_parked(run: Run, suspect: Suspect) -> bool:
-    """Whether the goroutine is parked at that descriptor at the end. If no wake-up is lost there, it waits after a
-    try."""
+    """Whether the goroutine is parked at that descriptor at the end. If no wake-up is lost at the descriptor, the
+    goroutine waits after a try."""
     return run.notes.now[f"gor {suspect.goroutine}"].startswith(f"parked {suspect.descriptor} ")
 
 
@@ -51,9 +51,9 @@ def has_lines(run: Run, suspect: Suspect, lost: LostWakeUp) -> None:
 
 
 def taken_and_parked(run: Run, lost: LostWakeUp) -> Suspect:
-    """The suspect of a lost wake-up that no `pollreset` of the same goroutine discarded. The goroutine hangs because of
-    that event if what came with it is unread, or if nothing is unread and the goroutine hasn't read or written
-    since."""
+    """The suspect of a lost wake-up, unless a `pollreset` of the same goroutine discarded it. The goroutine hangs
+    because of that event if the bytes or the close that came with the event are unread, or if nothing is unread and the
+    goroutine hasn't read or written since."""
     g, d, side, use = lost.goroutine, lost.descriptor, lost.side, run.notes.use_of[lost.descriptor]
     entered, _, tried = use.waits[AT[side]][-1]
     coming = next((waits for waits in waiting_for_what_came(run) if (waits.goroutine, side) == (g, "r")), None)

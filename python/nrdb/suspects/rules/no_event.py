@@ -6,7 +6,7 @@ from ..coming import waiting_for_what_came
 from ..found import Evidence, Suspect, Weight
 from ..run import Run
 
-JUST_NOW = 3  # the number of last steps in which an event may still be due
+JUST_NOW = 3  # the number of last steps in which an event may still come
 
 
 def rule(run: Run) -> Iterator[Suspect]:

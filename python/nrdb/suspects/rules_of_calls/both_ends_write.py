@@ -29,8 +29,8 @@ def rule(run: Run) -> Iterator[Suspect]:
 
 
 def writing_first(hang: Hang) -> list[Call]:
-    """The calls of a deadlock that consists only of calls, starting with its first Write; none if there is no Write, or
-    if an edge is a guess."""
+    """The calls of a deadlock that consists only of calls, starting with its first Write; none if the deadlock has no
+    Write or if one of its edges is a guess."""
     calls = [root.call for root in hang.roots if root.call]
     writes = [call for call in calls if call.name == "Write"]
     if not hang.is_deadlock or len(calls) < len(hang.roots) or not writes or hang.certainty == Certainty.PERHAPS:
