@@ -1,4 +1,4 @@
-"""The adapter: answers an editor's requests one by one, from a session of nrdb."""
+"""The adapter: it answers an editor's requests one by one, from a session of nrdb."""
 
 from contextlib import ExitStack, closing
 from typing import Callable, NamedTuple, Optional, Sequence
@@ -35,8 +35,8 @@ def shown(text: str) -> str:
 
 
 class Outcome(NamedTuple):
-    """The result of a request: the body of its response; and, to be reported after that, a stop, an event, or the end
-    of the session."""
+    """The result of a request: the body of its response, and what the adapter reports after the response: a stop, an
+    event, or the end of the session."""
 
     body: Body = {}
     stop: Optional[Stop] = None
@@ -45,7 +45,8 @@ class Outcome(NamedTuple):
 
 
 class Adapter:
-    """Serves one editor, whose requests come from `source`. No message can change `program`, the path of netrev."""
+    """Serves one editor, whose requests come from `source`. No message can change `program`, which is the path of
+    netrev."""
 
     def __init__(self, wire: Wire, source: Source, program: str):
         self._wire, self._source, self._program = wire, source, program
@@ -73,7 +74,8 @@ class Adapter:
         }  # fmt: skip
 
     def serve(self, begun: Sequence[Request] = ()) -> None:
-        """Answers requests until the editor disconnects, first those of `begun`, whose `initialize` was answered."""
+        """Answers requests until the editor disconnects. The requests of `begun` come first; their `initialize` has
+        been answered."""
         with closing(self._source), self._opened:
             for request in begun:
                 self._initialize(request) if request.command == "initialize" else self._guarded(request)
@@ -100,7 +102,7 @@ class Adapter:
             self._refused(work, shown(str(why)))
         except Interrupted:
             self._refused(work, CANCELLED)
-        except GivenUp:  # (the request that ends the session comes next, and is answered before everything is closed)
+        except GivenUp:  # (the request that ends the session comes next, and is answered before the session closes)
             work.refuses(ENDS)
             self._target_or_none = None
         except (Ended, Strange, Lost) as why:
@@ -121,7 +123,7 @@ class Adapter:
                 self._close()
 
     def _worked(self, request: Request, work: Work) -> Outcome:
-        """The result of a request; the editor's messages are read meanwhile."""
+        """The result of a request. The editor's messages are read in the meantime."""
         if self._source.ends(request):
             raise Interrupted
         if request.command in ("launch", "attach"):
@@ -140,7 +142,8 @@ class Adapter:
             self._stopped(Stop("goto", texts.SOMEONE_MOVED.format(position=moved)))
 
     def _refused(self, work: Work, why: str) -> None:
-        """Reports that a request failed, and, if a move was answered early, that the session stays where it is."""
+        """Reports that a request failed. If a move was answered early, also reports that the session stays at its
+        position."""
         if work.refuses(why):
             self._stopped(Stop("pause", why))
 

@@ -1,6 +1,6 @@
-"""Decides which editors are served. Over the standard streams, that is the editor that started nrdb. A port is open to
-every program on the machine, including web pages in a browser, so there a launch must carry the token that nrdb
-printed."""
+"""Decides which editors are served. Over the standard streams, only the editor that started nrdb can send requests. A
+port is open to every program on the machine, including web pages in a browser, so a launch at a port must carry the
+token that nrdb printed."""
 
 import hmac
 import os
@@ -8,9 +8,9 @@ import secrets
 from ..messages import editors as texts
 from .messages import Request, Unanswerable
 
-TOKEN = "token"  # the argument of a launch that has the token
+TOKEN = "token"  # the argument of a launch that carries the token
 NAMED_BY = "NRDB_TOKEN"  # the environment variable for a token that the user chooses
-LEAST = 16  # characters of one
+LEAST = 16  # the fewest characters of a token
 BEFORE = ("initialize", "disconnect")  # requests that are answered without the token
 OPENING = ("launch", "attach")  # requests that carry the token
 

@@ -1,4 +1,5 @@
-"""Requests about breakpoints: at lines, kinds of steps, functions and cells, and at what went wrong."""
+"""Requests about breakpoints: at lines, at kinds of steps, at functions, at cells, and at steps at which something went
+wrong."""
 
 from netrev_words.plain import plain
 from netrev_words.vocabulary import KINDS
@@ -52,7 +53,7 @@ def in_the_program(target: Target, numbering: Numbering, path: str, asked: list[
 
 
 def path_of(request: Request) -> str:
-    """The path of the source that a request names; empty if it names none."""
+    """The path of the source that a request names; empty if the request names no source."""
     source = request.arguments.get("source")
     path = source.get("path") if isinstance(source, dict) else None
     return path if isinstance(path, str) else ""
@@ -77,7 +78,7 @@ def set_functions(target: Target, _: Numbering, request: Request) -> Body:
 
 
 def is_function(asked: Body) -> bool:
-    """Whether a breakpoint may be at a function, because its name isn't a kind of step."""
+    """Whether a breakpoint may be at a function. Its name is then not that of a kind of step."""
     return isinstance(asked.get("name"), str) and asked["name"] not in KINDS
 
 

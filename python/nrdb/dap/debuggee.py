@@ -23,7 +23,7 @@ from ..collecting import Collecting
 from .messages import Unanswerable
 
 FAR = 10_000  # steps
-Maker = Optional[int]  # the maker of a step: a goroutine's number, or None for the network and the clock
+Maker = Optional[int]  # who makes a step: a goroutine's number, or None for the network and the clock
 
 
 class Debuggee:
@@ -40,15 +40,15 @@ class Debuggee:
 
     @property
     def length(self) -> int:
-        """How many steps the recording has."""
+        """The number of steps of the recording."""
         return self.recording.length
 
     def step(self, number: int) -> Optional[Step]:
-        """The step with that number; None if it doesn't exist."""
+        """The step with that number; None if no such step exists."""
         return self.recording.step_or_none(number)
 
     def step_at(self, line: int) -> Optional[Step]:
-        """The step on a line, or else the first step after it."""
+        """The step on a line, or else the first step after the line."""
         low, high = 1, self.length + 1
         while low < high:
             middle = (low + high) // 2
@@ -65,7 +65,7 @@ class Debuggee:
         return self.maker(min(self.position + 1, self.length))
 
     def last_step_of(self, maker: Maker) -> int:
-        """The last step of this maker up to the position; 0 if there is none or it is far away."""
+        """The last step of this maker up to the position; 0 if the maker has made none or the step is far away."""
         if maker is not None:
             return last_steps(self.recording, self.position, [maker])[maker]
         numbers = range(self.position, max(self.position - FAR, 0), -1)
@@ -79,7 +79,7 @@ class Debuggee:
         """Whether a path leads to the recording."""
         try:
             return Path(path).resolve() == self.path
-        except (OSError, RuntimeError, ValueError):  # (not a path, or one whose links form a circle)
+        except (OSError, RuntimeError, ValueError):  # (the text isn't a path, or the path's links form a circle)
             return False
 
     def numbers(self, of: Of) -> list[str]:
@@ -91,7 +91,7 @@ class Debuggee:
         self.printer.take()
 
     def others_moved(self) -> Optional[int]:
-        """The new position if another user has moved a shared session; None otherwise."""
+        """The new position, if another user has moved a shared session; None otherwise."""
         if not isinstance(self.session.netrev, Joined):
             return None
         now = self.session.stands().position
@@ -105,8 +105,8 @@ class Debuggee:
 def debuggee(
     program: str, path: str, interrupts: Interrupts, address: Optional[tuple[str, int]] = None
 ) -> Iterator[Debuggee]:
-    """Context with the session of the recording that is debugged: one of its own, or the shared session at an address.
-    Raises Unanswerable if netrev or nrdb rejects the recording."""
+    """Context with the session of the recording that is debugged: a session of its own, or the shared session at an
+    address. Raises Unanswerable if netrev or nrdb rejects the recording."""
     printer = Collecting()
     try:
         recording = Recording.read(path)
@@ -129,7 +129,7 @@ def debuggee(
 def begun(
     program: str, path: str, recording: Recording, netrev: Netrev, printer: Collecting, interrupts: Interrupts
 ) -> Iterator[Session]:
-    """Context with a session that has begun; closed at its end."""
+    """Context with a session that has begun. The session is closed when the context ends."""
     scout = Scout(lambda: Own(program, path, interrupts))
     recording.changes = recorded = ArrivingChanges(program, path, interrupts, printer.note)
     recording.suspects = suspects = SuspectList(program, path, interrupts)

@@ -1,4 +1,5 @@
-"""The editor's exception filters, which select the steps before which to stop because something goes wrong there."""
+"""The editor's exception filters, which select the steps before which a move stops because something goes wrong
+there."""
 
 from bisect import bisect_left, bisect_right
 from enum import Enum
@@ -14,7 +15,7 @@ from .messages import Body
 
 
 class Filter(Enum):
-    """The filters, by the names that the protocol passes on."""
+    """The filters, each with the name that the protocol passes on."""
 
     SUSPECTS = "suspects"
     TIMEOUTS = "timeouts"
@@ -83,11 +84,11 @@ class Filters:
         return {one: sorted(wrong) for one, wrong in found.items()}
 
     def _positions(self) -> list[int]:
-        """The positions before the steps at which to stop, rising."""
+        """The positions before the steps at which the set filters stop, in rising order."""
         return sorted({wrong.step - 1 for one in self._set for wrong in self._all[one]})
 
     def nearest(self, position: int, forwards: bool) -> Optional[int]:
-        """The nearest position in a direction at which to stop."""
+        """The nearest position in a direction at which a filter stops."""
         positions = self._positions()
         at = bisect_right(positions, position) if forwards else bisect_left(positions, position) - 1
         return positions[at] if 0 <= at < len(positions) else None

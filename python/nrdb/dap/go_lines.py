@@ -1,5 +1,5 @@
-"""Breakpoints in the program's own source: before the steps at which, according to NAME.where, a goroutine reaches a
-line or a function. Like the filters, they belong to nrdb and use no marks of netrev."""
+"""Breakpoints in the program's own source. They stop before the steps at which, according to NAME.where, a goroutine
+reaches a line or a function. Like the filters, they belong to nrdb and use no marks of netrev."""
 
 from bisect import bisect_left, bisect_right
 from functools import cached_property
@@ -21,8 +21,8 @@ FUNCTIONS = "functions"  # in place of a file
 
 
 class Hits:
-    """A breakpoint: its number, the positions at which it is reached, rising, its condition, its hit count and its
-    message."""
+    """A breakpoint: its number, the positions at which a goroutine reaches it, in rising order, its condition, its hit
+    count and its message."""
 
     def __init__(self, number: int, session: Session, reached: Sequence[int], wish: Wish):
         self.number = number
@@ -30,12 +30,12 @@ class Hits:
 
     @cached_property
     def positions(self) -> list[int]:
-        """The positions at which it stops, rising."""
+        """The positions at which the breakpoint stops, in rising order."""
         return self._wish.stops(self._session, self._reached)
 
 
 class GoLines:
-    """The breakpoints that are set in the program's source, by file, and at its functions."""
+    """The breakpoints in the program's source, by file, and those at its functions."""
 
     def __init__(self, debuggee: Debuggee, roots: Roots, logpoints: LogPoints):
         self._debuggee, self._roots, self._logpoints = debuggee, roots, logpoints
@@ -46,7 +46,7 @@ class GoLines:
         """For each line of a file, the positions at which a goroutine reaches it."""
         try:
             wanted = Path(path).resolve()
-        except (OSError, RuntimeError, ValueError):  # (not a path, or one whose links form a circle)
+        except (OSError, RuntimeError, ValueError):  # (the text isn't a path, or the path's links form a circle)
             return {}
         return places_of(self._debuggee.recording).lines_of(lambda file: self._roots.is_at(file, wanted))
 
@@ -57,7 +57,7 @@ class GoLines:
 
     def positions(self, path: str, line: int) -> list[int]:
         """The positions at which a goroutine reaches a line of a file; raises Unanswerable if no step comes from the
-        line, as at the prompt."""
+        line, as the prompt does."""
         lines = self.lines(path)
         if line not in lines:
             name = plain(Path(path).name) or "that file"
@@ -65,14 +65,14 @@ class GoLines:
         return lines[line]
 
     def set_line(self, path: str, line: int, wish: "Wish | Unset") -> Body:
-        """Sets a breakpoint at a line that steps come from, and returns the protocol's object for it."""
+        """Sets a breakpoint at a line from which steps come, and returns the protocol's object for the breakpoint."""
         try:
             return self._set(path, self.positions(path, line), wish)
         except Unanswerable as why:
             return refused(str(why))
 
     def set_function(self, name: str, wish: "Wish | Unset") -> Optional[Body]:
-        """Sets a breakpoint at a function; None if no step comes from a function of that name."""
+        """Sets a breakpoint at a function; returns None if no step comes from a function of that name."""
         place = places_of(self._debuggee.recording).place(name)
         return self._set(FUNCTIONS, place.positions, wish) if place else None
 
@@ -86,7 +86,7 @@ class GoLines:
         return {"id": self._given, "verified": True}
 
     def nearest(self, position: int, forwards: bool) -> Optional[int]:
-        """The nearest position in a direction at which to stop."""
+        """The nearest position in a direction at which a breakpoint stops."""
         found = [near(hits.positions, position, forwards) for many in self._of.values() for hits in many]
         return (min if forwards else max)((one for one in found if one is not None), default=None)
 

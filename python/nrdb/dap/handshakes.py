@@ -1,5 +1,5 @@
-"""The beginnings of connections at a port: several at once, each in a thread of its own, until a launch carries the
-token. A connection without the token therefore doesn't hold up an editor."""
+"""The beginnings of connections to a port. Several run at once, each in a thread of its own, until a launch carries the
+token. A connection without the token therefore doesn't delay an editor."""
 
 import socket
 from contextlib import ExitStack, suppress
@@ -12,7 +12,7 @@ from .capabilities import CAPABILITIES
 from .messages import Malformed, Request, Unanswerable, Wire
 
 IN_TIME = 10.0  # the seconds within which an editor at the port must send a launch
-MOST = 64  # the most connections without the token at one time: one more ends the oldest
+MOST = 64  # the most connections without the token at one time; a further connection ends the oldest one
 MOST_BYTES = 65_536  # the most bytes that a connection may send before it has named the token
 
 
@@ -25,14 +25,14 @@ class Connection:
         connected.setsockopt(socket.IPPROTO_TCP, socket.TCP_NODELAY, 1)
         reader = self._opened.enter_context(connected.makefile("rb"))
         writer = self._opened.enter_context(connected.makefile("wb"))
-        self._opened.callback(self.hang_up)  # so that no thread is still reading when the streams are closed
+        self._opened.callback(self.hang_up)  # so that no thread still reads when the streams are closed
         self.wire = Wire(reader, writer, MOST_BYTES)
         self.initialize: Optional[Request] = None
         self.launch: Optional[Request] = None
 
     def admitted(self) -> bool:
-        """Answers the requests that need no token, until a launch with the token arrives; returns False if the
-        connection ends before that."""
+        """Answers the requests that need no token, until a launch with the token arrives. Returns False if the
+        connection ends first."""
         while (request := self.wire.request()) is not None:
             try:
                 if is_let_in(request, self._token):
@@ -61,7 +61,7 @@ class Connection:
 
 
 class Handshakes:
-    """The connections at a port. Those that have named the token are queued, and are served one after the other."""
+    """The connections to a port. Connections that have named the token are queued, and served one after the other."""
 
     def __init__(self, listening: socket.socket, token: str):
         self._listening, self._token = listening, token
@@ -110,7 +110,7 @@ class Handshakes:
             connection.close()
 
     def _ended(self, connection: Connection) -> bool:
-        """Marks a connection's handshake as ended; returns whether it hadn't ended before."""
+        """Marks a connection's handshake as ended. Returns False if it had ended before."""
         with self._lock:
             late = self._begun.pop(connection, None)
         if late:

@@ -1,5 +1,5 @@
-"""Reads an editor's messages while nrdb works on a request. A thread reads them, so `pause`, `cancel` and `disconnect`
-take effect at once: they stop the work, which runs in the main thread, by a signal."""
+"""Reads an editor's messages while nrdb works on a request. A thread reads the messages, so `pause`, `cancel` and
+`disconnect` take effect at once: by a signal, they stop the work, which runs in the main thread."""
 
 import signal
 import threading
@@ -17,7 +17,7 @@ CANCEL, PAUSE = "cancel", "pause"
 MOVES = ("continue", "reverseContinue", "next", "stepIn", "stepBack", "stepOut", "goto", "restart", "configurationDone")
 PAUSED = (*MOVES, "evaluate")
 SIGNAL = signal.SIGUSR1
-MOST_HELD = 2**22  # the most bytes of waiting requests: beyond that, reading pauses
+MOST_HELD = 2**22  # the most bytes of waiting requests; above that, reading pauses
 
 
 class Source(Protocol):
@@ -31,14 +31,14 @@ class Source(Protocol):
         """Context for the work on this request."""
 
     def ends(self, request: Request) -> bool:
-        """Whether a request must not be started, because the editor ends the session or has cancelled it."""
+        """Whether a request must not be started, because the editor ends the session or has cancelled the request."""
 
     def close(self) -> None:
         """Ends the reading, because no more requests are needed."""
 
 
 class Reading:
-    """Reads a request after the previous one has been answered, and nothing meanwhile."""
+    """Reads a request after the previous request has been answered, and reads nothing in between."""
 
     def __init__(self, wire: Wire):
         self.request = wire.request
@@ -55,7 +55,7 @@ class Reading:
 
 
 class Hearing:
-    """Reads requests in a thread. Everything else here runs in the main thread."""
+    """Reads requests in a thread. Everything else in this class runs in the main thread."""
 
     def __init__(self, wire: Wire):
         self._wire = wire
@@ -81,8 +81,8 @@ class Hearing:
 
     @contextmanager
     def work(self, request: Request, interrupts: Interrupts) -> Iterator[None]:
-        """Context for the work on this request. A message may stop the work through these interrupts: a pause and a
-        cancel act as Ctrl-C, and a disconnect gives the session up."""
+        """Context for the work on this request. A message may stop the work through these interrupts: a pause or a
+        cancel acts as Ctrl-C, and a disconnect ends the session."""
         interrupts.clear()
         self._interrupts, self._is_told = interrupts, False
         try:
@@ -102,8 +102,8 @@ class Hearing:
             self._room.notify()
 
     def _look(self) -> None:
-        """Stops the work if a message that stops it has arrived. The signal handler calls it too, at any point of the
-        work."""
+        """Stops the work if a message that stops it has arrived. The signal handler also calls this function, at any
+        point of the work."""
         request = self._at_work
         if request is None or request.command in ENDING:
             return
@@ -131,8 +131,8 @@ class Hearing:
                 return
 
     def _hand_on(self, came: Request | Exception | None, size: int) -> None:
-        """Passes on a message of this many bytes when the queue has room; if it is urgent, signals the main thread at
-        once."""
+        """Passes on a message of this many bytes when the queue has room. If the message is urgent, also signals the
+        main thread at once."""
         is_urgent = isinstance(came, Request) and came.command in (*ENDING, CANCEL, PAUSE)
         if isinstance(came, Request) and is_urgent:
             self._urgent.append(came)

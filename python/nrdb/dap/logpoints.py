@@ -1,5 +1,5 @@
-"""Breakpoints that print a message instead of stopping when a move passes them. They belong to nrdb and use no marks of
-netrev. A cell in braces is replaced by its value at the position, from `netrev changes`."""
+"""Breakpoints that print a message when a move passes them, instead of stopping the move. They belong to nrdb and use
+no marks of netrev. A cell's name in braces is replaced by the cell's value at the position, from `netrev changes`."""
 
 from typing import Iterator, NamedTuple, Sequence
 
@@ -12,7 +12,7 @@ MOST = 1_000  # the most messages that a move prints
 
 
 class LogPoint(NamedTuple):
-    """A breakpoint with a message: the message, and the positions at which it is printed, rising."""
+    """A breakpoint with a message: the message, and the positions at which it is printed, in rising order."""
 
     message: str
     positions: list[int]
@@ -31,7 +31,7 @@ class LogPoints:
         self._of[path] = []
 
     def set(self, path: str, positions: Sequence[int], wish: Wish) -> Body:
-        """Sets a log message that is reached at these positions, and returns the protocol's object for it."""
+        """Sets a log message for these positions, and returns the protocol's object for it."""
         self._given += 1
         self._of.setdefault(path, []).append(LogPoint(wish.message, wish.stops(self._session, positions)))
         return {"id": self._given, "verified": True}

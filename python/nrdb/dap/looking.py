@@ -21,9 +21,9 @@ from .memory import reference_of
 from .messages import Body, Unanswerable
 from .roots import Roots
 
-NETWORK = 65_536  # the number of the network's thread; a goroutine's is at most 4,096
-GOIDS = 10**6  # thread numbers above this belong to goroutines without steps, and add Go's own number to it
-IN_QUEUES = ("acquiring", "queued", "relock", "owing")  # statuses whose number is a socket's
+NETWORK = 65_536  # the number of the network's thread; the number of a goroutine's thread is at most 4,096
+GOIDS = 10**6  # the thread number of a goroutine without steps is this plus Go's own number
+IN_QUEUES = ("acquiring", "queued", "relock", "owing")  # statuses that name a socket
 
 
 def thread_of(maker: Maker) -> int:
@@ -32,7 +32,7 @@ def thread_of(maker: Maker) -> int:
 
 
 def maker_of(thread: int) -> Maker:
-    """The maker that a thread number stands for; raises Unanswerable if there is none."""
+    """The maker that a thread number stands for; raises Unanswerable if no maker has that number."""
     if thread == NETWORK:
         return None
     if thread > GOIDS:
@@ -72,7 +72,7 @@ class Cells:
 
 @dataclass(frozen=True)
 class Every:
-    """All objects of a sort."""
+    """All objects of a kind."""
 
     of: Of
 
@@ -87,7 +87,7 @@ def place_words(stack: Optional[Stack]) -> str:
 
 
 class Handles:
-    """The numbers by which the editor names objects. They are valid until the next move and never reused."""
+    """The numbers by which the editor names objects. A number is valid until the next move, and never reused."""
 
     def __init__(self) -> None:
         self._things: dict[int, Thing] = {}
@@ -109,8 +109,8 @@ class Handles:
 
 
 class Looks:
-    """Reads values at the session's position. `goes_first` says whether the program's own line, if known, is shown
-    before the recording's line."""
+    """Reads values at the session's position. `goes_first` says whether the program's own line, if known, comes before
+    the recording's line."""
 
     def __init__(self, debuggee: Debuggee, goes_first: bool, roots: Roots):
         self._debuggee, self._goes_first, self._roots = debuggee, goes_first, roots
@@ -121,8 +121,8 @@ class Looks:
         return self._debuggee.session.world()
 
     def threads(self) -> list[Body]:
-        """The goroutines that aren't gone, each with what it does and, if known, its function and line of the program;
-        then waiting goroutines without steps; then the network with the clock."""
+        """The threads in this order: goroutines that aren't gone, each with what it does and, if known, its function
+        and line of the program; waiting goroutines without steps; the network with the clock."""
         world, recording = self._world, self._debuggee.recording
         statuses = world.of_each(range(world.made(Of.GOROUTINE)), "gor")
         there = [goroutine for goroutine, (status,) in statuses.items() if status != "gone"]
@@ -158,8 +158,8 @@ class Looks:
         return self._ordered(found.stack, calls, [self._label(frame, found.does)])
 
     def frames(self, maker: Maker) -> list[Body]:
-        """The frames of a stack: the next or last step, its call as in `calls`, and the program's own calls at that
-        step; if they are unknown, what the goroutine does, in words."""
+        """The frames of a stack: the next or last step, the step's call as in `calls`, and the program's own calls at
+        that step. If the program's calls are unknown, a frame says what the goroutine does, in words."""
         here = self._debuggee.position
         is_next = here < self._debuggee.length and self._debuggee.maker(here + 1) == maker
         frame = Frame(maker, here + 1 if is_next else self._debuggee.last_step_of(maker))
@@ -178,8 +178,8 @@ class Looks:
         return self._ordered(stack, [self._call_frame(frame, call) for call in stack.calls], [first, *labels])
 
     def _ordered(self, stack: Stack, calls: list[Body], others: list[Body]) -> list[Body]:
-        """The frames in the order of calls, with the other frames before them. If the program's own line goes first,
-        its callers follow, then the other frames, and last the calls inside Go."""
+        """The frames in the order of calls, after the other frames. If the program's own line goes first, its callers
+        follow, then the other frames, and last the calls inside Go."""
         own = next((at for at, call in enumerate(stack.calls) if call.of == OF_THE_PROGRAM), None)
         if not self._goes_first or own is None:
             return [*others, *calls]
@@ -244,7 +244,7 @@ class Looks:
         return [Cells(of, number) for of, number in named if number is not None]
 
     def variables(self, reference: int) -> list[Body]:
-        """The variables of a scope, or those inside a variable of it."""
+        """The variables of a scope, or the variables inside a variable of a scope."""
         thing = self.handles.take(reference)
         if isinstance(thing, Cells):
             return self.cells(thing.names())
@@ -253,7 +253,7 @@ class Looks:
         raise Unanswerable(texts.NO_VARIABLE.format(reference=reference))
 
     def _every(self, of: Of) -> list[Body]:
-        """All objects of a sort, each with its cells inside; goroutines have one cell."""
+        """All objects of a kind, each with its cells inside. A goroutine has only one cell."""
         world = self._world
         if of is Of.GOROUTINE:
             return self.cells([f"gor {number}" for number in range(world.made(of))])
@@ -285,7 +285,7 @@ class Looks:
         return f"{value}   ({words})" if words else value
 
     def value(self, text: str) -> Optional[str]:
-        """The value of the cell that a text names; None if it names none."""
+        """The value of the cell that a text names; None if the text names no cell."""
         cell = cell_of(text.split())
         return None if cell is None else str(self.cells([cell])[0]["value"])
 

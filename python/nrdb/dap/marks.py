@@ -11,7 +11,7 @@ from .wishes import Unset, Wish, is_in, positions_of, refused
 
 
 class Sort(Enum):
-    """The sorts of breakpoints, each with the protocol's name for the reason of its stop."""
+    """The kinds of breakpoints, each with the protocol's name for the reason of its stop."""
 
     LINE = "breakpoint"
     FUNCTION = "function breakpoint"
@@ -28,7 +28,7 @@ class Marks:
         self._counted: dict[Wish, list[int]] = {}  # the positions at which breakpoints with a hit count stop
 
     def replace(self, sort: Sort, wishes: Sequence["Wish | Unset"]) -> list[Body]:
-        """Replaces the breakpoints of a sort. Returns the protocol's answer for each, in order."""
+        """Replaces the breakpoints of a kind. Returns the protocol's answer for each breakpoint, in order."""
         # some marks may have been deleted in the console
         standing = {mark.number for mark in self._session.netrev.marks()}
         self._numbers = {mark: number for mark, number in self._numbers.items() if number in standing}
@@ -61,7 +61,7 @@ class Marks:
         return self._numbers[sort, wish.what]
 
     def holding(self, numbers: Sequence[str]) -> list[str]:
-        """Those of the marks that hit here that have no condition or one that holds."""
+        """Those of the marks that hit at the session's position which have no condition or a condition that holds."""
         marks = {number: mark for mark, number in self._numbers.items()}
         met = self._session.holding(numbers)  # according to the conditions that were set in the console
         return [number for number in met if number not in marks or self._holds(marks[number])]
@@ -70,7 +70,7 @@ class Marks:
         return any(self._stops(wish) for wish in self._wishes[mark])
 
     def _stops(self, wish: Wish) -> bool:
-        """Whether a breakpoint that has been reached stops here."""
+        """Whether a breakpoint that has been reached stops at the session's position."""
         if wish.times is None:
             return wish.condition is None or self._session.holds(wish.condition)
         if wish not in self._counted:

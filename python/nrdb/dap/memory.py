@@ -1,4 +1,4 @@
-"""The bytes in a socket's buffers, which an editor reads as memory: a buffer is named by the cell that counts its
+"""The bytes in a socket's buffers, which an editor reads as memory. The name of a buffer is the cell that counts its
 bytes, `in 0` or `out 0`."""
 
 import base64
@@ -14,13 +14,14 @@ BUFFERS = ("in", "out")
 
 
 def reference_of(cell: str) -> Optional[str]:
-    """The buffer whose bytes a cell counts; None if it counts none."""
+    """The buffer whose bytes a cell counts; None if the cell counts no bytes."""
     name, *number = cell.split()
     return cell if name in BUFFERS and number else None
 
 
 def read(netrev: Netrev, request: Request) -> Body:
-    """The requested bytes of a buffer at the session's position. Bytes that aren't there are reported as unreadable."""
+    """The requested bytes of a buffer at the session's position. Bytes beyond the buffer's end are reported as
+    unreadable."""
     named = request.text("memoryReference")
     begin, count = _offset(request), request.whole_number("count")
     words = named.split()

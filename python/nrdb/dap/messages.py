@@ -15,7 +15,8 @@ Body = dict[str, Any]
 
 
 class Malformed(Exception):
-    """Raised, with the reason, if the input isn't a message. Its end is unknown, so nothing after it can be read."""
+    """Raised, with the reason, if the input isn't a message. The end of such an input is unknown, so nothing after it
+    can be read."""
 
 
 class EditorGone(OSError):
@@ -122,7 +123,7 @@ class Wire:
             try:
                 self._writer.write(b"Content-Length: %d\r\n\r\n%s" % (len(data), data))
                 self._writer.flush()
-            except (OSError, ValueError) as gone:  # closed by the other end, or by nrdb
+            except (OSError, ValueError) as gone:  # the other end, or nrdb, has closed the stream
                 raise EditorGone(str(gone)) from gone
 
 

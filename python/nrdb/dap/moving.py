@@ -1,5 +1,5 @@
-"""The editor's moves, each made of one or several lines to netrev, with their destinations and the reasons for stopping
-there."""
+"""The editor's moves, each made of one line or several lines to netrev, with their destinations and the reasons for
+their stops."""
 
 from typing import Callable, NamedTuple, Optional, Sequence
 
@@ -16,7 +16,7 @@ from .logpoints import LogPoints
 from .marks import Marks
 from .messages import Unanswerable
 
-PIECE = 100_000  # the most steps that netrev goes through at once, after which a pause is checked
+PIECE = 100_000  # the most steps that netrev passes in one command; a pause is checked after each command
 AT_THE_END = "the recording's end"
 MOST_STEPS = 20_000  # the most steps of a recording for which a stop at the end says what all goroutines wait for
 
@@ -73,8 +73,8 @@ class Moves:
         return self._arrived(f"goto {position}", reply, move_of("goto", reply), [], why)
 
     def next_of(self, maker: Maker) -> Stop:
-        """Goes to just before the next step of a goroutine, or of the network, after the step that it is about to
-        make."""
+        """Goes to the position just before the next step of a goroutine, or of the network, after the step that it is
+        about to make."""
         numbers = range(self._debuggee.position + 2, self._debuggee.length + 1)
         try:
             with self._interrupts.at_once():
@@ -124,7 +124,7 @@ class Moves:
 
     def _searched(self, line: str, forwards: bool, bound: Optional[int]) -> tuple[str, Move]:
         """netrev's reply to a search, and the move. The search is made in pieces, each up to a temporary mark that
-        isn't reported; raises Interrupted if a pause comes between two pieces."""
+        isn't reported. Raises Interrupted if a pause comes between two pieces."""
         here = self._session.stands().position
         while True:
             self._interrupts.check()
@@ -135,7 +135,7 @@ class Moves:
             made = None if is_last else MARK.fullmatch(self._session.ask(f"tbreak @{edge + 1}"))
             reply = self._session.ask(line)
             move = move_of(line, reply)
-            if made is None:  # (or there are 64 marks already)
+            if made is None:  # (or 64 marks exist already)
                 return reply, move
             if made[1] not in move.marks:
                 self._session.ask(f"delete {made[1]}")
@@ -145,7 +145,7 @@ class Moves:
             self.tells(here, self._debuggee.length)
 
     def _go(self, position: int) -> str:
-        """netrev's reply to the move to a position, which is also made in pieces."""
+        """netrev's reply to the move to a position. This move is made in pieces, too."""
         here = self._session.stands().position
         while abs(position - here) > PIECE:
             self._interrupts.check()
@@ -166,7 +166,7 @@ class Moves:
         return Stop("pause", f"at {position}")
 
     def _bound(self, forwards: bool, target: Optional[int]) -> Optional[int]:
-        """The position beyond which a move doesn't go, whatever hits there."""
+        """The position at which a move ends in any case, whatever hits beyond it."""
         position = self._debuggee.position
         filtered = self._filters.nearest(position, forwards)
         places = self._go_lines.nearest(position, forwards), self._session.breaks.nearest(position, forwards)
@@ -174,7 +174,7 @@ class Moves:
         return (min if forwards else max)(bounds, default=None)
 
     def _stop_at(self, bound: int, target: Optional[int]) -> Stop:
-        """Goes back to the bound that a move passed."""
+        """Goes back to the bound that a move has passed."""
         reply = self._session.go(bound)
         move = move_of("goto", reply)
         return self._arrived(f"goto {bound}", reply, move, [], self._why([], move, target))
@@ -193,14 +193,14 @@ class Moves:
         return self._end_or("step", move)
 
     def _end_or(self, reason: str, move: Move) -> Stop:
-        """The stop at an end of the recording, or else for this reason."""
+        """The stop at an end of the recording, or else the stop for this reason."""
         if not move.is_end:
             return Stop(reason, f"at {move.position}")
         return Stop("pause", AT_THE_END if move.position else "the recording's start")
 
     def _face_forwards(self) -> None:
-        """Sets the direction to forwards, because the editor has its own commands for both directions, whatever was
-        typed in the console."""
+        """Sets the session's direction to forwards, whatever the user typed in the console, because the editor has its
+        own commands for both directions."""
         if self._session.stands().direction == "reverse":
             self._session.ask("set exec-direction forward")
 

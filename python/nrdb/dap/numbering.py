@@ -1,4 +1,4 @@
-"""Line numbers as the editor counts them: from 1, or from 0 if it asks for that."""
+"""Line numbers as the editor counts them: from 1, or from 0 if the editor asks for that."""
 
 from typing import NamedTuple
 

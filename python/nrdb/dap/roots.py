@@ -1,5 +1,5 @@
-"""Finds the files that NAME.where names: in the folder of the program's source, or in Go's folder for Go's own
-files."""
+"""Finds the files that NAME.where names: in the folder of the program's source, or, for Go's own files, in Go's
+folder."""
 
 import os
 from pathlib import Path
@@ -9,13 +9,13 @@ SOURCES_OF_GO = "src"  # the subfolder in the folder of a Go release
 
 
 class Roots(NamedTuple):
-    """The folder that the program's file names are relative to, and Go's folder if known."""
+    """The folder to which the program's file names are relative, and Go's folder, if known."""
 
     program: Path
     go: Optional[Path] = None
 
     def path_of(self, file: str) -> Optional[Path]:
-        """The path of a file that the recorder named; None if it doesn't exist here."""
+        """The path of a file that the recorder named; None if the file doesn't exist on this machine."""
         return next((path for path in self._places(file) if os.path.isfile(path)), None)
 
     def is_at(self, file: str, wanted: Path) -> bool:
@@ -30,7 +30,7 @@ class Roots(NamedTuple):
 
 
 def whole(path: Path) -> Optional[Path]:
-    """A path with links resolved; None if it doesn't exist or its links form a circle."""
+    """A path with its links resolved; None if the path doesn't exist or its links form a circle."""
     try:
         return path.resolve()
     except (OSError, RuntimeError, ValueError):

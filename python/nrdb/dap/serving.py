@@ -1,5 +1,5 @@
-"""Serves editors one after the other, over the standard streams or at a port of the loopback, where each must send a
-launch with the token."""
+"""Serves editors one after the other, over the standard streams or at a port of the loopback. At a port, each editor
+must send a launch with the token."""
 
 import os
 import socket
@@ -33,8 +33,8 @@ def serve(wire: Wire, program: str, begun: Sequence[Request] = ()) -> int:
 
 
 def source_of(wire: Wire) -> Source:
-    """The source of the requests: a thread, or, outside the main thread, direct reading, because only the main thread
-    can be interrupted."""
+    """The source of the requests: a thread that reads them, or, outside the main thread, direct reading, because only
+    the main thread can be interrupted."""
     if current_thread() is main_thread():
         return Hearing(wire)
     return Reading(wire)
@@ -44,13 +44,13 @@ def serve_streams(program: str) -> int:
     """Serves an editor over standard input and output, and returns the exit status."""
     reader = open(
         os.dup(sys.stdin.fileno()), "rb"
-    )  # (a thread may still be reading from it at the end, which sys.stdin's own file doesn't allow)
+    )  # (a thread may still read from it at the end, which sys.stdin's own file doesn't allow)
     return serve(Wire(reader, sys.stdout.buffer), program)
 
 
 def serve_port(program: str, port: int) -> int:
-    """Serves editors at a port of the loopback, one after the other, until it is interrupted, and returns the exit
-    status. Port 0 means any free port. The port is printed, with the token that an editor must send."""
+    """Serves editors at a port of the loopback, one after the other, until Ctrl-C, and returns the exit status. Port 0
+    means any free port. The port is printed, with the token that an editor must send."""
     try:
         token = token_for_a_port()
     except NoToken as why:

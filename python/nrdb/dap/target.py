@@ -1,4 +1,4 @@
-"""The debugged recording, with everything that an editor has set and may request."""
+"""The recording that is debugged, with everything that an editor has set and may request."""
 
 from dataclasses import dataclass
 from pathlib import Path
@@ -26,9 +26,9 @@ OF_ATTACH = ("program", "address", "source", "sourceRoot", "goRoot", TOKEN)
 
 @dataclass(frozen=True)
 class Launch:
-    """The arguments of a launch: the recording, where to stop first, whether the program's lines are shown before the
-    recording's, and the folders of the program's source and of Go. The arguments of an attach also have the address of
-    a shared session, and no first stop."""
+    """The arguments of a launch: the recording, the position of the first stop, whether the program's lines are shown
+    before the recording's lines, and the folders of the program's source and of Go. An attach has the address of a
+    shared session instead of a first stop."""
 
     recording: str
     stop_at: Optional[int | str]
@@ -39,7 +39,7 @@ class Launch:
 
     @classmethod
     def of(cls, request: Request) -> "Launch":
-        """The arguments of a launch; raises Unanswerable if one is invalid."""
+        """The arguments of a launch; raises Unanswerable if any argument is invalid."""
         given = request.arguments
         stop_at = given.get("stopAt", AT_END)
         if stop_at not in (AT_END, AT_START) and not (isinstance(stop_at, int) and stop_at >= 0):
@@ -48,7 +48,7 @@ class Launch:
 
     @classmethod
     def of_attach(cls, request: Request) -> "Launch":
-        """The arguments of an attach; raises Unanswerable if one is invalid."""
+        """The arguments of an attach; raises Unanswerable if any argument is invalid."""
         host, _, port = request.text("address").rpartition(":")
         if not (port.isascii() and port.isdigit() and len(port) < 6 and int(port) < 2**16):
             raise Unanswerable(texts.ADDRESS)

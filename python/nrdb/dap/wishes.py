@@ -31,7 +31,8 @@ def condition_of(text: str) -> Condition:
 
 
 class HitCount(NamedTuple):
-    """A hit count: at which of the times that a breakpoint is reached it stops, counted from the recording's start."""
+    """A hit count. Of the times that a breakpoint is reached, counted from the recording's start, it selects those at
+    which the breakpoint stops."""
 
     relation: str
     number: int
@@ -65,15 +66,15 @@ class Wish:
     message: str = ""
 
     def stops(self, session: Session, positions: Sequence[int]) -> list[int]:
-        """The positions at which the breakpoint stops or prints its message, among those at which it is reached;
-        rising."""
+        """The positions at which the breakpoint stops or prints its message, among the positions at which it is
+        reached, in rising order."""
         condition, times = self.condition, self.times
         met = [one for one in positions if condition is None or session.holds(condition, one)]
         return [one for count, one in enumerate(met, 1) if times is None or times.holds(count)]
 
 
 def positions_of(session: Session, what: str) -> list[int]:
-    """The positions at which a mark of netrev is reached, rising."""
+    """The positions at which a mark of netrev is reached, in rising order."""
     if what.startswith("@"):
         return [int(what[1:]) - 1]
     if what in KINDS:
@@ -102,7 +103,7 @@ def wish_of(what: str, asked: Body) -> "Wish | Unset":
 
 
 def _text_of(asked: Body, name: str) -> str:
-    """A string argument of the request; empty if it is missing or isn't a string."""
+    """A string argument of the request; empty if the argument is missing or isn't a string."""
     value = asked.get(name)
     return value if isinstance(value, str) and value.strip() else ""
 

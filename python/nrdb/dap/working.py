@@ -1,5 +1,5 @@
-"""The work on a request. A long request is reported to the editor. A move is answered before it is done, because
-editors offer a pause only while the program runs; an editor that can show progress gets it."""
+"""The work on a request. The adapter reports a long request to the editor. A move is answered before it ends, because
+editors offer a pause only while the program runs. An editor that can show progress gets progress reports."""
 
 from contextlib import suppress
 from threading import Event, Lock, Thread
@@ -14,8 +14,8 @@ TITLES = {"launch": texts.READING, "attach": texts.JOINING, "evaluate": "nrdb an
 
 
 class Work:
-    """The work on one request. If it takes long, a thread reports it to the editor, because the main thread writes
-    nothing before it is done."""
+    """The work on one request. If the work takes long, a thread reports it to the editor, because the main thread
+    writes nothing before the work is done."""
 
     def __init__(self, wire: Wire, request: Request, shows_progress: bool):
         self._wire, self._request, self._shows_progress = wire, request, shows_progress
@@ -34,15 +34,15 @@ class Work:
             self._wire.respond(self._request, body)
 
     def refuses(self, why: str) -> bool:
-        """Answers a request that failed. Returns whether it had been answered before, so that the failure must still be
-        reported."""
+        """Answers a request that failed. Returns whether the request had been answered before, so that the failure must
+        still be reported."""
         if self._ends():
             return True
         self._wire.refuse(self._request, why)
         return False
 
     def _ends(self) -> bool:
-        """Ends the reports on the work; returns whether it was answered already."""
+        """Ends the reports on the work. Returns whether the request was answered already."""
         with self._lock:
             self._done.set()
             if self._is_shown:
@@ -53,7 +53,7 @@ class Work:
         """Reports to the editor, from the thread, that the work takes long, with its progress."""
         if self._done.wait(LATE):
             return
-        with self._lock, suppress(OSError, ValueError):  # (if the editor has gone, the reading thread finds that out)
+        with self._lock, suppress(OSError, ValueError):  # (if the editor has gone, the reading thread notices)
             self._is_late()
         told = 0
         while self._is_shown and not self._done.wait(AGAIN):
