@@ -1,5 +1,5 @@
-"""The timeline: one page without external files that shows a whole run on a screen, and can be zoomed down to
-single steps; and the same run as a trace for Perfetto."""
+"""The timeline: one page without external files that shows a whole run on one screen and can be zoomed to single steps.
+The same run can also be written as a trace for Perfetto."""
 
 from .page import write_timeline
 from .trace import write_trace

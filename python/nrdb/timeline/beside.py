@@ -1,5 +1,5 @@
-"""The events of a trace other than statuses and steps, from the beginning of the recording: Go's calls, the deadlines,
-the clock, and what went wrong."""
+"""The events of a trace other than statuses and steps, from the beginning of the recording on: Go's calls, the
+deadlines, the clock, and what went wrong."""
 
 from itertools import chain
 from typing import Iterator
@@ -36,20 +36,20 @@ def beside(recording: Recording, changes: RecordedChanges, scout: Scout) -> Iter
 
 
 def since(told: Changed, begins: int) -> Changed:
-    """The changes of a cell from a position on, beginning with its value there."""
+    """The changes of a cell from a position on, beginning with the cell's value at that position."""
     before = [value for step, value in told if step <= begins]
     return [(begins, before[-1]), *(one for one in told if one[0] > begins)] if begins and before else told
 
 
 def call_events(recording: Recording) -> Iterator[str]:
-    """A slice for each call of more than one step, around its goroutine's statuses and steps."""
+    """A slice for each call of more than one step, around the statuses and steps of the call's goroutine."""
     telling, begins = Telling(recording), begins_at(recording)
     for call in shown_calls(recording, Window(begins + 1 if begins else 0, recording.length)):
         if call.last == call.first:
             continue
         begin, until = max(call.first - 1, begins), call.last or recording.length + 1
         name, line = telling.of(call)
-        # (concatenated as text, because there may be hundreds of thousands)
+        # (the text is concatenated, because there may be hundreds of thousands of slices)
         yield (
             f'{{"ph":"X","pid":{GOROUTINES},"tid":{call.goroutine},"ts":{begin},"dur":{until - begin},"name":{name},"cat":"call",'
             f'"args":{{"waited":{call.waited},"slept_ns":{call.slept},"line":{line}}}}}'
@@ -57,16 +57,16 @@ def call_events(recording: Recording) -> Iterator[str]:
 
 
 class Telling:
-    """Calls as text, in JSON; equal texts are stored once."""
+    """Calls as text, in JSON. Equal texts are stored once."""
 
     def __init__(self, recording: Recording) -> None:
         self._recording = recording
         self._names: dict[tuple[str, int], str] = {}  # names of calls, by their stacks
-        self._lines: dict[int, str] = {}  # of stacks
+        self._lines: dict[int, str] = {}  # the lines of stacks
         self._texts: dict[str, str] = {}  # the name of a call with its result
 
     def of(self, call: Call) -> tuple[str, str]:
-        """The name of a call with its result, and its line of the program."""
+        """The name of a call with its result, and the program's line of the call."""
         stack = self._stack(call.first)
         named = call.name, stack
         if named not in self._names:
@@ -111,8 +111,8 @@ def clock_events(ticks: Changed) -> Iterator[str]:
 
 
 def story_events(story: Data, begins: int = 0) -> Iterator[Event]:
-    """A numbered mark through all rows at each step of a story. A step before the recording's beginning is marked
-    there."""
+    """A numbered mark through all rows at each step of a story. A step before the recording's beginning is marked at
+    that beginning."""
     says = {"says": plain(story["says"]), "lines": [plain(line) for line in story["lines"]]}
     for number, step in enumerate(story["steps"], 1):
         step, name = max(step, begins), f"{number}. {story['rule']}"

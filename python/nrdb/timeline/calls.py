@@ -1,5 +1,5 @@
 """Go's calls as the page draws them, in columns: goroutine, socket, first and last step, result, and line of the
-program. nrdb computes them from the recording's steps and the file beside it."""
+program. nrdb computes the calls from the recording's steps and the file beside the recording."""
 
 import re
 import sys
@@ -31,7 +31,7 @@ class Texts(dict[str, int]):
 
 
 def state_of(index: Index, call: Call) -> int:
-    """The state of a call. A call that Go's own code ended didn't fail for the program."""
+    """The state of a call. For the program, a call that Go's own code ended didn't fail."""
     if call.last:
         return FAILED if call.outcome.is_error and not is_by_go(index.recording, call) else DONE
     if index.is_listening(call):
@@ -55,8 +55,9 @@ COLUMNS = ("g", "s", "first", "long", "name", "came", "line", "state", "stack", 
 
 
 def calls_data(recording: Recording, window: Window) -> Data:
-    """The calls of the window, in packed columns. `first` is relative to the previous call's; `long` is the number of a
-    call's steps, or 0 if it hasn't ended; `name`, `came`, `line` and `stack` are indices into `texts`."""
+    """The calls of the window, in packed columns. `first` is relative to the `first` of the previous call. `long` is
+    the number of a call's steps, or 0 if the call hasn't ended. `name`, `came`, `line` and `stack` are indices into
+    `texts`."""
     telling, calls = Telling(recording), shown_calls(recording, window)
     firsts = [call.first for call in calls]
     columns = [
@@ -76,8 +77,9 @@ def calls_data(recording: Recording, window: Window) -> Data:
 
 
 def packed(column: list[int]) -> Any:
-    """A column of natural numbers for the page: a single value if all are equal, or the bytes of all in base64, with
-    the size of each number. Numbers beyond 32 bits become the script's floating-point numbers of 64 bits."""
+    """A column of natural numbers for the page. If all numbers are equal, a single value; otherwise the bytes of all
+    numbers in base64, with the size of a number. Numbers beyond 32 bits become floating-point numbers of 64 bits, as
+    the script has them."""
     most = max(column)
     if most == min(column):
         return most
@@ -94,12 +96,13 @@ class Telling:
     def __init__(self, recording: Recording) -> None:
         self.texts = Texts({"": 0})
         self._recording, self._index = recording, index_of(recording)
-        self._lines: dict[int, int] = {}  # of stacks
+        self._lines: dict[int, int] = {}  # the lines of stacks
         self._stacks: dict[int, int] = {}
         self._known: dict[tuple[str, Optional[int], int], tuple[int, ...]] = {}
 
     def of(self, call: Call) -> tuple[int, ...]:
-        """The name, the result, the line, the state and the stack. Many calls that succeeded have the same texts."""
+        """The name, the result, the line, the state and the stack of a call. Many calls that succeeded have the same
+        texts."""
         stack = self._stack(call.first)
         if not call.last or call.outcome is not Outcome.DONE:
             return self._told(call, stack)
@@ -113,7 +116,7 @@ class Telling:
         return self.texts[name_of(self._recording, call)], came, self._line(stack), state, self._calls_of(stack)
 
     def _came(self, call: Call) -> str:
-        """The result of a call, as text; a call that accepts a connection has no bytes."""
+        """The result of a call, as text. A call that accepts a connection has no bytes."""
         if not call.last or (call.name == "Read" and not call.outcome.is_error and self._index.is_listening(call)):
             return ""
         return call.came()
@@ -124,7 +127,7 @@ class Telling:
         return steps[step - 1] if 0 < step <= len(steps) else 0
 
     def _line(self, stack: int) -> int:
-        """The index of the text of a stack's line; the text is empty if the stack is unknown."""
+        """The index of the text of a stack's line. The text is empty if the stack is unknown."""
         if stack not in self._lines:
             self._lines[stack] = self.texts[self._recording.lines.stacks[stack].words()]
         return self._lines[stack]
@@ -143,7 +146,7 @@ def program_calls(stack: Stack) -> str:
 
 def names_data(recording: Recording, window: Window) -> dict[int, str]:
     """The function that each goroutine of the window runs: the outermost function of the program in any of its calls,
-    or else the outermost function."""
+    or else the outermost function of all."""
     names: dict[int, str] = {}
     own: set[int] = set()
     for call in shown_calls(recording, window) if recording.lines else ():
@@ -157,7 +160,7 @@ def names_data(recording: Recording, window: Window) -> dict[int, str]:
 
 
 def runs_in(stack: Stack, of: Optional[str] = None) -> Optional[str]:
-    """The outermost function in a stack, or the outermost of the program's, not counting the compiler's wrapper of a
-    `go` or a `defer`."""
+    """The outermost function in a stack, or the program's outermost function. The compiler's wrapper of a `go` or a
+    `defer` doesn't count."""
     functions = (call.function for call in reversed(stack.calls) if of in (None, call.of))
     return next((one for one in functions if not WRAPPER.search(one)), None)

@@ -1,6 +1,6 @@
 """The timeline's picture of a short recording as SVG, made without a browser: the calls on their connections, the times
-that goroutines sleep in them, the deadlines, and the numbered steps of a story. It shows the recording's steps, their
-changes, and nrdb's analysis."""
+during which goroutines sleep in the calls, the deadlines, and the numbered steps of a story. The picture shows the
+recording's steps, their changes, and nrdb's analysis."""
 
 import textwrap
 from html import escape
@@ -121,7 +121,7 @@ class Drawing:
                 self._deadlines(*use)
 
     def _call(self, call: Call) -> None:
-        """Draws a call's bar, darker below while its goroutine sleeps, and its text."""
+        """Draws a call's bar and the call's text. The lower part of the bar is darker while the goroutine sleeps."""
         end, state = call.last or self._recording.length + 1, state_of(self._index, call)
         self._bar(call.first - 1, end, self._y + 2.5, HIGH - 5, CLASS[state])
         for begin, until in self._sleeps(call, end):
@@ -132,7 +132,7 @@ class Drawing:
         words = " · ".join(filter(None, (name_of(self._recording, call), came, line)))
         if shown := fitted(words, wide - 8):
             self._write(self._x(call.first - 1) + 4, self._y + HIGH / 2, shown, "on" if state == FAILED else "")
-        elif state in (HANGS, FAILED):  # (before the bar, which is too short for the text)
+        elif state in (HANGS, FAILED):  # (in front of the bar, which is too short for the text)
             self._write(self._x(call.first - 1) - 4, self._y + HIGH / 2, words, "before")
 
     def _sleeps(self, call: Call, end: int) -> Iterator[tuple[int, int]]:
@@ -143,7 +143,7 @@ class Drawing:
                 yield begin, min(until, end)
 
     def _deadlines(self, d: int, _socket: int, begins: int, ends: Optional[int]) -> None:
-        """Draws the deadlines of a use of a descriptor, in a row for each side that has any."""
+        """Draws the deadlines of a use of a descriptor, in a row for each side that has a deadline."""
         last = ends or self._recording.length + 1
         for side, name in (("rd", "read"), ("wd", "write")):
             changes = [one for one in self._changes.changes_of(f"{side} {d}") if begins <= one[0] < last]
@@ -175,6 +175,6 @@ class Drawing:
 
 
 def fitted(text: str, wide: float) -> str:
-    """The beginning of a text that fits into a width; empty if it would be too short."""
+    """The beginning of a text that fits into a width; empty if the beginning would be too short."""
     letters = int(wide / LETTER)
     return text if len(text) <= letters else f"{text[: letters - 1]}…" if letters > 3 else ""

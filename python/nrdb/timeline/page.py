@@ -38,7 +38,7 @@ SCRIPTS = (
 
 
 def write_timeline(session: Session, path: str, first: Optional[int] = None, last: Optional[int] = None) -> str:
-    """Writes the page, and returns the line about it."""
+    """Writes the page, and returns the line that reports it."""
     recording = session.text()
     window = None
     if first is not None and last is not None:
@@ -57,8 +57,8 @@ def write_timeline(session: Session, path: str, first: Optional[int] = None, las
 
 
 def told_at_the_terminal(text: str) -> None:
-    """Prints the progress on a line of the terminal, which the next one overwrites; prints nothing if errors go
-    elsewhere."""
+    """Prints the progress on a line of the terminal, which the next call overwrites. Prints nothing if errors don't go
+    to a terminal."""
     if sys.stderr.isatty():
         sys.stderr.write(f"\r\x1b[K{text}")
         sys.stderr.flush()
@@ -78,14 +78,14 @@ def read_part(name: str) -> str:
 
 
 def plain_json(value: Any) -> str:
-    """The value in JSON, with each text in it escaped."""
+    """The value in JSON. Each text in the value is escaped."""
     told = of_json(value)
     # (a backslash is JSON's escape for a text that isn't plain)
     return of_json(plainly(value)) if "\\" in told else told
 
 
 def plainly(value: Any) -> Any:
-    """The value, with each text in it escaped."""
+    """The value, with each text in the value escaped."""
     if isinstance(value, str):
         return plain(value)
     if isinstance(value, dict):

@@ -1,5 +1,5 @@
-"""The contents of a page: the calls and failures of the whole run, and netrev's values of each cell for a part of
-it."""
+"""The contents of a page: the calls and failures of the whole run, and netrev's values of each cell for a part of the
+run."""
 
 from pathlib import Path
 from typing import Any, Callable, NamedTuple, Optional
@@ -21,7 +21,7 @@ from .story import MOST_TIMES, Connections, lines_data, marks_of, ticks_of, time
 from .waits import requests_data, waits_data
 
 MOST = 20_000  # the most steps of a part
-AT_ONCE = 8_000  # the steps of the part of a longer recording, unless a part is named
+AT_ONCE = 8_000  # the number of steps in the part of a longer recording, unless a part is named
 STAGES = (
     "netrev lists what each step changed",
     "the rules look for suspects, and who waits for whom",
@@ -31,8 +31,8 @@ STAGES = (
 
 
 class Shown(NamedTuple):
-    """What a page is made from: a recording and its file, a netrev for other positions, the changes of each step, the
-    session's position, its marks, and a function that is called with the progress."""
+    """The sources of a page: a recording and its file, a netrev for other positions, the changes made by each step, the
+    session's position and marks, and a function that is called with the progress."""
 
     recording: Recording
     path: str
@@ -44,7 +44,7 @@ class Shown(NamedTuple):
 
     @classmethod
     def by(cls, session: Session, tell: Callable[[str], None]) -> "Shown":
-        """What a session's page is made from."""
+        """The sources of a session's page."""
         looks, changes, marks = session.looks(), session.changes(), session.netrev.marks()
         return cls(session.text(), session.path, looks, changes, session.stands().position, marks, tell)
 
@@ -54,8 +54,8 @@ class Shown(NamedTuple):
 
 
 def collected(shown: Shown, window: Optional[Window] = None) -> Data:
-    """The contents of the page: the calls and stories of the whole run, and each cell's values for a part of it. If no
-    part is named, the part is the whole run, or, in a long recording, the steps around the first story."""
+    """The contents of the page: the calls and stories of the whole run, and each cell's values for a part of the run.
+    If no part is named, the part is the whole run, or, in a long recording, the steps around the first story."""
     whole = whole_of(shown)
     recording = shown.recording
     stories = whole["suspects"] + whole["causes"]
@@ -64,8 +64,8 @@ def collected(shown: Shown, window: Optional[Window] = None) -> Data:
 
 
 def part_round(stories: list[Data], length: int, position: int = 0, begins: int = 0) -> Window:
-    """The positions whose values are shown: all positions of the recording, or, in a long one, those around the end of
-    its first story, or around the session's position if that is elsewhere and not at the start."""
+    """The positions whose values are shown: all positions of the recording. In a long recording, the positions around
+    the end of its first story, or around the session's position if that is elsewhere and not at the start."""
     if length <= MOST:
         return Window(begins, length)
     part = part_about(stories[0]["steps"][-1] if stories else length, length)
@@ -82,7 +82,7 @@ def part_about(position: int, length: int) -> Window:
 def whole_of(shown: Shown) -> Data:
     """The data of the whole run: the calls, the waits outside the poller, the clock and what went wrong."""
     shown.begins(0)
-    recording, every = shown.recording, Window(0, shown.changes.length)  # (this waits for the whole output of netrev)
+    recording, every = shown.recording, Window(0, shown.changes.length)  # (this waits for netrev's whole output)
     shown.begins(1)
     suspects, causes = stories_data(shown.scout, recording)
     shown.begins(2)
@@ -104,7 +104,7 @@ def whole_of(shown: Shown) -> Data:
 
 
 def part_of(shown: Shown, window: Window) -> Data:
-    """The data of a part of the run: netrev's values, and what is computed from them."""
+    """The data of a part of the run: netrev's values, and the data that nrdb computes from these values."""
     shown.begins(3)
     recording = shown.recording
     runs, compared = runs_of(recording, shown.scout, shown.changes, window)
@@ -127,7 +127,8 @@ def part_of(shown: Shown, window: Window) -> Data:
 
 
 def steps_of(recording: Recording, window: Window) -> list[str]:
-    """The step that leads to each position, and the one after the last position; empty if there is none."""
+    """The step that leads to each position, and the step after the last position; empty for a step that doesn't
+    exist."""
     behind = -1 if recording.has_answers else None
 
     def text_of(values: list[Any]) -> str:
@@ -150,7 +151,7 @@ def rows_of(runs: Runs) -> list[Data]:
 
 
 def words_of(runs: Runs) -> dict[str, dict[str, str]]:
-    """The meanings of cells' values that have one, by the cell's name."""
+    """The meanings of the cells' values, keyed by the cell's name. Values without a meaning are left out."""
     shown: dict[str, dict[str, None]] = {}
     for cell, run in runs.items():
         if (name := cell.split()[0]) in CELLS:

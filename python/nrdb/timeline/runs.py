@@ -1,4 +1,4 @@
-"""The values of each cell over the positions, from netrev's changes of each step; and the queues, which aren't cells,
+"""The values of each cell over the positions, from netrev's changes at each step; and the queues, which aren't cells,
 from the statuses of the goroutines in them."""
 
 from dataclasses import dataclass
@@ -16,7 +16,7 @@ from ..session import Misused
 from ..world import COUNTED_BY, made_at, room_for
 
 Runs = dict[str, list[tuple[int, str]]]  # for each cell, the positions at which its value changes, with the new value
-COMPARED = 16  # how many positions there are at which all cells are compared
+COMPARED = 16  # the number of positions at which all cells are compared
 QUEUES = ("rq", "wq")
 NAMES = {of: [cell.name for cell in CELLS.values() if cell.of is of] for of in Of}
 NAMES[Of.SOCKET] += QUEUES
@@ -30,13 +30,14 @@ class Window:
     last: int
 
     def compared(self) -> list[int]:
-        """The positions at which all cells are compared: the last position, and others at equal distances."""
+        """The positions at which all cells are compared: the last position, and further positions at equal
+        distances."""
         every = max((self.last - self.first) // COMPARED, 1)
         return [*range(self.first, self.last, every), self.last]
 
 
 def runs_of(recording: Recording, scout: Scout, changes: RecordedChanges, window: Window) -> tuple[Runs, int]:
-    """The runs of all cells and queues, and the number of positions at which they were compared with netrev's
+    """The runs of all cells and queues, and the number of positions at which the runs were compared with netrev's
     answers."""
     cells = scout.look(window.last, partial(cells_made, recording))
     start = dict(zip(cells, shown_of(scout, cells, window.first)))
@@ -65,8 +66,8 @@ def shown_of(scout: Scout, cells: Iterable[str], position: int) -> list[str]:
 
 
 class Queues:
-    """The queues, derived from the statuses of the goroutines in them: a new goroutine goes to the end. They begin with
-    netrev's values."""
+    """The queues, derived from the statuses of the goroutines in them: a new goroutine goes to the end of its queue.
+    The queues begin with netrev's values."""
 
     def __init__(self, start: dict[str, str]) -> None:
         self._statuses = {cell: value for cell, value in start.items() if cell.startswith("gor ")}
@@ -79,7 +80,8 @@ class Queues:
         return "absent" if standing is None else " ".join(standing) or "-"
 
     def follow(self, changed: list[tuple[str, str]]) -> Iterator[tuple[str, str]]:
-        """Updates the queues for a step that changes these cells; yields those that change, with their new values."""
+        """Updates the queues for a step that changes these cells. Yields the queues that change, with their new
+        values."""
         touched: dict[str, None] = {}
         for cell, value in changed:
             if cell.startswith("lock ") and f"rq {cell[5:]}" not in self._standing:
@@ -91,7 +93,7 @@ class Queues:
         return ((queue, self.shown(queue)) for queue in touched)
 
     def _moved(self, cell: str, status: str) -> Iterator[str]:
-        """Moves a goroutine by its new status; yields the queues that it leaves or joins."""
+        """Moves a goroutine by its new status. Yields the queues that the goroutine leaves or joins."""
         before, self._statuses[cell] = self._statuses.get(cell, ""), status
         if before.startswith("queued "):
             self._standing[_queue(before)].remove(cell[4:])
@@ -102,13 +104,13 @@ class Queues:
 
 
 def _queue(status: str) -> str:
-    """The queue of a goroutine with this status."""
+    """The queue that a goroutine with this status is in."""
     _, socket, side = status.split()
     return f"{side}q {socket}"
 
 
 def _compare(scout: Scout, runs: Runs, position: int) -> None:
-    """Compares all cells and queues with netrev's values at a position; raises Misused if one differs."""
+    """Compares all cells and queues with netrev's values at a position; raises Misused if any value differs."""
     for (cell, run), shown in zip(runs.items(), shown_of(scout, runs, position)):
         if shown != (told := value_at(run, position)):
             words = {"cell": cell, "answer": shown, "position": position, "value": told}

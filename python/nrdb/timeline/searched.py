@@ -1,5 +1,5 @@
-"""Changes of a few kinds of cells, for callers that need no others: netrev's lines are searched for these cells, and no
-other lines are parsed."""
+"""Changes of a few kinds of cells, for callers that need no other changes. netrev's lines are searched for these cells,
+and no other lines are parsed."""
 
 import re
 from typing import Iterator
@@ -10,7 +10,7 @@ Lines = Iterator[tuple[str, str, str]]
 
 
 def spelled(cells: str) -> re.Pattern[str]:
-    """A pattern for a line with the new value of such a cell: a number or words without escapes."""
+    """A pattern for a line with the new value of one of these cells: a number, or words without escapes."""
     # (a pattern that begins with a literal, here the line feed before the line, is searched nearly twice as fast as one
     # that begins with ^)
     return re.compile(rf"\n(\d+) ({cells}) = ([\w -]+)$", re.MULTILINE | re.ASCII)

@@ -1,4 +1,4 @@
-"""The steps of a short recording as a sequence diagram in Mermaid, which forges draw: goroutines, sockets and the
+"""The steps of a short recording as a sequence diagram in Mermaid, which code hosts draw: goroutines, sockets and the
 network, with a message for each step."""
 
 from typing import Iterator, Optional
@@ -10,7 +10,7 @@ from ..recording import Recording, Step
 from .calls import Data, names_data
 from .runs import Window
 
-MOST = 200  # the number of steps above which the diagram is unreadable
+MOST = 200  # a diagram with more steps is unreadable
 NETWORK = "net"
 PLAIN = frozenset(" .,-_/*()'+=")  # characters allowed besides letters and digits; Mermaid interprets all others
 
@@ -23,7 +23,7 @@ def sequence(recording: Recording, story: Optional[Data]) -> str:
 
 
 def spelled(text: str) -> str:
-    """Text from outside, escaped for Mermaid: each character that has a meaning there is written as a number."""
+    """Text from outside, escaped for Mermaid: each character with a meaning in Mermaid is written as a number."""
     return "".join(one if one.isalnum() or one in PLAIN else f"#{ord(one)};" for one in plain(text))
 
 
@@ -47,6 +47,6 @@ def _lines(recording: Recording, story: Optional[Data]) -> Iterator[str]:
 
 
 def _told(step: Step, recording: Recording) -> str:
-    """A step as text, with its line if that is known."""
+    """A step as text, with its line, if known."""
     place = recording.lines.of(step.number).own()
     return str(step) + (f" ({place[0].place()})" if place else "")

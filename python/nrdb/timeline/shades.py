@@ -1,5 +1,5 @@
-"""The colours of the timeline. The colours of one kind of row also differ in brightness, so that they can be told apart
-without colour."""
+"""The colours of the timeline. The colours of one kind of row also differ in brightness, so that readers can tell them
+apart without colour."""
 
 from dataclasses import dataclass
 
@@ -10,7 +10,7 @@ from ..words import LockWord
 
 @dataclass(frozen=True)
 class Shade:
-    """A shade: its colour on a light background, its colour on a dark background, its meaning, and the rows that have
+    """A shade: its colour on a light background, its colour on a dark background, its meaning, and the rows that use
     it."""
 
     light: str
@@ -70,7 +70,7 @@ SHADES = {
 
 
 def shade(name: str, value: str) -> str:
-    """The name of the shade for a cell's value; empty if the object doesn't exist yet."""
+    """The name of the shade for a cell's value; empty if the cell's object doesn't exist yet."""
     if value == "absent":
         return ""
     if name == "gor":

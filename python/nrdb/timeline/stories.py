@@ -1,5 +1,5 @@
-"""The stories of the page: the suspects with their steps; without suspects, the calls that hang or failed, with their
-causes. Rules and causes are nrdb's own; the values beside them are netrev's."""
+"""The stories of the page: the suspects with their steps. Without suspects, the calls that hang or failed, with their
+causes. Rules and causes are nrdb's own; the values shown with them are netrev's."""
 
 from itertools import islice
 from typing import Iterator
@@ -16,12 +16,13 @@ from ..suspects.ranking import all_suspects_of
 from ..suspects.table import shown_of, suspects_table
 from .calls import Data
 
-MOST_CAUSES = 6  # of each sort
+MOST_CAUSES = 6  # the most causes of each kind
 HANGS, FAILED = "hangs", "failed"
 
 
 def stories_data(scout: Scout, recording: Recording) -> tuple[list[Data], list[Data]]:
-    """The suspects, and the stories of the calls that hang or failed, which are given only if there are no suspects."""
+    """The suspects, and the stories of the calls that hang or failed. These stories are given only if the recording has
+    no suspects."""
     suspects = list(suspects_data(scout, recording))
     return suspects, [] if suspects else list(causes_data(recording))
 
@@ -36,14 +37,14 @@ def suspects_data(scout: Scout, recording: Recording) -> Iterator[Data]:
 
 
 def causes_data(recording: Recording) -> Iterator[Data]:
-    """The first failures, the roots of what hangs at the end, and the other failed calls of the program, in the order
-    of the first output, with the sentences of `info hangs` and `info errors`."""
+    """The first failures, the roots of the hangs at the end, and the other failed calls of the program, in the order of
+    the first output, with the sentences of `info hangs` and `info errors`."""
     graph = graph_at(recording, recording.length)
     hangs = graph.shown[:MOST_CAUSES]
     index = index_of(recording)
     first = failures_of(recording)[:MOST_CAUSES]
     said = {cause.call.first for cause in first}
-    quiet = {hang.root.since for hang in hangs if hang.is_quiet} - {0}  # (hangs that may be normal form one story)
+    quiet = {hang.root.since for hang in hangs if hang.is_quiet} - {0}  # (hangs that may be normal share one story)
     for cause in first:
         yield cause_data(recording, cause, {*cause.steps, cause.call.last})
     for hang in hangs:

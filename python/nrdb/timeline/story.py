@@ -1,5 +1,5 @@
 """The page's data other than the cells: the owners of descriptors and goroutines, wake-ups, marks, and the program's
-lines. They are nrdb's own and unproved."""
+lines. These data are nrdb's own and unproved."""
 
 from typing import Any
 
@@ -19,13 +19,13 @@ MOST_TIMES = 4_000
 WAKES = {
     "parked": ("swapping", "desc"),
     "queued": ("acquiring", "sock"),
-}  # what the woken goroutine does next, and its line
+}  # the next action of the woken goroutine, and its line
 
 
 class Connections:
     """The sockets of descriptors and goroutines in a window: for each use of a descriptor, its number, its socket, and
-    its first and last position (None: it lasts to the window's end or longer); and for each goroutine, the socket that
-    it uses most."""
+    its first and last position (None: it lasts at least until the end of the window); and for each goroutine, the
+    socket that it uses most."""
 
     def __init__(self, recording: Recording, window: Window) -> None:
         self._window, notes = window, book_of(recording).notes
@@ -40,8 +40,8 @@ class Connections:
                 self._touched.setdefault(g, {})[s] = many
 
     def groups(self, runs: Runs) -> dict[int, int]:
-        """The socket of each goroutine: the one with the most steps, counting those that the goroutine makes there and
-        those that it waits there."""
+        """The socket of each goroutine: the socket with the most steps, counting the steps that the goroutine makes on
+        the socket and the steps during which it waits there."""
         for cell, run in runs.items():
             if cell.startswith("gor "):
                 ends = [begins for begins, _ in run[1:]] + [self._window.last + 1]
@@ -62,8 +62,8 @@ class Connections:
 
 
 def wakes_of(recording: Recording, runs: Runs) -> list[list[Any]]:
-    """Each wake-up: its step, the goroutine that was woken, the goroutine that woke it (or None), the place where it
-    slept, and the step's kind."""
+    """Each wake-up: its step, the goroutine that was woken, the goroutine that woke it (or None), the place where the
+    woken goroutine slept, and the step's kind."""
     wakes: list[list[Any]] = []
     for cell, run in runs.items():
         if not cell.startswith("gor "):
@@ -79,8 +79,8 @@ def wakes_of(recording: Recording, runs: Runs) -> list[list[Any]]:
 
 
 def lines_data(recording: Recording, window: Window) -> Data:
-    """The program's lines, each stored once, and for each step from the first position on the index of its line; empty
-    if the recording has no lines."""
+    """The program's lines, each stored once, and, for each step from the first position on, the index of its line;
+    empty if the recording has no lines."""
     if not recording.lines:
         return {}
     texts: dict[str, int] = {"": 0}
@@ -104,8 +104,8 @@ def marks_of(listed: list[Listed], recording: Recording, window: Window, runs: R
 
 
 def ticks_of(changes: RecordedChanges) -> list[list[int]]:
-    """The steps at which the clock advanced, each with its time; if there are too many, some at regular distances, and
-    the last one."""
+    """The steps at which the clock advanced, each with its time. If the clock advanced too often, some of these steps
+    at regular distances, and the last one."""
     ticks = changes.changes_of("clock")
     every = -(-len(ticks) // MOST_TICKS) or 1
     shown = [*ticks[::every], *(ticks[-1:] if (len(ticks) - 1) % every else [])]
@@ -114,14 +114,14 @@ def ticks_of(changes: RecordedChanges) -> list[list[int]]:
 
 def times_of(recording: Recording, window: Window, most: int) -> Data:
     """The recorder's times after the steps of a window: after each step, or, in a long window, after steps at equal
-    distances. `every` is that distance, counted from the first position, and `ns` the difference between each time and
+    distances. `every` is that distance, counted from the first position. `ns` has the differences between each time and
     the previous one. Empty if the recorder had no times."""
     times = recording.lines.times
     if not times:
         return {}
     every = -(-(window.last - window.first) // most) or 1
     positions = [*range(window.first, window.last, every), window.last]
-    told = [times[max(position, 1) - 1] for position in positions]  # (it begins with the first step)
+    told = [times[max(position, 1) - 1] for position in positions]  # (the first time is that of the first step)
     return {
         "first": window.first,
         "last": window.last,

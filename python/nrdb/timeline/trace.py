@@ -1,11 +1,10 @@
 """The run as Chrome's trace events in JSON, for Perfetto. Each goroutine is a thread, with slices for its calls,
-statuses and steps, and flows from the step that woke a goroutine to its next status; the trace also has deadlines, the
-clock, and what went wrong. Each step takes a microsecond. If a recording begins in the middle of a run, the trace
-begins there too.
+statuses and steps, and flows from the step that woke a goroutine to that goroutine's next status. The trace also has
+deadlines, the clock, and what went wrong. Each step takes a microsecond. If a recording begins in the middle of a run,
+the trace begins there too.
 
-The statuses, the deadlines and the clock are from netrev's list of changes; at some positions, the statuses of all
-goroutines are compared with netrev's answers. Calls and suspects are nrdb's own.
-"""
+The statuses, the deadlines and the clock come from netrev's list of changes. At some positions, the statuses of all
+goroutines are compared with netrev's answers. Calls and suspects are nrdb's own."""
 
 import gzip
 import io
@@ -32,19 +31,19 @@ from .events import GOROUTINES, NETWORK, Event, of_json
 from .runs import Window
 from .searched import STATUSES, STATUSES_AND_CLOCK, searched
 
-COMPARED = 64  # positions
+COMPARED = 64  # the number of positions at which statuses are compared
 POLLER, TIMERS, CLOCK = range(3)  # threads of the second process, before the sockets
 SOCKETS = 10  # the number of the first socket's thread
 BY_A_GOROUTINE = frozenset(OF_A_GOROUTINE)
 QUIET = frozenset(("idle", "gone"))
-AT_ONCE = 1_024  # events that are written together
+AT_ONCE = 1_024  # the number of events that are written together
 END = (str(2**64), "", "")  # an entry after the last change
 
-Statuses = dict[int, str]  # of goroutines
+Statuses = dict[int, str]  # the statuses of goroutines
 
 
 def write_trace(session: Session, path: str) -> str:
-    """Writes the trace, and returns the line about it."""
+    """Writes the trace, and returns the line that reports it."""
     recording, scout = session.text(), session.looks()
     tracing = Tracing(recording, session.changes())
     compared = _compared(scout, recording, session.changes())
@@ -69,12 +68,12 @@ def packed(path: str, recording: str) -> Iterator[IO[str]]:
 
 
 def together(events: Iterator[str]) -> Iterator[list[str]]:
-    """Events in groups of many."""
+    """The events in large groups."""
     return iter(lambda: list(islice(events, AT_ONCE)), [])
 
 
 def write_events(file: IO[str], events: Iterator[list[str]]) -> None:
-    """Writes events in groups of many."""
+    """Writes the events in large groups."""
     file.write('{"displayTimeUnit":"ns","traceEvents":[')
     before = "\n"
     for some in events:
@@ -84,7 +83,8 @@ def write_events(file: IO[str], events: Iterator[list[str]]) -> None:
 
 
 def _compared(scout: Scout, recording: Recording, changes: RecordedChanges) -> int:
-    """The number of positions at which netrev shows the same statuses as its changes; raises Misused if one differs."""
+    """The number of positions at which netrev shows the same statuses as its changes; raises Misused if any status
+    differs."""
     every = max(changes.length // COMPARED, 1)
     compared = sorted({*range(every, changes.length + 1, every), changes.length} - {0})
     spawned = sum(1 for _ in recording.steps_of(("spawn",), changes.length))
@@ -112,7 +112,7 @@ class Tracing:
         self.slices = self.flows = 0
         self._has_answers = recording.has_answers
         self._statuses: Statuses = {}
-        # for each goroutine with a status that is traced, the step since which it has had it
+        # for each goroutine whose status is traced, the step since which the goroutine has had it
         self._since: dict[int, int] = {}
 
     def events(self, name: str, check: Callable[[], None]) -> Iterator[str]:
@@ -120,7 +120,7 @@ class Tracing:
         return chain.from_iterable(self.events_together(name, check))
 
     def events_together(self, name: str, check: Callable[[], None]) -> Iterator[list[str]]:
-        """All events in groups: names first, then slices and flows step by step. Calls `check` for each group."""
+        """All events in groups: names first, then slices and flows, step by step. Calls `check` for each group."""
         yield list(map(of_json, self._names(name)))
         rows = zip(self.recording.rows(self._told), told_lines(self.recording.lines, self.recording.length))
         steps = islice(rows, self.begins, None)
@@ -136,7 +136,7 @@ class Tracing:
             check()
             events: list[str] = []
             for number, ((mine, where, begin, what), line) in enumerate(islice(steps, AT_ONCE), first):
-                # (there are a million of these, so the text is concatenated here from parts that are made once for
+                # (there are up to a million of these, so the text is concatenated from parts that are made once for
                 # similar lines)
                 step = str(number)
                 events.append(f"{begin}{before}{what}{step}{clock}{line}")
@@ -153,8 +153,8 @@ class Tracing:
             yield [self._status(g, self._statuses[g], self.recording.length + 1) for g in sorted(self._since)]
 
     def _told(self, values: list[Any]) -> tuple[Optional[int], str, str, str]:
-        """For a step's line: its goroutine, its thread in the trace, and the two parts of its text, up to the time and
-        up to the number."""
+        """The parts of a step's line: the step's goroutine, its thread in the trace, the text up to the time, and the
+        text up to the number."""
         words = values[:-1] if self._has_answers else values
         kind = words[0]
         mine: Optional[int] = words[1] if kind in BY_A_GOROUTINE else None
@@ -201,7 +201,7 @@ class Tracing:
             if g not in known:
                 known[g] = value_at_start(f"gor {g}")
         if len(order) > 1:
-            # (a sleeping goroutine is woken by another one; of two goroutines at a descriptor, the reader comes first)
+            # (another goroutine wakes a sleeping goroutine; of two goroutines at a descriptor, the reader comes first)
             order.sort(key=lambda g: (g == mine, known[g].split()[-1]))
         for g in order:
             before, now = known[g], statuses[g]
@@ -242,14 +242,15 @@ class Tracing:
 
 
 def _thread(kind: str, arguments: list[Any]) -> int:
-    """The thread of a step that isn't made by a goroutine."""
+    """The thread of a step that no goroutine makes."""
     if kind in ("arrive", "drain", "peerclose"):
         return SOCKETS + int(arguments[0])
     return {"pollevent": POLLER, "pop": TIMERS, "fire": TIMERS}.get(kind, CLOCK)
 
 
 def told_lines(lines: Lines, length: int) -> Iterator[str]:
-    """The end of each step's slice as text, with the program's line if known; each stack's text is made only once."""
+    """The end of each step's slice as text, with the program's line, if known. The text of each stack is made only
+    once."""
     texts = {number: stack.words() for number, stack in lines.stacks.items()}
     told = {number: f',"line":{of_json(plain(text))}}}}}' if text else "}}" for number, text in texts.items()}
     return chain(map(told.__getitem__, lines.steps), repeat("}}", length - len(lines.steps)))

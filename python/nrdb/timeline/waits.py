@@ -14,11 +14,11 @@ MOST_ROWS, MOST_WAITS = 200, 20_000  # the most rows for goroutines without step
 
 
 def waits_data(recording: Recording) -> Data:
-    """The waits of a recording. `rows` has, for each wait, its goroutine, the step after which it begins, the step up
-    to which it lasts (0: it doesn't end), and what the goroutine does, its line and its stack, as indices into `texts`.
-    A goroutine without steps is in `others`, by Go's number with the function that it runs; its number in `rows` is -1
-    minus its index there. `left_out` counts the goroutines and waits that don't fit on a page, on which waits that
-    don't end come first, then the newest."""
+    """The waits of a recording. `rows` has, for each wait, its goroutine, the step after which the wait begins, the
+    step up to which it lasts (0: it doesn't end), and, as indices into `texts`, what the goroutine does, its line and
+    its stack. A goroutine without steps is in `others`, by Go's number, with the function that it runs; its number in
+    `rows` is -1 minus its index in `others`. `left_out` counts the goroutines and waits that don't fit on a page. Waits
+    that don't end have priority, then the newest ones."""
     waits, texts = waits_of(recording), Texts({"": 0})
     shown = {name: list(filter(is_long, some)) for name, some in waits.of.items()}
     others = [name for name, some in shown.items() if some and name.is_goid]
@@ -57,10 +57,10 @@ def is_long(wait: Waiting) -> bool:
 
 
 def rank(waits: list[Waiting]) -> tuple[bool, int]:
-    """The sort key of goroutines: those that wait at the end come first, then those that waited last."""
+    """The sort key of goroutines: first those that wait at the end, then those that waited last."""
     return waits[-1].last is not None, -waits[-1].first
 
 
 def runs(waits: list[Waiting]) -> str:
-    """The outermost function of the program that a goroutine is in; empty if there is none."""
+    """The outermost function of the program that a goroutine is in; empty if the goroutine is in none."""
     return short(next((found for wait in waits if (found := runs_in(wait.stack, OF_THE_PROGRAM))), ""))
