@@ -1,6 +1,6 @@
-"""The times at which bytes arrived at and left a socket. A recorder of Go doesn't see these times: it writes the bytes
-just before the read or write that shows them, although the event that reported them came earlier. In other schedules,
-such bytes therefore come with that event."""
+"""The times at which bytes arrived at a socket and left it. A recorder of Go doesn't see these times: it writes the
+bytes just before the read or write that shows them, although the event that reported the bytes came earlier. In other
+schedules, such bytes therefore come with that event."""
 
 from dataclasses import replace
 from typing import NamedTuple, Optional
@@ -16,14 +16,14 @@ JUST_BEFORE = 0.4
 
 
 class Tries(NamedTuple):
-    """The step numbers, rising, of the tries at one side of a socket, and of the tries that found nothing."""
+    """The step numbers, in rising order, of the tries at one side of a socket, and of the tries that found nothing."""
 
     all: list[int]
     in_vain: list[int]
 
 
 def with_events(script: Script) -> Script:
-    """The script, with bytes moved to the event before them if no later event reports them."""
+    """The script, with bytes moved to the event before them if no later event reports these bytes."""
     tries = _tries(script)
     network = {}
     for s, row in script.network.items():
@@ -34,7 +34,7 @@ def with_events(script: Script) -> Script:
 
 
 def _tries(script: Script) -> dict[tuple[int, str], Tries]:
-    """The tries of each socket's sides."""
+    """The tries at the sides of each socket."""
     found: dict[tuple[int, str], Tries] = {}
     for operations in script.goroutines:
         for operation in operations:

@@ -1,5 +1,5 @@
-"""The machine's state during a schedule, with a cache of the effects of steps. A step that reads the same values as
-in the recorded run, or in an earlier schedule, has the same effect, so only new steps are given to the model."""
+"""The machine's state during a schedule, with a cache of the effects of steps. If a step reads the same values as in
+the recorded run or in an earlier schedule, it has the same effect, so only new steps are given to the model."""
 
 from typing import Any, NamedTuple, Optional
 
@@ -9,16 +9,17 @@ from netrev_words.recording import Limits, Step
 
 from .runs import Made
 
-Looked = tuple[Any, ...]  # a step with all values that it reads
+Looked = tuple[Any, ...]  # a step, with all values that the step reads
 MOST_KEPT = 20_000
 
 # the position of the argument by which a kind of step names a goroutine, a socket or a descriptor; OWN: the goroutine's
-# status names it
+# status names the object
 OWN, NONE = 0, -1
 SOCKETS = ("sysread", "syswrite", "closewrite", "incref", "increfclose", "decref", "rwlock", "rwunlock")
 DESCRIPTORS = ("pollreset", "waitbegin", "setdeadline", "evict")
 WAITS = ("blockarm", "blockcheck", "parkcommit", "blockswap", "waitcheck")
-# for each kind of step, the positions of the arguments with the goroutine, socket and descriptor that it reads
+# for each kind of step, the positions of the arguments that name the goroutine, socket and descriptor that the step
+# reads
 LOOKS: dict[str, tuple[int, int, int]] = {
     "exit": (1, NONE, NONE),
     **{kind: (1, 2, NONE) for kind in SOCKETS},
@@ -51,9 +52,9 @@ class Board(Machine):
 
     def __init__(self, limits: Limits, is_recorded: bool) -> None:
         super().__init__(limits)
-        self.is_recorded = is_recorded  # true for the recorded run, whose effects are cached by step number
+        self.is_recorded = is_recorded  # whether this is the recorded run, whose effects are cached by step number
         self.recorded: dict[int, Effect] = {}  # effects of the recorded run's steps, by their numbers
-        self.further: dict[Looked, Effect] = {}  # effects of other steps, by the values that they read
+        self.further: dict[Looked, Effect] = {}  # effects of other steps, keyed by the values that the steps read
 
     def copy(self) -> "Board":
         made = super().copy()
@@ -65,7 +66,7 @@ class Board(Machine):
         return all(getattr(self, name) == getattr(other, name) for name in STATE)
 
     def make(self, step: Step, number: int) -> Made:
-        """Makes a step, whose number in the recording is given, or 0."""
+        """Makes a step. `number` is the step's number in the recording, or 0."""
         looked, effect = self._looked(step), self.recorded.get(number)
         if looked is None:
             return Made(step, self.step(step), number)
@@ -88,7 +89,7 @@ class Board(Machine):
         return made
 
     def _looked(self, step: Step) -> Optional[Looked]:
-        """All values that a step reads; None if it reads something that the cache doesn't cover."""
+        """All values that a step reads; None if the step reads a value that the cache doesn't cover."""
         looks = LOOKS.get(step[0])
         if looks is None:
             return None
@@ -107,8 +108,8 @@ class Board(Machine):
         return step, status, self.descs[d]
 
     def _effect(self, looked: Looked, made: Made, waiters: int) -> Optional[Effect]:
-        """What the last step read and changed; None if it changed something that the cache doesn't cover, or that
-        it didn't read."""
+        """The values that the last step read and changed; None if the step changed a value that the cache doesn't
+        cover, or that the step didn't read."""
         changed = {(of, place): old for of, place, old in reversed(self.changes)}
         wholes = {of for of, place in changed if place == WHOLE} - {"waiters"}
         if None in changed.values() or not wholes <= (OF_TIMERS if made.step[0] in TIMED else set()):
@@ -117,7 +118,7 @@ class Board(Machine):
         return Effect(looked, made, puts, tuple((of, getattr(self, of)) for of in wholes), self.waiters - waiters)
 
     def _has(self, effect: Effect) -> None:
-        """Sets the values to what they were after the step with this effect."""
+        """Sets the values as they were after the step with this effect."""
         for of, place, now in effect.puts:
             self.put(of, place, now)
         for of, now in effect.wholes:

@@ -46,8 +46,8 @@ class Explored(NamedTuple):
 
 
 def explored(session: Session, most: int = MOST, is_of_failures: bool = False) -> Explored:
-    """Runs schedules near the recorded one, and writes those that end with a suspect, or, if none does, those in which
-    a call that succeeded in the recording fails."""
+    """Runs schedules near the recorded one, and writes the schedules that end with a suspect. If none does, writes
+    those in which a call fails that succeeded in the recording."""
     recording = session.text()
     if recording.length > MOST_STEPS:
         raise Misused(messages.TOO_LONG.format(most=MOST_STEPS))
@@ -84,7 +84,7 @@ class Progress:
         self._width = 0
 
     def tell(self) -> None:
-        """Called after each schedule."""
+        """Updates the line. Called after each schedule."""
         if time.monotonic() >= self._next:
             self._next = time.monotonic() + SECONDS
             found = len(self.exploring.found)
@@ -103,13 +103,13 @@ class Progress:
 
 
 class Keeping:
-    """Writes the recordings of findings into the current folder, and reports each."""
+    """Writes the recordings of findings into the current folder, and reports each recording."""
 
     def __init__(self, session: Session, telling: Telling) -> None:
         self.session, self.telling = session, telling
 
     def kept(self, at: int, finding: Finding, times: int) -> list[str]:
-        """Writes a finding's recording, and the reduced one; returns the lines about it."""
+        """Writes a finding's recording and the reduced recording; returns the lines about them."""
         recording, played = self.telling.recording, finding.played
         file = f"{Path(self.session.path).stem}-other-{at}.jsonl"
         data = text_of(played.world, played.world.limits.buf, played.pairs(), recording.has_answers)
@@ -125,7 +125,7 @@ class Keeping:
         return [*lines, unless]
 
     def _shortened(self, file: str, finding: Finding) -> str:
-        """Reduces a finding's recording; returns the line about it."""
+        """Reduces a finding's recording; returns the line about the reduced one."""
         whole = Recording.read(file)
         short = f"{Path(file).stem}-short.jsonl"
         reducing = Reducing(whole, self.session.path, self.session.program, self.session.interrupts.check)
@@ -135,7 +135,7 @@ class Keeping:
             return str(wrong)
 
     def _wanted(self, whole: Recording, finding: Finding) -> Wanted:
-        """The target of the short recording: the finding's suspect; the goroutine that hangs, after both settings of
+        """The target of the reduced recording: the finding's suspect; the goroutine that hangs, after both settings of
         its deadline; or the call that fails, with its cause."""
         if finding.suspect:
             shown = [one for one in suspects_of(whole).suspects if one.is_shown]

@@ -1,5 +1,6 @@
-"""Whether a schedule has returned to the recorded run, so that both continue in the same way. The numbers of sockets
-and descriptors may differ between the states, and so may values that nothing can read any more."""
+"""Compares a schedule's state with the recorded run, to find out whether the schedule has returned to it, so that both
+continue in the same way. The numbers of sockets and descriptors may differ between the two, and so may values that
+nothing can read any more."""
 
 from typing import NamedTuple
 
@@ -10,7 +11,7 @@ from .control import Numbers
 
 
 class Numbered(NamedTuple):
-    """A state, with the mapping of the recording's objects to its numbers."""
+    """A state, with a mapping from the recording's objects to the state's numbers."""
 
     board: Board
     numbers: Numbers
@@ -21,7 +22,7 @@ class Numbered(NamedTuple):
         return mine.sockets == its.sockets and mine.descriptors == its.descriptors
 
     def status(self, status: Status) -> Status:
-        """A status that names a socket of the recording, or a use of a descriptor, in place of a number."""
+        """A status that names a socket of the recording, or a use of a descriptor, instead of a number."""
         if len(status) < 2:
             return status
         of_socket, of_descriptor = self.numbers.named()
@@ -29,7 +30,7 @@ class Numbered(NamedTuple):
         return status[0], which.get(status[1], -1), *status[2:]
 
     def timer(self, timer: Timer) -> tuple[int, int, str, str, bool]:
-        """A timer in comparable form, and whether it belongs to its descriptor's last setting."""
+        """A timer in comparable form, with whether the timer belongs to its descriptor's last setting."""
         own = self.board.descs[timer.desc].sequences[SIDES.index(timer.side)]
         use = self.numbers.named()[1].get(timer.desc, -1)
         return timer.when, use, timer.side, timer.function, timer.sequence == own
@@ -58,7 +59,7 @@ def _have_alike_statuses(one: Numbered, other: Numbered, are_same: bool) -> bool
 
 
 def _have_alike_sockets(one: Numbered, other: Numbered) -> bool:
-    """Whether all sockets are the same, except for those that are dead in both."""
+    """Whether all sockets are the same, except for sockets that are dead in both states."""
     sockets, its_sockets = one.board.sockets, other.board.sockets
     for which, number in one.numbers.sockets.items():
         socket, its = sockets[number], its_sockets[other.numbers.sockets[which]]

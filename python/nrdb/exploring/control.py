@@ -1,5 +1,5 @@
-"""The control flow of a goroutine's calls: the next step follows from its operation and its status, and the place where
-it continues follows from the machine's answer."""
+"""The control flow of a goroutine's calls. The goroutine's next step follows from its operation and its status. The
+place where the goroutine continues follows from the machine's answer."""
 
 from bisect import bisect_right
 from typing import NamedTuple, Optional
@@ -12,26 +12,26 @@ from .board import Board
 from .scripts import Operation
 
 NEVER = float("inf")
-GOROUTINE, CLOCK, MADE, NETWORK = range(4)  # the actor
+GOROUTINE, CLOCK, MADE, NETWORK = range(4)  # the actors
 
 About = tuple[bool, int]  # True and a socket, or False and a use of a descriptor
 
 
 class Place(NamedTuple):
-    """The place of a goroutine: its operation, how many recorded steps of the operation it has made, how far the
-    operation's tries have come, and whether it waits or has to destroy the descriptor."""
+    """The place of a goroutine: its operation, the number of the operation's recorded steps that the goroutine has
+    made, how far the operation's tries have come, and whether the goroutine waits or has to destroy the descriptor."""
 
     operation: int = 0
     made: int = 0
     tries: int = 0  # for a read, the number of tries that got everything; for a write, the number of bytes written
-    waits: int = 0  # how often the goroutine has begun to wait
+    waits: int = 0  # the number of times that the goroutine has begun to wait
     is_waiting: bool = False
     destroys: int = -1  # the use whose descriptor the goroutine has to free
 
 
 def number_of(operation: Operation, place: Place, kind: str) -> int:
-    """The number in the recording of the step of this kind that a goroutine makes next; 0 if the recording doesn't have
-    it."""
+    """The number in the recording of the step of this kind that a goroutine makes next; 0 if the recording has no such
+    step."""
     made = place.made
     return operation.steps[made] if made < len(operation.kinds) and operation.kinds[made] == kind else 0
 
@@ -61,7 +61,7 @@ class Stream:
         self._starts = sorted(self.tries)
 
     def at(self, place: int, turn: int) -> bytes:
-        """Returns the next try that begins at a byte."""
+        """The next try that begins at a byte."""
         if tries := self.tries.get(place):
             return tries[min(turn, len(tries) - 1)]
         following = bisect_right(self._starts, place)
@@ -69,7 +69,7 @@ class Stream:
 
 
 class NotMade(Exception):
-    """Raised if the object of a step doesn't exist yet, so that another goroutine must make it first."""
+    """Raised if the object of a step doesn't exist yet, so that another goroutine must first make the object."""
 
 
 class Numbers:
@@ -79,7 +79,7 @@ class Numbers:
         self.sockets: dict[int, int] = {}
         self.descriptors: dict[int, int] = {}
         self.fdseqs: dict[int, int] = {}
-        self.use_of: dict[int, int] = {}  # for each open socket, its use of a descriptor
+        self.use_of: dict[int, int] = {}  # for each open socket, the use of its descriptor
         self._named: Optional[tuple[dict[int, int], dict[int, int]]] = None
 
     def copy(self) -> "Numbers":
@@ -90,7 +90,8 @@ class Numbers:
         return made
 
     def named(self) -> tuple[dict[int, int], dict[int, int]]:
-        """The sockets of the recording by their numbers here, and the uses by their descriptors' numbers."""
+        """The sockets of the recording, keyed by their numbers in this schedule, and the uses, keyed by their
+        descriptors' numbers."""
         if self._named is None:
             of_socket = {number: socket for socket, number in self.sockets.items()}
             self._named = of_socket, {self.descriptors[use]: use for use in self.use_of.values()}
@@ -102,7 +103,7 @@ class Numbers:
         self._named = None
 
     def see(self, step: Step, answer: Answer, operation: Operation, board: Board) -> None:
-        """Records what a goroutine made or freed by a step."""
+        """Records the object that a goroutine made or freed by a step."""
         if step[0] == "sockopen":
             self.has_socket(operation.socket, answer[1])
         elif step[0] == "pollopen":
@@ -115,7 +116,7 @@ class Numbers:
             self._named = None
 
     def is_as(self, other: "Numbers") -> bool:
-        """Whether both have the same numbers."""
+        """Whether the other schedule has the same numbers."""
         return (
             self.sockets == other.sockets
             and self.descriptors == other.descriptors
@@ -124,7 +125,7 @@ class Numbers:
         )
 
     def of(self, about: Optional[About]) -> int:
-        """The number of a socket or of a use's descriptor; -1 if there is none."""
+        """The number of a socket or of a use's descriptor; -1 if it has no number yet."""
         if about is None:
             return -1
         is_socket, which = about
@@ -141,7 +142,7 @@ class Numbers:
 def next_step(
     board: Board, numbers: Numbers, g: int, place: Place, operation: Operation, stream: Optional[Stream]
 ) -> Step:
-    """The next step of a goroutine; raises NotMade if another goroutine must first make the object of the step."""
+    """The next step of a goroutine; raises NotMade if another goroutine must first make the step's object."""
     if step := step_by_status(g, board.goroutines[g]):
         return step
     if place.destroys >= 0:
@@ -158,13 +159,13 @@ def next_step(
 
 
 def _about(sort: Sort, operation: Operation) -> Optional[About]:
-    """The object that the first step of this sort names."""
+    """The object that the first step of this kind names."""
     of = NAMES[sort].of
     return (True, operation.socket) if of == "s" else (False, operation.use) if of == "d" else None
 
 
 def is_about(status: Status, place: Place, operation: Operation) -> Optional[About]:
-    """The object whose number the next step needs; None if the goroutine's status has the number or the step has no
+    """The object whose number the next step needs; None if the goroutine's status has the number, or if the step has no
     object."""
     if status[0] in BY_STATUS:
         return None
@@ -195,12 +196,13 @@ def behind(
 
 
 def _following(place: Place, status: str) -> Place:
-    """The place after the end of an operation: the next operation, unless the goroutine still owes something."""
+    """The place after the end of an operation: at the next operation, unless the goroutine still owes a release or a
+    destroy."""
     return place if status == "owing" or place.destroys >= 0 else Place(place.operation + 1)
 
 
 def _ready(place: Place, operation: Operation) -> Place:
-    """The place after a wait that ended because the descriptor is ready."""
+    """The place after a wait that ended because the descriptor was ready."""
     if operation.sort is Sort.WAIT:
         return Place(place.operation + 1)
     if operation.ends_unread and place.waits >= operation.kinds.count("waitbegin"):

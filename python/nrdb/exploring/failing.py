@@ -1,5 +1,6 @@
 """Calls that fail: a call that succeeded in the recording ends with an error in a schedule, because a deadline has
-passed or a close came first. What the goroutine does afterwards isn't known, so such a schedule ends with that call."""
+passed or a close came first. It isn't known what the goroutine does afterwards, so such a schedule ends with that
+call."""
 
 from bisect import bisect_left
 from enum import Enum
@@ -30,7 +31,7 @@ FAULTS: dict[str, dict[tuple[Any, ...], Why]] = {
 }
 OVER = ("rwunlock", "pollclose")  # steps with which a failed call ends
 
-# the operation at which a call begins, keyed by a goroutine and an operation of the call
+# the operation at which a call begins, keyed by a goroutine and each operation of the call
 Watched = dict[tuple[int, int], int]
 
 
@@ -45,7 +46,8 @@ class Failed(NamedTuple):
 
 
 class Reason(NamedTuple):
-    """The step of a schedule that makes a call fail, and how many calls had ended well under the same deadline."""
+    """The step of a schedule that makes a call fail, and the number of calls that had succeeded under the same
+    deadline."""
 
     step: int
     served: int
@@ -57,7 +59,7 @@ def fault_of(made: Made) -> Optional[Why]:
 
 
 def watched(script: Script) -> Watched:
-    """The operations of calls that lock a side of a socket and succeeded in the recording."""
+    """The operations of the calls that lock a side of a socket and succeeded in the recording."""
     return {
         (g, at): begins
         for g, operations in enumerate(script.goroutines)
@@ -68,7 +70,7 @@ def watched(script: Script) -> Watched:
 
 
 def went_well(script: Script, call: list[Operation]) -> bool:
-    """Whether a call has all its steps in the recording, and none failed or found the end of the stream."""
+    """Whether the recording has all steps of a call, and none of these failed or found the end of the stream."""
     if len(call) < 2 or not (call[0].steps and call[-1].steps):
         return False
     steps = [pair for operation in call for pair in zip(operation.kinds, operation.steps)]
@@ -77,7 +79,7 @@ def went_well(script: Script, call: list[Operation]) -> bool:
 
 
 def failing_delays(script: Script) -> list[Delay]:
-    """Delays of calls that went well: until another goroutine next closes their socket, until another goroutine next
+    """Delays of calls that succeeded: until another goroutine next closes their socket, until another goroutine next
     sets a deadline in the past, and until the deadline of an earlier call has passed."""
     sets, closes, ends = _of_socket(script, Sort.SET), _of_socket(script, Sort.CLOSE), ends_of(script)
     found: list[Delay] = []
@@ -101,7 +103,7 @@ def _until(before: int, later: Iterator[int]) -> list[Delay]:
 
 
 def _of_socket(script: Script, sort: Sort) -> dict[int, list[tuple[int, Operation]]]:
-    """By socket, the operations of a sort that have steps, in order, each with its goroutine."""
+    """The operations of a kind that have steps, keyed by socket and in order, each with its goroutine."""
     found: dict[int, list[tuple[int, Operation]]] = {}
     for g, operations in enumerate(script.goroutines):
         for operation in operations:
@@ -111,8 +113,8 @@ def _of_socket(script: Script, sort: Sort) -> dict[int, list[tuple[int, Operatio
 
 
 def _is_of_an_earlier_call(number: int, sets: list[Operation], ends: set[int]) -> bool:
-    """Whether the last deadline that was set before a step is in the future, and an earlier call had ended well under
-    it."""
+    """Whether the last deadline that was set before a step is in the future, and an earlier call had succeeded under
+    that deadline."""
     last = bisect_left([one.steps[0] for one in sets], number) - 1
     if last < 0 or sets[last].values[0] <= 0:
         return False
@@ -130,8 +132,8 @@ def ends_of(script: Script) -> dict[tuple[int, str], set[int]]:
 
 
 def reason_of(script: Script, failed: Failed, steps: list[Made]) -> Optional[Reason]:
-    """The reason why a call failed in a schedule. None if it isn't worth reporting: a future deadline that was set for
-    this call alone would also pass in the recorded order if the bytes came late."""
+    """The reason why a call failed in a schedule. None if the failure isn't worth reporting: a future deadline that was
+    set for this call alone would also pass in the recorded order if the bytes came late."""
     if failed.why is Why.BROKEN:
         return Reason(failed.step, 0)
     call = script.goroutines[failed.goroutine][failed.begins]

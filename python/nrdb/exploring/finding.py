@@ -1,4 +1,5 @@
-"""Runs schedules, and keeps those that end with a suspect or with a call that hangs, one for each rule and place."""
+"""Runs schedules, and keeps the schedules that end with a suspect or with a call that hangs, one for each rule and
+place."""
 
 from bisect import bisect_left, bisect_right
 from collections import Counter
@@ -21,8 +22,8 @@ from .runs import Delay, Impossible, Made
 from .schedules import Schedule, schedules, single_delays
 from .scripts import Script
 
-COPIES, MOST_COPIES = 200, 2_000  # copies of the recorded run, from which schedules continue
-APART = 5  # steps between two copies, unless that makes more copies than allowed
+COPIES, MOST_COPIES = 200, 2_000  # the number of copies of the recorded run from which schedules continue
+APART = 5  # the number of steps between two copies, unless that makes more copies than allowed
 LONGER = 4  # the longest schedule, as a multiple of the recording's length
 HANG = "a call that hangs"
 ORDERED = (LOST_WAKE_UP, TAKEN_BACK, LEFT_BEHIND, WRITE_AFTER_SHUT)  # the rules whose suspects depend on an order
@@ -36,7 +37,7 @@ class Played(NamedTuple):
     steps: list[Made]
     world: World
     places: list[Place]
-    sockets: dict[int, int]  # the numbers of sockets, by those in the recording
+    sockets: dict[int, int]  # the numbers of sockets, keyed by their numbers in the recording
     has_news: bool
     failed: Optional[Failed] = None
 
@@ -62,11 +63,11 @@ class Exploring:
         self.script, self.line_of = with_events(replace(script, limits=_wide(script.limits))), line_of
         self.found: dict[Key, Finding] = {}
         self.times: Counter[Key] = Counter()  # how many schedules end with each finding
-        self.played = self.left = 0  # the number of all schedules, and of those in which a step doesn't apply
-        self.taken_over = 0  # how many shares were taken over from processes that ended too early
+        self.played = self.left = 0  # the number of schedules, and of those in which a step doesn't apply
+        self.taken_over = 0  # the number of shares that were taken over from processes that ended too early
         self._most = LONGER * script.length + 200
         self._copies: list[Player] = []
-        self._times: list[int] = []  # the times of the copies
+        self._times: list[int] = []  # the times at which the copies were made
         self.delays = single_delays(self.script)
         if self.script.watched:
             self.delays = list(dict.fromkeys([*failing_delays(self.script), *self.delays]))
@@ -77,7 +78,7 @@ class Exploring:
         self.known |= {(FAILS, self._place(g, begins), why) for g, begins, why in faults_of(self.script)}
 
     def _play_recorded(self) -> Played:
-        """Runs the recorded schedule, and keeps copies on the way."""
+        """Runs the recorded schedule, and keeps copies of the state along the way."""
         player = Player(self.script)
         length = self.script.length
         every = max(length // MOST_COPIES, min(length // COPIES, APART), 1)
@@ -95,7 +96,7 @@ class Exploring:
         return Played(steps, world, player.places, sockets, player.has_news, player.failed)
 
     def run(self, most: int, tell: Callable[[], None]) -> None:
-        """Runs this many schedules; `tell` is called after each."""
+        """Runs this number of schedules; calls `tell` after each of them."""
         for schedule in schedules(self.delays, most):
             self.play(schedule)
             tell()
@@ -119,11 +120,11 @@ class Exploring:
         return {finding.key for finding in findings}
 
     def keep(self, key: Key, schedule: Schedule) -> None:
-        """Keeps what another process found in a schedule."""
+        """Keeps the finding that another process found in a schedule."""
         self.found.update((finding.key, finding) for finding in self._ends(schedule) if finding.key == key)
 
     def least(self, finding: Finding) -> Finding:
-        """The finding with all unnecessary delays removed."""
+        """The finding, with all unnecessary delays removed."""
         delays = finding.schedule.delays
         for left_out in delays if len(delays) > 1 else ():
             schedule = finding.schedule._replace(delays=tuple(delay for delay in delays if delay != left_out))
@@ -141,7 +142,8 @@ class Exploring:
         return list(self._findings(schedule, played)) if played else []
 
     def ends_of(self, delays: tuple[Delay, ...]) -> Optional[Played]:
-        """Runs a schedule from the last copy before its first delay; None if it returns to the recorded run."""
+        """Runs a schedule from the last copy before its first delay; returns None if the schedule returns to the
+        recorded run."""
         first, last = min(delay.before for delay in delays), max(delay.until for delay in delays)
         player = self._copies[max(bisect_left(self._times, first) - 1, 0)].copy(delays)
         for at in range(bisect_right(self._times, last), len(self._times)):
@@ -158,7 +160,7 @@ class Exploring:
         return self._all_of(player)
 
     def _with_the_rest(self, player: Player, copy: Player) -> Played:
-        """The result of a schedule that has returned to the recorded run with the same numbers: it ends with the
+        """The result of a schedule that has returned to the recorded run with the same numbers. It ends with the
         recorded steps."""
         steps = self._steps[: player.before] + player.steps + self._steps[copy.before :]
         recorded = self.recorded
@@ -187,7 +189,7 @@ class Exploring:
                 yield Finding((HANG, self.line_of(number) or (g, operation.socket)), None, g, schedule, played)
 
     def _failure(self, schedule: Schedule, played: Played) -> Iterator[Finding]:
-        """The first call that fails, if it is worth reporting."""
+        """The first call that fails, if the failure is worth reporting."""
         failed = played.failed
         if failed and (reason := reason_of(self.script, failed, played.steps)):
             key = FAILS, self._place(failed.goroutine, failed.begins), failed.why
@@ -199,8 +201,8 @@ class Exploring:
         return self.line_of(operation.steps[0]) or (g, operation.socket)
 
     def _counts(self, suspect: Suspect, played: Played) -> bool:
-        """Whether a suspect counts as a finding: it depends on the order, and a goroutine that was woken wrongly
-        doesn't continue by itself."""
+        """Whether a suspect counts as a finding: the suspect depends on the order of steps, and a goroutine that was
+        woken wrongly doesn't continue by itself."""
         if not suspect.is_shown or suspect.rule not in ORDERED:
             return False
         if suspect.rule not in (LOST_WAKE_UP, TAKEN_BACK) or suspect.goroutine is None:
@@ -226,5 +228,5 @@ class Exploring:
 
 
 def _wide(limits: Limits) -> Limits:
-    """Limits with a descriptor for each socket: more may be open at once than in the recorded run."""
+    """Limits with a descriptor for each socket, because more sockets may be open at once than in the recorded run."""
     return limits._replace(desc=max(limits.desc, limits.sock))

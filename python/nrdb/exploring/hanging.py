@@ -1,6 +1,6 @@
-"""Calls that hang: a goroutine is parked without a deadline in a call that a deadline ended in the recording. This
-schedule must have set that deadline too; if it didn't, because the goroutine that sets it hangs or waits, the call
-hangs for another reason."""
+"""Calls that hang: a goroutine is parked without a deadline in a call that a deadline ended in the recording. The
+schedule must have set that deadline too. If it didn't, because the goroutine that sets the deadline hangs or waits, the
+call hangs for another reason."""
 
 from typing import Optional
 
@@ -29,7 +29,8 @@ def hangs(script: Script, g: int, place: Place, world: World, steps: list[Made])
 
 
 def ended_by(script: Script, g: int, place: Place) -> Optional[int]:
-    """The step that set the deadline which ended a goroutine's call in the recording; None if the call ended otherwise."""
+    """The step that set the deadline which ended a goroutine's call in the recording; None if the call ended in another
+    way."""
     operations = script.goroutines[g]
     operation = operations[place.operation]
     last = next((one.steps[-1] for one in reversed(operations[: place.operation + 1]) if one.steps), 0)
@@ -39,7 +40,7 @@ def ended_by(script: Script, g: int, place: Place) -> Optional[int]:
 
 
 def _sets(script: Script, operation: Operation) -> list[int]:
-    """The steps that set a deadline for what an operation waits for."""
+    """The steps that set a deadline for the side on which an operation waits."""
     return [
         one.steps[0]
         for operations in script.goroutines
@@ -49,8 +50,8 @@ def _sets(script: Script, operation: Operation) -> list[int]:
 
 
 def moved_by(script: Script, g: int, place: Place, steps: list[Made]) -> tuple[int, int]:
-    """For a goroutine that hangs: which of these steps set the deadline that ended its call in the recording, and
-    which moved it."""
+    """Two of these steps, for a goroutine that hangs: the step that set the deadline which ended its call in the
+    recording, and the step that moved this deadline."""
     ended, sets = ended_by(script, g, place), set(_sets(script, script.goroutines[g][place.operation]))
     set_at = next(at for at, made in enumerate(steps, 1) if made.number == ended)
     return set_at, max(at for at, made in enumerate(steps, 1) if made.number in sets)

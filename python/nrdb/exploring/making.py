@@ -16,7 +16,7 @@ CAUSES = ("syswrite", "closewrite", "pollopen", "evict", "pollclose")  # steps t
 
 
 def script_of(recording: Recording) -> Script:
-    """The script of a recording, which must have answers."""
+    """The script of a recording. The recording must have answers."""
     events = Events(recording)
     limits = Limits(*(recording.limits[key] for key in Limits._fields))
     seen: dict[int, int] = {}
@@ -45,7 +45,7 @@ def script_of(recording: Recording) -> Script:
 
 
 def _mark_raw(goroutines: list[list[Operation]], lines: Lines) -> None:
-    """Marks the waits of RawConn, if the program's lines are known."""
+    """Marks the waits made through a RawConn, if the program's lines are known."""
     for operation in (operation for operations in goroutines for operation in operations):
         if operation.sort is Sort.WAIT and operation.steps:
             calls = lines.of(operation.steps[0]).calls
@@ -53,7 +53,8 @@ def _mark_raw(goroutines: list[list[Operation]], lines: Lines) -> None:
 
 
 def _others(events: Events, openers: set[int]) -> tuple[dict[int, list[Item]], list[Item], list[Item]]:
-    """The steps that no known goroutine made: those of the network and the clock, and those of unknown goroutines."""
+    """The steps that no known goroutine made: the steps of the network and the clock, and the steps of unknown
+    goroutines."""
     network: dict[int, list[Item]] = {}
     clock: list[Item] = []
     made: list[Item] = []

@@ -1,6 +1,6 @@
-"""The orders that every schedule keeps: which steps must precede a goroutine's steps, according to the recorder's view
-of the program's order, and which steps the network may react to. Both kinds of order are stored for operations: an
-operation begins after another has ended."""
+"""The orders that every schedule keeps: the steps that must precede a goroutine's steps, by the recorder's view of the
+program's order, and the steps to which the network may react. Both are stored for operations: an operation begins after
+another has ended."""
 
 from typing import NamedTuple, Optional, Sequence
 
@@ -8,11 +8,11 @@ from .control import GOROUTINE, NETWORK, NEVER, Place
 from .scripts import Cause, Operation, Order
 
 Pairs = Sequence[tuple[int, int]]
-Key = tuple[float, int]  # a due time, and the place among the actions of the same time
+Key = tuple[float, int]  # a due time, and the place among the actions with the same due time
 
 
 class Where(NamedTuple):
-    """The owner of a step, and the operation that it belongs to."""
+    """The owner of a step, and the operation that the step belongs to."""
 
     goroutine: int
     operation: int
@@ -29,8 +29,8 @@ def places_of(goroutines: list[list[Operation]]) -> dict[int, Where]:
 
 
 def orders_of(goroutines: list[list[Operation]], pairs: Optional[Pairs]) -> Optional[list[list[Order]]]:
-    """For each goroutine, the operations of others that must precede its operations, in order; None if nothing is
-    known."""
+    """For each goroutine, the operations of other goroutines that must precede its operations, in order; None if the
+    recording doesn't have the program's orders."""
     if pairs is None:
         return None
     where = places_of(goroutines)
@@ -43,15 +43,15 @@ def orders_of(goroutines: list[list[Operation]], pairs: Optional[Pairs]) -> Opti
 
 
 class Waiting:
-    """The goroutines and sockets that wait for a goroutine. When that goroutine continues, each of them checks again:
-    goroutines at once, and the network for its sockets when it is due. If all would only wait again, none of them
-    checks, and only their order is updated."""
+    """The goroutines and sockets that wait for a goroutine. When that goroutine continues, each waiter checks again:
+    goroutines at once, and the network for its sockets when its action is due. If all waiters would only wait again,
+    none of them checks, and only their order is updated."""
 
     def __init__(self) -> None:
         self.first: list[int] = []  # goroutines
         self.network: list[int] = []  # sockets, which check after the goroutines
         self.later: list[tuple[int, int]] = []  # actors and their numbers, which check after both
-        self.until = NEVER  # the operation after which the first of these goroutines continues
+        self.until = NEVER  # the operation after which the first of these goroutines may continue
         self.again: Optional[Key] = None  # when the network checks again
 
     def copy(self) -> "Waiting":
@@ -61,7 +61,7 @@ class Waiting:
         return made
 
     def add(self, actor: int, which: int) -> None:
-        """Adds a goroutine or a socket that waits."""
+        """Adds a waiting goroutine or socket."""
         is_behind = self.later or (self.network if actor == GOROUTINE and self.again is None else ())
         if is_behind or (actor != GOROUTINE and self.again is not None):
             self.later.append((actor, which))
@@ -79,8 +79,8 @@ class Waiting:
                 self.network = []
 
     def look_again(self, due: Key) -> int:
-        """Records that all have checked again without success. Returns how many checks by the network will from now on
-        be made when they are due."""
+        """Records that all waiters have checked again without success. Returns the number of checks by the network that
+        will from now on be made when they are due."""
         for actor, which in self.later:
             (self.first if actor == GOROUTINE else self.network).append(which)
         self.later = []
@@ -96,18 +96,18 @@ class Waiting:
         return bool(self.network) or any(actor != GOROUTINE for actor, _ in self.later)
 
     def row(self) -> list[tuple[int, int]]:
-        """All waiters except those that check again when they are due."""
+        """All waiters, except those that check again when their actions are due."""
         network = self.network if self.again is None else []
         return [*((GOROUTINE, g) for g in self.first), *((NETWORK, s) for s in network), *self.later]
 
 
 class Passing:
-    """The player's progress in the order, and what waits for each goroutine."""
+    """The player's progress in the order, and the waiters for each goroutine."""
 
     def __init__(self, orders: Optional[list[list[Order]]], causes: list[Cause], places: list[Place]) -> None:
         self.orders, self.causes, self.places = orders, causes, places
-        self.passed = [0] * len(places)  # for each goroutine, how many of its orders are met
-        self.caused = 0  # how many causes have been made
+        self.passed = [0] * len(places)  # for each goroutine, the number of its orders that are met
+        self.caused = 0  # the number of causes that have been made
         self.waiting: dict[int, Waiting] = {}
 
     def copy(self, places: list[Place]) -> "Passing":
@@ -117,13 +117,13 @@ class Passing:
         return made
 
     def is_as(self, other: "Passing") -> bool:
-        """Whether the same goroutines wait for the same others in both."""
+        """Whether the same goroutines wait for the same other goroutines in both."""
         rows, its_rows = ({g: one.row() for g, one in each.waiting.items()} for each in (self, other))
         return rows == its_rows
 
     def has_still_to_go_on(self, g: int) -> Optional[int]:
-        """The goroutine that, by the program's order, must continue before another makes its next step; None if there
-        is none."""
+        """The goroutine that, by the program's order, must continue before another goroutine makes its next step; None
+        if no goroutine must."""
         if self.orders is None:
             return None
         row, at, operation = self.orders[g], self.passed[g], self.places[g].operation
@@ -136,7 +136,8 @@ class Passing:
         return None
 
     def has_still_to_cause(self, number: int) -> Optional[int]:
-        """The goroutine that must still make a step that the network's next action may react to; None if there is none."""
+        """The goroutine that must still make a step to which the network's next action may react; None if no goroutine
+        must."""
         while self.caused < len(self.causes):
             cause = self.causes[self.caused]
             place = self.places[cause.goroutine]
@@ -156,7 +157,7 @@ class Passing:
             waiting.until = min(waiting.until, self.waits_until(which))
 
     def is_still_awaited(self, g: int, waiting: Waiting) -> bool:
-        """Whether everything that waits for a goroutine must still wait although the goroutine has continued."""
+        """Whether all waiters for a goroutine must still wait although the goroutine has continued."""
         place = self.places[g]
         if place.operation > waiting.until:
             return False
@@ -177,7 +178,7 @@ class Passing:
         return self.orders[g][self.passed[g]].until
 
     def settle(self) -> None:
-        """Records that everything that was due has checked again."""
+        """Records that all waiters that were due have checked again."""
         for waiting in self.waiting.values():
             waiting.settle((NEVER, 0))
 

@@ -1,6 +1,6 @@
-"""Runs a script under a schedule. Time is counted in steps of the recording: each recorded step is due at the time at
-which it was made, and any other step at once; the steps of a delayed goroutine are due later. An action that isn't due
-waits, and so do a goroutine that sleeps and a step whose object doesn't exist yet."""
+"""Runs a script under a schedule. Time is counted in steps of the recording. A recorded step is due at the time at
+which it was made, or later if its goroutine is delayed; any other step is due at once. An action that isn't due waits,
+and so do a goroutine that sleeps and a step whose object doesn't exist yet."""
 
 from heapq import heappop, heappush
 from typing import Optional
@@ -19,7 +19,7 @@ from .standing import Standing, Turn
 WAKING = frozenset(("pollevent", "setdeadline", "evict", "fire", "release"))
 NEWS = (("code", 2), ("pipe",))  # a timeout, a broken pipe
 MAKING = frozenset(("spawn", "sockopen", "pollopen"))
-UNLIKE = MAKING | {"pollclose"}  # kinds of steps that create or free a number
+UNLIKE = MAKING | {"pollclose"}  # kinds of steps that take or free a number
 SEEN = frozenset(("arrive", "peerclose", "drain", "increfclose", "pollevent"))  # the steps that `Others.see` needs
 
 
@@ -33,7 +33,7 @@ class Player(Standing):
             self._push(due, actor, which)
 
     def run(self, until: float, most: int) -> None:
-        """Runs everything that is due before a time, and stops after this many steps."""
+        """Runs everything that is due before a time. Stops after this number of steps."""
         heap = self._heap
         most -= self.before
         self._in_order = None
@@ -46,7 +46,7 @@ class Player(Standing):
         self.passing.settle()
 
     def end(self, most: int) -> None:
-        """Runs the rest, and then due timers and pending events, as long as a goroutine continues."""
+        """Runs the rest of the script, and then due timers and pending events, as long as a goroutine continues."""
         while True:
             self.run(NEVER, most)
             step = next(self.others.left(self.board, self.numbers), None)
@@ -57,7 +57,7 @@ class Player(Standing):
     # ---- goroutines
 
     def _needs_no_wait(self, g: int) -> bool:
-        """Whether a goroutine's event has come already, so that its call continues without a wait; if so, lets the call
+        """Whether a goroutine's event has come already, so that its call continues without a wait. If so, lets the call
         continue."""
         place = self.places[g]
         operation = self.script.goroutines[g][place.operation]
@@ -91,7 +91,7 @@ class Player(Standing):
         self.following[g], self.coming[g] = step, number
         due = float(number)
         if not number and g not in self.off and next_number(operations, place) == NEVER:
-            due = self.script.length + 1.0  # what the goroutine did then isn't recorded, because the recording ended
+            due = self.script.length + 1.0  # the recording ended, so it doesn't have what the goroutine did then
         elif number in self.until:
             due = max(due, self.until[number])
             self.held[g] = due
@@ -126,7 +126,7 @@ class Player(Standing):
             self._follows(g, turn)
 
     def _takes_turn(self, g: int, step: Step, answer: Answer) -> None:
-        """Updates the place of a goroutine that has made its step, and schedules its next step."""
+        """Updates the place of a goroutine after its step, and schedules its next step."""
         place, number = self.places[g], self.coming[g]
         operation = self.script.goroutines[g][place.operation]
         if number:
@@ -163,7 +163,8 @@ class Player(Standing):
         self.turns[number] = turn
 
     def _follows(self, g: int, turn: Turn) -> None:
-        """Schedules a goroutine's next step as in the recorded run, if the step's object has the same number there."""
+        """Schedules a goroutine's next step as in the recorded run, if the step's object has the same number in this
+        schedule."""
         following, number = turn.following, turn.coming
         if following is None or self.numbers.of(turn.about) != turn.named:
             return self._push_goroutine(g)
@@ -182,7 +183,7 @@ class Player(Standing):
             self._apply(step, 0)
 
     def _passes(self, g: int) -> None:
-        """Lets the goroutines continue that waited for a goroutine which has continued."""
+        """Lets the goroutines continue that waited for a goroutine which has now continued."""
         waiting = self.passing.waiting.get(g)
         if waiting is None:
             return
@@ -203,7 +204,7 @@ class Player(Standing):
             del self.passing.waiting[g]
 
     def _looks(self, g: int, which: int, rest: Waiting) -> None:
-        """Checks, for a goroutine that waits for another, whether the other has continued far enough."""
+        """Checks, for a goroutine that waits for another goroutine, whether the other one has continued far enough."""
         until = self.passing.waits_until(which)
         if self.places[g].operation > until:
             self._push_goroutine(which)
@@ -225,7 +226,7 @@ class Player(Standing):
                 self._push(self.now, NETWORK, s)
 
     def _look_again(self) -> None:
-        """Schedules the steps that lacked an object, after an object was made."""
+        """Schedules the steps that lacked an object, after a step has made an object."""
         lacking, self.lacking = self.lacking, []
         for actor, which in lacking:
             if actor == GOROUTINE:
@@ -283,7 +284,7 @@ class Player(Standing):
             self._push(following.due, actor, which)
 
     def _is_held_back(self, actor: int, which: int, event: Event) -> bool:
-        """Whether a due action must wait: the network waits for the steps that it may react to, and a new goroutine
+        """Whether a due action must wait. The network waits for the steps to which it may react, and a new goroutine
         whose parent is unknown waits for the goroutines that pause."""
         if actor == NETWORK:
             if (cause := self.passing.has_still_to_cause(event.number)) is not None:

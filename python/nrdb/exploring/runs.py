@@ -13,7 +13,7 @@ class Delay(NamedTuple):
 
 
 class Made(NamedTuple):
-    """A step that was made, its answer, and its number in the recording; 0 if it isn't a recorded one."""
+    """A step that was made, its answer, and its number in the recording; 0 if the recording doesn't have the step."""
 
     step: Step
     answer: Answer
@@ -21,4 +21,4 @@ class Made(NamedTuple):
 
 
 class Impossible(Exception):
-    """Raised if a step of a call doesn't apply, so that this isn't a schedule of these calls."""
+    """Raised if a step of a call doesn't apply. Such a schedule isn't a schedule of these calls."""

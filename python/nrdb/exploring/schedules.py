@@ -1,5 +1,6 @@
-"""The schedules to try: the recorded one with a few delays. A goroutine pauses until another one has made a step at the
-same part of the same socket; each delay is tried alone first, then two or three of them, drawn by a seed."""
+"""The schedules to try: the recorded schedule with a few delays. In a delay, a goroutine pauses until another actor has
+made a step at the same part of the same socket. Each delay is first tried alone; then two or three delays are tried
+together, drawn by a seed."""
 
 import random
 from bisect import bisect_left, bisect_right
@@ -11,9 +12,9 @@ from netrev_calls.flow import Sort
 from .runs import Delay
 from .scripts import Operation, Script
 
-NEAR = 4  # the most steps of other actors at the same part for which a pause may wait
-AROUND = 40  # the most steps within which several delays are drawn
-IN_VAIN = 2_000  # seeds in a row without a new schedule that end the search
+NEAR = 4  # the most steps of other actors at the same part that a pause may wait for
+AROUND = 40  # the most steps between delays that are drawn together
+IN_VAIN = 2_000  # the search ends after this many consecutive seeds without a new schedule
 LOCK, WAIT, BYTES = "lock", "wait", "bytes"  # the parts of a socket that a step may be about
 OF_THING = {
     LOCK: ("rwlock", "rwunlock", "increfclose", "acquire", "release"),
@@ -26,7 +27,7 @@ OF_THING = {
 THING_OF = {kind: thing for thing, kinds in OF_THING.items() for kind in kinds}
 SIDE_OF = {"arrive": "r", "peerclose": "r", "sysread": "r", "drain": "w", "syswrite": "w", "closewrite": "w"}
 # two steps about a wait are paired only if one of them is of these kinds, because no other goroutine can enter the wait
-# meanwhile
+# in between
 TO_OTHERS = frozenset(("setdeadline", "evict", "pollevent", "fire"))
 
 Thing = tuple[int, str, str]  # a socket, a part of it, and a side
@@ -39,7 +40,7 @@ class Schedule(NamedTuple):
     seed: int
 
     def is_simpler_than(self, other: "Schedule") -> bool:
-        """Whether a schedule has fewer delays, or as many and shorter ones."""
+        """Whether a schedule has fewer delays than the other, or as many and shorter ones."""
         return self.measure() < other.measure()
 
     def measure(self) -> tuple[int, int]:
@@ -48,21 +49,21 @@ class Schedule(NamedTuple):
 
 
 class Touched(NamedTuple):
-    """A recorded step about a part of a socket, and its goroutine (-1: the network or a timer)."""
+    """A recorded step at a part of a socket, and the step's goroutine (-1: the network or a timer)."""
 
     number: int
     who: int
     kind: str
 
     def matters_to(self, other: "Touched") -> bool:
-        """Whether the other step is another actor's and the order of both may matter."""
+        """Whether the other step is another actor's, and the order of the two steps may matter."""
         if self.who == other.who:
             return False
         return THING_OF[self.kind] != WAIT or self.kind in TO_OTHERS or other.kind in TO_OTHERS
 
 
 def touched(script: Script) -> dict[Thing, list[Touched]]:
-    """The steps about each part of a socket, in order."""
+    """The steps at each part of a socket, in order."""
     found: dict[Thing, list[Touched]] = {}
 
     def note(socket: int, sides: str, step: Touched) -> None:
@@ -96,8 +97,8 @@ def single_delays(script: Script) -> list[Delay]:
 
 
 def _late_delays(script: Script) -> Iterator[Delay]:
-    """Delays of a call until its deadline has passed, if the deadline was set for both sides before the other side's
-    deadline was moved alone."""
+    """Delays of a call until its deadline has passed, if the deadline was set for both sides and the other side's
+    deadline was then moved alone."""
     sets = sorted(_of_sort(script, Sort.SET))
     for number, reset in sorted(_of_sort(script, Sort.RESET)):
         before = [(at, one) for at, one in sets if at < number and one.use == reset.use]
@@ -107,7 +108,7 @@ def _late_delays(script: Script) -> Iterator[Delay]:
 
 
 def _of_sort(script: Script, sort: Sort) -> Iterator[tuple[int, Operation]]:
-    """The operations of a sort that have steps, each with the number of its first step."""
+    """The operations of a kind that have steps, each with the number of its first step."""
     for operations in script.goroutines:
         for operation in operations:
             if operation.sort is sort and operation.steps:
@@ -115,7 +116,8 @@ def _of_sort(script: Script, sort: Sort) -> Iterator[tuple[int, Operation]]:
 
 
 def schedules(delays: list[Delay], most: int) -> Iterator[Schedule]:
-    """At most this many different schedules, with the nearest delays first; fewer if the seeds give no new ones."""
+    """Different schedules, with the nearest delays first: at most this number of them, and fewer if the seeds give no
+    new ones."""
     for delay in delays[:most]:
         yield Schedule((delay,), 0)
     in_order = sorted(delays)
@@ -131,7 +133,7 @@ def schedules(delays: list[Delay], most: int) -> Iterator[Schedule]:
 
 
 def drawn(delays: list[Delay], in_order: list[Delay], seed: int) -> tuple[Delay, ...]:
-    """Two or three delays near each other, with short ones preferred."""
+    """Two or three delays that are near each other. Short delays are preferred."""
     dice = random.Random(seed)
     first = delays[int(len(delays) * dice.random() ** 2)]
     begin = bisect_left(in_order, Delay(first.before - AROUND, 0))

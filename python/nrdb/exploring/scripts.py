@@ -1,6 +1,6 @@
-"""A script: what each goroutine, the network and the clock did in a recording, without the order. A goroutine's script
-is a list of operations, which are the parts of its calls. If the machine answers differently, the goroutine continues
-with an operation other than the next one."""
+"""A script: what each goroutine, the network and the clock did in a recording, without the order between them. A
+goroutine's script is a list of operations, which are the parts of its calls. If the machine's answer differs from the
+recorded one, the goroutine continues with another operation than the next."""
 
 from dataclasses import dataclass, field
 from typing import Any, NamedTuple, Optional
@@ -22,11 +22,11 @@ class Operation:
     values: tuple[Any, ...] = ()  # the step's arguments other than the object and the side
     steps: list[int] = field(default_factory=list)
     kinds: list[str] = field(default_factory=list)
-    moved: list[int] = field(default_factory=list)  # for each try of a write, the number of bytes it moved
+    moved: list[int] = field(default_factory=list)  # for each try of a write, the number of bytes that the try moved
     on_failure: int = 0
     cause: Optional[int] = None  # for a wait without a read or write after it, the step of the event that ended it
-    is_brief: bool = False  # whether such a wait found its readiness already set
-    is_raw: bool = False  # whether a function of the program that was passed to RawConn decides if it waits
+    is_brief: bool = False  # whether the readiness for such a wait was already set
+    is_raw: bool = False  # whether a function of the program, passed to RawConn, decides if the operation waits
     ends_unread: bool = False  # whether no step shows a try after its last wait
 
 
@@ -39,7 +39,8 @@ class Item(NamedTuple):
 
 
 class Order(NamedTuple):
-    """An order: a goroutine's operation begins after an operation of another goroutine has ended."""
+    """An order between operations of two goroutines: the first goroutine's operation begins after the other's has
+    ended."""
 
     operation: int
     other: int
@@ -47,7 +48,7 @@ class Order(NamedTuple):
 
 
 class Cause(NamedTuple):
-    """A recorded step that another actor may answer: its number, its goroutine, its operation, and its index in the
+    """A recorded step to which another actor may react: its number, its goroutine, its operation, and its index in the
     operation."""
 
     number: int
@@ -59,7 +60,8 @@ class Cause(NamedTuple):
 @dataclass
 class Script:
     """The operations of each goroutine; the actions of the network at each socket; timers and the clock; and the steps
-    of unknown goroutines. Numbers are those of the recording, except that uses take the place of descriptors."""
+    of unknown goroutines. The numbers are those of the recording, except that descriptors are replaced by their
+    uses."""
 
     limits: Limits
     length: int
@@ -67,11 +69,11 @@ class Script:
     network: dict[int, list[Item]]
     clock: list[Item]
     made: list[Item]
-    sockets: list[int]  # by use, its socket
-    ordinals: list[int]  # by use, its ordinal among the uses of its descriptor, from 0
+    sockets: list[int]  # the socket of each use
+    ordinals: list[int]  # for each use, its ordinal among the uses of its descriptor, from 0
     causes: list[Cause]
     answers: list[tuple[Any, ...]]
-    # for each goroutine, the orders that the recorder saw the program impose; None if it didn't record them
+    # for each goroutine, the orders that the recorder saw the program impose; None if the recording doesn't have them
     orders: Optional[list[list[Order]]] = None
     # the places at which calls may fail: for a goroutine and an operation of a call that succeeded, the operation at
     # which the call begins

@@ -1,5 +1,5 @@
-"""The state of a running script: the machine's state, the place of each goroutine in its calls, and the due times. It
-can be copied and compared with another."""
+"""The state of a running script: the machine's state, the place of each goroutine in its calls, and the due times. A
+state can be copied, and compared with another state."""
 
 from heapq import heapify, heappush
 from typing import NamedTuple, Optional, TypeVar
@@ -22,8 +22,8 @@ Itself = TypeVar("Itself", bound="Standing")
 
 
 class Turn(NamedTuple):
-    """A goroutine's turn in the recorded run: its place before it, the answer, and its status and place after it; its
-    next step, if that was scheduled at once, the step's object and the number of the object."""
+    """A goroutine's turn in the recorded run: its place before the turn, the answer, and its status and place after the
+    turn. If its next step was scheduled at once: that step, the step's object and the object's number."""
 
     place: Place
     answer: Answer
@@ -45,20 +45,20 @@ class Standing:
         self.board = Board(script.limits, not delays)
         self.turns: dict[int, Turn] = {}  # turns of the recorded run, by the numbers of their steps
         self.numbers = Numbers()
-        self.before = 0  # how many steps the copied player had made
-        self.steps: list[Made] = []  # the steps after those
+        self.before = 0  # the number of steps that the copied player had made
+        self.steps: list[Made] = []  # the steps after those of the copied player
         self.places = [Place() for _ in script.goroutines]
         self.passing = Passing(script.orders, script.causes, self.places)
         self.following: dict[int, Step] = {}  # the next step of each goroutine that is scheduled
-        self.coming = [0] * len(script.goroutines)  # by goroutine, the number of its next step in the recording, or 0
+        self.coming = [0] * len(script.goroutines)  # the number of each goroutine's next recorded step, or 0
         self.off: set[int] = set()  # the actors that have made steps that the recording doesn't have
         # whether a step had an answer of NEWS that the recording doesn't have, or a watched call failed
         self.has_news = False
         self.failed: Optional[Failed] = None  # the first watched call that failed
-        self.is_over = False  # whether that call has ended
-        self.held: dict[int, float] = {}  # the actors that pause, each with the end of its pause
+        self.is_over = False  # whether the failed call has ended
+        self.held: dict[int, float] = {}  # the actors that pause, each with the time at which its pause ends
         self.asleep: set[int] = set()
-        self.lacking: list[tuple[int, int]] = []  # the actors that wait for another's step
+        self.lacking: list[tuple[int, int]] = []  # the actors that wait for a step of another actor
         self.others = Others(script)
         self.now = 0.0
         self._heap: list[Due] = []
@@ -67,7 +67,7 @@ class Standing:
         self._streams: dict[tuple[int, int], Stream] = {}
 
     def copy(self: Itself, delays: tuple[Delay, ...]) -> Itself:
-        """A copy of the state, to continue from here under other delays."""
+        """A copy of the state, from which the run continues under other delays."""
         made = object.__new__(type(self))
         made.__dict__.update(self.__dict__)
         made.until = {delay.before: delay.until + 0.5 for delay in delays}
@@ -81,7 +81,7 @@ class Standing:
         return made
 
     def _hold(self) -> None:
-        """Delays the next step of each goroutine that pauses before it."""
+        """Delays the next step of each goroutine that has a delay before that step."""
         for at, (due, count, actor, g) in enumerate(self._heap):
             if actor == GOROUTINE and (until := self.until.get(self.coming[g])):
                 self.held[g] = max(due, until)
@@ -89,7 +89,7 @@ class Standing:
         heapify(self._heap)
 
     def is_as(self, other: "Standing") -> bool:
-        """Whether this state equals the other one, so that both continue in the same way."""
+        """Whether this state equals the other one, so that both runs continue in the same way."""
         return (
             self.places == other.places
             and self.off == other.off
@@ -100,8 +100,8 @@ class Standing:
         )
 
     def is_the_same_as(self, other: "Standing") -> bool:
-        """Whether everything that decides how this run continues is equal in the other, down to the numbers, so that
-        both make exactly the same steps from here on."""
+        """Whether everything that decides how this run continues, including the numbers, equals the other run. Both
+        then make exactly the same steps."""
         return (
             self.places == other.places
             and self.board.is_as(other.board)
@@ -116,7 +116,7 @@ class Standing:
         )
 
     def _watch(self, g: int, place: Place) -> None:
-        """Records the first watched call that fails, and that call's end."""
+        """Records the first watched call that fails, and the end of that call."""
         made = self.steps[-1]
         begins = self.script.watched.get((g, place.operation))
         if self.failed is None and begins is not None and (why := fault_of(made)):

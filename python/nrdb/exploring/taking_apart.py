@@ -8,7 +8,7 @@ from netrev_words.vocabulary import KINDS
 from ..reducing.events import Event, Events
 from .scripts import Operation
 
-ROOM = 4_096  # the number of bytes that a read asks for, if unknown
+ROOM = 4_096  # the number of bytes that a read asks for if that number is unknown
 OF_EACH = ("g", "s", "d", "side", "mode")  # the arguments of an operation other than its values
 
 
@@ -52,7 +52,7 @@ class TakenApart:
             self._waited(event)
 
     def _waited(self, event: Event) -> None:
-        """Records that a wait has ended, if this step ended it."""
+        """Records the end of a wait, if this step ended it."""
         last = self.last
         assert last
         is_ready = came(event.kind, event.answer) is Came.READY
@@ -61,10 +61,10 @@ class TakenApart:
             last.is_brief = event.kind == "blockarm" and (cause is None or cause < last.steps[0])
             last.cause = None if last.is_brief else cause
         if is_ready and last.sort in (Sort.READ, Sort.WRITE):
-            last.ends_unread = True  # until a try follows
+            last.ends_unread = True  # until a try follows the wait
 
     def _supposed(self, sort: Sort, socket: int, use: int = -1, side: str = "", *values: Any) -> None:
-        """Adds an operation that the recording doesn't show, because the call ended before it."""
+        """Adds an operation that the recording doesn't show because the call ended before the operation."""
         self.operations.append(Operation(sort, socket, use, side, values))
 
     def _supposed_try(self, socket: int, use: int, side: str) -> None:
@@ -151,8 +151,8 @@ class TakenApart:
         self._tries(Sort.WRITE, "w", event)
 
     def _tries(self, sort: Sort, side: str, event: Event) -> None:
-        """Adds a try of a read or a write: the first of a call, one after a wait, or the next one if the call moves
-        bytes in several steps."""
+        """Adds a try of a read or a write: the first try of a call, a try after a wait, or a further try if the call
+        moves bytes in several steps."""
         last, (_, s, value) = self.last, event.arguments
         is_over = self.answer[:1] in (("eof",), ("pipe",))
         goes_on = last is not None and last.sort is sort and last.socket == s and last.steps and not is_over
@@ -200,7 +200,7 @@ def goroutines_of(events: Events, count: int) -> list[list[Operation]]:
 
 
 def _rests(events: Events, count: int) -> list[bool]:
-    """Whether each goroutine is at rest at the end."""
+    """For each goroutine, whether it is at rest at the end."""
     rests = [True] * count
     for event, rest in zip(events.all, events.rests):
         if event.named("g") is not None:
@@ -209,8 +209,8 @@ def _rests(events: Events, count: int) -> list[bool]:
 
 
 def _finish(operations: list[Operation], is_at_rest: bool) -> None:
-    """Completes the call that a goroutine is in at the end, and sets where the goroutine continues if an operation
-    fails."""
+    """Completes the call that a goroutine is in at the end, and sets where the goroutine continues if one of its
+    operations fails."""
     open_ones: list[int] = []
     for at, operation in enumerate(operations):
         if operation.sort in (Sort.LOCK, Sort.REFER, Sort.CLOSE):

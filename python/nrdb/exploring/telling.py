@@ -27,7 +27,7 @@ class Telling:
         self.recording, self.book, self.script = recording, book, script
 
     def delay(self, delay: Delay) -> str:
-        """A delay as text: the goroutine, the place, and the end of the delay."""
+        """A delay as text: the goroutine, its place, and the end of the delay."""
         kind, g = self._step(delay.before)
         call = self.call_of(g, delay.before)
         in_call, before = (f", in {self._named(call)},", kind) if call else ("", kind)
@@ -36,7 +36,7 @@ class Telling:
         return f"goroutine {g}{in_call} pauses before {before} (step {delay.before}) until {self._until(delay.until)}"
 
     def unless(self, finding: Finding) -> str:
-        """The line that says what isn't known about a finding."""
+        """The line about the facts that aren't known about a finding."""
         unless = UNLESS + (UNKNOWN if self.script.orders is None else LEFT_UNKNOWN)
         g = finding.suspect.goroutine if finding.suspect else None
         if g is None or finding.key[0] != LOST_WAKE_UP:
@@ -72,7 +72,7 @@ class Telling:
         return f"{call.name} on socket {call.socket}"
 
     def finding(self, at: int, finding: Finding, times: int, file: str) -> list[str]:
-        """The lines about a finding that was written to a file, except netrev's answer."""
+        """The lines about a finding that was written to a file, without netrev's answer."""
         lines = [f"{at}. {self._head(finding, file)}"]
         delays = finding.schedule.delays
         for one in delays:
@@ -101,7 +101,7 @@ class Telling:
         return f"{finding.key[0]}, in {file}: {named}{ended} hangs: {says}"
 
     def _fails(self, failed: Failed, reason: Reason, finding: Finding) -> str:
-        """Says which call fails, and why."""
+        """A sentence about the call that fails, and the reason."""
         first = self.script.goroutines[failed.goroutine][failed.begins]
         call = self.call_of(failed.goroutine, first.steps[0])
         named = self._named(call) if call else f"a call on socket {first.socket}"
@@ -122,7 +122,7 @@ class Telling:
 
 
 def summary(exploring: Exploring, seconds: float, is_stopped: bool) -> str:
-    """The number of schedules that were run, and their results."""
+    """The number of schedules that were run, and the results."""
     how = f"one delay: {min(exploring.played, len(exploring.delays))} of {len(exploring.delays)}"
     if exploring.seed:
         how += f"; two and three: seeds 1 to {exploring.seed}"
