@@ -15,7 +15,7 @@ USAGE = "reduce OUT.jsonl [N | CELL VALUE]"
 
 
 def reduced_file(session: Session, words: list[str]) -> str:
-    """Reduces the recording to the file that the first word names, and returns the lines about it."""
+    """Reduces the recording to the file that the first word names, and returns the lines about the file."""
     if not words or not words[0].endswith(".jsonl"):
         raise Misused(messages.REDUCE.format(usage=USAGE))
     made = reduced(session, words[0], wanted_by(session, words[1:]))
@@ -44,12 +44,12 @@ def answer_report(session: Session, words: list[str]) -> None:
 
 
 def has_suspects(session: Session) -> bool:
-    """Whether a rule about cells finds a suspect to which the recording can be reduced."""
+    """Whether a rule about cells finds a suspect, so that the recording can be reduced to this suspect."""
     return any(suspect.is_shown for suspect in suspects_of(session.text()).suspects)
 
 
 def report_hang(session: Session, name: str, story: Story) -> None:
-    """Writes the report of what hangs or failed."""
+    """Writes the report of a hang or a failed call."""
     drawn = Path(name).with_suffix(".svg")
     text, picture = hang_report(session, story, drawn)
     if picture:

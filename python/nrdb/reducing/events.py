@@ -1,5 +1,6 @@
-"""A recording's steps with the objects that they name: goroutines and sockets by number, descriptors by use (because
-their numbers are reused), and timers by use and side. A step therefore keeps its meaning if other steps are removed."""
+"""A recording's steps with the objects that they name. Goroutines and sockets are named by number; descriptors by use,
+because their numbers are reused; timers by use and side. A step therefore keeps its meaning if other steps are
+removed."""
 
 from functools import partial
 from typing import Any, NamedTuple, Optional
@@ -16,8 +17,8 @@ NUMBERED = ("spawn", "sockopen", "pollopen")  # kinds whose answer is the number
 
 
 class Event(NamedTuple):
-    """A step: its number, its kind, its arguments with uses in place of descriptors, its answer, the timer of a `pop`
-    or a `fire`, and the difference between an event's tag and the descriptor's own."""
+    """A step: its number, its kind, its arguments with uses instead of descriptors, its answer, the timer of a `pop` or
+    a `fire`, and the difference between an event's tag and the descriptor's own tag."""
 
     number: int
     kind: str
@@ -33,7 +34,8 @@ class Event(NamedTuple):
 
 
 class Rest(NamedTuple):
-    """The state of a step's goroutine after the step: whether it is idle or gone, and how many references it holds."""
+    """The state of a step's goroutine after the step: whether the goroutine is idle or gone, and the number of
+    references that it holds."""
 
     is_at_rest: bool
     holds: int
@@ -66,12 +68,12 @@ class Events:
         self.kept_for_ever = {hold.step for holds in notes.holds.values() for hold in holds}
 
     def use_at(self, descriptor: int, step: int) -> Optional[int]:
-        """The last use of a descriptor that was opened at or before a step."""
+        """The last use of a descriptor that was opened by a step up to this one."""
         found = [at for at, use in enumerate(self.uses) if use.descriptor == descriptor and use.opened <= step]
         return found[-1] if found else None
 
     def socket_of(self, event: Event) -> Optional[int]:
-        """The socket of an event, which names it directly or by its descriptor or timer."""
+        """The socket of an event. The event names the socket directly, or by its descriptor or timer."""
         if (socket := event.named("s")) is not None:
             return socket
         use = event.timer[0] if event.timer else event.named("d")
@@ -85,7 +87,7 @@ class Events:
         return lambda step: self.rests.append(Rest(goroutine.status in ("idle", "gone"), goroutine.held))
 
     def _event(self, notes: Notes, number: int, kind: str, arguments: list[Any], answer: Any) -> Event:
-        """The event of a step."""
+        """The event for a step."""
         told = (answer,) if isinstance(answer, str) else tuple(answer)
         timer, behind, named = None, 0, list(arguments)
         for at, form in enumerate(KINDS[kind].arguments):

@@ -1,5 +1,5 @@
 """A report in Markdown about a recording without suspects: what all goroutines wait for, or why calls failed; the tree
-of the goroutines that wait; and their stacks and calls. The recording isn't reduced."""
+of the goroutines that wait; and the stacks and calls of these goroutines. The recording isn't reduced."""
 
 from pathlib import Path
 from typing import NamedTuple, Optional
@@ -23,7 +23,7 @@ from ..where import OF_THE_PROGRAM, stack_lines
 from .report import code, shell_words, shown
 from .writing import answered_by
 
-MOST_DRAWN = 2_000  # the most steps of a recording that is drawn
+MOST_DRAWN = 2_000  # the most steps of a recording for which a picture is drawn
 MOST_GOROUTINES, MOST_CALLS = 4, 5
 
 
@@ -38,7 +38,7 @@ class Story(NamedTuple):
 
 
 def story_of(session: Session) -> Optional[Story]:
-    """The story of a recording: what failed first, or else what hangs first; None if neither is known."""
+    """The story of a recording: the first failure, or else the first hang; None if neither is known."""
     recording = session.text()
     graph = graph_at(recording, recording.length)
     failed = failures_of(recording)
@@ -62,7 +62,7 @@ def story_of(session: Session) -> Optional[Story]:
 
 
 def hang_report(session: Session, story: Story, picture: Path) -> tuple[str, str]:
-    """The report and its picture, which is empty if the recording is long."""
+    """The report and its picture. The picture is empty if the recording is long."""
     recording, file = session.text(), file_word(Path(session.path).name)
     _, checked = answered_by(session.program, "check", recording.data)
     drawn = drawing(recording, next(causes_data(recording), None)) if recording.length <= MOST_DRAWN else ""
@@ -82,7 +82,7 @@ def hang_report(session: Session, story: Story, picture: Path) -> tuple[str, str
 
 
 def of_goroutine(session: Session, name: Name) -> list[str]:
-    """A goroutine's stack at the end, the source around its line, and its last calls."""
+    """A goroutine's stack at the end, the source around the stack's line, and the goroutine's last calls."""
     recording = session.text()
     found = stack_of(recording, name, recording.length)
     if found is None:

@@ -1,5 +1,5 @@
 """Replays some of a recording's units with the Python model of the machine, with new numbers for the objects of each
-step. A unit with a step that doesn't apply or that answers differently is removed too."""
+step. If a step of a unit doesn't apply or has a different answer, the unit is removed too."""
 
 from bisect import bisect_left
 from typing import Any, Callable, Iterable, Optional
@@ -13,15 +13,15 @@ from .events import NUMBERED, Event, Events, Timer
 from .units import Needs, Unit
 
 MADE = {"spawn": "g", "sockopen": "s", "pollopen": "d"}
-COPIES = 2_000  # the most copies of the world that are kept to return to
+COPIES = 2_000  # the most copies of the world that are kept for going back
 DONE = ("done",)
 
 Step = tuple[Any, ...]
 
 
 class Player:
-    """The Python model of the machine after some of the events. The last replay is kept, and a replay with the same
-    beginning continues from there."""
+    """The Python model of the machine after some of the events. The player keeps the last replay, and a replay with the
+    same beginning continues from there."""
 
     def __init__(self, events: Events, units: list[Unit], limits: Limits, check: Callable[[], None]) -> None:
         self.events, self.units, self.limits, self.check = events, units, limits, check
@@ -49,7 +49,7 @@ class Player:
         return found
 
     def settle(self, kept: Iterable[int]) -> set[int]:
-        """Replays these units, drops those that no longer apply, and returns the replayed ones."""
+        """Replays these units, drops the units that no longer apply, and returns the replayed units."""
         left = set(kept)
         wanted = sorted(place for unit in left for place in self.units[unit].events)
         at = self._common(wanted)
@@ -72,7 +72,7 @@ class Player:
         return left
 
     def _common(self, wanted: list[int]) -> int:
-        """The number of first events that the last replay has in common with this one."""
+        """The number of events at the beginning that the last replay and this one have in common."""
         at = 0
         for one, other in zip(self.chosen, wanted):
             if one != other:
@@ -81,7 +81,7 @@ class Player:
         return at
 
     def _rewind(self, to: int) -> None:
-        """Goes back to the state after this many events."""
+        """Goes back to the state after this number of events."""
         if to >= len(self.chosen):
             return
         again = to - to % self._every
@@ -97,7 +97,7 @@ class Player:
             self._step(place)
 
     def _step(self, place: int) -> bool:
-        """Replays an event; returns False if it doesn't apply or answers differently."""
+        """Replays an event. Returns False if the event doesn't apply or has a different answer."""
         event = self.events.all[place]
         step = self._renumbered(event)
         if step is None:
@@ -149,7 +149,8 @@ class Player:
         return first is not None and (self.numbers["d"].get(event.timer[0]), event.timer[1]) == (first.desc, first.side)
 
     def _tag(self, event: Event, descriptor: int) -> int:
-        """The tag of an event: as far from the descriptor's own tag as in the recording, if there is a descriptor."""
+        """The tag of an event. If the descriptor exists, the tag differs from the descriptor's own tag by as much as in
+        the recording."""
         own = self.world.descs[descriptor].fdseq
         tag = own - event.behind
         return tag if tag >= 0 else event.arguments[1] if event.arguments[1] != own else own + 1

@@ -21,8 +21,8 @@ from .writing import answered_by, taken, write_recording
 
 
 class Wanted(NamedTuple):
-    """The target: the suspect with this number; or a cell with a value, up to a step; or a goroutine that hangs, after
-    steps that must stay; or only steps that must stay."""
+    """The target: the suspect with this number; a cell with a value, up to a step; a goroutine that hangs, after steps
+    that must stay; or only steps that must stay."""
 
     suspect: int
     cell: str
@@ -33,7 +33,7 @@ class Wanted(NamedTuple):
 
 
 class Reduced(NamedTuple):
-    """A reduced recording: the numbers of its steps in the original, how many units of each sort were removed, and
+    """A reduced recording: the numbers of its steps in the original, the numbers of removed units of each kind, and
     whether the reduction ran to its end."""
 
     path: str
@@ -42,7 +42,7 @@ class Reduced(NamedTuple):
     is_done: bool
 
     def words(self, steps: int) -> str:
-        """The size of the result and what was removed, as text."""
+        """The size of the result, and what the reduction removed, as text."""
         said = [f"{self.left_out[sort]} {sort.value[self.left_out[sort] != 1]}" for sort in Sort if self.left_out[sort]]
         left = f"left out {', '.join(said)}" if said else "nothing could be left out"
         more = "" if self.is_done else "; stopped early, so reduce what is left once more"
@@ -85,7 +85,7 @@ def reduced_of(reducing: Reducing, path: str, wanted: Wanted) -> Reduced:
 
 
 def answered_recording(program: str, recording: Recording, until: int) -> Recording:
-    """The first steps of the recording with netrev's answers."""
+    """The first steps of the recording, with netrev's answers."""
     status, text = answered_by(program, "upgrade", recording.data)
     if status:
         raise Misused(messages.REFUSED.format(fault=text.decode("utf-8", "replace").strip()))
@@ -122,8 +122,8 @@ def wanted_by(session: Session, words: list[str]) -> Wanted:
 
 
 def _last_with(session: Session, cell: str, value: str) -> int:
-    """The session's position if the cell has this value there; otherwise the last position at which it does. A missing
-    object has no value."""
+    """The session's position, if the cell has this value there; otherwise the last position at which the cell has it. A
+    missing object has no value."""
     changes, length = session.changes(), session.text().length
 
     def is_wanted(shown: str) -> bool:

@@ -39,7 +39,7 @@ def shell_words(*words: str) -> str:
 
 
 def code(text: str) -> str:
-    """Text as a span of code, between more backticks than it contains in a row."""
+    """Text as a span of code. The span's backticks are more than any run of backticks in the text."""
     fence = "`" * (1 + max(map(len, re.findall("`+", text)), default=0))
     return f"{fence}{plain(text)}{fence}" if len(fence) == 1 else f"{fence} {plain(text)} {fence}"
 
@@ -73,7 +73,7 @@ def report_of(session: Session, wanted: Wanted, reduced: Reduced) -> tuple[str, 
 
 
 def _diagram(recording: Recording, story: Optional[Data]) -> list[str]:
-    """The steps as a diagram, unless there are too many."""
+    """The steps as a diagram, unless the recording has too many."""
     told = sequence(recording, story)
     return [f"```mermaid\n{told}\n```"] if told else []
 
@@ -118,7 +118,7 @@ def _steps(recording: Recording, reduced: Reduced) -> list[str]:
 
 
 def _told(step: Step, is_wide: bool) -> str:
-    """A step with its answer; without its goroutine if that has a column of its own."""
+    """A step with its answer. If the step's goroutine has a column of its own, without the goroutine."""
     words = str(step).split()
     if is_wide and step.kind in OF_A_GOROUTINE:
         del words[1]

@@ -1,5 +1,5 @@
-"""Removes units while the target still shows: first all units except those near it, then whole goroutines, sockets and
-runs of units, half of them at a time and then fewer."""
+"""Removes units while the target still shows: first all units except those near the target, then whole goroutines,
+sockets and runs of units. It first removes half of them at a time, and then fewer."""
 
 from typing import Iterable, Iterator, Optional
 
@@ -8,8 +8,8 @@ from .playing import Player
 from .targets import Target
 from .units import Sort, Unit
 
-WINDOWS = (64, 512, 4_096)  # how many steps around the target are kept at first
-MOST_PLAYED = 600_000  # how many steps are replayed before the best result so far is taken
+WINDOWS = (64, 512, 4_096)  # the numbers of steps around the target that are kept at first
+MOST_PLAYED = 600_000  # after this number of replayed steps, the best result so far is used
 
 
 class NotReproduced(Exception):
@@ -17,7 +17,7 @@ class NotReproduced(Exception):
 
 
 class Shrinking:
-    """The remaining units, which become fewer."""
+    """The units that remain."""
 
     def __init__(self, player: Player, events: Events, units: list[Unit], target: Target) -> None:
         self.player, self.events, self.units, self.target = player, events, units, target
@@ -53,7 +53,7 @@ class Shrinking:
 
     def _thin(self, candidates: Iterable[int]) -> bool:
         """Removes as many candidates as possible, last ones first: all at once, then halves, and so on. Returns whether
-        any was removed."""
+        it removed any."""
         left = sorted(candidates, key=lambda unit: self.units[unit].events[0], reverse=True)
         size, has_changed = len(left), False
         while size and not self.is_done:
@@ -68,7 +68,7 @@ class Shrinking:
         return has_changed
 
     def _idle_ticks(self) -> list[int]:
-        """The ticks that are followed by another tick before any timer starts or any deadline is set."""
+        """The ticks that another tick follows before any timer starts or any deadline is set."""
         found, is_needed = [], False
         for unit in sorted(self.kept, key=lambda unit: self.units[unit].events[0], reverse=True):
             kinds = {self.events.all[place].kind for place in self.units[unit].events}
@@ -81,8 +81,9 @@ class Shrinking:
         return found
 
     def _beginnings(self) -> Iterator[set[int]]:
-        """Sets of units to begin with, small ones first: those of the target's socket and goroutine that are near the
-        target; all of them; those of all goroutines that use the socket; and all units."""
+        """Sets of units to begin with, small ones first: the units of the target's socket and goroutine that are near
+        the target; all units of that socket and goroutine; the units of all goroutines that use the socket; and all
+        units."""
         near = self._about({self.target.socket}, {self.target.goroutine})
         users = {event.named("g") for event in self.events.all if self.events.socket_of(event) == self.target.socket}
         wide = self._about({self.target.socket}, users)
@@ -116,5 +117,5 @@ class Shrinking:
         }
 
     def _whole(self, units: set[int]) -> set[int]:
-        """These units, with all units that they need."""
+        """These units, and all units that they need."""
         return self.player.needs.with_needed(units)

@@ -19,7 +19,8 @@ LETTER = {Of.GOROUTINE: "g", Of.SOCKET: "s", Of.DESCRIPTOR: "d"}
 
 
 class Target(ABC):
-    """What must show, with its goroutine, socket and use, and the steps at which it happens."""
+    """A target: what a reduced recording must show, with its goroutine, socket and use, and the steps at which it
+    happens."""
 
     goroutine: Optional[int] = None
     socket: Optional[int] = None
@@ -33,7 +34,7 @@ class Target(ABC):
 
 
 class SuspectTarget(Target):
-    """A suspect: it must be found by the same rule about the same objects, with no less weight and no lower rank."""
+    """A suspect. The same rule must find it about the same objects, with no less weight and no lower rank."""
 
     def __init__(self, events: Events, suspect: Suspect, rank: int) -> None:
         self.suspect, self.rank = suspect, rank
@@ -55,7 +56,7 @@ class SuspectTarget(Target):
 
 
 class CellTarget(Target):
-    """A cell that has a value after the last remaining step. Numbers in the value are the recording's."""
+    """A cell that has a value after the last remaining step. Numbers in the value are those of the recording."""
 
     def __init__(self, events: Events, cell: str, wanted: str, position: int) -> None:
         name, *number = cell.split()
@@ -125,5 +126,5 @@ class StepsTarget(Target):
 
 
 def _back(numbers: dict[int, int], number: int) -> int:
-    """The object with this number; the last one if several had it."""
+    """The object with this number. If several objects had the number, the last one."""
     return max(which for which, its in numbers.items() if its == number)

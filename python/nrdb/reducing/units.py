@@ -1,4 +1,4 @@
-"""Units: steps that are removed together. They are a goroutine's call, from rest to rest; bytes that come or go, with
+"""Units, which are steps that are removed together: a goroutine's call, from rest to rest; bytes that come or go, with
 their event; a timer that starts, with the run of its function; and any other step by itself."""
 
 from enum import Enum
@@ -13,7 +13,7 @@ SIDE_OF = {"arrive": "r", "peerclose": "r", "drain": "w"}
 
 
 class Sort(Enum):
-    """The sorts of units, each with its singular and plural as text."""
+    """The kinds of units, each with its singular and plural as text."""
 
     CALL = "call", "calls"
     GOROUTINE = "goroutine", "goroutines"
@@ -24,7 +24,7 @@ class Sort(Enum):
 
 
 class Unit(NamedTuple):
-    """Events that belong together, by their rising indices in the list of all events."""
+    """Events that belong together, by their indices in the list of all events, in rising order."""
 
     sort: Sort
     events: list[int]
@@ -37,8 +37,9 @@ def units_of(events: Events) -> list[Unit]:
 
 
 def _calls(events: Events) -> list[Unit]:
-    """Each goroutine's calls. A call has ended when the goroutine is at rest and holds no reference, except references
-    that are never given back; freeing the descriptor belongs to the call that gave back the last reference."""
+    """The calls of each goroutine. A call has ended when the goroutine is at rest and holds no reference, except
+    references that it never gives back. A step that frees the descriptor belongs to the call that gave back the last
+    reference."""
     calls: dict[int, list[Unit]] = {}
     kept: dict[int, int] = {}
     has_ended: dict[int, bool] = {}
@@ -56,7 +57,7 @@ def _calls(events: Events) -> list[Unit]:
 
 
 def _frees(events: Events, calls: Optional[list[Unit]], event: Event) -> bool:
-    """Whether the event frees the descriptor whose last reference was given up by the goroutine's last call."""
+    """Whether the event frees the descriptor whose last reference the goroutine's last call gave up."""
     return event.kind == "pollclose" and calls is not None and events.all[calls[-1].events[-1]].answer == LAST
 
 
@@ -64,7 +65,7 @@ def _others(events: Events) -> list[Unit]:
     """The units of the network, of timers and of new objects."""
     units: list[Unit] = []
     came: dict[tuple[int, str], list[int]] = {}
-    firings: list[Unit] = []  # the firings that are yet to run, in the machine's order
+    firings: list[Unit] = []  # the firings that haven't run yet, in the machine's order
     for place, event in enumerate(events.all):
         if event.kind in SIDE_OF:
             came.setdefault((event.arguments[0], SIDE_OF[event.kind]), []).append(place)
@@ -108,11 +109,11 @@ class Needs:
                     self.of[unit].add(made_by)
 
     def with_needed(self, units: Iterable[int]) -> set[int]:
-        """These units, with all units that they need."""
+        """These units, and all units that they need."""
         return _closure(units, self.of)
 
     def with_needing(self, units: Iterable[int]) -> set[int]:
-        """These units, with all units that need them."""
+        """These units, and all units that need them."""
         return _closure(units, self.by)
 
 

@@ -1,4 +1,4 @@
-"""Writes a reduced recording that netrev accepts, with NAME.where beside it if the original has one."""
+"""Writes a reduced recording that netrev accepts, with a NAME.where if the original has one."""
 
 import json
 import os
@@ -32,8 +32,8 @@ def answered_by(program: str, command: str, data: bytes) -> tuple[int, bytes]:
 
 
 def taken(program: str, player: Player, has_answers: bool) -> bytes:
-    """The text of the replayed steps, in the form that netrev accepts, with netrev's own answers if the recording has
-    answers."""
+    """The text of the replayed steps, in the form that netrev accepts. If the recording has answers, the text has
+    netrev's own answers."""
     text = text_of(player.world, player.limits.buf, player.steps, has_answers)
     status, said = answered_by(program, "upgrade" if has_answers else "check", text)
     if status:
@@ -43,7 +43,7 @@ def taken(program: str, player: Player, has_answers: bool) -> bytes:
 
 
 def text_of(world: World, buf: int, steps: Sequence[tuple[Step, Answer]], has_answers: bool) -> bytes:
-    """The text of steps that led to this state, with the limits that it needs."""
+    """The text of steps that led to this state, with the limits that the steps need."""
     gor, sock, desc = (max(len(made), 1) for made in (world.goroutines, world.sockets, world.descs))
     limits = Limits(gor, sock, desc, buf)
     header = {"netrev": 2 if has_answers or _needs_answers(steps) else 1, **limits._asdict()}
@@ -53,7 +53,7 @@ def text_of(world: World, buf: int, steps: Sequence[tuple[Step, Answer]], has_an
 
 
 def _needs_answers(steps: Sequence[tuple[Step, Answer]]) -> bool:
-    """Whether there is a step that only recordings of version 2 have."""
+    """Whether any of these steps can only be in a recording of version 2."""
     return any(step[0] == "closewrite" for step, _ in steps)
 
 
@@ -85,7 +85,7 @@ def where_text(lines: Lines, numbers: Sequence[int]) -> str:
 
 
 def write_recording(path: str, of: str, data: bytes, lines: Lines, numbers: Sequence[int]) -> None:
-    """Writes a recording of these steps of the recording `of`, with its NAME.where. An existing NAME.where is removed,
+    """Writes these steps of the recording `of` as a recording, with its NAME.where. An existing NAME.where is removed,
     because it belongs to another recording."""
     beside = Path(path).with_suffix(".where")
     spare(str(beside), of)
