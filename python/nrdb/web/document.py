@@ -1,4 +1,4 @@
-"""The page: one file with its own style and script, and the policy by which a browser accepts no other style or
+"""The page: one file with its own style and script, and the policy that makes a browser reject any other style or
 script."""
 
 import base64
@@ -14,7 +14,7 @@ TYPES = "require-trusted-types-for 'script'; trusted-types 'none'"  # so that no
 
 @dataclass(frozen=True)
 class Document:
-    """The page's bytes, and the policy that is sent with every answer."""
+    """The page's bytes, and the policy that is sent with every response."""
 
     data: bytes
     policy: str

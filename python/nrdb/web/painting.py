@@ -1,5 +1,5 @@
-"""Draws the picture in a process of its own, with a netrev of its own, so that lines are answered meanwhile. It draws
-first the whole run with a part, and then any part that a browser requests."""
+"""Draws the picture in a process of its own, with a netrev of its own, so that the session answers lines in the
+meantime. It first draws the whole run with a part, and then any part that a browser requests."""
 
 import json
 import subprocess
@@ -27,14 +27,14 @@ from .serving import Unavailable
 
 CODE = f"import sys; sys.path[:0] = {sys.path!r}; from nrdb.web.painting import paint; paint(*sys.argv[1:])"
 MOST_WAITING = 16
-MOST_KEPT = 6  # parts
-TELLS, FAILS = b"T", b"F"  # the kinds of the process's lines that aren't pictures: progress, or an error
+MOST_KEPT = 6  # the most parts that are kept
+TELLS, FAILS = b"T", b"F"  # the kinds of lines of the process that aren't pictures: progress, or an error
 
-Wanted = Optional[Window]  # None: the whole run, with the part that it begins with
+Wanted = Optional[Window]  # None: the whole run, with the part that the page shows first
 
 
 class Painter:
-    """Makes pictures of a recording in another process. `tell` is called with the progress of the first one."""
+    """Makes pictures of a recording in another process. `tell` is called with the progress of the first picture."""
 
     def __init__(self, program: str, path: str, tell: Callable[[str], None]) -> None:
         self._words = [sys.executable, "-c", CODE, program, path]
@@ -45,7 +45,7 @@ class Painter:
         self._thread: Optional[Thread] = None
 
     def ask(self, window: Wanted) -> "Future[bytes]":
-        """The picture as JSON; the Future raises Unavailable if none can be made."""
+        """The picture as JSON. The Future raises Unavailable if the picture can't be made."""
         wanted: "Future[bytes]" = Future()
         try:
             self._wanted.put_nowait((window, wanted))
@@ -107,8 +107,8 @@ class Painter:
 
 
 def paint(program: str, path: str) -> None:
-    """Makes the pictures that the lines of the input request, and writes each as a line of the output, until the input
-    ends."""
+    """Makes the pictures that the lines of the input request, and writes each picture as a line of the output, until
+    the input ends."""
     interrupts = Interrupts()
     scout = Scout(lambda: Own(program, path, interrupts))
     changes = ArrivingChanges(program, path, interrupts, lambda _: None)

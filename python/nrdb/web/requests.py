@@ -1,5 +1,5 @@
-"""Checks requests: a request must be one of six, come from this machine's own page, and carry the token; all others are
-rejected."""
+"""Checks requests. A request must be one of six, come from this machine's own page, and carry the token. All other
+requests are rejected."""
 
 import hmac
 import re
@@ -13,7 +13,7 @@ LONGEST_LINE = 256  # the most bytes of a line that netrev accepts
 TOKEN, BROWSER, POSITIONS = "netrev-token", "netrev-browser", "netrev-positions"  # headers that the page's script sends
 PAGE, EVENTS, TIMELINE, PART, LINE, COMPLETE = "/", "/events", "/timeline", "/part", "/line", "/complete"
 METHODS = {PAGE: "GET", EVENTS: "GET", TIMELINE: "GET", PART: "GET", LINE: "POST", COMPLETE: "POST"}
-# requests that carry the token in the address, because the browser can't set a header for them
+# requests that carry the token in the address, because the browser can't set a header for these requests
 BY_ADDRESS = (PAGE, EVENTS)
 
 FIRST_LINE = re.compile(r"([A-Z]{1,20}) (/[!-~]*) HTTP/1\.[01]")
@@ -32,7 +32,7 @@ class Rejected(Exception):
 
 @dataclass(frozen=True)
 class Request:
-    """A request's method, its path and query, and its headers by their names in lower case."""
+    """A request's method, its path and query, and its headers, keyed by their names in lower case."""
 
     method: str
     path: str
@@ -41,8 +41,8 @@ class Request:
 
     @classmethod
     def of(cls, head: bytes) -> "Request":
-        """The request in the bytes up to the empty line; raises Rejected if it is malformed. A header must not occur
-        twice, because two parsers could choose different ones."""
+        """The request in the bytes up to the empty line; raises Rejected if the request is malformed. A header must not
+        occur twice, because two parsers could choose different values."""
         first, *lines = head.decode("latin-1").removesuffix("\r\n\r\n").split("\r\n")
         asked = FIRST_LINE.fullmatch(first)
         found = [HEADER.fullmatch(line) for line in lines]
@@ -53,7 +53,7 @@ class Request:
         return cls(asked[1], path, query, headers)
 
     def length(self) -> int:
-        """The length of the request's body; raises Rejected if it is missing or too large."""
+        """The length of the request's body; raises Rejected if the length is missing or too large."""
         said = self.headers.get("content-length", "" if self.method == "POST" else "0")
         if "transfer-encoding" in self.headers or not said:
             raise Rejected(HTTPStatus.LENGTH_REQUIRED, texts.NO_LENGTH)
@@ -86,7 +86,7 @@ class Gate:
             raise Rejected(HTTPStatus.FORBIDDEN, texts.NO_TOKEN)
 
     def _has_token(self, request: Request) -> bool:
-        """Whether the token is in the only place that is allowed for it."""
+        """Whether the token is in the only place that the request may have it."""
         given = request.headers.get(TOKEN, "")
         if request.path in BY_ADDRESS:
             name, _, given = request.query.partition("=")
@@ -98,7 +98,7 @@ class Gate:
 
 
 def line_of(body: bytes) -> str:
-    """The line in a body; raises Rejected if it isn't exactly one line."""
+    """The line in a body; raises Rejected if the body isn't exactly one line."""
     try:
         line = body.decode("utf-8")
     except UnicodeDecodeError:
@@ -109,7 +109,7 @@ def line_of(body: bytes) -> str:
 
 
 def positions_of(request: Request) -> tuple[int, int]:
-    """The first and the last position of the requested part; raises Rejected if they are missing."""
+    """The first and the last position of the requested part; raises Rejected if either is missing."""
     named = FROM_TO.fullmatch(request.headers.get(POSITIONS, ""))
     if named is None:
         raise Rejected(HTTPStatus.BAD_REQUEST, texts.BAD_PART)

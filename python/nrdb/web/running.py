@@ -1,5 +1,5 @@
-"""Runs the page's session in the calling thread: answers lines one after the other, checks whether other users have
-moved, and reports while netrev is gone."""
+"""Runs the page's session in the calling thread. It answers lines one after the other, checks whether other users have
+moved the session, and reports while netrev is gone."""
 
 import json
 import queue
@@ -29,7 +29,7 @@ from .streams import Streams
 
 DONE, FAILED = 0, 3
 MOST_WAITING = 32  # the most lines that wait for earlier ones
-EVERY = 1.0  # seconds between two checks for moves by others
+EVERY = 1.0  # seconds between two checks for other users' moves
 LATEST = 30.0  # the most seconds between two attempts to reconnect to netrev; the first intervals are shorter
 GONE = "netrev has ended"
 Opening = Callable[[Printer], Netrev]
@@ -80,7 +80,7 @@ class Running:
     # --- for the server's thread
 
     def post(self, who: str, line: str) -> None:
-        """Queues a line, which events will answer; raises Unavailable if netrev is gone or too many lines are
+        """Queues a line. Events will carry the answer. Raises Unavailable if netrev is gone or too many lines are
         waiting."""
         if self._gone:
             raise Unavailable(self._gone)
@@ -101,7 +101,7 @@ class Running:
         return wanted
 
     def timeline(self) -> "Future[bytes]":
-        """The timeline's data, as JSON; raises Unavailable if it doesn't exist."""
+        """The timeline's data, as JSON; raises Unavailable if the timeline doesn't exist."""
         return self._picture(None)
 
     def part(self, first: int, last: int) -> "Future[bytes]":
@@ -130,7 +130,7 @@ class Running:
             self.turn()
 
     def turn(self) -> None:
-        """Answers the next line. If none comes for a while and a browser listens, checks for moves by others."""
+        """Answers the next line. If no line comes for a while and a browser listens, checks for other users' moves."""
         try:
             work = self._work.get(timeout=EVERY)
         except queue.Empty:
@@ -140,7 +140,7 @@ class Running:
         work()
 
     def _answer(self, who: str, line: str) -> None:
-        """Answers a line, or reports that it can't be answered."""
+        """Answers a line, or reports that the line can't be answered."""
         self._streams.tell("line", who=who, line=line)
         if not self._gone:
             self._guarded(lambda: self.session.run_for(who, line))
@@ -150,14 +150,14 @@ class Running:
             self._streams.tell("answered", who=who, line=line)
 
     def _look(self) -> None:
-        """Checks for moves by others, or, if netrev is gone, whether it is back."""
+        """Checks for other users' moves. If netrev is gone, checks whether netrev is back."""
         if not self._gone:
             self._guarded(self.session.look_round)
         elif time.monotonic() >= self._next_try:
             self._try_again()
 
     def _guarded(self, does: Callable[[], None]) -> None:
-        """Does something with netrev, which may end meanwhile."""
+        """Runs a function that uses netrev, which may end in the meantime."""
         try:
             does()
         except NoRecording as wrong:
@@ -177,7 +177,7 @@ class Running:
         self._streams.tell("netrev", there=False, says=self._gone)
 
     def _try_again(self) -> None:
-        """Continues with another netrev if one can be started or reached."""
+        """Continues with another netrev, if nrdb can start or reach one."""
         self._pause = min(2 * self._pause, LATEST)
         self._next_try = time.monotonic() + self._pause
         try:

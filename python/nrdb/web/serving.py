@@ -1,4 +1,4 @@
-"""The page's server: it listens only on the loopback, in a thread of its own, and answers six requests. It passes
+"""The page's server. It listens only on the loopback, in a thread of its own, and answers six requests. It passes
 everything about the session to the thread that runs the session."""
 
 import asyncio
@@ -17,8 +17,8 @@ from .wire import EVENT_STREAM, JSON, LONGEST_HEAD, Wire
 
 LOOPBACK = "127.0.0.1"
 MOST_CONNECTIONS = 64
-PULSE = 15.0  # seconds after which something is sent to a browser, to detect that it has gone
-# the seconds in which connections accepted already may arrive, and the seconds in which the server ends
+PULSE = 15.0  # seconds after which the server sends something to a browser, to detect that the browser has gone
+# the seconds in which connections accepted by the system may still arrive, and the seconds in which the server ends
 LAST, ENDING = 0.02, 4.0
 BEGINNING = b"retry: 1000\n\n"
 UNAVAILABLE = HTTPStatus.SERVICE_UNAVAILABLE
@@ -32,20 +32,21 @@ class Runner(Protocol):
     """The part of a session's runner that the server calls. Each call returns at once."""
 
     def post(self, who: str, line: str) -> None:
-        """Queues a line, which events will answer; raises Unavailable if that isn't possible."""
+        """Queues a line. Events will carry the answer. Raises Unavailable if the line can't be queued."""
 
     def complete(self, line: str) -> "Future[bytes]":
-        """The completions of the last word of a line, as JSON; raises Unavailable if none can be found."""
+        """The completions of the last word of a line, as JSON; raises Unavailable if the session can't find any."""
 
     def timeline(self) -> "Future[bytes]":
-        """The timeline's data, as JSON; raises Unavailable if it doesn't exist."""
+        """The timeline's data, as JSON; raises Unavailable if the timeline doesn't exist."""
 
     def part(self, first: int, last: int) -> "Future[bytes]":
         """The data of these positions, as JSON; raises Unavailable if they don't exist."""
 
 
 def listening(port: int) -> socket.socket:
-    """A socket that listens on a port of 127.0.0.1, or on any free one for port 0; raises an OSError if that fails."""
+    """A socket that listens on a port of 127.0.0.1; port 0 means any free port. Raises an OSError if listening
+    fails."""
     made = socket.socket()
     try:
         made.setsockopt(socket.SOL_SOCKET, socket.SO_REUSEADDR, 1)
@@ -61,14 +62,14 @@ def listening(port: int) -> socket.socket:
 
 
 class Server:
-    """Serves the page at a socket, from `start` to `stop`."""
+    """Serves the page on a socket, from `start` to `stop`."""
 
     def __init__(self, at: socket.socket, gate: Gate, document: Document, streams: Streams, session: Runner):
         self._socket, self._gate, self._document = at, gate, document
         self._streams, self._session = streams, session
         self._open: dict[asyncio.Task[None], asyncio.StreamWriter] = {}
         self._asking: dict[asyncio.Task[None], None] = {}  # connections whose requests are incomplete, oldest first
-        self._closing: dict[asyncio.Task[None], None] = {}  # connections that were answered
+        self._closing: dict[asyncio.Task[None], None] = {}  # connections whose requests were answered
         self._ready = threading.Event()
         self._thread = threading.Thread(target=lambda: asyncio.run(self._serve()), daemon=True)
 
@@ -78,7 +79,7 @@ class Server:
         self._ready.wait()
 
     def stop(self) -> None:
-        """Ends all connections and stops serving. It takes no longer than a fixed time."""
+        """Ends all connections and stops serving, within a fixed time."""
         self._loop.call_soon_threadsafe(self._ended.set)
         self._thread.join(ENDING)
 
@@ -88,7 +89,7 @@ class Server:
         server = await asyncio.start_server(self._accept, sock=self._socket, limit=LONGEST_HEAD)
         self._ready.set()
         await self._ended.wait()
-        # (if it were closed at once, the server would lose connections that it has just accepted)
+        # (if the socket were closed at once, the server would lose connections that it has just accepted)
         self._loop.remove_reader(self._socket)
         await asyncio.sleep(LAST)
         server.close()
@@ -99,13 +100,13 @@ class Server:
             await asyncio.sleep(0)
 
     def _accept(self, reader: asyncio.StreamReader, writer: asyncio.StreamWriter) -> None:
-        """Accepts a connection. If there are too many, one is closed: one that was answered, or else the one that has
-        taken longest to send its request."""
+        """Accepts a connection. If too many are open, the server closes one: a connection that was answered, or else
+        the connection that has taken longest to send its request."""
         is_full = len(self._open) >= MOST_CONNECTIONS
         if is_full and (spared := self._closing or self._asking):
             longest = next(iter(spared))
             del spared[longest]
-            longest.cancel()  # (if it has just ended, its place is free already)
+            longest.cancel()  # (if that connection has just ended, its place is free already)
             is_full = False
         task = self._loop.create_task(self._connected(Wire(reader, writer, self._document.policy), is_full))
         self._open[task] = writer

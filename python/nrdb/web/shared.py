@@ -1,5 +1,6 @@
-"""The session that the page's browsers share: nrdb's own, which also reports which browser moved it, and to which
-position. netrev reports only the position of a session, so moves by other fronts are noticed at the next check."""
+"""The session that the page's browsers share. It is nrdb's own session, which also reports which browser moved it, and
+to which position. netrev reports only the position of a session, so the session notices moves by other clients at the
+next check."""
 
 from dataclasses import dataclass, field, fields
 from typing import Any, Optional, Protocol, Sequence
@@ -36,7 +37,7 @@ def refusing(why: str) -> Answering:
 OF_THE_PAGE = {
     **ANSWERS,
     **{name: refusing(texts.NO_FILES) for name in WITH_FILES},
-    "list": answer_list,  # shows only steps, not source
+    "list": answer_list,  # shows only steps, not the source
     "commands": refusing(texts.NO_COMMANDS),
     "condition": refusing(texts.NO_CONDITIONS),
 }
@@ -139,7 +140,7 @@ class Shared(Session):
         self.look_round()
 
     def _tell_move(self, who: str, line: Optional[str], position: int) -> None:
-        """Reports a move, if the position has changed."""
+        """Reports a move if the position has changed."""
         if position == self.stood:
             return
         self.streams.tell("moved", who=who, line=line, **{"from": self.stood, "to": position})

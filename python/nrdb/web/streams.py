@@ -1,4 +1,4 @@
-"""Sends the events of a session, as JSON, to all browsers that listen. A new browser first gets the latest ones. All
+"""Sends the events of a session, as JSON, to all browsers that listen. A new browser first gets the latest events. All
 functions but `tell` are called in the server's own thread."""
 
 import asyncio
@@ -15,13 +15,13 @@ from .requests import Rejected
 MOST_STREAMS = 16
 MOST_KEPT, KEPT_BYTES = 400, 2**20  # the most events that are kept for later browsers, and their most bytes
 WAITING_BYTES = 8 * 2**20  # the most bytes that may wait for a slow browser
-STATES = ("stands", "marks", "netrev", "picture")  # events of which only the latest one matters
+STATES = ("stands", "marks", "netrev", "picture")  # the events of which only the latest one matters
 
 Event = dict[str, Any]
 
 
 def message(event: Event) -> bytes:
-    """An event in the form in which it is sent, with each text in it escaped."""
+    """An event in the form in which it is sent. Each text in the event is escaped."""
     return f"data: {plain_json(event)}\n\n".encode("ascii")
 
 
@@ -41,7 +41,7 @@ class Stream:
         return f"browser {self.number}"
 
     def put(self, data: bytes) -> None:
-        """Queues data for the browser, unless too much is waiting already: then the browser is too slow, and its stream
+        """Queues data for the browser. If too much data is already waiting, the browser is too slow, and its stream
         ends."""
         if self._waiting and self._bytes + len(data) > WAITING_BYTES:
             self.is_behind = True
@@ -51,7 +51,7 @@ class Stream:
         self._came.set()
 
     async def come(self) -> None:
-        """Waits until there is data to send."""
+        """Waits until the stream has data to send."""
         await self._came.wait()
 
     def take(self) -> bytes:
@@ -94,7 +94,8 @@ class Streams:
 
     @contextmanager
     def joined(self) -> Iterator[Stream]:
-        """Context with the stream of a browser while it listens; raises Rejected if there are too many."""
+        """Context with the stream of a browser while the browser listens; raises Rejected if too many browsers
+        listen."""
         if len(self._streams) >= MOST_STREAMS:
             raise Rejected(HTTPStatus.SERVICE_UNAVAILABLE, texts.TOO_MANY_BROWSERS.format(most=MOST_STREAMS))
         stream = Stream(next(self._numbers))
@@ -123,7 +124,7 @@ class Streams:
             stream.put(data)
 
     def _keep(self, data: bytes) -> None:
-        """Keeps an event for later browsers, and drops the oldest if there are too many."""
+        """Keeps an event for later browsers, and drops the oldest event if too many are kept."""
         self._kept.append(data)
         self._bytes += len(data)
         while len(self._kept) > MOST_KEPT or self._bytes > KEPT_BYTES:

@@ -1,4 +1,4 @@
-"""Reads a request from a connection and answers it; each connection has one request. A request that is too slow or too
+"""Reads a request from a connection and answers it. Each connection has one request. A request that is too slow or too
 long is rejected."""
 
 import asyncio
@@ -9,8 +9,8 @@ from ..messages import browsers as texts
 from .requests import Request, Rejected
 
 LONGEST_HEAD = 8_192  # the most bytes before a body
-IN_TIME = 5.0  # seconds in which a request must arrive completely, and in which a part of an answer must be accepted
-TAKEN_STILL, STILL = 65_536, 0.3  # the most bytes that are read after an answer, and the seconds for reading them
+IN_TIME = 5.0  # the seconds for the arrival of a request, and for the acceptance of a part of the response
+TAKEN_STILL, STILL = 65_536, 0.3  # the most bytes that are read after a response, and the seconds for reading them
 PLAIN, JSON, EVENT_STREAM = "text/plain; charset=utf-8", "application/json", "text/event-stream"
 ALWAYS = {
     "Cache-Control": "no-store",
@@ -31,8 +31,8 @@ class Wire:
         self._headers = ALWAYS | {"Content-Security-Policy": policy}
 
     async def head(self) -> Request:
-        """The request without its body; raises Rejected if it doesn't arrive completely in time, and EOFError if
-        nothing arrives."""
+        """The request without its body. Raises Rejected if the request doesn't arrive completely in time, and EOFError
+        if no byte arrives."""
         try:
             head = await asyncio.wait_for(self._reader.readuntil(b"\r\n\r\n"), IN_TIME)
         except asyncio.LimitOverrunError:
@@ -46,7 +46,7 @@ class Wire:
         return Request.of(head)
 
     async def body(self, length: int) -> bytes:
-        """The next bytes of the body, this many; raises Rejected if they don't arrive in time."""
+        """The next bytes of the body, `length` of them; raises Rejected if they don't arrive in time."""
         try:
             return await asyncio.wait_for(self._reader.readexactly(length), IN_TIME)
         except (asyncio.TimeoutError, asyncio.IncompleteReadError):
@@ -58,13 +58,13 @@ class Wire:
         await self.send(body)
 
     async def begin(self, status: HTTPStatus, sort: str, more: dict[str, str] = {}) -> None:
-        """Begins an answer whose data follow."""
+        """Begins a response whose data follow."""
         lines = [f"HTTP/1.1 {status.value} {status.phrase}"]
         lines += [f"{name}: {value}" for name, value in ({"Content-Type": sort} | self._headers | more).items()]
         await self.send("\r\n".join([*lines, "", ""]).encode("ascii"))
 
     async def send(self, data: bytes) -> None:
-        """Sends these bytes; raises ConnectionError if the other end doesn't take them in time."""
+        """Sends these bytes; raises ConnectionError if the other end doesn't accept them in time."""
         self._writer.write(data)
         try:
             await asyncio.wait_for(self._writer.drain(), IN_TIME)
@@ -73,12 +73,12 @@ class Wire:
             raise ConnectionAbortedError from None
 
     async def gone(self) -> None:
-        """Returns when the other end has gone or sends more than its request."""
+        """Returns when the other end has gone or has sent more than its request."""
         with suppress(ConnectionError):
             await self._reader.read(1)
 
     async def close(self) -> None:
-        """Ends the connection. It keeps reading for a moment, so that a reset doesn't destroy the answer."""
+        """Ends the connection. Before that, it reads for a moment, so that a reset doesn't destroy the response."""
         with suppress(OSError, asyncio.TimeoutError):
             self._writer.write_eof()
             await asyncio.wait_for(self._take_rest(), STILL)
