@@ -1,6 +1,6 @@
 """nrdb's own commands, one function each. Each function gets the session and the words after the command, and raises
-Misused if they are wrong. Modules that most sessions don't need are imported on first use, so that the prompt appears
-sooner."""
+Misused if the words are wrong. Modules that most sessions don't need are imported on first use, so that the prompt
+appears sooner."""
 
 import re
 from fnmatch import fnmatchcase
@@ -59,8 +59,8 @@ def answer_help(session: Session, words: list[str]) -> None:
 
 
 def help_of(words: list[str]) -> Iterator[str]:
-    """The meaning of a word as a command, as a kind of step, as a cell, or as the number of a reason; empty if it has
-    none."""
+    """The meaning of a word as a command, as a kind of step, as a cell, or as the number of a reason; empty if the word
+    has no meaning."""
     word, name = " ".join(words), whole_command(words[0])
     reason = number_of(word)
     is_other = word in KINDS or word in CELLS
@@ -144,7 +144,7 @@ def answer_goto(session: Session, words: list[str]) -> None:
 
 def taken_position(session: Session, words: list[str]) -> int:
     """The position that `goto` names: a number, the start, the end, or the last position at which the clock isn't past
-    a time."""
+    a given time."""
     word = words[0] if len(words) == 1 else ""
     if word in ("start", "end"):
         return session.length if word == "end" else 0

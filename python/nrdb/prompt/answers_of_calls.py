@@ -98,8 +98,8 @@ def answer_commands(session: Session, words: list[str]) -> None:
 
 
 def answer_condition(session: Session, words: list[str]) -> None:
-    """Sets or removes the condition of a mark. Without a number, that is the mark set last, as in what `save
-    breakpoints` writes."""
+    """Sets or removes the condition of a mark. A command without a number, as `save breakpoints` writes it, means the
+    mark set last."""
     marks = {mark.number: mark.sort for mark in session.netrev.marks()}
     standing = [*marks, *session.breaks.standing]
     is_named = bool(words) and words[0] in standing

@@ -54,7 +54,7 @@ def named(words: list[str]) -> Optional[Name]:
 
 
 def of_step(session: Session, position: int) -> Optional[Name]:
-    """The goroutine of the last step that a goroutine made."""
+    """The goroutine that made the last step up to a position; None at the start, or if no goroutine made that step."""
     if not position:
         return None
     maker = session.text().step(position).argument("g")

@@ -16,7 +16,7 @@ MOST = 40
 
 
 def place_of(session: Session, spelled: str) -> Place:
-    """The place that a word names; raises Misused if no step comes from it."""
+    """The place that a word names; raises Misused if no step comes from that place."""
     recording = session.text()
     if not recording.lines:
         raise Misused(messages.NO_LINES)
@@ -54,7 +54,7 @@ def answer_delete(session: Session, words: list[str]) -> None:
 
 
 def delete_all(session: Session) -> None:
-    """Deletes netrev's marks and the breaks at places of the program, and prints what was deleted."""
+    """Deletes netrev's marks and the breaks at places of the program, and prints what it deleted."""
     gone = []
     for mark in session.netrev.marks():
         if not session.ask(f"delete {mark.number}").startswith("fault"):
@@ -120,8 +120,8 @@ def calls_of(recording: Recording) -> list[Call]:
 
 
 def stack_at(session: Session) -> Stack:
-    """The stack of the chosen goroutine; else the stack of the last step, or, before a place of the program, of the
-    next step."""
+    """The stack of the chosen goroutine. If none is chosen, the stack of the last step, or, before a place of the
+    program, the stack of the next step."""
     if session.goroutine:
         found = stack_of(session.text(), session.goroutine, session.stands().position)
         return found.stack if found else Stack((), None)
@@ -129,7 +129,7 @@ def stack_at(session: Session) -> Stack:
 
 
 def frame_by(move: int) -> Answering:
-    """The answer to `frame [N]`, `up` and `down`, which shows a call of the stack and the source around it."""
+    """The answer to `frame [N]`, `up` and `down`: it shows a call of the stack, and the source around that call."""
 
     def answer(session: Session, words: list[str]) -> None:
         stack = stack_at(session)
@@ -148,12 +148,12 @@ def frame_by(move: int) -> Answering:
 
 
 def own_frame(stack: Stack) -> int:
-    """The innermost frame of the program; 0 if there is none."""
+    """The innermost frame of the program; 0 if the stack has no frame of the program."""
     return next((at for at, call in enumerate(stack.calls) if call.of == OF_THE_PROGRAM), 0)
 
 
 def show_frame(session: Session, stack: Stack, wanted: Optional[int]) -> None:
-    """Chooses a frame, which is the program's own by default, and shows it with the source around it."""
+    """Chooses a frame, by default the program's own, and shows the frame with the source around it."""
     session.frame = own_frame(stack) if wanted is None else wanted
     call = stack.calls[session.frame]
     session.printer.note(f"frame {session.frame}: {call.function} at {call.place()}")

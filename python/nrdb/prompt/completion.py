@@ -23,8 +23,8 @@ VALUES = {"gor": STATUSES, "rg": ["nil", "ready", "wait"], "wg": ["nil", "ready"
 
 
 def completions(line: str, session: Session) -> list[str]:
-    """The completions of the last word of a line; other commands, separated by `;`, may precede it. While netrev is
-    answering, no numbers are offered."""
+    """The completions of the last word of a line. Other commands, separated by `;`, may precede that word. While netrev
+    is answering, numbers aren't completed."""
     words = line.rpartition(";")[2].split(" ")
     *before, last = words
     found = candidates(
@@ -39,7 +39,7 @@ def numbers_in(session: Session, of: Of) -> list[str]:
 
 
 def places_in(recording: Optional[Recording]) -> list[str]:
-    """The functions of the program and the lines of its files that steps come from."""
+    """The functions of the program, and the lines of its files from which steps come."""
     lines = recording.lines if recording else None
     calls = [call for number in set(lines.steps) for call in lines.stacks[number].calls] if lines else []
     own = [call for call in calls if call.of == OF_THE_PROGRAM]
@@ -50,7 +50,7 @@ def places_in(recording: Optional[Recording]) -> list[str]:
 def candidates(
     before: list[str], numbers: Callable[[Of], list[str]], places: Callable[[], list[str]] = list
 ) -> list[str]:
-    """The words that can follow these words; `numbers` gives the numbers in use, and `places` the functions and lines
+    """The words that can follow these words. `numbers` gives the numbers in use, and `places` the functions and lines
     of the program."""
     if not before:
         return list(COMMANDS)

@@ -1,4 +1,4 @@
-"""The pager: output that is longer than the screen waits for a key, as in GDB. `pagination off` turns it off."""
+"""The pager: after output has filled the screen, it waits for a key, as in GDB. `pagination off` turns it off."""
 
 import io
 import os
@@ -6,7 +6,7 @@ import signal
 from typing import Callable, TextIO
 
 MORE = "--return for more, q to leave out the rest, c to go on without stopping--"
-LEAST = 4  # the fewest lines of a screen at which the pager stops
+LEAST = 4  # on a screen with fewer lines, the pager doesn't stop
 
 
 class Paged(io.TextIOBase):
@@ -28,7 +28,7 @@ class Paged(io.TextIOBase):
         return len(text)
 
     def _write(self, line: str) -> None:
-        """Writes a line, or the rest of one, and asks first if the screen is full."""
+        """Writes a line, or the rest of a line. If the screen is full, asks first."""
         rows, columns = self._screen()
         if rows >= LEAST and self._lines >= rows - 1 and not self._goes_on and self._is_on():
             self._ask()
@@ -39,7 +39,7 @@ class Paged(io.TextIOBase):
             self._lines += 1 + max(len(line) - 2, 0) // max(columns, 1)
 
     def _ask(self) -> None:
-        """Waits for a key. Ctrl-C counts as q."""
+        """Waits for a key. Ctrl-C has the same effect as `q`."""
         self._out.flush()
         before = signal.signal(signal.SIGINT, signal.default_int_handler)
         try:
@@ -55,7 +55,7 @@ class Paged(io.TextIOBase):
         self._is_left_out, self._goes_on = word.startswith("q"), word.startswith("c")
 
     def _screen(self) -> tuple[int, int]:
-        """The number of lines and columns of the terminal; no lines if that is unknown."""
+        """The number of lines and columns of the terminal; no lines if their number is unknown."""
         try:
             size = os.get_terminal_size(self._out.fileno())
         except (OSError, ValueError):

@@ -24,9 +24,9 @@ try:
 except ImportError:  # without readline there is no line editing
     readline = None  # type: ignore[assignment]
 
-PROMPT, TAKING = "(netrev) ", "> "  # the second is for the lines of `commands`
+PROMPT, TAKING = "(netrev) ", "> "  # the second one is for the lines of `commands`
 FIRST = "what went wrong: info suspects; what hangs: info hangs; what failed: info errors; all commands: help"
-MOST_STEPS = 200_000  # the most steps of a recording whose causes are found within seconds
+MOST_STEPS = 200_000  # the most steps of a recording whose causes nrdb finds within seconds
 KEPT = 1000
 
 
@@ -45,7 +45,7 @@ class Terminal:
         self._found: list[str] = []
 
     def run(self) -> None:
-        """Reads and answers lines until quit, or the end of the input."""
+        """Reads and answers lines, until `quit` or the end of the input."""
         self._load()
         self._open()
         self.session.printer.note(FIRST)
@@ -57,7 +57,7 @@ class Terminal:
             self._save()
 
     def _open(self) -> None:
-        """Prints what failed or hangs in the whole recording, whatever the position is."""
+        """Prints what failed or hangs in the whole recording, whatever the session's position is."""
         recording = self.session.recording
         if recording is None or recording.length > MOST_STEPS:
             return
@@ -130,12 +130,12 @@ class Terminal:
         """The numbers in use at the position."""
         try:
             return numbers_in(self.session, of)
-        except (Ended, Interrupted):  # (readline would swallow the exception)
+        except (Ended, Interrupted):  # (readline would discard the exception)
             return []
 
 
 def repeats(line: str) -> bool:
-    """Whether an empty line after this line repeats it, because it steps."""
+    """Whether an empty line after this line repeats it. Only a line that steps is repeated."""
     try:
         first = whole_words(line.split())[0]
     except Ambiguous:
