@@ -1,2 +1,2 @@
-"""Lines and functions of the program as places for breaks and moves, found in NAME.where: `break main.go:39`, `until
+"""Lines and functions of the program as places for breaks and moves, from NAME.where: `break main.go:39`, `until
 main.echo`."""

@@ -14,12 +14,12 @@ from ..where import Call, Stack
 OF_A_LINE = re.compile(r"(.+):(\d{1,9})\Z")
 Key = TypeVar("Key", bound=Hashable)
 POINTER = re.compile(r"\(\*([^()]*)\)")  # a pointer receiver
-MOST_NEAR = 5  # how many lines are named if the requested line has no step
+MOST_NEAR = 5  # the most lines that are named if the requested line has no step
 
 
 class Place(NamedTuple):
-    """A line or a function as it was typed, and the positions before the steps at which a goroutine reaches it,
-    rising."""
+    """A line or a function as it was typed, and the positions before the steps at which a goroutine reaches it, in
+    rising order."""
 
     spelled: str
     positions: list[int]
@@ -35,7 +35,7 @@ class Places:
         self._begins = {call.first for call in book.calls}
 
     def place(self, spelled: str) -> Optional[Place]:
-        """The place that a word names; None if no recorded step comes from it."""
+        """The place that a word names; None if no recorded step comes from that place."""
         found = OF_A_LINE.fullmatch(spelled)
         positions = self._of_line(found[1], int(found[2])) if found else self._of_function(spelled)
         return Place(spelled, positions) if positions else None
@@ -60,8 +60,9 @@ class Places:
         return found.get(name, [])
 
     def _positions(self, keys: Callable[[Stack], set[Key]]) -> dict[Key, list[int]]:
-        """For each key, the positions before the steps at which a goroutine reaches a stack that has the key. A
-        goroutine that was there at its previous step reaches it anew if one of its calls begins."""
+        """For each key, the positions before the steps at which a goroutine reaches a stack with that key. If the
+        goroutine's stack had the key at its previous step too, the goroutine reaches the key again only if one of its
+        calls begins."""
         of_stack = {number: keys(stack) for number, stack in self._lines.stacks.items()}
         found: dict[Key, list[int]] = {}
         before: dict[int, set[Key]] = {}
@@ -76,13 +77,13 @@ class Places:
 
 
 def near_lines(file: str, wanted: int, lines: Iterable[int]) -> list[str]:
-    """The lines of a file that are nearest to this one."""
+    """The lines of a file that are nearest to a line."""
     near = sorted(lines, key=lambda line: abs(line - wanted))[:MOST_NEAR]
     return [f"{file}:{line}" for line in sorted(near)]
 
 
 def no_step_from(spelled: str, near: Sequence[str]) -> str:
-    """The message about a line or a function that no step comes from, with the nearest lines that have steps."""
+    """The message about a line or a function from which no step comes, with the nearest lines that have steps."""
     if near:
         return messages.NO_STEP_FROM_BUT.format(place=spelled, near=", ".join(near))
     return messages.NO_STEP_FROM.format(place=spelled)
@@ -99,13 +100,13 @@ def is_place(recording: Optional[Recording], words: list[str]) -> bool:
 
 
 def is_file(known: str, spelled: str) -> bool:
-    """Whether a file of NAME.where has this name, or a name that ends with it."""
+    """Whether a file of NAME.where has this name, or has a name that ends with it."""
     return known == spelled or known.endswith(f"/{spelled.removeprefix('./')}")
 
 
 def is_function(call: Call, name: str) -> bool:
-    """Whether a call is of the function with this name, which may lack the package or its path. `hub.broadcast` also
-    matches `(*hub).broadcast`."""
+    """Whether a call is of the function with this name. The name may lack the package or the package's path.
+    `hub.broadcast` also matches `(*hub).broadcast`."""
     return any(
         function == spelled or function.endswith((f"/{spelled}", f".{spelled}"))
         for function, spelled in ((call.function, name), (without_pointer(call.function), name))
