@@ -1,5 +1,5 @@
 -- If no mark can hit at a position, none does, and the watched values stay.
-use Rattle.std.proofs.Common.{◌≡◌, ℕ, ◌+◌, Bool, true, false, not, ◌||◌, ◌&&◌, cond, inl, inr, ◌<◌, ◌≤◌, length, set, get_or, arith, List, [], ◌∷◌, filter, map, slice_get, Option, Some, None, Ok, Err, refl, sym, ap, ◌∙◌, zero, suc}
+use Rattle.std.proofs.Common.{◌≡◌, ℕ, ◌+◌, Bool, true, false, not, ◌||◌, cond, inl, inr, ◌<◌, ◌≤◌, length, set, get_or, arith, List, [], ◌∷◌, filter, map, slice_get, Option, Some, None, Ok, Err, refl, sym, ap, ◌∙◌, zero, suc}
 use Rattle.std.specs.Option.{option_and_then}
 use Rattle.nr_rev.specs.Cell.{cell, same_value}
 use Rattle.std.proofs.lemmas.Option.{get_or_from_slice_get, slice_get-get_or}
@@ -18,81 +18,82 @@ use Rattle.nr_rev.specs.declared.step.Step.{Step}
 use Rattle.nr_laws.proofs.AspectStepLemmas.{step_keeps_cell}
 use Rattle.nr_rev.proofs.CellValueLemmas.{same_value-self}
 use Rattle.nr_rev.proofs.RunLemmas.{IsWorldAt-next}
-use Rattle.nr_marks.specs.Hit.{hits_between, mark_hits, watched}
+use Rattle.nr_marks.specs.Hit.{hits_between, mark_hits, numbered, watched}
 use Rattle.nr_marks.specs.Marks.{NumberedMark, is_watch}
 use Rattle.nr_marks.specs.declared.mark.Mark.{Mark}
 use Rattle.nr_marks.specs.declared.mark.Mark.TheVariants as mark
 use Rattle.nr_marks.specs.declared.mark.NextStep.{NextStep}
-use Rattle.nr_changes.specs.declared.footprint.Footprint.{Footprint}
-use Rattle.nr_changes.specs.declared.footprint.Owner.{Owner}
-use Rattle.nr_changes.specs.declared.footprint.Owner.TheVariants as owner
-use Rattle.nr_changes.specs.Footprint.{admits, admits_owner, anything, footprint, owner_of}
-use Rattle.nr_changes.proofs.FootprintLemmas.{outside_stays}
 use Rattle.nr_snaps.specs.Answers.{answer_at, answer_of}
 use Rattle.nr_search.specs.Quiet.{AreChanging, any_break, any_changed, any_stopped, is_changed_by, is_stopped_by}
 use Rattle.nr_search.specs.Search.{Remembers}
 use Rattle.nr_search.proofs.WatchedLemmas.{below-more}
 
--- the step leaves each cell alone that it can't change, by its footprint or by its kind
-abbrev pub Keeps : Step → World → World → Type 0
-Keeps step before after = (c : Cell) → (admits (footprint step) c && can_change (kind_of step) c) ≡ false → cell after c ≡ cell before c
-
-outcome-keeps : (w : World) (step : Step) (answer : Answer) (next : World) → outcome w step ≡ Ok (answer, next) → Keeps step w next
-outcome-keeps w step answer next is c cannot = by_footprint (admits (footprint step) c) refl
+-- a step that applies keeps each cell that its kind cannot change
+step-keeps : (r : Recording) (n : ℕ) (step : Step) (answer : Answer) → slice_get r.steps n ≡ Some step → answer_at r n ≡ Some answer → (c : Cell) → can_change (kind_of step) c ≡ false
+    → cell (world_at r (n + 1)) c ≡ cell (world_at r n) c
+step-keeps r n step answer read gives c cannot = go (outcome (world_at r n) step) refl
   where
-    by_footprint : (b : Bool) → admits (footprint step) c ≡ b → cell next c ≡ cell w c
-    by_footprint false outside = outside_stays w step answer next c is outside
-    by_footprint true inside = step_keeps_cell w step answer next c is (ap (λ b. b && can_change (kind_of step) c) (sym inside) ∙ cannot)
-
--- so does each step of a recording that applies
-pub step-keeps : (r : Recording) (n : ℕ) (step : Step) (answer : Answer) (before after : World) → before ≡ world_at r n → after ≡ world_at r (n + 1) → slice_get r.steps n ≡ Some step → answer_at r n ≡ Some answer
-    → Keeps step before after
-step-keeps r n step answer before after b a read gives = λ c cannot. ap (λ w. cell w c) a ∙ go (outcome (world_at r n) step) refl c cannot ∙ sym (ap (λ w. cell w c) b)
-  where
-    go : (o : Outcome) → outcome (world_at r n) step ≡ o → Keeps step (world_at r n) (world_at r (n + 1))
-    go (Ok left) is c cannot =
+    go : (o : Outcome) → outcome (world_at r n) step ≡ o → cell (world_at r (n + 1)) c ≡ cell (world_at r n) c
+    go (Ok left) is =
         ap (λ w. cell w c) (sym (IsWorldAt-next {State = World} (λ _. Unit {0}) (λ w. w) r n step left.0 (world_at r n) left.1 (record { well_formed = tt; there = refl }) read is tt).there)
-        ∙ outcome-keeps (world_at r n) step left.0 left.1 is c cannot
-    go (Err reason) is c cannot = let none : None ≡ Some answer = sym (ap answer_of is) ∙ sym (ap (option_and_then (λ s. answer_of (outcome (world_at r n) s))) read) ∙ gives in cc
+        ∙ step_keeps_cell (world_at r n) step left.0 left.1 c is cannot
+    go (Err reason) is = let none : None ≡ Some answer = sym (ap answer_of is) ∙ sym (ap (option_and_then (λ s. answer_of (outcome (world_at r n) s))) read) ∙ gives in cc
 
--- what a mark watches stays
-watched-kept : (step : Step) (before after : World) (m : Mark) → Keeps step before after → is_changed_by (kind_of step) (footprint step) m ≡ false → watched after m ≡ watched before m
-watched-kept step before after (mark.Break wanted) keeps none = refl
-watched-kept step before after (mark.TemporaryBreak wanted) keeps none = refl
-watched-kept step before after (mark.Watch c) keeps none = keeps c none
+-- what a step before the position keeps, by its kind
+abbrev pub Keeps : NextStep → World → World → Type 0
+Keeps made before after = (c : Cell) → can_change made.kind c ≡ false → cell after c ≡ cell before c
 
--- the mark misses
-missed : (step : Step) (next : Option NextStep) (before after : World) (m : Mark) → Keeps step before after → is_changed_by (kind_of step) (footprint step) m ≡ false → is_stopped_by next m ≡ false
+pub made-keeps : (r : Recording) (n : ℕ) (made : NextStep) (answer : Answer) (before after : World) → before ≡ world_at r n → after ≡ world_at r (n + 1) → Some made ≡ numbered n (slice_get r.steps n)
+    → answer_at r n ≡ Some answer → Keeps made before after
+made-keeps r n made answer before after b a is gives = λ c cannot. ap (λ w. cell w c) a ∙ go (slice_get r.steps n) refl is c cannot ∙ sym (ap (λ w. cell w c) b)
+  where
+    go : (o : Option Step) → slice_get r.steps n ≡ o → Some made ≡ numbered n o → (c : Cell) → can_change made.kind c ≡ false → cell (world_at r (n + 1)) c ≡ cell (world_at r n) c
+    go None read same c cannot = cc
+    go (Some step) read same c cannot =
+        let kinds : made.kind ≡ kind_of step = ap (λ (m : NextStep). m.kind) (same_step made _ same) in
+        step-keeps r n step answer read gives c (ap (λ k. can_change k c) (sym kinds) ∙ cannot)
+      where
+        same_step : (x y : NextStep) → ◌≡◌ {A = Option NextStep} (Some x) (Some y) → x ≡ y
+        same_step x y e = cc
+
+-- the watched value of a mark stays
+watched-kept : (made : NextStep) (before after : World) (m : Mark) → Keeps made before after → is_changed_by made.kind m ≡ false → watched after m ≡ watched before m
+watched-kept made before after (mark.Break wanted) keeps none = refl
+watched-kept made before after (mark.TemporaryBreak wanted) keeps none = refl
+watched-kept made before after (mark.Watch c) keeps none = keeps c none
+
+-- a mark misses
+missed : (made : NextStep) (next : Option NextStep) (before after : World) (m : Mark) → Keeps made before after → is_changed_by made.kind m ≡ false → is_stopped_by next m ≡ false
     → mark_hits before after next m ≡ false
-missed step next before after (mark.Break wanted) keeps none stops = stops
-missed step next before after (mark.TemporaryBreak wanted) keeps none stops = stops
-missed step next before after (mark.Watch c) keeps none stops = ap (λ v. not (same_value (cell before c) v)) (keeps c none) ∙ ap not (same_value-self (cell before c))
+missed made next before after (mark.Break wanted) keeps none stops = stops
+missed made next before after (mark.TemporaryBreak wanted) keeps none stops = stops
+missed made next before after (mark.Watch c) keeps none stops = ap (λ v. not (same_value (cell before c) v)) (keeps c none) ∙ ap not (same_value-self (cell before c))
 
 neither : (a b : Bool) → (a || b) ≡ false → (a ≡ false) × (b ≡ false)
 neither true b none = cc
 neither false b none = (refl, none)
 
 -- all marks miss
-pub all-missed : (step : Step) (next : Option NextStep) (before after : World) (marks : List NumberedMark) → Keeps step before after → any_changed (kind_of step) (footprint step) marks ≡ false
+pub all-missed : (made : NextStep) (next : Option NextStep) (before after : World) (marks : List NumberedMark) → Keeps made before after → any_changed made.kind marks ≡ false
     → any_stopped next marks ≡ false → [] ≡ hits_between before after next marks
-all-missed step next before after [] keeps none stops = refl
-all-missed step next before after (m ∷ marks) keeps none stops =
-    let a = neither (is_changed_by (kind_of step) (footprint step) m.item) _ none in
+all-missed made next before after [] keeps none stops = refl
+all-missed made next before after (m ∷ marks) keeps none stops =
+    let a = neither (is_changed_by made.kind m.item) _ none in
     let b = neither (is_stopped_by next m.item) _ stops in
-    all-missed step next before after marks keeps a.1 b.1
+    all-missed made next before after marks keeps a.1 b.1
     ∙ ap (λ here. map (λ (x : NumberedMark). x.number) (cond here (m ∷ filter (λ (x : NumberedMark). mark_hits before after next x.item) marks) (filter (λ (x : NumberedMark). mark_hits before after next x.item) marks)))
-    (sym (missed step next before after m.item keeps a.0 b.0))
+    (sym (missed made next before after m.item keeps a.0 b.0))
 
 -- the remembered values stay right
-pub remembers-on : (step : Step) (before after : World) (marks : List NumberedMark) (values : List CellValue) → Keeps step before after → any_changed (kind_of step) (footprint step) marks ≡ false → Remembers before marks values
+pub remembers-on : (made : NextStep) (before after : World) (marks : List NumberedMark) (values : List CellValue) → Keeps made before after → any_changed made.kind marks ≡ false → Remembers before marks values
     → Remembers after marks values
-remembers-on step before after marks values keeps none remembered =
-    record { each = λ i m read. remembered.each i m read ∙ ap Some (sym (watched-kept step before after m.item keeps (at marks i m none read))) }
+remembers-on made before after marks values keeps none remembered =
+    record { each = λ i m read. remembered.each i m read ∙ ap Some (sym (watched-kept made before after m.item keeps (at marks i m none read))) }
   where
-    at : (ms : List NumberedMark) (i : ℕ) (m : NumberedMark) → any_changed (kind_of step) (footprint step) ms ≡ false → slice_get ms i ≡ Some m → is_changed_by (kind_of step) (footprint step) m.item ≡ false
+    at : (ms : List NumberedMark) (i : ℕ) (m : NumberedMark) → any_changed made.kind ms ≡ false → slice_get ms i ≡ Some m → is_changed_by made.kind m.item ≡ false
     at [] i m none read = cc
-    at (x ∷ ms) zero m none read = let same : x ≡ m = cc in ap (λ (y : NumberedMark). is_changed_by (kind_of step) (footprint step) y.item) (sym same) ∙ (neither _ _ none).0
-    at (x ∷ ms) (suc i) m none read = at ms i m (neither (is_changed_by (kind_of step) (footprint step) x.item) _ none).1 read
+    at (x ∷ ms) zero m none read = let same : x ≡ m = cc in ap (λ (y : NumberedMark). is_changed_by made.kind y.item) (sym same) ∙ (neither _ _ none).0
+    at (x ∷ ms) (suc i) m none read = at ms i m (neither (is_changed_by made.kind x.item) _ none).1 read
 
 -- the kind of a number is the only one with that number
 pub numbered-same : (n : ℕ) (kind found : Kind) → n ≡ kind_number kind → kind_numbered n ≡ Some found → found ≡ kind
@@ -108,9 +109,9 @@ number-below _ = omega arith
 
 -- true if the table is right about the kinds with numbers below this one
 pub record AreChangingBelow (marks : List NumberedMark) (number : ℕ) (changing : List Bool) : Type 0 where
-  pub each : (kind : Kind) → kind_number kind < number → slice_get changing (kind_number kind) ≡ Some (any_changed kind anything marks)
+  pub each : (kind : Kind) → kind_number kind < number → slice_get changing (kind_number kind) ≡ Some (any_changed kind marks)
 
-pub changing-more : (marks : List NumberedMark) (number : ℕ) (changing : List Bool) (here : Bool) → number < length changing → ((kind : Kind) → number ≡ kind_number kind → here ≡ any_changed kind anything marks)
+pub changing-more : (marks : List NumberedMark) (number : ℕ) (changing : List Bool) (here : Bool) → number < length changing → ((kind : Kind) → number ≡ kind_number kind → here ≡ any_changed kind marks)
     → AreChangingBelow marks number changing → AreChangingBelow marks (number + 1) (set changing number here)
 changing-more marks number changing here within is before =
     record {
@@ -135,30 +136,8 @@ none_stopped next (m ∷ marks) none =
     watch (mark.TemporaryBreak wanted) is = cc
     watch (mark.Watch c) is = refl
 
--- a mark that no step of the kind can change isn't changed by a step with a footprint
-narrower_mark : (kind : Kind) (f : Footprint) (m : Mark) → is_changed_by kind anything m ≡ false → is_changed_by kind f m ≡ false
-narrower_mark kind f (mark.Break wanted) none = refl
-narrower_mark kind f (mark.TemporaryBreak wanted) none = refl
-narrower_mark kind f (mark.Watch c) none = by_footprint (admits f c)
-  where
-    all_admitted : (o : Owner) → admits_owner anything o ≡ true
-    all_admitted owner.World = refl
-    all_admitted (owner.Goroutine g) = refl
-    all_admitted (owner.Socket s) = refl
-    all_admitted (owner.Descriptor d) = refl
-
-    by_footprint : (b : Bool) → (b && can_change kind c) ≡ false
-    by_footprint false = refl
-    by_footprint true = ap (λ b. b && can_change kind c) (sym (all_admitted (owner_of c))) ∙ none
-
-narrower : (kind : Kind) (f : Footprint) (marks : List NumberedMark) → any_changed kind anything marks ≡ false → any_changed kind f marks ≡ false
-narrower kind f [] none = refl
-narrower kind f (m ∷ marks) none =
-    let both = neither (is_changed_by kind anything m.item) (any_changed kind anything marks) none in
-    ap (λ b. b || any_changed kind f marks) (narrower_mark kind f m.item both.0) ∙ narrower kind f marks both.1
-
--- a step whose kind the table excludes changes no watched cell
-pub unchanged_at : (marks : List NumberedMark) (changing : List Bool) (kind : Kind) (f : Footprint) (number : ℕ) → AreChanging marks changing → number ≡ kind_number kind → get_or changing number false ≡ false
-    → any_changed kind f marks ≡ false
-unchanged_at marks changing kind f number known is read =
-    narrower kind f marks (sym (get_or_from_slice_get changing (kind_number kind) (any_changed kind anything marks) false (known.each kind)) ∙ ap (λ i. get_or changing i false) (sym is) ∙ read)
+-- if the table says that a kind can change no watched cell, it can't
+pub unchanged_at : (marks : List NumberedMark) (changing : List Bool) (kind : Kind) (number : ℕ) → AreChanging marks changing → number ≡ kind_number kind → get_or changing number false ≡ false
+    → any_changed kind marks ≡ false
+unchanged_at marks changing kind number known is read =
+    sym (get_or_from_slice_get changing (kind_number kind) (any_changed kind marks) false (known.each kind)) ∙ ap (λ i. get_or changing i false) (sym is) ∙ read

@@ -1,12 +1,9 @@
--- Positions at which no mark can hit, judged by the steps before and after them.
-use Rattle.std.specs.Prelude.{◌≡◌, Bool, false, not, ◌&&◌, List, slice_get, Option, Some}
+-- Positions at which no mark can hit, judged by the kinds of the steps before and after them.
+use Rattle.std.specs.Prelude.{◌≡◌, Bool, false, not, List, slice_get, Option, Some}
 use Rattle.std.specs.List.{list_any}
-use Rattle.nr_rev.specs.Kind.{kind_number, kind_of}
+use Rattle.nr_rev.specs.Kind.{kind_number}
 use Rattle.nr_rev.specs.Aspect.{can_change}
 use Rattle.nr_rev.specs.declared.kind.Kind.{Kind}
-use Rattle.nr_rev.specs.declared.step.Step.{Step}
-use Rattle.nr_changes.specs.Footprint.{admits, anything, footprint}
-use Rattle.nr_changes.specs.declared.footprint.Footprint.{Footprint}
 use Rattle.nr_marks.specs.Hit.{break_hits}
 use Rattle.nr_marks.specs.Marks.{NumberedMark, is_watch}
 use Rattle.nr_marks.specs.declared.mark.Mark.{Mark}
@@ -14,11 +11,11 @@ use Rattle.nr_marks.specs.declared.mark.Mark.TheVariants as mark
 use Rattle.nr_marks.specs.declared.mark.NextStep.{NextStep}
 use Rattle.nr_search.specs.declared.quiet.Outlook.{Outlook}
 
--- True if a mark watches a cell that a step of this kind and footprint can change.
-abbrev pub is_changed_by : Kind → Footprint → Mark → Bool
-is_changed_by kind f (mark.Break wanted) = false
-is_changed_by kind f (mark.TemporaryBreak wanted) = false
-is_changed_by kind f (mark.Watch c) = admits f c && can_change kind c
+-- True if a mark watches a cell that a step of this kind can change.
+abbrev pub is_changed_by : Kind → Mark → Bool
+is_changed_by kind (mark.Break wanted) = false
+is_changed_by kind (mark.TemporaryBreak wanted) = false
+is_changed_by kind (mark.Watch c) = can_change kind c
 
 -- True if a mark is a break that names the next step.
 abbrev pub is_stopped_by : Option NextStep → Mark → Bool
@@ -27,8 +24,8 @@ is_stopped_by next (mark.TemporaryBreak wanted) = break_hits wanted next
 is_stopped_by next (mark.Watch c) = false
 
 -- True if one of the marks watches such a cell.
-abbrev pub any_changed : Kind → Footprint → List NumberedMark → Bool
-any_changed kind f marks = list_any (λ m. is_changed_by kind f m.item) marks
+abbrev pub any_changed : Kind → List NumberedMark → Bool
+any_changed kind marks = list_any (λ m. is_changed_by kind m.item) marks
 
 -- True if one of the marks is such a break.
 abbrev pub any_stopped : Option NextStep → List NumberedMark → Bool
@@ -37,8 +34,7 @@ any_stopped next marks = list_any (λ m. is_stopped_by next m.item) marks
 -- True if the table says, for each kind at its number, whether one of the marks watches a cell that
 -- a step of that kind can change.
 pub record AreChanging (marks : List NumberedMark) (changing : List Bool) : Type 0 where
-  pub each : (kind : Kind)
-      → slice_get changing (kind_number kind) ≡ Some (any_changed kind anything marks)
+  pub each : (kind : Kind) → slice_get changing (kind_number kind) ≡ Some (any_changed kind marks)
 
 -- True if one of the marks is a break.
 abbrev pub any_break : List NumberedMark → Bool
@@ -49,7 +45,9 @@ pub record IsOutlook (marks : List NumberedMark) (outlook : Outlook) : Type 0 wh
   pub changing : AreChanging marks outlook.changing
   pub any_break : outlook.any_break ≡ any_break marks
 
--- True if no mark can hit between this step and the next one.
-pub record IsQuiet (marks : List NumberedMark) (step : Step) (next : Option NextStep) : Type 0 where
-  pub unchanged : any_changed (kind_of step) (footprint step) marks ≡ false
+-- True if no mark can hit between the step `made` and the step `next`.
+pub record IsQuiet (marks : List NumberedMark) (made next : Option NextStep) : Type 0 where
+  pub step : NextStep
+  pub is : made ≡ Some step
+  pub unchanged : any_changed step.kind marks ≡ false
   pub unstopped : any_stopped next marks ≡ false

@@ -1,14 +1,12 @@
-//! Positions at which no mark can hit, judged by the steps before and after them.
+//! Positions at which no mark can hit, judged by the kinds of the steps before and after them.
 
-ghost use Rattle.std.specs.Prelude.{◌≡◌, true, false};
-ghost use Rattle.nr_rev.specs.Kind.{kind_number, kind_of};
-ghost use Rattle.nr_changes.specs.Footprint.{anything, footprint};
+ghost use Rattle.std.specs.Prelude.{◌≡◌, true};
+ghost use Rattle.nr_rev.specs.Kind.{kind_number};
 ghost use Rattle.nr_rev.specs.declared.kind.Kind.{Kind};
 ghost use Rattle.nr_search.specs.Quiet.{AreChanging, IsOutlook, IsQuiet, any_break, any_changed, any_stopped, is_changed_by, is_stopped_by};
 
-use nr_changes::Footprint;
 use nr_marks::{Mark, NextStep, NumberedMark};
-use nr_rev::{Kind, Step};
+use nr_rev::Kind;
 
 /// The number of entries of a table of kinds: one for each number of a kind, and one for 0, which no kind has.
 pub(crate) const NUMBERS: usize = 32;
@@ -25,13 +23,13 @@ pub(crate) struct Outlook {
     pub(crate) any_break: bool,
 }
 
-// Returns whether a mark watches a cell that a step of this kind and footprint can change.
-fn is_changed_by(mark: Mark, kind: Kind, footprint: Footprint) -> bool
-    ensures { result ≡ is_changed_by kind footprint mark }
+// Returns whether a mark watches a cell that a step of this kind can change.
+fn is_changed_by(mark: Mark, kind: Kind) -> bool
+    ensures { result ≡ is_changed_by kind mark }
 {
     match mark {
         Mark::Break(_) | Mark::TemporaryBreak(_) => false,
-        Mark::Watch(cell) => footprint.admits(cell) && kind.can_change(cell),
+        Mark::Watch(cell) => kind.can_change(cell),
     }
 }
 
@@ -45,13 +43,11 @@ fn is_stopped_by(mark: Mark, next: Option<NextStep>) -> bool
     }
 }
 
-// Returns whether one of the marks watches a cell that a step of this kind and footprint can change.
-fn any_changed(marks: &[NumberedMark], kind: Kind, footprint: Footprint) -> bool
-    ensures { result ≡ any_changed kind footprint marks.now }
+// Returns whether one of the marks watches a cell that a step of this kind can change.
+fn any_changed(marks: &[NumberedMark], kind: Kind) -> bool
+    ensures { result ≡ any_changed kind marks.now }
 {
-    marks
-        .iter()
-        .any(|mark| is_changed_by(mark.item, kind, footprint))
+    marks.iter().any(|mark| is_changed_by(mark.item, kind))
 }
 
 // Returns whether one of the marks is a break that names the next step.
@@ -63,10 +59,10 @@ fn any_stopped(marks: &[NumberedMark], next: Option<NextStep>) -> bool
 
 // Returns whether one of the marks watches a cell that a step of the kind with this number can change.
 fn is_changing(marks: &[NumberedMark], number: u8) -> bool
-    ensures { (kind : Kind) → number ≡ kind_number kind → result ≡ any_changed kind anything marks.now }
+    ensures { (kind : Kind) → number ≡ kind_number kind → result ≡ any_changed kind marks.now }
 {
     match Kind::numbered(number) {
-        Some(kind) => any_changed(marks, kind, Footprint::anything()),
+        Some(kind) => any_changed(marks, kind),
         None => false,
     }
 }
@@ -99,29 +95,21 @@ pub(crate) fn outlook_of(marks: &[NumberedMark]) -> Outlook
     }
 }
 
-// Returns false only if no mark watches a cell that this step can change. The table of kinds decides most steps, their
-// footprint the others.
-#[inline(always)]
-fn may_change(marks: &[NumberedMark], outlook: &Outlook, step: &Step) -> bool
-    requires { IsOutlook marks.now outlook.now }
-    ensures { result ≡ false → any_changed (kind_of step.now) (footprint step.now) marks.now ≡ false }
-{
-    let kind = step.kind();
-    outlook.changing[kind.number() as usize] && any_changed(marks, kind, Footprint::of(step))
-}
-
-/// Returns true only if no mark can hit at the position after this step and before the next one.
+/// Returns true only if no mark can hit at the position between these two steps.
 #[inline(always)]
 pub(crate) fn is_quiet(
     marks: &[NumberedMark],
     outlook: &Outlook,
-    step: &Step,
+    made: Option<NextStep>,
     next: Option<NextStep>,
 ) -> bool
     requires { IsOutlook marks.now outlook.now }
-    ensures { result ≡ true → IsQuiet marks.now step.now next }
+    ensures { result ≡ true → IsQuiet marks.now made next }
 {
-    if may_change(marks, outlook, step) {
+    let Some(step) = made else {
+        return false;
+    };
+    if outlook.changing[step.kind.number() as usize] {
         return false;
     }
     if outlook.any_break {

@@ -31,8 +31,8 @@ where
 }
 
 // Leads the world from position n to the next position, and returns the numbers of the marks that hit there. `values`
-// are the watched values at position n, and afterwards those at the next position. If the steps around that position
-// rule out a hit, no cell is read.
+// are the watched values at position n, and afterwards those at the next position. If the kinds of the steps around
+// that position rule out a hit, no cell is read.
 #[inline(always)]
 fn advance_finding_hits<W: Worlds + Drop>(
     film: &Film<W>,
@@ -56,12 +56,14 @@ where
 {
     // The length of a film is bounded, so n + 1 is a position.
     let _ = film.len();
+    let made = next_step(film, n);
     let next = next_step(film, n + 1);
     film.advance(world, n);
-    match film.step(n) {
-        Some(step) if is_quiet(marks, outlook, step, next) => hits.clear(),
-        _ => find_hits(marks, values, hits, world, next),
+    if is_quiet(marks, outlook, made, next) {
+        hits.clear();
+        return;
     }
+    find_hits(marks, values, hits, world, next);
 }
 
 /// Returns the nearest hit after position `at` and up to position `to`. The world starts at `at`, and is led on to `to`

@@ -4,11 +4,7 @@ use Rattle.nr_search.proofs.QuietLemmas.{numbered-same, numbered-some}
 use Rattle.nr_search.proofs.quiet.is_changing.Goals as goal
 
 pub returns-in-Some : goal.returns-in-Some
-returns-in-Some c =
-    λ kind is.
-    c.any_changed.ensures
-    ∙ ap (λ k. any_changed k c.anything.result c.args.marks.now) (numbered-same c.args.number kind _ is (sym c.numbered.ensures ∙ c.in-Some.is))
-    ∙ ap (λ f. any_changed kind f c.args.marks.now) c.anything.ensures
+returns-in-Some c = λ kind is. c.any_changed.ensures ∙ ap (λ k. any_changed k c.args.marks.now) (numbered-same c.args.number kind _ is (sym c.numbered.ensures ∙ c.in-Some.is))
 
 pub returns-in-None : goal.returns-in-None
 returns-in-None c = λ kind is. absurd (numbered-some c.args.number kind is (sym c.numbered.ensures ∙ c.in-None.is))
