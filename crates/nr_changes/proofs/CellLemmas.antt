@@ -1,5 +1,5 @@
 -- A cell that a step doesn't touch keeps its value.
-use Rattle.std.proofs.Common.{◌≡◌, ◌≢◌, ℕ, Bool, true, false, List, [], ◌∷◌, ◌++◌, map, length, Option, Some, None, Ok, refl, sym, ap, subst, ◌∙◌, inl, inr, arith}
+use Rattle.std.proofs.Common.{◌≡◌, ℕ, Bool, true, false, List, [], ◌∷◌, ◌++◌, map, length, Option, Some, None, Ok, refl, sym, ap, subst, ◌∙◌, inl, inr, arith}
 use Rattle.std.specs.Prelude.{Contains, slice_get}
 use Rattle.std.specs.Option.{option_map_or}
 use Rattle.std.proofs.lemmas.List.Elements.{Contains-append_left, Contains-append_right}
@@ -20,9 +20,6 @@ use Rattle.nr_rev.specs.Socket.{Socket}
 use Rattle.nr_rev.specs.Step.{outcome}
 use Rattle.nr_rev.specs.World.{World}
 use Rattle.nr_laws.proofs.AspectStepLemmas.{step_keeps_cell}
-use Rattle.nr_changes.specs.Footprint.{owner_of}
-use Rattle.nr_changes.specs.declared.footprint.Owner.{Owner}
-use Rattle.nr_changes.specs.declared.footprint.Owner.TheVariants as owner
 use Rattle.nr_changes.specs.Touched.{Touched, touched}
 use Rattle.nr_changes.specs.Changed.{cells_of, descriptor_cells, goroutine_cells, in_order, shut_cells, socket_cells, touched_cells}
 use Rattle.nr_changes.proofs.DescriptorTouchLemmas.{pollopen_touches, pollclose_touches, pollreset_touches, waitbegin_touches, blockarm_touches, blockcheck_touches, parkcommit_touches, blockswap_touches, waitcheck_touches, setdeadline_touches, evict_touches, pollevent_touches, tick_touches, pop_touches, fire_touches}
@@ -31,7 +28,7 @@ use Rattle.nr_changes.proofs.MemberLemmas.{here, later, nowhere, here_or_later, 
 use Rattle.nr_changes.proofs.SocketTouchLemmas.{spawn_touches, exit_touches, incref_touches, increfclose_touches, decref_touches, rwlock_touches, rwunlock_touches, acquire_touches, release_touches, sockopen_touches, arrive_touches, peerclose_touches, sysread_touches, syswrite_touches, drain_touches, closewrite_touches}
 
 -- the law for every kind of step
-pub step_touches : (w : World) (step : Step) → Touches (touched w step) w (outcome w step)
+step_touches : (w : World) (step : Step) → Touches (touched w step) w (outcome w step)
 step_touches w Step.Spawn = spawn_touches w
 step_touches w (Step.Exit g) = exit_touches w g
 step_touches w (Step.SockOpen rc wc) = sockopen_touches w rc wc
@@ -110,74 +107,46 @@ in_shut t s is =
     (Contains-append_right (descriptor_part t) (shut_part t) (Cell.Shut s)
     (subst (λ o. Contains (option_map_or shut_cells o []) (Cell.Shut s)) (sym is) (here (Cell.Shut s) []))))
 
--- ---- a cell whose owner isn't touched
+-- ---- a cell that isn't among them
 
--- the owner of a cell isn't touched
-abbrev pub IsApart : Touched → Owner → Type 0
-IsApart t owner.World = ⊥
-IsApart t (owner.Goroutine g) = ¬ Contains t.goroutines g
-IsApart t (owner.Socket s) = t.socket ≢ Some s
-IsApart t (owner.Descriptor d) = t.descriptor ≢ Some d
-
--- the value of a descriptor's cell depends on its state alone
+-- what a descriptor's cell shows hangs on its state alone
 by_state : (value : Descriptor → CellValue) (row : Option DescriptorRow) → value_or_absent (λ (x : DescriptorRow). value x.descriptor) row ≡ value_or_absent value (state_of row)
 by_state value None = refl
 by_state value (Some row) = refl
 
-pub apart_stays : (t : Touched) (w next : World) → Keeps t w next → (c : Cell) → IsApart t (owner_of c) → cell next c ≡ cell w c
-apart_stays t w next keeps = each
+stays : (t : Touched) (w next : World) → Keeps t w next → (c : Cell) → ¬ Contains (cells_of t) c → cell next c ≡ cell w c
+stays t w next keeps = each
   where
-    of_socket : (value : Socket → CellValue) (s : ℕ) → t.socket ≢ Some s → socket_value s next value ≡ socket_value s w value
-    of_socket value s apart = ap (value_or_absent value) (keeps.sockets s apart)
+    of_socket : (value : Socket → CellValue) (s : ℕ) (c : Cell) → Contains (socket_cells s) c → ¬ Contains (cells_of t) c → socket_value s next value ≡ socket_value s w value
+    of_socket value s c at none = ap (value_or_absent value) (keeps.sockets s (λ is. none (in_socket t s c at is)))
 
-    of_descriptor : (value : Descriptor → CellValue) (d : ℕ) → t.descriptor ≢ Some d → descriptor_value d next value ≡ descriptor_value d w value
-    of_descriptor value d apart =
-        by_state value (slice_get next.descriptors d) ∙ ap (value_or_absent value) (keeps.descriptors d apart) ∙ sym (by_state value (slice_get w.descriptors d))
+    of_descriptor : (value : Descriptor → CellValue) (d : ℕ) (c : Cell) → Contains (descriptor_cells d) c → ¬ Contains (cells_of t) c → descriptor_value d next value ≡ descriptor_value d w value
+    of_descriptor value d c at none =
+        by_state value (slice_get next.descriptors d)
+        ∙ ap (value_or_absent value) (keeps.descriptors d (λ is. none (in_descriptor t d c at is)))
+        ∙ sym (by_state value (slice_get w.descriptors d))
 
-    each : (c : Cell) → IsApart t (owner_of c) → cell next c ≡ cell w c
-    each Cell.Clock apart = absurd apart
-    each Cell.Waiters apart = absurd apart
-    each Cell.Timers apart = absurd apart
-    each Cell.Firings apart = absurd apart
-    each Cell.Least apart = absurd apart
-    each (Cell.Goroutine g) apart = ap (value_or_absent CellValue.Status) (keeps.goroutines g apart)
-    each (Cell.Lock s) apart = of_socket (λ x. Number (lock_number x.lock)) s apart
-    each (Cell.ReadSemaphore s) apart = of_socket (λ x. Number x.semaphores.read.count) s apart
-    each (Cell.WriteSemaphore s) apart = of_socket (λ x. Number x.semaphores.write.count) s apart
-    each (Cell.Input s) apart = of_socket (λ x. Number (length x.buffers.read.bytes)) s apart
-    each (Cell.Output s) apart = of_socket (λ x. Number (length x.buffers.write.bytes)) s apart
-    each (Cell.ReadWord d) apart = of_descriptor (λ x. CellValue.WaitWord x.words.read) d apart
-    each (Cell.WriteWord d) apart = of_descriptor (λ x. CellValue.WaitWord x.words.write) d apart
-    each (Cell.ReadDeadline d) apart = of_descriptor (λ x. Time x.deadlines.read) d apart
-    each (Cell.WriteDeadline d) apart = of_descriptor (λ x. Time x.deadlines.write) d apart
-    each (Cell.ReadSequence d) apart = of_descriptor (λ x. Number x.sequences.read) d apart
-    each (Cell.WriteSequence d) apart = of_descriptor (λ x. Number x.sequences.write) d apart
-    each (Cell.DescriptorSequence d) apart = of_descriptor (λ x. Number x.fdseq) d apart
-    each (Cell.Info d) apart = of_descriptor (λ x. Number (summary x)) d apart
-    each (Cell.Shut s) apart = of_socket (λ x. Number (bit x.shut)) s apart
-
--- a cell that isn't listed for what is touched has another owner
-unlisted_apart : (t : Touched) (c : Cell) → ¬ Contains (cells_of t) c → IsApart t (owner_of c)
-unlisted_apart t Cell.Clock none = none (in_world t Cell.Clock (0, omega arith, refl))
-unlisted_apart t Cell.Waiters none = none (in_world t Cell.Waiters (1, omega arith, refl))
-unlisted_apart t Cell.Timers none = none (in_world t Cell.Timers (2, omega arith, refl))
-unlisted_apart t Cell.Firings none = none (in_world t Cell.Firings (3, omega arith, refl))
-unlisted_apart t Cell.Least none = none (in_world t Cell.Least (4, omega arith, refl))
-unlisted_apart t (Cell.Goroutine g) none = λ at. none (in_goroutines t g at)
-unlisted_apart t (Cell.Lock s) none = λ is. none (in_socket t s (Cell.Lock s) (0, omega arith, refl) is)
-unlisted_apart t (Cell.ReadSemaphore s) none = λ is. none (in_socket t s (Cell.ReadSemaphore s) (1, omega arith, refl) is)
-unlisted_apart t (Cell.WriteSemaphore s) none = λ is. none (in_socket t s (Cell.WriteSemaphore s) (2, omega arith, refl) is)
-unlisted_apart t (Cell.Input s) none = λ is. none (in_socket t s (Cell.Input s) (3, omega arith, refl) is)
-unlisted_apart t (Cell.Output s) none = λ is. none (in_socket t s (Cell.Output s) (4, omega arith, refl) is)
-unlisted_apart t (Cell.ReadWord d) none = λ is. none (in_descriptor t d (Cell.ReadWord d) (0, omega arith, refl) is)
-unlisted_apart t (Cell.WriteWord d) none = λ is. none (in_descriptor t d (Cell.WriteWord d) (1, omega arith, refl) is)
-unlisted_apart t (Cell.ReadDeadline d) none = λ is. none (in_descriptor t d (Cell.ReadDeadline d) (2, omega arith, refl) is)
-unlisted_apart t (Cell.WriteDeadline d) none = λ is. none (in_descriptor t d (Cell.WriteDeadline d) (3, omega arith, refl) is)
-unlisted_apart t (Cell.ReadSequence d) none = λ is. none (in_descriptor t d (Cell.ReadSequence d) (4, omega arith, refl) is)
-unlisted_apart t (Cell.WriteSequence d) none = λ is. none (in_descriptor t d (Cell.WriteSequence d) (5, omega arith, refl) is)
-unlisted_apart t (Cell.DescriptorSequence d) none = λ is. none (in_descriptor t d (Cell.DescriptorSequence d) (6, omega arith, refl) is)
-unlisted_apart t (Cell.Info d) none = λ is. none (in_descriptor t d (Cell.Info d) (7, omega arith, refl) is)
-unlisted_apart t (Cell.Shut s) none = λ is. none (in_shut t s is)
+    each : (c : Cell) → ¬ Contains (cells_of t) c → cell next c ≡ cell w c
+    each Cell.Clock none = absurd (none (in_world t Cell.Clock (0, omega arith, refl)))
+    each Cell.Waiters none = absurd (none (in_world t Cell.Waiters (1, omega arith, refl)))
+    each Cell.Timers none = absurd (none (in_world t Cell.Timers (2, omega arith, refl)))
+    each Cell.Firings none = absurd (none (in_world t Cell.Firings (3, omega arith, refl)))
+    each Cell.Least none = absurd (none (in_world t Cell.Least (4, omega arith, refl)))
+    each (Cell.Goroutine g) none = ap (value_or_absent CellValue.Status) (keeps.goroutines g (λ at. none (in_goroutines t g at)))
+    each (Cell.Lock s) none = of_socket (λ x. Number (lock_number x.lock)) s (Cell.Lock s) (0, omega arith, refl) none
+    each (Cell.ReadSemaphore s) none = of_socket (λ x. Number x.semaphores.read.count) s (Cell.ReadSemaphore s) (1, omega arith, refl) none
+    each (Cell.WriteSemaphore s) none = of_socket (λ x. Number x.semaphores.write.count) s (Cell.WriteSemaphore s) (2, omega arith, refl) none
+    each (Cell.Input s) none = of_socket (λ x. Number (length x.buffers.read.bytes)) s (Cell.Input s) (3, omega arith, refl) none
+    each (Cell.Output s) none = of_socket (λ x. Number (length x.buffers.write.bytes)) s (Cell.Output s) (4, omega arith, refl) none
+    each (Cell.ReadWord d) none = of_descriptor (λ x. CellValue.WaitWord x.words.read) d (Cell.ReadWord d) (0, omega arith, refl) none
+    each (Cell.WriteWord d) none = of_descriptor (λ x. CellValue.WaitWord x.words.write) d (Cell.WriteWord d) (1, omega arith, refl) none
+    each (Cell.ReadDeadline d) none = of_descriptor (λ x. Time x.deadlines.read) d (Cell.ReadDeadline d) (2, omega arith, refl) none
+    each (Cell.WriteDeadline d) none = of_descriptor (λ x. Time x.deadlines.write) d (Cell.WriteDeadline d) (3, omega arith, refl) none
+    each (Cell.ReadSequence d) none = of_descriptor (λ x. Number x.sequences.read) d (Cell.ReadSequence d) (4, omega arith, refl) none
+    each (Cell.WriteSequence d) none = of_descriptor (λ x. Number x.sequences.write) d (Cell.WriteSequence d) (5, omega arith, refl) none
+    each (Cell.DescriptorSequence d) none = of_descriptor (λ x. Number x.fdseq) d (Cell.DescriptorSequence d) (6, omega arith, refl) none
+    each (Cell.Info d) none = of_descriptor (λ x. Number (summary x)) d (Cell.Info d) (7, omega arith, refl) none
+    each (Cell.Shut s) none = ap (value_or_absent (λ (x : Socket). Number (bit x.shut))) (keeps.sockets s (λ is. none (in_shut t s is)))
 
 pub untouched_stays : (w : World) (step : Step) (answer : Answer) (next : World) (c : Cell) → outcome w step ≡ Ok (answer, next) → ¬ Contains (touched_cells w step) c → cell next c ≡ cell w c
 untouched_stays w step answer next c is none = by_sort (can_change (kind_of step) c) refl
@@ -185,5 +154,5 @@ untouched_stays w step answer next c is none = by_sort (can_change (kind_of step
     by_sort : (may : Bool) → can_change (kind_of step) c ≡ may → cell next c ≡ cell w c
     by_sort false cannot = step_keeps_cell w step answer next c is cannot
     by_sort true can =
-        apart_stays (touched w step) w next ((step_touches w step).value (answer, next) is) c
-        (unlisted_apart (touched w step) c (λ at. none (Contains-filter (can_change (kind_of step)) (cells_of (touched w step)) c at can)))
+        stays (touched w step) w next ((step_touches w step).value (answer, next) is) c
+        (λ at. none (Contains-filter (can_change (kind_of step)) (cells_of (touched w step)) c at can))

@@ -4,7 +4,6 @@ pub mod WakeLemmas
 pub mod SocketTouchLemmas
 pub mod DescriptorTouchLemmas
 pub mod CellLemmas
-pub mod FootprintLemmas
 pub mod ChangedLemmas
 pub mod OrderLemmas
 pub mod ListedLemmas

@@ -1,6 +1,6 @@
 //! Laws about what steps touch: public functions with an empty body, whose contract is the law.
 
-ghost use Rattle.std.specs.Prelude.{◌≡◌, ◌≢◌, ◌↔◌, ◌≤◌, ℕ, Ok, Contains, length, false};
+ghost use Rattle.std.specs.Prelude.{◌≡◌, ◌≢◌, ◌↔◌, ◌≤◌, ℕ, Ok, Contains, length};
 ghost use Rattle.std.specs.List.Sorted.{IsStrictlySortedBy};
 ghost use Rattle.nr_rev.specs.declared.answer.Answer.{Answer};
 ghost use Rattle.nr_rev.specs.declared.cell.Cell.{Cell};
@@ -11,19 +11,11 @@ ghost use Rattle.nr_rev.specs.World.{World};
 ghost use Rattle.nr_changes.specs.Touched.{touched};
 ghost use Rattle.nr_changes.specs.Changed.{changed_cells, listing_order, touched_cells};
 ghost use Rattle.nr_changes.specs.Changes.{differing_cells};
-ghost use Rattle.nr_changes.specs.Footprint.{admits, footprint};
 
 /// A step changes only cells that it touches, in any world.
 pub fn steps_change_what_they_touch_alone()
     ensures { (w : World) (step : Step) (answer : Answer) (next : World) (c : Cell)
         → outcome w step ≡ Ok (answer, next) → ¬ Contains (touched_cells w step) c
-        → cell next c ≡ cell w c }
-{}
-
-/// A step changes no cell that its footprint doesn't admit, in any world.
-pub fn steps_change_nothing_outside_their_footprint()
-    ensures { (w : World) (step : Step) (answer : Answer) (next : World) (c : Cell)
-        → outcome w step ≡ Ok (answer, next) → admits (footprint step) c ≡ false
         → cell next c ≡ cell w c }
 {}
 

@@ -4,7 +4,6 @@
 
 mod cell_list;
 mod changing;
-mod footprint;
 pub mod laws;
 mod listing;
 mod touched;
@@ -12,7 +11,6 @@ mod touches_cells;
 
 pub use cell_list::{CellList, MOST_CELLS};
 pub use changing::{CellWithValue, Changes, advance};
-pub use footprint::{Footprint, Owner};
 pub use listing::MOST_TOUCHED;
 pub use touched::Touched;
 pub use touches_cells::TouchesCells;
